@@ -1,0 +1,188 @@
+//! Maps of bits: one truth value for each place below a number, one bit each in memory.
+//!
+//! Promise: a map is the list of its truth values. Setting one changes no other, the count of
+//! those that are set stays exact, and the next one that is set is found by words.
+#![tactic(auto)]
+
+ghost use Rattle.std.specs.Prelude.{◌≡◌, ◌≢◌, ◌+◌, ◌*◌, ◌^◌, ◌<◌, ◌≤◌, ℕ, None, IfOk, IfSome, cond, eqb, false, true, length, replicate, slice_set};
+ghost use Rattle.std.specs.Int.{bit_at};
+ghost use Rattle.nofs_bits.specs.Bits.{NoneInWords, NoneSet, bit_of, count_set, is_set};
+
+use std::alloc::{AllocError, Global};
+use std::marker::Model;
+
+/// How many places a word has.
+const WORD: u64 = 64;
+
+/// A truth value for each place, counted from 0. No call but `new` takes memory.
+#[derive(Drop)]
+pub struct Bits {
+    words: Vec<u64>,
+    places: u64,
+    set_places: u64,
+}
+
+impl Model for Bits {
+    ghost use Rattle.std.specs.Prelude.{◌≡◌, ◌+◌, ◌/◌, Bool, List, vec_len};
+    ghost use Rattle.nofs_bits.specs.Bits.{count_set, truths};
+
+    ghost Value = { List Bool };
+
+    ghost view = { λ bits. truths bits.words.items bits.places };
+
+    ghost invariant = { λ bits. (vec_len bits.words ≡ (bits.places + 63) / 64) × (bits.set_places ≡ count_set (truths bits.words.items bits.places)) };
+}
+
+impl Bits {
+    /// A map of `n` places, none of them set.
+    pub fn new(alloc: Global, n: u64) -> Result<Self, AllocError>
+        ensures { IfOk result (λ bits. bits ≡ replicate n false) }
+    {
+        Ok(Bits {
+            words: vec![in alloc; 0u64; n.div_ceil(WORD) as usize]?,
+            places: n,
+            set_places: 0,
+        })
+    }
+
+    /// Whether a place is set.
+    pub fn get(&self, at: u64) -> bool
+        requires { at < length self.now }
+        ensures { result ≡ is_set self.now at }
+    {
+        has_bit(self.words[(at / WORD) as usize], at % WORD)
+    }
+
+    /// Sets a place or clears it, and changes no other.
+    pub fn set(&mut self, at: u64, value: bool)
+        requires { at < length self.old }
+        ensures { self.new ≡ slice_set self.old at value }
+    {
+        let was = self.get(at);
+        let index = (at / WORD) as usize;
+        self.words[index] = with_bit(self.words[index], at % WORD, value);
+        self.set_places = self.set_places - was as u64 + value as u64;
+    }
+
+    /// How many places are set. It is kept, not counted.
+    pub fn count(&self) -> u64
+        ensures { result ≡ count_set self.now }
+    {
+        self.set_places
+    }
+
+    /// The least place at or after `from` that is set, and `None` exactly where there is none.
+    pub fn next_set(&self, from: u64) -> Option<u64>
+        ensures found { IfSome result (λ at. (from ≤ at) × (at < length self.now) × (is_set self.now at ≡ true)) }
+        ensures least { IfSome result (λ at. NoneSet self.now from at) }
+        ensures none { result ≡ None → NoneSet self.now from (length self.now) }
+    {
+        let places = self.places;
+        match next_in_words(&self.words, from) {
+            Some(at) if at < places => Some(at),
+            _ => None,
+        }
+    }
+}
+
+/// The least place of these words at or after `from` that is set.
+fn next_in_words(words: &[u64], from: u64) -> Option<u64>
+    requires { length words.now ≤ 2 ^ 58 }
+    ensures found { IfSome result (λ at. (from ≤ at) × (bit_of words.now at ≡ true)) }
+    ensures least { IfSome result (λ at. NoneInWords words.now from at) }
+    ensures none { result ≡ None → NoneInWords words.now from (length words.now * 64) }
+{
+    let mut first = from % WORD;
+    for index in (from / WORD) as usize..words.len() {
+        match next_bit(words[index], first) {
+            Some(bit) => return Some(index as u64 * WORD + bit),
+            None => first = 0,
+        }
+    }
+    None
+}
+
+/// Whether a bit of a word is set.
+fn has_bit(word: u64, bit: u64) -> bool
+    requires { bit < 64 }
+    ensures { result ≡ eqb (bit_at word bit) 1 }
+{
+    (word >> bit) & 1 == 1
+}
+
+/// A word with one of its bits set or cleared.
+fn with_bit(word: u64, bit: u64, value: bool) -> u64
+    requires { bit < 64 }
+    ensures there { bit_at result bit ≡ cond value 1 0 }
+    ensures others { (i : ℕ) → i < 64 → i ≢ bit → bit_at result i ≡ bit_at word i }
+{
+    if value {
+        word | (1 << bit)
+    } else {
+        word & !(1 << bit)
+    }
+}
+
+/// The least bit of a word at or above `first` that is set.
+fn next_bit(word: u64, first: u64) -> Option<u64>
+    requires { first < 64 }
+    ensures found { IfSome result (λ bit. (first ≤ bit) × (bit < 64) × (bit_at word bit ≡ 1)) }
+    ensures least { IfSome result (λ bit. (i : ℕ) → first ≤ i → i < bit → bit_at word i ≡ 0) }
+    ensures none { result ≡ None → (i : ℕ) → first ≤ i → i < 64 → bit_at word i ≡ 0 }
+{
+    let rest = word >> first;
+    if rest == 0 {
+        return None;
+    }
+    Some(first + rest.trailing_zeros() as u64)
+}
+
+#[cfg(test)]
+mod tests {
+    use super::Bits;
+    use std::alloc::{AllocError, Global};
+    use std::test::Fail;
+
+    /// A map whose places 3, 63, 64 and last are set.
+    fn four_set(alloc: Global, places: u64) -> Result<Bits, AllocError>
+        requires { 500 < places }
+        ensures { IfOk result (λ bits. length bits ≡ places) }
+    {
+        let mut bits = Bits::new(alloc, places)?;
+        bits.set(3, true);
+        bits.set(63, true);
+        bits.set(64, true);
+        bits.set(places - 1, true);
+        bits.set(3, true);
+        bits.set(500, false);
+        Ok(bits)
+    }
+
+    #[test]
+    fn places_in_several_words_are_found_and_counted(rt: HostRuntime) -> Result<(), Fail> {
+        let mut bits = four_set(rt.alloc(), 1_000_000)?;
+        let places = [
+            (0, Some(3)),
+            (3, Some(3)),
+            (4, Some(63)),
+            (64, Some(64)),
+            (65, Some(999_999)),
+            (999_999, Some(999_999)),
+            (1_000_000, None),
+            (u64::MAX, None),
+        ];
+        for (from, next) in places {
+            assert_eq!(rt; bits.next_set(from), next, "from {from}");
+        }
+        assert_eq!(rt;
+            (bits.count(), bits.get(63), bits.get(62)),
+            (4, true, false)
+        );
+        bits.set(63, false);
+        assert_eq!(rt;
+            (bits.count(), bits.get(63), bits.next_set(4)),
+            (3, false, Some(64))
+        );
+        Ok(())
+    }
+}

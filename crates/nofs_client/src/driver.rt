@@ -1,0 +1,71 @@
+//! What a command does next, by all the replies to its steps so far.
+//!
+//! Promise: the answer is that of the definition, for every command and all replies that fit.
+ghost use Rattle.std.specs.Prelude.{◌≡◌, IfOk};
+ghost use Rattle.nofs_client.specs.Commands.{IsWellFormed};
+ghost use Rattle.nofs_client.specs.Task.{Stands};
+ghost use Rattle.nofs_client.specs.Asks.{IsSaid, task_asks};
+ghost use Rattle.nofs_client.specs.Drive.{AllAnswer, start_of, asks, drive_of};
+ghost use Rattle.nofs_client.specs.declared.driver.Next.TheVariants.{Say};
+
+use crate::commands::Command;
+use crate::lines::Line;
+use crate::progress::{Progress, after, next_step, start};
+use crate::task::Task;
+use nofs_history::{Reply, Step};
+use std::alloc::{AllocError, Global};
+
+/// What a command does next.
+#[derive(Drop)]
+pub enum Next {
+    /// It makes this step.
+    Do(Step),
+    /// It ends with this line.
+    Say(Line),
+}
+
+fn line_of_task(command: &Command, task: Task) -> Line
+    requires { IsSaid (task_asks command.now task) }
+    ensures { task_asks command.now task ≡ Say result }
+{
+    match task {
+        Task::Ended(line) => line,
+        _ => unreachable!(),
+    }
+}
+
+/// The line of a command that has ended.
+pub fn line_of(command: &Command, progress: Progress) -> Line
+    requires { IsSaid (asks command.now progress) }
+    ensures { asks command.now progress ≡ Say result }
+{
+    match progress.see {
+        None => line_of_task(command, progress.task),
+        Some(_) => unreachable!(),
+    }
+}
+
+fn what_next(alloc: Global, command: &Command, progress: Progress) -> Result<Next, AllocError>
+    requires { Stands command.now progress.task }
+    ensures { IfOk result (λ next. next ≡ asks command.now progress) }
+{
+    match next_step(alloc, command, &progress)? {
+        Some(step) => Ok(Next::Do(step)),
+        None => Ok(Next::Say(line_of(command, progress))),
+    }
+}
+
+/// The next step of a command after these replies to its steps, or the line that it ends with. Each
+/// reply fits the step that it answers, none tells want of memory, and none comes after the line.
+#[tactic(auto, unfolding(crate::specs::Drive::drive_of))]
+pub fn drive(alloc: Global, command: &Command, replies: &[Reply]) -> Result<Next, AllocError>
+    requires formed { IsWellFormed command.now }
+    requires fits { AllAnswer command.now (start_of command.now) replies.now }
+    ensures { IfOk result (λ next. next ≡ drive_of command.now replies.now) }
+{
+    let mut progress = start(alloc, command);
+    for reply in replies {
+        progress = after(alloc, command, progress, reply)?;
+    }
+    what_next(alloc, command, progress)
+}

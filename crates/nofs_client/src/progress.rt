@@ -1,0 +1,254 @@
+//! Where a command stands, with the steps that make room: a step that was answered Full or InodesFull
+//! is repeated as long as the disk has unexamined elements and ever fewer of them.
+ghost use Rattle.std.specs.Prelude.{◌≡◌, ◌&&◌, IfOk, nat_lt, true, false, if◌then◌else◌};
+ghost use Rattle.nofs_history.specs.declared.replies.Reply.TheVariants.{Refused};
+ghost use Rattle.nofs_client.specs.Commands.{IsWellFormed};
+ghost use Rattle.nofs_client.specs.Task.{Stands, refused as refused_by};
+ghost use Rattle.nofs_client.specs.Asks.{IsAsked, task_asks};
+ghost use Rattle.nofs_client.specs.Drive.{Answers, goes_on as is_going_on, start_of, fresh as fresh_of, ended as ended_by, sees_block as block_seen, sees_inode as inode_seen, see_step, asks as asks_of, stored_by, after_step as step_after, after_refused as refused_after, after_see as see_after, after as after_of};
+
+use crate::answers::task_after;
+use crate::commands::Command;
+use crate::steps::task_step;
+use crate::task::{Task, first_task, refused};
+use nofs_history::{Refusal, Reply, Step};
+use std::alloc::{AllocError, Global};
+
+/// What is examined before a step is repeated.
+#[derive(Clone, Copy, Debug, PartialEq, Eq)]
+pub enum See {
+    Block(u64),
+    Inode(u32),
+}
+
+/// Where a command stands.
+#[derive(Drop)]
+pub struct Progress {
+    pub task: Task,
+    /// How many blocks were unexamined at the last reply Full to the task's step.
+    pub full: Option<u64>,
+    /// How many inodes were unexamined at the last reply InodesFull to the task's step.
+    pub inodes: Option<u64>,
+    /// What comes before the task's step.
+    pub see: Option<See>,
+}
+
+fn fresh(task: Task) -> Progress
+    ensures { result ≡ fresh_of task }
+{
+    Progress {
+        task,
+        full: None,
+        inodes: None,
+        see: None,
+    }
+}
+
+/// Where a command stands before its first step.
+pub fn start(alloc: Global, command: &Command) -> Progress
+    requires { IsWellFormed command.now }
+    ensures is { result ≡ start_of command.now }
+    ensures stands { Stands command.now result.task }
+{
+    fresh(first_task(alloc, command))
+}
+
+/// The next step of a command; none where it has its line.
+pub fn next_step(
+    alloc: Global,
+    command: &Command,
+    progress: &Progress,
+) -> Result<Option<Step>, AllocError>
+    requires { Stands command.now progress.now.task }
+    ensures { IfOk result (λ step. IsAsked (asks_of command.now progress.now) step) }
+{
+    match progress.see {
+        Some(See::Block(block)) => Ok(Some(Step::SeeBlock { block })),
+        Some(See::Inode(inode)) => Ok(Some(Step::SeeInode { inode })),
+        None => task_step(alloc, command, &progress.task),
+    }
+}
+
+fn goes_on(unverified: u64, last: Option<u64>) -> bool
+    ensures { result ≡ is_going_on unverified last }
+{
+    match last {
+        None => unverified > 0,
+        Some(last) => unverified > 0 && unverified < last,
+    }
+}
+
+fn ended(
+    alloc: Global,
+    command: &Command,
+    progress: Progress,
+    reply: &Reply,
+) -> Result<Progress, AllocError>
+    requires formed { IsWellFormed command.now }
+    requires stands { Stands command.now progress.task }
+    requires fits { Answers (task_asks command.now progress.task) reply.now }
+    ensures is { IfOk result (λ next. next ≡ ended_by command.now progress reply.now) }
+    ensures stands { IfOk result (λ next. Stands command.now next.task) }
+{
+    Ok(fresh(task_after(alloc, command, progress.task, reply)?))
+}
+
+fn sees_block(progress: Progress, unverified: u64, next: u64) -> Progress
+    ensures { result ≡ block_seen progress unverified next }
+{
+    Progress {
+        task: progress.task,
+        full: Some(unverified),
+        inodes: progress.inodes,
+        see: Some(See::Block(next)),
+    }
+}
+
+fn sees_inode(progress: Progress, unverified: u64, next: u32) -> Progress
+    ensures { result ≡ inode_seen progress unverified next }
+{
+    Progress {
+        task: progress.task,
+        full: progress.full,
+        inodes: Some(unverified),
+        see: Some(See::Inode(next)),
+    }
+}
+
+fn after_full(
+    alloc: Global,
+    command: &Command,
+    progress: Progress,
+    refusal: &Refusal,
+    unverified: u64,
+    next: u64,
+) -> Result<Progress, AllocError>
+    requires formed { IsWellFormed command.now }
+    requires stands { Stands command.now progress.task }
+    requires fits { Answers (task_asks command.now progress.task) (Refused refusal.now) }
+    ensures is { IfOk result (λ after. after ≡ (if is_going_on unverified progress.full then block_seen progress unverified next else ended_by command.now progress (Refused refusal.now))) }
+    ensures stands { IfOk result (λ after. Stands command.now after.task) }
+{
+    if goes_on(unverified, progress.full) {
+        Ok(sees_block(progress, unverified, next))
+    } else {
+        ended(alloc, command, progress, &Reply::Refused(*refusal))
+    }
+}
+
+fn after_inodes_full(
+    alloc: Global,
+    command: &Command,
+    progress: Progress,
+    refusal: &Refusal,
+    unverified: u64,
+    next: u32,
+) -> Result<Progress, AllocError>
+    requires formed { IsWellFormed command.now }
+    requires stands { Stands command.now progress.task }
+    requires fits { Answers (task_asks command.now progress.task) (Refused refusal.now) }
+    ensures is { IfOk result (λ after. after ≡ (if is_going_on unverified progress.inodes then inode_seen progress unverified next else ended_by command.now progress (Refused refusal.now))) }
+    ensures stands { IfOk result (λ after. Stands command.now after.task) }
+{
+    if goes_on(unverified, progress.inodes) {
+        Ok(sees_inode(progress, unverified, next))
+    } else {
+        ended(alloc, command, progress, &Reply::Refused(*refusal))
+    }
+}
+
+fn after_refused(
+    alloc: Global,
+    command: &Command,
+    progress: Progress,
+    refusal: &Refusal,
+) -> Result<Progress, AllocError>
+    requires formed { IsWellFormed command.now }
+    requires stands { Stands command.now progress.task }
+    requires fits { Answers (task_asks command.now progress.task) (Refused refusal.now) }
+    ensures is { IfOk result (λ next. next ≡ refused_after command.now progress refusal.now) }
+    ensures stands { IfOk result (λ next. Stands command.now next.task) }
+{
+    match refusal {
+        Refusal::Full {
+            needed: _,
+            free: _,
+            unverified,
+            next,
+        } => after_full(alloc, command, progress, refusal, *unverified, *next),
+        Refusal::InodesFull { unverified, next } => {
+            after_inodes_full(alloc, command, progress, refusal, *unverified, *next as u32)
+        }
+        _ => ended(alloc, command, progress, &Reply::Refused(*refusal)),
+    }
+}
+
+fn after_step(
+    alloc: Global,
+    command: &Command,
+    progress: Progress,
+    reply: &Reply,
+) -> Result<Progress, AllocError>
+    requires formed { IsWellFormed command.now }
+    requires stands { Stands command.now progress.task }
+    requires fits { Answers (task_asks command.now progress.task) reply.now }
+    ensures is { IfOk result (λ next. next ≡ step_after command.now progress reply.now) }
+    ensures stands { IfOk result (λ next. Stands command.now next.task) }
+{
+    match reply {
+        Reply::Refused(refusal) => after_refused(alloc, command, progress, refusal),
+        _ => ended(alloc, command, progress, reply),
+    }
+}
+
+fn stored(task: &Task) -> u64
+    ensures { result ≡ stored_by task.now }
+{
+    match task {
+        Task::Putting { at: _, done } => *done,
+        _ => 0,
+    }
+}
+
+fn after_see(command: &Command, progress: Progress, reply: &Reply) -> Progress
+    requires { Stands command.now progress.task }
+    ensures is { result ≡ see_after command.now progress reply.now }
+    ensures stands { Stands command.now result.task }
+{
+    match reply {
+        Reply::Refused(refusal) => fresh(refused(command, stored(&progress.task), *refusal)),
+        _ => {
+            let Progress {
+                task,
+                full,
+                inodes,
+                see: _,
+            } = progress;
+            Progress {
+                task,
+                full,
+                inodes,
+                see: None,
+            }
+        }
+    }
+}
+
+/// Where a command stands after a reply.
+pub fn after(
+    alloc: Global,
+    command: &Command,
+    progress: Progress,
+    reply: &Reply,
+) -> Result<Progress, AllocError>
+    requires formed { IsWellFormed command.now }
+    requires stands { Stands command.now progress.task }
+    requires fits { Answers (asks_of command.now progress) reply.now }
+    ensures is { IfOk result (λ next. next ≡ after_of command.now progress reply.now) }
+    ensures stands { IfOk result (λ next. Stands command.now next.task) }
+{
+    match progress.see {
+        None => after_step(alloc, command, progress, reply),
+        Some(_) => Ok(after_see(command, progress, reply)),
+    }
+}

@@ -1,0 +1,13 @@
+//! Entries of a directory, and the names that they can have.
+//!
+//! Promise: an entry has one spelling. A reader answers `None` exactly where the bytes are no
+//! spelling, what is written is read back, and a write leaves every other byte of the cell.
+#![tactic(auto)]
+
+mod entry;
+mod name;
+#[cfg(test)]
+mod tests;
+
+pub use entry::{Entry, clear_entry, find_name, read_entry, write_entry};
+pub use name::name_ok;

@@ -1,0 +1,10 @@
+pub mod Adds
+pub mod Cells
+pub mod Chains
+pub mod Disk
+pub mod Moments
+pub mod Number
+pub mod OneSpelling
+pub mod Parts
+pub mod Pointer
+pub mod Tag

@@ -1,0 +1,10 @@
+-- What contracts see of a file in memory.
+use Rattle.std.specs.Prelude.{ℕ, ◌^◌, ◌<◌, List, true}
+use Rattle.nofs_filedisk.specs.Bytes.{FileState, IsFile}
+
+-- a file that tells its bytes
+abbrev pub told : List ℕ → List ℕ → ℕ → FileState
+told bytes durable faults = record { tells = true; bytes = bytes; durable = durable; faults = faults }
+
+pub told_is : (bytes durable : List ℕ) (faults : ℕ) → faults < 2 ^ 64 → IsFile (told bytes durable faults)
+told_is bytes durable faults low = record { counted = low }

@@ -1,0 +1,8 @@
+use Rattle.std.proofs.Common.{◌≡◌, ◌+◌, ◌*◌, ◌<◌, ℕ}
+use Rattle.std.specs.Prelude.{slice_index_or}
+use Rattle.nofs_disk.specs.Pointer.{null, pointer_in}
+use Rattle.nofs_inode.specs.Beside.{SameBeside}
+use Rattle.nofs_inode.proofs.inode.write_pointers.Given as goal
+
+abbrev pub invariant-loop-j : goal.invariant-loop-j
+invariant-loop-j l = SameBeside l.at 128 l.initial.bytes l.bytes × ((k : ℕ) → k < l.j → pointer_in (l.at + 16 * k) l.bytes ≡ slice_index_or l.pointers k null)

@@ -1,0 +1,3 @@
+pub mod Beside
+pub mod InodeRecords
+pub mod RecordLaws

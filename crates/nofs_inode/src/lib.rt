@@ -1,0 +1,11 @@
+//! Records of the inode table: what the table says of each file and directory.
+//!
+//! Promise: a record has one spelling. A reader answers `None` exactly where the bytes are no
+//! spelling, what is written is read back, and a write leaves every other byte of the cell.
+#![tactic(auto)]
+
+pub mod inode;
+#[cfg(test)]
+mod tests;
+
+pub use inode::{BackLink, FREE_RECORD, FileKind, Record, read_record, write_record};

@@ -1,0 +1,6 @@
+mod Choosing
+mod Faultless
+mod Total
+mod Function
+mod Shown
+mod Fitting

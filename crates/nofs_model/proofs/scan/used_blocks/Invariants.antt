@@ -1,0 +1,7 @@
+use Rattle.std.proofs.Common.{◌≡◌, ◌<◌, ℕ, length}
+use Rattle.nofs_bits.specs.Bits.{is_set}
+use Rattle.nofs_model.specs.Owners.{is_used_block}
+use Rattle.nofs_model.proofs.scan.used_blocks.Given as goal
+
+abbrev pub invariant-loop-block : goal.invariant-loop-block
+invariant-loop-block l = (length l.bits ≡ l.at.blocks) × ((p : ℕ) → p < l.block → is_set l.bits p ≡ is_used_block l.cells p)

@@ -1,0 +1,63 @@
+//! Cells and records of an image.
+ghost use Rattle.std.specs.Prelude.{◌≡◌, ◌<◌, length};
+ghost use Rattle.nofs_model.specs.Cells.{record_at};
+ghost use Rattle.nofs_model.specs.Geometry as image;
+ghost use Rattle.nofs_model.specs.Places.{IsRead, IsRecord};
+
+use nofs_disk::{Cell, read_u32_at, read_u64_at};
+use nofs_inode::{FREE_RECORD, Record, read_record};
+use nofs_super::SuperBlock;
+
+/// The cell of a block.
+pub(crate) fn cell_at(cells: &[Cell], block: u64) -> &Cell
+    requires { block < length cells.now }
+    ensures { result.now ≡ image.cell_at cells.now block }
+{
+    &cells[block as usize]
+}
+
+/// The numbers of a mountable image.
+#[tactic(auto, unfolding(crate::specs::Geometry::super_at))]
+pub(crate) fn numbers_of(cells: &[Cell]) -> SuperBlock
+    requires { image.IsMountable cells.now }
+    ensures { IsRead cells.now result }
+{
+    super_in(&cell_at(cells, 0).payload)
+}
+
+#[tactic(auto, unfolding(nofs_super::specs::Super::super_in))]
+pub(crate) fn super_in(payload: &[u8; 1024]) -> SuperBlock
+    ensures { result ≡ image.super_in payload.now }
+{
+    SuperBlock {
+        version: read_u32_at(payload, 8),
+        blocks: read_u64_at(payload, 16),
+        inodes: read_u64_at(payload, 24),
+        mount: read_u64_at(payload, 32),
+    }
+}
+
+/// The record of an inode: free where its bytes spell none, and where there is no such inode.
+#[tactic(auto, unfolding(crate::specs::Geometry::inode))]
+pub(crate) fn read_inode(cells: &[Cell], at: &SuperBlock, inode: u32) -> Record
+    requires { IsRead cells.now at.now }
+    ensures { IsRecord cells.now at.now inode result }
+{
+    let number = u64::from(inode);
+    if number == 0 || number > at.inodes {
+        return FREE_RECORD;
+    }
+    let block = cell_at(cells, 1 + (number - 1) / 4);
+    record_at(&block.payload, ((number - 1) % 4) as u32)
+}
+
+#[tactic(auto, unfolding(nofs_inode::specs::InodeRecords::record_at))]
+fn record_at(payload: &[u8; 1024], index: u32) -> Record
+    requires { index < 4 }
+    ensures { result ≡ record_at payload.now index }
+{
+    match read_record(payload, index) {
+        None => FREE_RECORD,
+        Some(it) => it,
+    }
+}

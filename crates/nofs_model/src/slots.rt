@@ -1,0 +1,232 @@
+//! What stands in the slots of an image.
+ghost use Rattle.std.specs.Prelude.{◌≡◌, ◌<◌, ◌≤◌, ◌+◌, ◌/◌, length, IfOk, IsTrue};
+ghost use Rattle.nofs_disk.specs.Tag.{tag_of};
+ghost use Rattle.nofs_model.specs.Cells as cells;
+ghost use Rattle.nofs_model.specs.Geometry.{IsMountable};
+ghost use Rattle.nofs_model.specs.Places.{InArea, IsPlace, IsRead, IsRecord, path_in};
+ghost use Rattle.nofs_model.specs.Slots as slots;
+
+use crate::image::{cell_at, numbers_of, read_inode};
+use crate::path::PathAnswer;
+use crate::place::{Place, has_pointers, place_of, slot_number};
+use crate::value::Value;
+use nofs_disk::{Cell, Kind, Pointer, Tag, read_tag};
+use nofs_inode::{FileKind, Record};
+use nofs_lists::Content;
+use nofs_ptrs::read_pointer;
+use nofs_super::SuperBlock;
+use std::alloc::{AllocError, Global};
+
+/// The value of a slot of content, by its definition. It asks a mountable image and a slot below
+/// 4,168. The error is want of memory alone.
+pub fn value_of(alloc: Global, cells: &[Cell], inode: u32, slot: u64) -> Result<Value, AllocError>
+    requires image { IsMountable cells.now }
+    requires slot { slot < 4168 }
+    ensures { IfOk result (λ value. value ≡ slots.value cells.now inode slot) }
+{
+    let at = numbers_of(cells);
+    match find_number(cells, &at, inode, slot) {
+        PathAnswer::Hole => Ok(Value::Hole),
+        PathAnswer::Lost => Ok(Value::Lost),
+        PathAnswer::Holds(pointer) => {
+            let block = cell_at(cells, pointer.block);
+            Ok(Value::Bytes(Content::from_slice(alloc, &block.payload)?))
+        }
+    }
+}
+
+/// What stands in the slot with this number.
+pub(crate) fn find_number(cells: &[Cell], at: &SuperBlock, inode: u32, slot: u64) -> PathAnswer
+    requires numbers { IsRead cells.now at.now }
+    requires slot { IsTrue (slots.is_slot slot) }
+    ensures found { result ≡ slots.find cells.now inode (slots.path_of slot) }
+    ensures area { InArea at.now result }
+{
+    let it = read_inode(cells, at, inode);
+    find_slot(cells, at, inode, &it, place_of(slot))
+}
+
+// What stands in the slot at a place.
+fn find_slot(cells: &[Cell], at: &SuperBlock, inode: u32, it: &Record, place: Place) -> PathAnswer
+    requires known { IsRecord cells.now at.now inode it.now }
+    requires place { IsPlace place }
+    ensures found { result ≡ slots.find cells.now inode (path_in place) }
+    ensures area { InArea at.now result }
+{
+    match place {
+        Place::InRecord(n) => find_in_record(cells, at, inode, it, n),
+        Place::UnderRecord { at: above, place } => {
+            find_under_record(cells, at, inode, it, above, place)
+        }
+        Place::UnderChild { child, place } => find_under_child(cells, at, inode, it, child, place),
+    }
+}
+
+fn find_in_record(
+    cells: &[Cell],
+    at: &SuperBlock,
+    inode: u32,
+    it: &Record,
+    place: u64,
+) -> PathAnswer
+    requires known { IsRecord cells.now at.now inode it.now }
+    requires place { place < 10 }
+    ensures found { result ≡ slots.find cells.now inode (slots.InRecord place) }
+    ensures area { InArea at.now result }
+{
+    let pointer = record_pointer(it, place);
+    judge(cells, at, inode, it, Place::InRecord(place), pointer)
+}
+
+fn find_under_record(
+    cells: &[Cell],
+    at: &SuperBlock,
+    inode: u32,
+    it: &Record,
+    above: u64,
+    place: u64,
+) -> PathAnswer
+    requires known { IsRecord cells.now at.now inode it.now }
+    requires place { IsPlace (Place.UnderRecord above place) }
+    ensures found { result ≡ slots.find cells.now inode (slots.Under (slots.InRecord above) place) }
+    ensures area { InArea at.now result }
+{
+    match find_in_record(cells, at, inode, it, above) {
+        PathAnswer::Hole => PathAnswer::Hole,
+        PathAnswer::Lost => PathAnswer::Lost,
+        PathAnswer::Holds(node) => {
+            let pointer = read_pointer(&cell_at(cells, node.block).payload, place as u32);
+            judge(
+                cells,
+                at,
+                inode,
+                it,
+                Place::UnderRecord { at: above, place },
+                pointer,
+            )
+        }
+    }
+}
+
+fn find_under_child(
+    cells: &[Cell],
+    at: &SuperBlock,
+    inode: u32,
+    it: &Record,
+    child: u64,
+    place: u64,
+) -> PathAnswer
+    requires known { IsRecord cells.now at.now inode it.now }
+    requires place { IsPlace (Place.UnderChild child place) }
+    ensures found { result ≡ slots.find cells.now inode (slots.Under (slots.child child) place) }
+    ensures area { InArea at.now result }
+{
+    match find_under_record(cells, at, inode, it, 9, child) {
+        PathAnswer::Hole => PathAnswer::Hole,
+        PathAnswer::Lost => PathAnswer::Lost,
+        PathAnswer::Holds(node) => {
+            let pointer = read_pointer(&cell_at(cells, node.block).payload, place as u32);
+            judge(
+                cells,
+                at,
+                inode,
+                it,
+                Place::UnderChild { child, place },
+                pointer,
+            )
+        }
+    }
+}
+
+// What stands in the slot at a place with this pointer.
+fn judge(
+    cells: &[Cell],
+    at: &SuperBlock,
+    inode: u32,
+    it: &Record,
+    place: Place,
+    pointer: Pointer,
+) -> PathAnswer
+    requires known { IsRecord cells.now at.now inode it.now }
+    requires place { IsPlace place }
+    ensures found { result ≡ slots.judged cells.now inode (path_in place) pointer }
+    ensures area { InArea at.now result }
+{
+    if pointer.block == 0 && pointer.stamp == 0 {
+        return PathAnswer::Hole;
+    }
+    if it.kind.is_none() || pointer.block < 1 + at.inodes / 4 || pointer.block >= at.blocks {
+        return PathAnswer::Lost;
+    }
+    let wanted = Tag {
+        kind: kind_in(it, place),
+        inode,
+        generation: it.generation,
+        slot: slot_number(place),
+        stamp: pointer.stamp,
+    };
+    if is_tag(&cell_at(cells, pointer.block).tag, &wanted) {
+        PathAnswer::Holds(pointer)
+    } else {
+        PathAnswer::Lost
+    }
+}
+
+// The pointer at a place of a record.
+fn record_pointer(it: &Record, place: u64) -> Pointer
+    requires { place < 10 }
+    ensures { result ≡ slots.record_pointer it.now place }
+{
+    match place {
+        8 => it.leaf,
+        9 => it.top,
+        _ => it.direct[place as usize],
+    }
+}
+
+// The kind of a block in this place.
+fn kind_in(it: &Record, place: Place) -> Kind
+    ensures { result ≡ slots.kind_in it.now (path_in place) }
+{
+    if has_pointers(place) {
+        Kind::Leaf
+    } else {
+        content_kind(it.kind)
+    }
+}
+
+fn content_kind(kind: Option<FileKind>) -> Kind
+    ensures { result ≡ slots.content_kind kind }
+{
+    match kind {
+        Some(FileKind::Directory) => Kind::Directory,
+        Some(FileKind::File) => Kind::Content,
+        None => Kind::Content,
+    }
+}
+
+// Whether these bytes spell this tag.
+fn is_tag(bytes: &[u8; 32], wanted: &Tag) -> bool
+    ensures { result ≡ slots.is_tag (tag_of bytes.now) wanted.now }
+{
+    match read_tag(bytes) {
+        None => false,
+        Some(tag) => same_tag(&tag, wanted),
+    }
+}
+
+fn same_tag(a: &Tag, b: &Tag) -> bool
+    ensures { result ≡ cells.same_tag a.now b.now }
+{
+    same_kind(a.kind, b.kind)
+        && a.inode == b.inode
+        && a.generation == b.generation
+        && a.slot == b.slot
+        && a.stamp == b.stamp
+}
+
+fn same_kind(a: Kind, b: Kind) -> bool
+    ensures { result ≡ cells.same_kind a b }
+{
+    a == b
+}

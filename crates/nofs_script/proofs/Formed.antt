@@ -1,0 +1,219 @@
+-- What is read is a session: its commands are well formed, and its scripts are 1 to 8.
+use Rattle.std.proofs.Common.{◌≡◌, ℕ, zero, suc, ◌+◌, ◌<◌, ◌≤◌, ◌==◌, not, nat_lt, Bool, true, false, if◌then◌else◌, List, [], ◌∷◌, ◌++◌, length, length-append, Option, None, Some, Result, Ok, Err, IfOk, arith, refl, sym, ap, ◌∙◌, subst}
+use Rattle.std.specs.List.{AllByRecursion}
+use Rattle.std.proofs.lemmas.Bool.{ltb-true, eqb-false}
+use Rattle.hex.specs.Hex.{decode_of}
+use Rattle.hex.proofs.HexLemmas.{decode_of-ok}
+use Rattle.nofs_client.specs.declared.commands.Path.{Path}
+use Rattle.nofs_client.specs.declared.commands.Path.TheVariants.{Label, Names}
+use Rattle.nofs_client.specs.declared.commands.Command.{Command}
+use Rattle.nofs_client.specs.declared.commands.Command.TheVariants as command
+use Rattle.nofs_client.specs.Commands.{HasName, IsWellFormed}
+use Rattle.nofs_script.specs.declared.commands.Verb.{Verb}
+use Rattle.nofs_script.specs.declared.commands.Verb.TheVariants as verb
+use Rattle.nofs_script.specs.declared.faults.ScriptKind.{ScriptKind}
+use Rattle.nofs_script.specs.declared.faults.ScriptKind.TheVariants.{BadPath, BadHex, TooManyUsers, TooMuchAsked, TooManyCommands}
+use Rattle.nofs_script.specs.declared.faults.ScriptFault.{ScriptFault}
+use Rattle.nofs_script.specs.declared.session.Reading.{Reading}
+use Rattle.nofs_script.specs.Grammar.{◌>>=◌, has_name, path_word, new_path_word, number_word, hex_word, hex_digits, one_path, one_new_path, put_by, put_of, get_by, get_of, size_of, link_of, rename_of, move_of, command_of, verb_in}
+use Rattle.nofs_script.specs.Sessions.{with_command, asked_by, user_of, read_verb, read_words, read_line, line_in, at_line, read_from, empty_reading, is_skipped, IsSession}
+use Rattle.nofs_script.specs.Words.{words_of, lines_of}
+
+-- what holds of a reading holds of the next one
+bind : {A B E : Type 0} (P : A → Type 0) (Q : B → Type 0) (r : Result A E) (f : A → Result B E) → IfOk r P → ((x : A) → P x → IfOk (f x) Q) → IfOk (r >>= f) Q
+bind P Q (Ok x) f p next = next x p
+bind P Q (Err e) f p next = tt
+
+-- nothing is asked of a reading
+any : {A E : Type 0} (r : Result A E) → IfOk r (λ _. Unit {0})
+any (Ok x) = tt
+any (Err e) = tt
+
+named : (path : Path) → has_name path ≡ true → HasName path
+named Label e = cc
+named (Names []) e = cc
+named (Names (name ∷ names)) e = omega arith
+
+new_path : (word : List ℕ) → IfOk (new_path_word word) HasName
+unfolding new_path_word
+new_path word = bind (λ _. Unit {0}) HasName (path_word word) _ (any (path_word word)) (λ path _. go path (has_name path) refl) where
+  go : (path : Path) (b : Bool) → has_name path ≡ b → IfOk {E = ScriptKind} (if b then Ok path else Err BadPath) HasName
+  go path true e = named path e
+  go path false e = tt
+
+one_new : (args : List (List ℕ)) → IfOk (one_new_path args) HasName
+one_new [] = tt
+one_new (a ∷ []) = new_path a
+one_new (a ∷ b ∷ rest) = tt
+
+-- what is not zero is above it
+positive : (n : ℕ) → (n ≡ 0 → ⊥) → 0 < n
+positive zero ne = absurd (ne refl)
+positive (suc n) ne = omega arith
+
+-- digits that decode are as many bytes as there are pairs of them
+some_bytes : (word : List ℕ) → 0 < length word → IfOk (hex_digits (decode_of word)) (λ bytes. 0 < length bytes)
+some_bytes word some = go (decode_of word) refl where
+  go : (r : _) → decode_of word ≡ r → IfOk (hex_digits r) (λ bytes. 0 < length bytes)
+  go (Ok bytes) e = omega (arith, (decode_of-ok word bytes e).2)
+  go (Err x) e = tt
+
+some_hex : (word : List ℕ) → IfOk (hex_word word) (λ bytes. 0 < length bytes)
+unfolding hex_word
+some_hex word = go (length word == 0) refl where
+  go : (b : Bool) → (length word == 0) ≡ b → IfOk (if b then Err BadHex else hex_digits (decode_of word)) (λ bytes. 0 < length bytes)
+  go true e = tt
+  go false e = some_bytes word (positive (length word) (eqb-false (length word) 0 e))
+
+-- a path, and a command that asks nothing of it
+free : (r : Result Path ScriptKind) (make : Path → Command) → ((path : Path) → IsWellFormed (make path)) → IfOk (r >>= λ path. Ok (make path)) IsWellFormed
+free r make formed = bind (λ _. Unit {0}) IsWellFormed r _ (any r) (λ path _. formed path)
+
+put : (args : List (List ℕ)) → IfOk (put_of args) IsWellFormed
+unfolding put_by
+put (a ∷ b ∷ c ∷ []) =
+    bind (λ _. Unit {0}) IsWellFormed (path_word a) _ (any (path_word a)) (λ path _.
+    bind (λ _. Unit {0}) IsWellFormed (number_word b) _ (any (number_word b)) (λ offset _.
+    bind (λ bytes. 0 < length bytes) IsWellFormed (hex_word c) _ (some_hex c) (λ bytes some. some)))
+put [] = tt
+put (a ∷ []) = tt
+put (a ∷ b ∷ []) = tt
+put (a ∷ b ∷ c ∷ d ∷ rest) = tt
+
+get : (args : List (List ℕ)) → IfOk (get_of args) IsWellFormed
+unfolding get_by
+get (a ∷ b ∷ c ∷ []) =
+    bind (λ _. Unit {0}) IsWellFormed (path_word a) _ (any (path_word a)) (λ path _.
+    bind (λ _. Unit {0}) IsWellFormed (number_word b) _ (any (number_word b)) (λ offset _.
+    bind (λ _. Unit {0}) IsWellFormed (number_word c) _ (any (number_word c)) (λ len _. tt)))
+get [] = tt
+get (a ∷ []) = tt
+get (a ∷ b ∷ []) = tt
+get (a ∷ b ∷ c ∷ d ∷ rest) = tt
+
+size : (args : List (List ℕ)) → IfOk (size_of args) IsWellFormed
+unfolding size_of
+size (a ∷ b ∷ []) =
+    bind (λ _. Unit {0}) IsWellFormed (path_word a) _ (any (path_word a)) (λ path _.
+    bind (λ _. Unit {0}) IsWellFormed (number_word b) _ (any (number_word b)) (λ n _. tt))
+size [] = tt
+size (a ∷ []) = tt
+size (a ∷ b ∷ c ∷ rest) = tt
+
+link : (args : List (List ℕ)) → IfOk (link_of args) IsWellFormed
+unfolding link_of
+link (a ∷ b ∷ []) =
+    bind (λ _. Unit {0}) IsWellFormed (path_word a) _ (any (path_word a)) (λ path _.
+    bind HasName IsWellFormed (new_path_word b) _ (new_path b) (λ to has. has))
+link [] = tt
+link (a ∷ []) = tt
+link (a ∷ b ∷ c ∷ rest) = tt
+
+rename : (args : List (List ℕ)) → IfOk (rename_of args) IsWellFormed
+unfolding rename_of
+rename (a ∷ b ∷ []) = bind HasName IsWellFormed (new_path_word a) _ (new_path a) (λ path has. has)
+rename [] = tt
+rename (a ∷ []) = tt
+rename (a ∷ b ∷ c ∷ rest) = tt
+
+move : (args : List (List ℕ)) → IfOk (move_of args) IsWellFormed
+unfolding move_of
+move (a ∷ b ∷ []) =
+    bind HasName IsWellFormed (new_path_word a) _ (new_path a) (λ from has.
+    bind HasName IsWellFormed (new_path_word b) _ (new_path b) (λ to has_too. (has, has_too)))
+move [] = tt
+move (a ∷ []) = tt
+move (a ∷ b ∷ c ∷ rest) = tt
+
+formed : (v : Verb) (args : List (List ℕ)) → IfOk (command_of v args) IsWellFormed
+unfolding command_of
+formed verb.Make args = bind HasName IsWellFormed (one_new_path args) _ (one_new args) (λ path has. has)
+formed verb.MakeDirectory args = bind HasName IsWellFormed (one_new_path args) _ (one_new args) (λ path has. has)
+formed verb.Put args = put args
+formed verb.Get args = get args
+formed verb.Size args = size args
+formed verb.Stat args = free (one_path args) command.Stat (λ path. tt)
+formed verb.List args = free (one_path args) command.List (λ path. tt)
+formed verb.Link args = link args
+formed verb.Drop args = bind HasName IsWellFormed (one_new_path args) _ (one_new args) (λ path has. has)
+formed verb.Rename args = rename args
+formed verb.Fsync args = free (one_path args) command.Fsync (λ path. tt)
+formed verb.Move args = move args
+formed verb.User args = tt
+
+-- one more at the end
+more : {A : Type 0} (P : A → Type 0) (xs : List A) (x : A) → AllByRecursion P xs → P x → AllByRecursion P (xs ++ x ∷ [])
+more P [] x all p = (p, tt)
+more P (y ∷ ys) x all p = (all.0, more P ys x all.1 p)
+
+-- what was read so far is well formed, and a script may still end
+record Reads (r : Reading) : Type 0 where
+  done : AllByRecursion (AllByRecursion IsWellFormed) r.done
+  current : AllByRecursion IsWellFormed r.current
+  few : length r.done < 8
+
+with_one : (r : Reading) (c : Command) → Reads r → IsWellFormed c → IfOk (with_command r c) Reads
+with_one r c reads well = go (nat_lt 67108864 (r.asked + asked_by c)) (nat_lt r.count 65536) where
+  go : (a b : Bool) → IfOk {E = ScriptKind} (if a then Err TooMuchAsked else if b then Ok (record { done = r.done; current = r.current ++ c ∷ []; count = r.count + 1; asked = r.asked + asked_by c }) else Err TooManyCommands) Reads
+  go true b = tt
+  go false true = record { done = reads.done; current = more IsWellFormed r.current c reads.current well; few = reads.few }
+  go false false = tt
+
+next_script : (r : Reading) (args : List (List ℕ)) → Reads r → IfOk (user_of r args) Reads
+next_script r [] reads = go (nat_lt (length r.done + 1) 8) refl where
+  go : (b : Bool) → nat_lt (length r.done + 1) 8 ≡ b → IfOk {E = ScriptKind} (if b then Ok (record { done = r.done ++ r.current ∷ []; current = []; count = r.count; asked = r.asked }) else Err TooManyUsers) Reads
+  go true e = record {
+    done = more (AllByRecursion IsWellFormed) r.done r.current reads.done reads.current;
+    current = tt;
+    few = omega (arith, length-append r.done (r.current ∷ []), ltb-true (length r.done + 1) 8 e);
+  }
+  go false e = tt
+next_script r (a ∷ args) reads = tt
+
+one_verb : (r : Reading) (v : Option Verb) (args : List (List ℕ)) → Reads r → IfOk (read_verb r v args) Reads
+one_verb r None args reads = tt
+one_verb r (Some verb.User) args reads = next_script r args reads
+one_verb r (Some verb.Make) args reads = bind IsWellFormed Reads (command_of verb.Make args) _ (formed verb.Make args) (λ c well. with_one r c reads well)
+one_verb r (Some verb.MakeDirectory) args reads = bind IsWellFormed Reads (command_of verb.MakeDirectory args) _ (formed verb.MakeDirectory args) (λ c well. with_one r c reads well)
+one_verb r (Some verb.Put) args reads = bind IsWellFormed Reads (command_of verb.Put args) _ (formed verb.Put args) (λ c well. with_one r c reads well)
+one_verb r (Some verb.Get) args reads = bind IsWellFormed Reads (command_of verb.Get args) _ (formed verb.Get args) (λ c well. with_one r c reads well)
+one_verb r (Some verb.Size) args reads = bind IsWellFormed Reads (command_of verb.Size args) _ (formed verb.Size args) (λ c well. with_one r c reads well)
+one_verb r (Some verb.Stat) args reads = bind IsWellFormed Reads (command_of verb.Stat args) _ (formed verb.Stat args) (λ c well. with_one r c reads well)
+one_verb r (Some verb.List) args reads = bind IsWellFormed Reads (command_of verb.List args) _ (formed verb.List args) (λ c well. with_one r c reads well)
+one_verb r (Some verb.Link) args reads = bind IsWellFormed Reads (command_of verb.Link args) _ (formed verb.Link args) (λ c well. with_one r c reads well)
+one_verb r (Some verb.Drop) args reads = bind IsWellFormed Reads (command_of verb.Drop args) _ (formed verb.Drop args) (λ c well. with_one r c reads well)
+one_verb r (Some verb.Rename) args reads = bind IsWellFormed Reads (command_of verb.Rename args) _ (formed verb.Rename args) (λ c well. with_one r c reads well)
+one_verb r (Some verb.Fsync) args reads = bind IsWellFormed Reads (command_of verb.Fsync args) _ (formed verb.Fsync args) (λ c well. with_one r c reads well)
+one_verb r (Some verb.Move) args reads = bind IsWellFormed Reads (command_of verb.Move args) _ (formed verb.Move args) (λ c well. with_one r c reads well)
+
+some_words : (r : Reading) (words : List (List ℕ)) → Reads r → IfOk (read_words r words) Reads
+some_words r [] reads = reads
+some_words r (word ∷ args) reads = one_verb r (verb_in word) args reads
+
+one_line : (r : Reading) (line : List ℕ) → Reads r → IfOk (read_line r line) Reads
+unfolding read_line
+one_line r line reads = go (is_skipped line) where
+  go : (b : Bool) → IfOk (if b then Ok r else read_words r (words_of line)) Reads
+  go true = reads
+  go false = some_words r (words_of line) reads
+
+placed : (n : ℕ) (r : Result Reading ScriptKind) → IfOk r Reads → IfOk (at_line n r) Reads
+placed n (Ok r) reads = reads
+placed n (Err kind) reads = tt
+
+all_lines : (n : ℕ) (r : Reading) (lines : List (List ℕ)) → Reads r → IfOk (read_from n r lines) Reads
+unfolding read_from
+all_lines n r [] reads = reads
+all_lines n r (line ∷ rest) reads =
+    bind Reads Reads (at_line n (read_line r (line_in line rest))) (λ next. read_from (n + 1) next rest) (placed n (read_line r (line_in line rest)) (one_line r (line_in line rest) reads))
+    (λ next reads_on. all_lines (n + 1) next rest reads_on)
+
+pub is_session : (text : List ℕ) (r : Reading) → read_from 1 empty_reading (lines_of text) ≡ Ok r → IsSession (r.done ++ r.current ∷ [])
+is_session text r read =
+    let first : Reads empty_reading = record { done = tt; current = tt; few = omega arith } in
+    let reads : Reads r = subst (λ x. IfOk x Reads) read (all_lines 1 empty_reading (lines_of text) first) in
+    record {
+      some = omega (arith, length-append r.done (r.current ∷ []));
+      few = omega (arith, length-append r.done (r.current ∷ []), reads.few);
+      formed = more (AllByRecursion IsWellFormed) r.done r.current reads.done reads.current;
+    }

@@ -1,0 +1,5 @@
+mod Digits
+mod Pieces
+mod Five
+mod Lines
+mod Formed

@@ -1,0 +1,231 @@
+//! Sessions: the scripts of a text, read line by line.
+
+ghost use Rattle.std.specs.Prelude.{◌≡◌, ◌≢◌, ◌+◌, ◌<◌, All, Some, [], map, length, MatchOption, IfOk, IfSome, slice_get, take, drop};
+ghost use Rattle.std.specs.Str.Lines.{strip_carriage_return};
+ghost use Rattle.nofs_script.specs.Words.{piece_of, lines_of};
+ghost use Rattle.nofs_script.specs.Grammar.{GivesLine};
+ghost use Rattle.nofs_script.specs.Sessions.{GivesText, IsSession, asked_by as asked_in, with_command as command_added, user_of, read_verb as verb_read, read_words as words_read, read_line as line_read, at_line, is_skipped as is_skipped_in, read_from, empty_reading, session_of};
+
+use crate::commands::{Verb, command, verb_of};
+use crate::faults::{LineFault, ParseFault, ScriptFault, ScriptKind};
+use crate::words::words;
+use nofs_client::{Command, CommandList};
+use nofs_lists::ListOf;
+use std::alloc::Global;
+
+/// The scripts of a session, one a user, each the list of its commands.
+pub type Session = ListOf<CommandList>;
+
+// Bytes that the gets of a session may ask for together.
+const MOST_ASKED: u64 = 67_108_864;
+
+const MOST_COMMANDS: u64 = 65_536;
+
+const MOST_USERS: u64 = 8;
+
+/// What was read so far: the scripts that have ended, the one that is read, and the commands and the bytes asked for in all.
+#[derive(Drop)]
+pub struct Reading {
+    pub done: Session,
+    pub current: CommandList,
+    pub count: u64,
+    pub asked: u64,
+}
+
+fn asked_by(command: &Command) -> u64
+    ensures { result ≡ asked_in command.now }
+{
+    match command {
+        Command::Get {
+            path: _,
+            offset: _,
+            length,
+        } => *length,
+        _ => 0,
+    }
+}
+
+fn with_command(reading: Reading, command: Command) -> Result<Reading, LineFault>
+    ensures { GivesLine (λ r. r) result (command_added reading command) }
+{
+    let Reading {
+        done,
+        mut current,
+        count,
+        asked,
+    } = reading;
+    let asked = asked.saturating_add(asked_by(&command));
+    if asked > MOST_ASKED {
+        return Err(LineFault::Kind(ScriptKind::TooMuchAsked));
+    }
+    if count >= MOST_COMMANDS {
+        return Err(LineFault::Kind(ScriptKind::TooManyCommands));
+    }
+    current.push(command)?;
+    Ok(Reading {
+        done,
+        current,
+        count: count + 1,
+        asked,
+    })
+}
+
+fn next_user(alloc: Global, reading: Reading) -> Result<Reading, LineFault>
+    ensures { GivesLine (λ r. r) result (user_of reading []) }
+{
+    let Reading {
+        mut done,
+        current,
+        count,
+        asked,
+    } = reading;
+    if done.len() + 1 >= MOST_USERS {
+        return Err(LineFault::Kind(ScriptKind::TooManyUsers));
+    }
+    done.push(current)?;
+    Ok(Reading {
+        done,
+        current: CommandList::new(alloc),
+        count,
+        asked,
+    })
+}
+
+fn user(alloc: Global, reading: Reading, args: &[&[u8]]) -> Result<Reading, LineFault>
+    ensures { GivesLine (λ r. r) result (user_of reading (map piece_of args.now)) }
+{
+    match args {
+        [] => next_user(alloc, reading),
+        [_, ..] => Err(LineFault::Kind(ScriptKind::WordCount)),
+    }
+}
+
+fn read_verb(
+    alloc: Global,
+    reading: Reading,
+    verb: Option<Verb>,
+    args: &[&[u8]],
+) -> Result<Reading, LineFault>
+    ensures { GivesLine (λ r. r) result (verb_read reading verb (map piece_of args.now)) }
+{
+    match verb {
+        None => Err(LineFault::Kind(ScriptKind::UnknownCommand)),
+        Some(Verb::User) => user(alloc, reading, args),
+        Some(verb) => {
+            let command = command(alloc, verb, args)?;
+            with_command(reading, command)
+        }
+    }
+}
+
+fn read_words(alloc: Global, reading: Reading, words: &[&[u8]]) -> Result<Reading, LineFault>
+    ensures { GivesLine (λ r. r) result (words_read reading (map piece_of words.now)) }
+{
+    match words {
+        [] => Ok(reading),
+        [word, args @ ..] => read_verb(alloc, reading, verb_of(word), args),
+    }
+}
+
+fn is_skipped(line: &[u8]) -> bool
+    ensures { result ≡ is_skipped_in line.now }
+{
+    !line.is_empty() && line[0] == b'#'
+}
+
+#[tactic(auto, unfolding(crate::specs::Sessions::read_line), using(crate::proofs::Five::read_five))]
+fn read_line(alloc: Global, reading: Reading, line: &[u8]) -> Result<Reading, LineFault>
+    ensures { GivesLine (λ r. r) result (line_read reading line.now) }
+{
+    if is_skipped(line) {
+        return Ok(reading);
+    }
+    let words = words(alloc, line)?;
+    read_words(alloc, reading, &words)
+}
+
+fn without_return(line: &[u8]) -> &[u8]
+    ensures { result.now ≡ strip_carriage_return line.now }
+{
+    let length = line.len();
+    if length > 0 && line[length - 1] == b'\r' {
+        &line[..length - 1]
+    } else {
+        line
+    }
+}
+
+// The place of the first line feed.
+fn end_of(text: &[u8]) -> Option<usize>
+    ensures first { MatchOption result (All (λ byte. byte ≢ 10) text.now)
+        (λ end. (slice_get text.now end ≡ Some 10) × All (λ byte. byte ≢ 10) (take end text.now)) }
+    ensures within { IfSome result (λ end. end < length text.now) }
+{
+    text.iter().position(|byte| *byte == b'\n')
+}
+
+// The line that ends at this line feed.
+fn line_before(text: &[u8], end: usize) -> &[u8]
+    requires { end < length text.now }
+    ensures { result.now ≡ strip_carriage_return (take end text.now) }
+{
+    without_return(&text[..end])
+}
+
+// The lines behind this line feed.
+fn text_after(text: &[u8], end: usize) -> &[u8]
+    requires { end < length text.now }
+    ensures { result.now ≡ drop (end + 1) text.now }
+{
+    &text[end + 1..]
+}
+
+fn read_at(alloc: Global, number: u64, reading: Reading, line: &[u8]) -> Result<Reading, ParseFault>
+    ensures { GivesText (λ r. r) result (at_line number (line_read reading line.now)) }
+{
+    match read_line(alloc, reading, line) {
+        Ok(reading) => Ok(reading),
+        Err(LineFault::NoMemory) => Err(ParseFault::OutOfMemory),
+        Err(LineFault::Kind(kind)) => Err(ParseFault::Script(ScriptFault { line: number, kind })),
+    }
+}
+
+// Reads line after line, each in its turn: nothing is kept of a text but its commands.
+fn read_lines(alloc: Global, text: &[u8]) -> Result<Reading, ParseFault>
+    ensures { GivesText (λ r. r) result (read_from 1 empty_reading (lines_of text.now)) }
+{
+    let mut reading = Reading {
+        done: Session::new(alloc),
+        current: CommandList::new(alloc),
+        count: 0,
+        asked: 0,
+    };
+    let mut rest = text;
+    for number in 1..text.len() as u64 + 2 {
+        match end_of(rest) {
+            None => return read_at(alloc, number, reading, rest),
+            Some(end) => {
+                reading = read_at(alloc, number, reading, line_before(rest, end))?;
+                rest = text_after(rest, end);
+            }
+        }
+    }
+    unreachable!()
+}
+
+/// The session that a text spells, or its first bad line (docs/FORMAT.md, "Session text"). Only want of memory can stop
+/// it otherwise. A session has 1 to 8 scripts, and each of its commands is well formed.
+#[tactic(auto, unfolding(crate::specs::Sessions::session_of))]
+pub fn parse(alloc: Global, text: &[u8]) -> Result<Session, ParseFault>
+    ensures exact { GivesText (λ session. session) result (session_of text.now) }
+    ensures session { IfOk result IsSession }
+{
+    let Reading {
+        mut done,
+        current,
+        count: _,
+        asked: _,
+    } = read_lines(alloc, text)?;
+    done.push(current)?;
+    Ok(done)
+}

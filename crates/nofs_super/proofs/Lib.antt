@@ -1,0 +1,2 @@
+pub mod FormatRun
+pub mod RaiseRun

@@ -1,0 +1,24 @@
+-- What a raised mount number leaves on a device.
+use Rattle.std.specs.Prelude.{◌≡◌, ℕ, ◌+◌, [], slice_set}
+use Rattle.nofs_disk.specs.Disk.{DiskState, IsSettled}
+use Rattle.nofs_disk.specs.declared.tag.Cell.{Cell}
+use Rattle.nofs_super.specs.Format.{super_cell}
+use Rattle.nofs_super.specs.declared.superblock.SuperBlock.{SuperBlock}
+
+-- a superblock with its mount number one higher
+abbrev pub raised : SuperBlock → SuperBlock
+raised it = record it { mount = it.mount + 1 }
+
+-- the cell of this superblock in block 0
+pub record IsSuperCell (it : SuperBlock) (block : ℕ) (c : Cell) : Type 0 where
+  pub first : block ≡ 0
+  pub is : c ≡ super_cell it
+
+-- block 0 holds this superblock after one write and one flush, and nothing else is possible
+pub record IsRaised (it : SuperBlock) (old new : DiskState) : Type 0 where
+  pub now : new.now ≡ slice_set old.now 0 (super_cell it)
+  pub settled : IsSettled new
+  pub was : new.was new.moment ≡ new.now
+  pub clean : new.dirty ≡ []
+  pub moment : new.moment ≡ old.moment + 4
+  pub spare : new.spare + 2 ≡ old.spare

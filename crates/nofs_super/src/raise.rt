@@ -1,0 +1,49 @@
+//! The mount number is raised, so that no stamp of an earlier mount comes again.
+ghost use Rattle.std.specs.Prelude.{◌≡◌, ◌+◌, ◌-◌, ◌^◌, ◌<◌, ◌≤◌, ◌⊎◌, IfOk, IfErr, OnOk, OnErr, slice_set};
+ghost use Rattle.nofs_disk.specs.Adds.{Adds};
+ghost use Rattle.nofs_disk.specs.Disk.{Rose};
+ghost use Rattle.nofs_super.specs.Format.{super_cell};
+ghost use Rattle.nofs_super.specs.Raise.{IsRaised, IsSuperCell, raised};
+
+use crate::superblock::{MountFault, SuperBlock, write_super};
+use nofs_disk::{Cell, Disk};
+
+/// Writes the superblock with its mount number one higher, and flushes.
+///
+/// At each moment of the call a crash leaves in block 0 what it may have left before or the raised
+/// superblock, and in each other block what it may have left before.
+///
+/// # Errors
+///
+/// `WriteFault` where the write or the flush failed.
+pub fn raise_mount<D: Disk>(disk: &mut D, old: &SuperBlock) -> Result<SuperBlock, MountFault>
+    requires blocks { 0 < (D.state disk.old).blocks }
+    requires spare { 2 ≤ (D.state disk.old).spare }
+    requires mount { old.now.mount < 2 ^ 24 - 1 }
+
+    ensures value { IfOk result (λ it. it ≡ raised old.now) }
+    ensures ends { OnOk result (IsRaised (raised old.now) (D.state disk.old) (D.state disk.new)) }
+    ensures adds { Adds (IsSuperCell (raised old.now)) (D.state disk.old) (D.state disk.new) }
+    ensures fault { IfErr result (λ fault. fault ≡ MountFault.WriteFault) }
+    ensures cause { OnErr result (Rose (D.state disk.old).faults (D.state disk.new).faults) }
+    ensures began { OnErr result ((D.state disk.old).moment < (D.state disk.new).moment) }
+    ensures now { OnErr result (((D.state disk.new).now ≡ (D.state disk.old).now) ⊎ ((D.state disk.new).now ≡ slice_set (D.state disk.old).now 0 (super_cell (raised old.now)))) }
+{
+    let it = SuperBlock {
+        version: old.version,
+        blocks: old.blocks,
+        inodes: old.inodes,
+        mount: old.mount + 1,
+    };
+    let mut cell = Cell::ZERO;
+    write_super(&it, &mut cell);
+    if disk.write(0, &cell).is_err() {
+        return Err(MountFault::WriteFault);
+    }
+    // A crash after later writes and before this flush would leave their stamps under the old
+    // number, and the next mount would give them again.
+    match disk.flush() {
+        Ok(()) => Ok(it),
+        Err(_) => Err(MountFault::WriteFault),
+    }
+}

@@ -1,0 +1,34 @@
+-- What a pass knows, and what a call tells it.
+use Rattle.std.specs.Prelude.{◌≡◌, ℕ, ◌+◌, ◌*◌, ◌<◌, ◌≤◌, List, ◌++◌, length, drop, Some}
+use mathlib.Core.List.{IsPrefix}
+use Rattle.nofs_turn.specs.declared.view.View.{View}
+use Rattle.nofs_turn.specs.Lists.{numbered}
+
+-- A section ran once between the views v and w, and answered out. It met the list `before` and left `after`
+pub record Ran {E F Out : Type 0} (tells : F → List E → List E → Out → Type 0) (v w : View E F) (out : Out) : Type 0 where
+  pub part : F
+  pub before : List E
+  pub after : List E
+  pub looks_now : ℕ
+  pub same_part : v.fixed ≡ Some part
+  pub begins : IsPrefix v.seen before
+  pub keeps : IsPrefix before after
+  pub at_most_one : length after ≤ length before + 1
+  pub told : tells part before after out
+  pub looked_more : v.looks < looks_now
+  pub now : w ≡ record v { seen = after; mine = v.mine ++ numbered (length before) (drop (length before) after); looks = looks_now; last = 2 * length before }
+
+-- what the pass v knows lets the section run
+abbrev pub MayRun : {E F : Type 0} → (F → List E → Type 0) → View E F → Type 0
+MayRun {F = F} asks v = (f : F) → v.fixed ≡ Some f → asks f v.seen
+
+-- nothing but looks, which found the turn taken
+abbrev pub Waited : {E F : Type 0} → View E F → View E F → Type 0
+Waited v w = (v.looks ≤ w.looks) × (w ≡ record v { looks = w.looks; last = w.last })
+
+-- The pass v gets the value at the end: it has the fixed part, the list begins with all that was seen, and the entries from the start on are the pass's own
+pub record Closes {T E F : Type 0} (entries : T → List E) (fixed : T → F) (v : View E F) (value : T) : Type 0 where
+  pub same_part : v.fixed ≡ Some (fixed value)
+  pub begins : IsPrefix v.seen (entries value)
+  pub grown : v.start ≤ length (entries value)
+  pub all_mine : v.mine ≡ numbered v.start (drop v.start (entries value))

@@ -1,0 +1,168 @@
+//! What a pass does at the turn: look, take and give, join and close.
+//!
+//! Promise: the list that a section meets begins with all that its pass had seen, and the pass then has seen the
+//! whole list. Only `with` waits.
+ghost use Rattle.std.specs.Prelude.{◌≡◌, ℕ, ◌+◌, ◌*◌, ◌/◌, ◌%◌, ◌^◌, ◌<◌, ◌≤◌, true, false, [], ◌∷◌, length, Some, IfOk, IfErr, OnOk, OnErr};
+ghost use mathlib.Core.List.{IsPrefix};
+
+use crate::kept::{Kept, Section};
+use crate::rule::{Give, Look, Settle, Take, Unite};
+use crate::turn::{Busy, Pass, PassesOut, Turn};
+use crate::view::View;
+use atomic_table::Seat;
+use std::sync::Wait;
+use std::sync::atomic::Ordering;
+
+impl<V: Kept> Turn<V> {
+    ghost use Rattle.nofs_turn.specs.Views.{looked, gave, joined};
+    ghost use Rattle.nofs_turn.specs.Passes.{Ran, MayRun, Closes, Waited};
+    ghost use Rattle.nofs_turn.specs.Rules.{TakesFree, TakesBusy};
+    ghost use Rattle.nofs_turn.specs.Turns.{view_of, IsPassOf};
+    ghost use Rattle.nofs_turn.specs.Lists.{rises};
+
+    /// The number of entries, at least as many as the pass had seen. It makes one look, waits for nobody and takes
+    /// no memory.
+    pub fn count(&self, pass: &mut Pass<V>) -> u64
+        requires { IsPassOf self.now pass.old }
+        ensures of { IsPassOf self.now pass.new }
+        ensures look { (found : ℕ) × (result ≡ found / 2) × (view_of pass.new ≡ looked (view_of pass.old) found) }
+        ensures at_least { length (view_of pass.old).seen ≤ result }
+    {
+        self.table.shared.load::<Look>(&mut pass.seat, 0) / 2
+    }
+
+    // One look, which takes the turn where it is free.
+    fn take(&self, seat: &mut Seat<Option<V>, View<V::Entry, V::Fixed>>) -> u64
+        requires of { seat.old.table_id ≡ self.now.table.shared.table_id }
+        requires rests { (0 < seat.old.me.0.stands) × (seat.old.me.0.has ≡ false) × (seat.old.me.1 ≡ []) }
+        ensures same { (seat.new.table_id ≡ seat.old.table_id) × (seat.new.id ≡ seat.old.id) }
+        ensures free { result % 2 ≡ 0 → TakesFree V.entries V.fixed seat.old.me.0 result seat.new.me }
+        ensures busy { result % 2 ≡ 1 → TakesBusy seat.old.me.0 result seat.new.me }
+    {
+        self.table.shared.fetch_or::<Take>(seat, 0, 1)
+    }
+
+    // Runs the section on the value that the seat carries, and gives the turn back.
+    fn run<S: Section<V>>(
+        &self,
+        seat: &mut Seat<Option<V>, View<V::Entry, V::Fixed>>,
+        section: S,
+    ) -> S::Out
+        requires of { seat.old.table_id ≡ self.now.table.shared.table_id }
+        requires has { seat.old.me.0.has ≡ true }
+        requires carries { (x : V) × (seat.old.me.1 ≡ (0, Some x) ∷ []) × (V.entries x ≡ seat.old.me.0.seen) × (seat.old.me.0.fixed ≡ Some (V.fixed x)) × S.asks section (V.fixed x) (V.entries x) }
+        ensures same { (seat.new.table_id ≡ seat.old.table_id) × (seat.new.id ≡ seat.old.id) }
+        ensures ran { (x y : V) × (V.entries x ≡ seat.old.me.0.seen) × (seat.old.me.0.fixed ≡ Some (V.fixed x)) × IsPrefix (V.entries x) (V.entries y) × (length (V.entries y) ≤ length (V.entries x) + 1) × S.tells section (V.fixed x) (V.entries x) (V.entries y) result × (seat.new.me ≡ (gave seat.old.me.0 (V.entries y), [])) }
+        ensures rising { rises 0 seat.new.me.0.mine ≡ true }
+    {
+        let Some(mut value) = self.table.shared.exchange(seat, 0, None) else {
+            unreachable!()
+        };
+        let out = section.run(&mut value);
+        let kept = value.kept();
+        let nothing = self.table.shared.exchange(seat, 0, Some(value));
+        let None = nothing else { unreachable!() };
+        self.table.shared.store::<Give>(seat, 0, 2 * kept);
+        self.wake();
+        out
+    }
+
+    // Wakes one thread that waits. A waiting thread counts itself before it looks at the word for the last time,
+    // so it either saw the turn free or is counted here.
+    fn wake(&self) {
+        if self.parked.load(Ordering::SeqCst) > 0 {
+            self.table.shared.wake_one(0);
+        }
+    }
+
+    // Sleeps while the word is the one that was found, until a wake.
+    fn wait<R: Wait>(&self, rt: &R, word: u64) {
+        self.parked.fetch_add(1, Ordering::SeqCst);
+        self.table.shared.park(rt, 0, (word % (1 << 32)) as u32);
+        self.parked.fetch_sub(1, Ordering::SeqCst);
+    }
+
+    /// Runs the section where the turn is free, and else answers `Busy` with the section and the odd word found. It
+    /// makes one look, waits for nobody and takes no memory. A pass that stands for all passes never finds it busy.
+    pub fn try_with<S: Section<V>>(&self, pass: &mut Pass<V>, section: S) -> Result<S::Out, Busy<S>>
+        requires of { IsPassOf self.now pass.old }
+        requires may { MayRun (S.asks section) (view_of pass.old) }
+        ensures of { IsPassOf self.now pass.new }
+        ensures ran { IfOk result (λ out. Ran (S.tells section) (view_of pass.old) (view_of pass.new) out) }
+        ensures one_look { (view_of pass.new).looks ≡ (view_of pass.old).looks + 1 }
+        ensures busy { IfErr result (λ b. (b.section ≡ section) × (b.word % 2 ≡ 1) × (view_of pass.new ≡ looked (view_of pass.old) b.word)) }
+        ensures others { OnErr result ((view_of pass.old).stands < (view_of pass.old).seats) }
+    {
+        let found = self.take(&mut pass.seat);
+        if found % 2 == 1 {
+            return Err(Busy {
+                section,
+                word: found,
+            });
+        }
+        Ok(self.run(&mut pass.seat, section))
+    }
+
+    /// Waits for the turn, and runs the section once.
+    pub fn with<R: Wait, S: Section<V>>(&self, rt: &R, pass: &mut Pass<V>, section: S) -> S::Out
+        requires of { IsPassOf self.now pass.old }
+        requires may { MayRun (S.asks section) (view_of pass.old) }
+        ensures of { IsPassOf self.now pass.new }
+        ensures ran { Ran (S.tells section) (view_of pass.old) (view_of pass.new) result }
+    {
+        let mut waiting = section;
+        for _ in rt.forever() {
+            match self.try_with(pass, waiting) {
+                Ok(out) => return out,
+                Err(busy) => {
+                    let Busy { section, word } = busy;
+                    waiting = section;
+                    self.wait(rt, word);
+                }
+            }
+        }
+        unreachable!()
+    }
+
+    /// The one pass then has seen what both had seen, has the entries of both, and stands for the passes of both.
+    pub fn join(&self, into: &mut Pass<V>, from: Pass<V>)
+        requires of { IsPassOf self.now into.old × IsPassOf self.now from }
+        ensures of { IsPassOf self.now into.new }
+        ensures joined { view_of into.new ≡ joined (view_of into.old) (view_of from) }
+        ensures knows { IsPrefix (view_of into.old).seen (view_of into.new).seen × IsPrefix (view_of from).seen (view_of into.new).seen }
+    {
+        let Pass { seat, stands } = from;
+        self.table.shared.join_seat::<Unite>(&mut into.seat, seat);
+        self.table.shared.load::<Settle>(&mut into.seat, 0);
+        into.stands += stands;
+    }
+
+    /// The value, where the pass stands for all passes of the turn; else all comes back with the number of those
+    /// that are out. A pass that was dropped stays out for good.
+    pub fn close(self, pass: Pass<V>) -> Result<V, PassesOut<V>>
+        requires of { IsPassOf self pass }
+        ensures closed { IfOk result (λ value. Closes V.entries V.fixed (view_of pass) value × ((view_of pass).stands ≡ (view_of pass).seats)) }
+        ensures out { IfErr result (λ e. (e.turn ≡ self) × (e.pass ≡ pass) × (0 < e.out) × (e.out + (view_of pass).stands ≡ (view_of pass).seats)) }
+    {
+        if pass.stands < self.seats {
+            let out = self.seats - pass.stands;
+            return Err(PassesOut {
+                turn: self,
+                pass,
+                out,
+            });
+        }
+        let Turn {
+            table,
+            seats: _,
+            parked: _,
+        } = self;
+        let Pass { seat, stands: _ } = pass;
+        let mut closed = table.close_with(seat);
+        let Some(value) = closed.take(0) else {
+            unreachable!()
+        };
+        closed.free();
+        Ok(value)
+    }
+}

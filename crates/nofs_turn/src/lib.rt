@@ -1,0 +1,20 @@
+//! The turn: a lock whose one word counts the entries of the value behind it.
+//!
+//! Promise: one pass at a time has the value. A section adds at most one entry, so the list behind the turn
+//! grows by whole sections, and each pass has seen a beginning of it. A pass keeps the places of its own
+//! entries; no place belongs to two passes, and at the end the places joined are all that were added.
+//! Nothing is promised of who comes first, or that a waiting pass ever gets on. `docs/TURN.md` explains it.
+#![tactic(auto)]
+
+mod calls;
+mod kept;
+mod making;
+mod rule;
+#[cfg(test)]
+mod tests;
+mod turn;
+mod view;
+
+pub use kept::{Kept, Section};
+pub use turn::{Busy, Pass, PassesOut, Turn, TurnFault};
+pub use view::View;
