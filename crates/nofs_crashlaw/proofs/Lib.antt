@@ -1,0 +1,13 @@
+pub mod Marks
+pub mod NewMark
+pub mod Flushing
+pub mod Rest
+pub mod Resting
+pub mod Histories
+pub mod Later
+pub mod Names
+pub mod Unflushed
+pub mod Below
+pub mod Staging
+pub mod FlushStage
+pub mod FirstStage

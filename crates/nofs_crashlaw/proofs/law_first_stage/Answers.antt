@@ -1,0 +1,5 @@
+use Rattle.nofs_crashlaw.proofs.FirstStage.{law-first-stage}
+use Rattle.nofs_crashlaw.proofs.law_first_stage.Goals as goal
+
+pub returns : goal.returns
+returns g c = λ disk. law-first-stage (g.D.Disk.state disk)

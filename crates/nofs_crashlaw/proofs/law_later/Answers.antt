@@ -1,0 +1,5 @@
+use Rattle.nofs_crashlaw.proofs.Later.{law-later}
+use Rattle.nofs_crashlaw.proofs.law_later.Goals as goal
+
+pub returns : goal.returns
+returns c = law-later

@@ -1,0 +1,5 @@
+use Rattle.nofs_crashlaw.proofs.Resting.{law-rest}
+use Rattle.nofs_crashlaw.proofs.law_rest.Goals as goal
+
+pub returns : goal.returns
+returns c = law-rest

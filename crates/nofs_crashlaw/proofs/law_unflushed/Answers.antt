@@ -1,0 +1,5 @@
+use Rattle.nofs_crashlaw.proofs.Unflushed.{law-unflushed}
+use Rattle.nofs_crashlaw.proofs.law_unflushed.Goals as goal
+
+pub returns : goal.returns
+returns c = law-unflushed

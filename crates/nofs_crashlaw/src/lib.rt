@@ -1,0 +1,59 @@
+//! What a crash may leave: the laws over the definitions, each the contract of a function.
+//!
+//! Promise: where each write of a step is proper, every image that a crash may leave at any moment
+//! reads each slot as content given since the last flush, as a hole, or as lost.
+#![tactic(auto)]
+
+ghost use Rattle.nofs_crashlaw.specs.Laws.{LawLater, LawNames, LawRest, LawStep, LawUnflushed};
+ghost use Rattle.nofs_crashlaw.specs.Stage.{LawFirstStage, LawFlushStage, LawIdleStage, LawLasts, LawStage, LawTracked};
+
+use nofs_disk::Disk;
+pub use nofs_lives::{law_begin, law_lives, law_mount_stamps};
+pub use nofs_model::law_sound;
+pub use nofs_reasons::{law_flush, law_images, law_moment};
+pub use nofs_statelaw::{law_fresh, law_good, law_homes, law_moves, law_pieces};
+
+/// A step whose writes are proper leaves only images that are allowed with its entry under way.
+pub fn law_step()
+    ensures { LawStep }
+{}
+
+/// Entries that come later change nothing of what is allowed at a moment.
+pub fn law_later()
+    ensures { LawLater }
+{}
+
+/// What is live and not agreed stays the base's over each step.
+pub fn law_rest()
+    ensures { LawRest }
+{}
+
+/// A name that every version since the mark agrees on is a pair in each image.
+pub fn law_names()
+    ensures { LawNames }
+{}
+
+/// A life with an empty history leaves its base: so a mount that ended inside its raise is a life.
+pub fn law_unflushed()
+    ensures { LawUnflushed }
+{}
+
+/// Over the states of a disk: a step that does not flush keeps what holds between two steps. Where a
+/// write of it failed, all that a crash may leave stays allowed.
+pub fn law_stage<D: Disk>()
+    ensures lasts { (old new : D) → LawLasts (D.state old) (D.state new) }
+    ensures stage { (old new : D) → LawStage (D.state old) (D.state new) }
+    ensures idle { (old new : D) → LawIdleStage (D.state old) (D.state new) }
+    ensures tracked { (disk : D) → LawTracked (D.state disk) }
+{}
+
+/// Over the states of a disk: a flush that succeeds makes the disk before it the new mark.
+pub fn law_flush_stage<D: Disk>()
+    ensures { (old new : D) → LawFlushStage (D.state old) (D.state new) }
+{}
+
+/// Over the states of a disk: after a mount that succeeded the first step may begin, and so may a
+/// flush.
+pub fn law_first_stage<D: Disk>()
+    ensures { (disk : D) → LawFirstStage (D.state disk) }
+{}

@@ -1,0 +1,11 @@
+pub mod Matching
+pub mod Framing
+pub mod Touching
+pub mod Alike
+pub mod Entries
+pub mod Growth
+pub mod Shrinking
+pub mod Given
+pub mod Claiming
+pub mod EntryCells
+pub mod FrameLaws

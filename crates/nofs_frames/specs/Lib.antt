@@ -1,0 +1,4 @@
+pub mod Frames
+pub mod Gives
+pub mod Grows
+pub mod Laws

@@ -1,0 +1,5 @@
+pub mod OnlySuper
+pub mod Numbers
+pub mod Values
+pub mod Begin
+pub mod Within

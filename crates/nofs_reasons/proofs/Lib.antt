@@ -1,0 +1,4 @@
+pub mod Trace
+pub mod Steady
+pub mod Writes
+pub mod Moments

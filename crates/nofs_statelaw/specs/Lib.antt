@@ -1,0 +1,4 @@
+pub mod Homes
+pub mod Fresh
+pub mod Moves
+pub mod Pieces
