@@ -9,7 +9,7 @@ use nofs_dirent::name_ok;
 use nofs_disk::{read_u32_at, read_u64_at};
 
 /// Whether the entry at a place of a directory cell names this generation of an inode.
-pub(crate) fn names(payload: &[u8; 1024], at: u32, inode: u32, generation: u64) -> bool
+pub fn names_inode(payload: &[u8; 1024], at: u32, inode: u32, generation: u64) -> bool
     requires { at < 16 }
     ensures { result ≡ names (entry_in payload.now at) inode generation }
 {

@@ -15,10 +15,10 @@ mod path;
 mod place;
 mod scan;
 mod slots;
-#[cfg(test)]
-mod tests;
+mod tags;
 mod value;
 
+pub use entry::names_inode;
 pub use laws::{law_formatted, law_mountable, law_names, law_owners, law_slots, law_sound};
 pub use mountable::is_mountable;
 pub use names::agreed;
@@ -27,4 +27,5 @@ pub use path::PathAnswer;
 pub use place::{Place, has_pointers, place_of, slot_number};
 pub use scan::{ScanResult, full_scan};
 pub use slots::value_of;
+pub use tags::{is_tag, kind_in, record_pointer};
 pub use value::Value;

@@ -6,7 +6,7 @@ ghost use Rattle.nofs_model.specs.Files as files;
 ghost use Rattle.nofs_model.specs.Geometry as image;
 ghost use Rattle.nofs_model.specs.Places.{AreAgreed, IsRead, IsRecord, is_known};
 
-use crate::entry::names;
+use crate::entry::names_inode;
 use crate::image::{cell_at, numbers_of, read_inode};
 use crate::path::PathAnswer;
 use crate::slots::find_number;
@@ -140,7 +140,7 @@ fn has_entry(cells: &[Cell], at: &SuperBlock, link: &BackLink, inode: u32, gener
     match find_number(cells, at, link.directory, u64::from(link.entry / 16)) {
         PathAnswer::Holds(pointer) => {
             let block = cell_at(cells, pointer.block);
-            names(&block.payload, link.entry % 16, inode, generation)
+            names_inode(&block.payload, link.entry % 16, inode, generation)
         }
         PathAnswer::Hole => false,
         PathAnswer::Lost => false,

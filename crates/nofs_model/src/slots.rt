@@ -1,17 +1,16 @@
 //! What stands in the slots of an image.
 ghost use Rattle.std.specs.Prelude.{◌≡◌, ◌<◌, ◌≤◌, ◌+◌, ◌/◌, length, IfOk, IsTrue};
-ghost use Rattle.nofs_disk.specs.Tag.{tag_of};
-ghost use Rattle.nofs_model.specs.Cells as cells;
 ghost use Rattle.nofs_model.specs.Geometry.{IsMountable};
 ghost use Rattle.nofs_model.specs.Places.{InArea, IsPlace, IsRead, IsRecord, path_in};
 ghost use Rattle.nofs_model.specs.Slots as slots;
 
 use crate::image::{cell_at, numbers_of, read_inode};
 use crate::path::PathAnswer;
-use crate::place::{Place, has_pointers, place_of, slot_number};
+use crate::place::{Place, place_of, slot_number};
+use crate::tags::{is_tag, kind_in, record_pointer};
 use crate::value::Value;
-use nofs_disk::{Cell, Kind, Pointer, Tag, read_tag};
-use nofs_inode::{FileKind, Record};
+use nofs_disk::{Cell, Pointer, Tag};
+use nofs_inode::Record;
 use nofs_lists::Content;
 use nofs_ptrs::read_pointer;
 use nofs_super::SuperBlock;
@@ -170,63 +169,4 @@ fn judge(
     } else {
         PathAnswer::Lost
     }
-}
-
-// The pointer at a place of a record.
-fn record_pointer(it: &Record, place: u64) -> Pointer
-    requires { place < 10 }
-    ensures { result ≡ slots.record_pointer it.now place }
-{
-    match place {
-        8 => it.leaf,
-        9 => it.top,
-        _ => it.direct[place as usize],
-    }
-}
-
-// The kind of a block in this place.
-fn kind_in(it: &Record, place: Place) -> Kind
-    ensures { result ≡ slots.kind_in it.now (path_in place) }
-{
-    if has_pointers(place) {
-        Kind::Leaf
-    } else {
-        content_kind(it.kind)
-    }
-}
-
-fn content_kind(kind: Option<FileKind>) -> Kind
-    ensures { result ≡ slots.content_kind kind }
-{
-    match kind {
-        Some(FileKind::Directory) => Kind::Directory,
-        Some(FileKind::File) => Kind::Content,
-        None => Kind::Content,
-    }
-}
-
-// Whether these bytes spell this tag.
-fn is_tag(bytes: &[u8; 32], wanted: &Tag) -> bool
-    ensures { result ≡ slots.is_tag (tag_of bytes.now) wanted.now }
-{
-    match read_tag(bytes) {
-        None => false,
-        Some(tag) => same_tag(&tag, wanted),
-    }
-}
-
-fn same_tag(a: &Tag, b: &Tag) -> bool
-    ensures { result ≡ cells.same_tag a.now b.now }
-{
-    same_kind(a.kind, b.kind)
-        && a.inode == b.inode
-        && a.generation == b.generation
-        && a.slot == b.slot
-        && a.stamp == b.stamp
-}
-
-fn same_kind(a: Kind, b: Kind) -> bool
-    ensures { result ≡ cells.same_kind a b }
-{
-    a == b
 }
