@@ -1,0 +1,11 @@
+use Rattle.std.proofs.Common.{Ok, ap, ◌∙◌, arith}
+use Rattle.nofs_agree.proofs.Climbs.{passed-ends, passed-goes}
+use Rattle.nofs_agree.proofs.chain.has_agreed_link.Goals as goal
+
+pub loop-place-preserved : goal.loop-place-preserved
+loop-place-preserved g c =
+    passed-goes _ _ _ c.args.known.now c.args.inode c.args.it.now _ _ c.loop-place.place c.is_agreed_link.result c.loop-place.invariant c.is_agreed_link.ensures (c.in_ok-is_agreed_link.was ∙ ap Ok c.if-branch.false)
+
+pub returns : goal.returns
+returns g c =
+    passed-ends _ _ c.args.at.now c.args.known.now c.args.inode c.args.it.now _ c.loop-place.place c.requires.record c.loop-place.invariant (omega arith)

@@ -1,0 +1,3 @@
+pub mod Reading
+pub mod Finding
+pub mod Chains

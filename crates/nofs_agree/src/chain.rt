@@ -1,0 +1,190 @@
+//! The check of a chain of directories, from an inode up to the root.
+//!
+//! Promise: it answers whether the inode is agreed, where each inode that is said to be known is,
+//! and ends whatever the image is, since each directory on the way is older than the one below.
+ghost use Rattle.std.specs.Prelude.{◌≡◌, IfOk, IsTrue, OnErr, length};
+ghost use Rattle.std.specs.List.{list_any};
+ghost use Rattle.nofs_disk.specs.Disk.{Rose, StaysButFaults};
+ghost use Rattle.nofs_inode.specs.declared.inode.FileKind.TheVariants as kind;
+ghost use Rattle.nofs_model.specs.Files as files;
+ghost use Rattle.nofs_model.specs.Geometry as image;
+ghost use Rattle.nofs_agree.specs.Chains.{AreAgreed, ReadsParent, TellsAgreed, is_agreed_link, is_known};
+ghost use Rattle.nofs_agree.specs.Reading.{IsAt, IsLast, KnowsDirectory, KnowsInode};
+
+use crate::pair::{first_link, is_directory, read_pair};
+use crate::reads::{LastRead, read_inode};
+use nofs_bits::Bits;
+use nofs_disk::{Disk, Failed};
+use nofs_inode::{BackLink, FileKind, Record};
+use nofs_super::SuperBlock;
+
+/// Whether an inode is agreed, where some are known to be: bit `i - 1` of `known` is inode `i`. It
+/// asks the superblock of the disk, and a bit for each inode. Where some set bit isn't an agreed
+/// inode, the answer may be either.
+///
+/// # Errors
+///
+/// `Failed` where a read failed.
+pub fn check_chain<D: Disk>(
+    disk: &mut D,
+    at: &SuperBlock,
+    known: &Bits,
+    inode: u32,
+) -> Result<bool, Failed>
+    requires numbers { IsAt (D.state disk.old) at.now }
+    requires known { length known.now ≡ at.now.inodes }
+    ensures stays { StaysButFaults (D.state disk.old) (D.state disk.new) }
+    ensures agreed { IfOk result (λ answer. IsTrue (D.state disk.old).tells → AreAgreed (D.state disk.old).now known.now → answer ≡ files.agreed (files.files_in (D.state disk.old).now) inode) }
+    ensures cause { OnErr result (Rose (D.state disk.old).faults (D.state disk.new).faults) }
+{
+    if is_known(known, at.inodes, inode) {
+        return Ok(true);
+    }
+    let mut last = LastRead::NONE;
+    let it = read_inode(disk, at, inode, &mut last)?;
+    if is_root(inode, &it) {
+        return Ok(true);
+    }
+    if is_special(inode) {
+        return Ok(false);
+    }
+    has_agreed_link(disk, at, known, inode, &it, &mut last)
+}
+
+fn is_known(known: &Bits, inodes: u64, inode: u32) -> bool
+    requires { length known.now ≡ inodes }
+    ensures { result ≡ is_known known.now inode }
+{
+    let number = u64::from(inode);
+    1 <= number && number <= inodes && known.get(number - 1)
+}
+
+// Whether this is the root or the label file, and live as such.
+fn is_root(inode: u32, it: &Record) -> bool
+    ensures { (X : image.Image) → image.inode X inode ≡ it.now → result ≡ files.is_root (files.files_in X) inode }
+{
+    match inode {
+        1 => is_directory(it, 1),
+        2 => is_file(it, 2),
+        _ => false,
+    }
+}
+
+fn is_file(it: &Record, generation: u64) -> bool
+    ensures { result ≡ files.is_record kind.File generation it.now }
+{
+    it.kind == Some(FileKind::File) && it.generation == generation
+}
+
+fn is_special(inode: u32) -> bool
+    ensures { result ≡ files.is_special inode }
+{
+    inode == 1 || inode == 2
+}
+
+// Whether some back link of the inode is a pair with an agreed directory.
+fn has_agreed_link<D: Disk>(
+    disk: &mut D,
+    at: &SuperBlock,
+    known: &Bits,
+    inode: u32,
+    it: &Record,
+    last: &mut LastRead,
+) -> Result<bool, Failed>
+    requires record { KnowsInode (D.state disk.old) at.now inode it.now }
+    requires known { length known.now ≡ at.now.inodes }
+    requires last { IsLast (D.state disk.old) last.old }
+    ensures { TellsAgreed (D.state disk.old) (D.state disk.new) known.now (λ X. list_any (is_agreed_link (files.files_in X) inode) it.now.links) last.new result }
+{
+    for place in 0..4 {
+        if is_agreed_link(disk, at, known, inode, it, &it.links[place], last)? {
+            return Ok(true);
+        }
+    }
+    Ok(false)
+}
+
+fn is_agreed_link<D: Disk>(
+    disk: &mut D,
+    at: &SuperBlock,
+    known: &Bits,
+    inode: u32,
+    it: &Record,
+    link: &BackLink,
+    last: &mut LastRead,
+) -> Result<bool, Failed>
+    requires record { KnowsInode (D.state disk.old) at.now inode it.now }
+    requires known { length known.now ≡ at.now.inodes }
+    requires last { IsLast (D.state disk.old) last.old }
+    ensures { TellsAgreed (D.state disk.old) (D.state disk.new) known.now (λ X. is_agreed_link (files.files_in X) inode link.now) last.new result }
+{
+    match read_pair(disk, at, inode, it, link, last)? {
+        None => Ok(false),
+        Some(record) => {
+            let directory = Directory {
+                inode: link.directory,
+                record,
+            };
+            is_agreed_directory(disk, at, known, directory, last)
+        }
+    }
+}
+
+// A directory on the way up, and its record.
+#[derive(Clone, Copy)]
+struct Directory {
+    pub inode: u32,
+    pub record: Record,
+}
+
+// Whether a directory is agreed: the way up from it ends at the root, or at a known one.
+fn is_agreed_directory<D: Disk>(
+    disk: &mut D,
+    at: &SuperBlock,
+    known: &Bits,
+    directory: Directory,
+    last: &mut LastRead,
+) -> Result<bool, Failed>
+    requires record { KnowsDirectory (D.state disk.old) at.now directory.inode directory.record.generation directory.record }
+    requires known { length known.now ≡ at.now.inodes }
+    requires last { IsLast (D.state disk.old) last.old }
+    ensures { TellsAgreed (D.state disk.old) (D.state disk.new) known.now (λ X. files.agreed (files.files_in X) directory.inode) last.new result }
+{
+    let mut here = directory;
+    loop {
+        if is_known(known, at.inodes, here.inode) {
+            return Ok(true);
+        }
+        if is_root(here.inode, &here.record) {
+            return Ok(true);
+        }
+        if is_special(here.inode) {
+            return Ok(false);
+        }
+        match read_parent(disk, at, &here, last)? {
+            None => return Ok(false),
+            Some(parent) => here = parent,
+        }
+    }
+}
+
+// The directory that names this one, and that this one names back.
+fn read_parent<D: Disk>(
+    disk: &mut D,
+    at: &SuperBlock,
+    directory: &Directory,
+    last: &mut LastRead,
+) -> Result<Option<Directory>, Failed>
+    requires record { KnowsDirectory (D.state disk.old) at.now directory.now.inode directory.now.record.generation directory.now.record }
+    requires last { IsLast (D.state disk.old) last.old }
+    ensures { ReadsParent (D.state disk.old) (D.state disk.new) at.now directory.now last.new result }
+{
+    let link = first_link(&directory.record.links);
+    match read_pair(disk, at, directory.inode, &directory.record, &link, last)? {
+        None => Ok(None),
+        Some(record) => Ok(Some(Directory {
+            inode: link.directory,
+            record,
+        })),
+    }
+}
