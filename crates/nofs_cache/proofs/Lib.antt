@@ -1,0 +1,6 @@
+pub mod WritesBack
+pub mod Settling
+pub mod CacheCalls
+pub mod CacheWrites
+pub mod CacheFlushes
+pub mod CacheLeaves

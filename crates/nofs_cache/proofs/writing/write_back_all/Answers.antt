@@ -1,0 +1,17 @@
+use Rattle.std.proofs.Common.{arith, ◌∙◌}
+use Rattle.nofs_cache.proofs.WritesBack.{WrittenBack-trans}
+use Rattle.nofs_cache.proofs.writing.write_back_all.Goals as goal
+
+pub returns-in-Err-clause-writes_back : goal.returns-in-Err-clause-writes_back
+returns-in-Err-clause-writes_back g c = WrittenBack-trans _ _ _ _ _ _ c.loop.invariant.0 c.write_back.ensures.writes_back
+
+pub loop-preserved : goal.loop-preserved
+loop-preserved g c =
+    let before = c.loop.invariant in
+    let len = before.1 in
+    let fewer = c.in-Ok.ensures.fewer in
+    let room = before.2 in
+    let room_ok = c.in-Ok.ensures.spare_ok in
+    let more = before.4 in
+    let more_room = c.write_back.ensures.room in
+    (WrittenBack-trans _ _ _ _ _ _ before.0 c.write_back.ensures.writes_back, omega arith, omega arith, c.write_back.ensures.blocks ∙ before.3, omega arith)

@@ -1,0 +1,12 @@
+use Rattle.std.proofs.Common.{◌≡◌, ◌+◌, ◌-◌, ◌≤◌, length}
+use Rattle.nofs_cache.specs.DirtyBlocks.{blocks_of, entries_of, room_of}
+use Rattle.nofs_cache.specs.Cache.{WrittenBack}
+use Rattle.nofs_cache.proofs.writing.write_back_all.Given as goal
+
+abbrev pub invariant-loop : goal.invariant-loop
+invariant-loop g l =
+    WrittenBack (g.D.Disk.state l.initial.under) (g.D.Disk.state l.under) (entries_of l.initial.dirty) (entries_of l.dirty)
+    × (length (entries_of l.dirty) ≡ length (entries_of l.initial.dirty) - l.counter)
+    × ((g.D.Disk.state l.initial.under).spare + length (entries_of l.dirty) ≤ (g.D.Disk.state l.under).spare + length (entries_of l.initial.dirty))
+    × (blocks_of l.dirty ≡ blocks_of l.initial.dirty)
+    × (room_of l.initial.dirty ≤ room_of l.dirty)
