@@ -1,0 +1,163 @@
+//! One call of one side, and what two answers make together.
+//!
+//! Promise: a side that is out is never called.
+ghost use Rattle.std.specs.Prelude.{◌≡◌, ◌<◌, ◌≤◌, IsFalse};
+ghost use Rattle.nofs_mirror.specs.Asking.{SideFlushes, SideReads, SideWrites, any_done, is_asked, is_done, lead_stays, other_stays};
+
+use nofs_disk::{Cell, Disk};
+
+/// What a side answered.
+#[derive(Clone, Copy, Debug, PartialEq, Eq)]
+pub enum Answer {
+    /// The side is out, and wasn't called.
+    Out,
+    /// The call succeeded.
+    Done,
+    /// The call failed.
+    Fault,
+}
+
+/// What a side answered, and its moments at the call's start and end.
+#[derive(Clone, Copy)]
+pub struct Asked {
+    pub answer: Answer,
+    pub began: u64,
+    pub ended: u64,
+}
+
+/// Whether the call succeeded.
+pub fn is_done(answer: Answer) -> bool
+    ensures { result ≡ is_done answer }
+{
+    match answer {
+        Answer::Out => false,
+        Answer::Done => true,
+        Answer::Fault => false,
+    }
+}
+
+/// Whether the call succeeded on some side.
+pub fn any_done(lead: Answer, other: Answer) -> bool
+    ensures { result ≡ any_done lead other }
+{
+    is_done(lead) || is_done(other)
+}
+
+/// Whether the lead stays in: where it succeeded, and where it failed and the other did not succeed.
+pub fn lead_stays(lead: Answer, other: Answer) -> bool
+    ensures { result ≡ lead_stays lead other }
+{
+    match lead {
+        Answer::Out => false,
+        Answer::Done => true,
+        Answer::Fault => !is_done(other),
+    }
+}
+
+/// Whether the other stays in: where it succeeded, and where it failed and the lead is out.
+pub fn other_stays(lead: Answer, other: Answer) -> bool
+    ensures { result ≡ other_stays lead other }
+{
+    match lead {
+        Answer::Out => is_asked(other),
+        Answer::Done => is_done(other),
+        Answer::Fault => is_done(other),
+    }
+}
+
+// Whether the side was called.
+fn is_asked(answer: Answer) -> bool
+    ensures { result ≡ is_asked answer }
+{
+    match answer {
+        Answer::Out => false,
+        Answer::Done => true,
+        Answer::Fault => true,
+    }
+}
+
+/// Reads from a side that is in.
+pub fn read_side<D: Disk>(disk: &mut D, is_in: bool, block: u64, into: &mut Cell) -> Answer
+    requires { block < (D.state disk.old).blocks }
+    ensures reads { SideReads (D.state disk.old) (D.state disk.new) block into.new result }
+    ensures asked { is_asked result ≡ is_in }
+    ensures untouched { IsFalse is_in → disk.new ≡ disk.old }
+{
+    if !is_in {
+        return Answer::Out;
+    }
+    match disk.read(block, into) {
+        Ok(()) => Answer::Done,
+        Err(_) => Answer::Fault,
+    }
+}
+
+/// Writes to a side that is in.
+pub fn write_side<D: Disk>(disk: &mut D, is_in: bool, block: u64, cell: &Cell) -> Asked
+    requires block { block < (D.state disk.old).blocks }
+    requires spare { 1 ≤ (D.state disk.old).spare }
+    ensures writes { SideWrites (D.state disk.old) (D.state disk.new) block cell.now result.answer }
+    ensures asked { is_asked result.answer ≡ is_in }
+    ensures began { result.began ≡ (D.state disk.old).moment }
+    ensures ended { result.ended ≡ (D.state disk.new).moment }
+    ensures untouched { IsFalse is_in → disk.new ≡ disk.old }
+{
+    let began = disk.moment();
+    let answer = ask_write(disk, is_in, block, cell);
+    let ended = disk.moment();
+    Asked {
+        answer,
+        began,
+        ended,
+    }
+}
+
+fn ask_write<D: Disk>(disk: &mut D, is_in: bool, block: u64, cell: &Cell) -> Answer
+    requires block { block < (D.state disk.old).blocks }
+    requires spare { 1 ≤ (D.state disk.old).spare }
+    ensures writes { SideWrites (D.state disk.old) (D.state disk.new) block cell.now result }
+    ensures asked { is_asked result ≡ is_in }
+    ensures untouched { IsFalse is_in → disk.new ≡ disk.old }
+{
+    if !is_in {
+        return Answer::Out;
+    }
+    match disk.write(block, cell) {
+        Ok(()) => Answer::Done,
+        Err(_) => Answer::Fault,
+    }
+}
+
+/// Flushes a side that is in.
+pub fn flush_side<D: Disk>(disk: &mut D, is_in: bool) -> Asked
+    requires { 1 ≤ (D.state disk.old).spare }
+    ensures flushes { SideFlushes (D.state disk.old) (D.state disk.new) result.answer }
+    ensures asked { is_asked result.answer ≡ is_in }
+    ensures began { result.began ≡ (D.state disk.old).moment }
+    ensures ended { result.ended ≡ (D.state disk.new).moment }
+    ensures untouched { IsFalse is_in → disk.new ≡ disk.old }
+{
+    let began = disk.moment();
+    let answer = ask_flush(disk, is_in);
+    let ended = disk.moment();
+    Asked {
+        answer,
+        began,
+        ended,
+    }
+}
+
+fn ask_flush<D: Disk>(disk: &mut D, is_in: bool) -> Answer
+    requires { 1 ≤ (D.state disk.old).spare }
+    ensures flushes { SideFlushes (D.state disk.old) (D.state disk.new) result }
+    ensures asked { is_asked result ≡ is_in }
+    ensures untouched { IsFalse is_in → disk.new ≡ disk.old }
+{
+    if !is_in {
+        return Answer::Out;
+    }
+    match disk.flush() {
+        Ok(()) => Answer::Done,
+        Err(_) => Answer::Fault,
+    }
+}

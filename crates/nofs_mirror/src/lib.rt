@@ -1,0 +1,14 @@
+//! A mirror: a disk over two disks, of which one may fail for good.
+//!
+//! Promise: it is a disk like the two below. It fails only where each side that it asked failed, a
+//! side is put out only in a call in which that side failed, and one side always stays in.
+#![tactic(auto)]
+
+mod asking;
+mod copying;
+mod log;
+mod mirror;
+mod past;
+
+pub use log::Sides;
+pub use mirror::{Mirror, MirrorCause, MirrorFault};
