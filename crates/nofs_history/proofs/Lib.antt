@@ -3,3 +3,16 @@ pub mod Lives
 pub mod ClaimParts
 pub mod Giving
 pub mod EntryPut
+pub mod Links
+pub mod Keeping
+pub mod Gifts
+pub mod Growing
+pub mod Aimed
+pub mod LinkLists
+pub mod Resizing
+pub mod BaseFiles
+pub mod Changes
+pub mod Naming
+pub mod Fit
+pub mod Gathered
+pub mod Bases

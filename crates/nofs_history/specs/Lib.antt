@@ -12,3 +12,5 @@ pub mod Claims
 pub mod Next
 pub mod Good
 pub mod Gives
+pub mod Kept
+pub mod BaseFiles

@@ -3,10 +3,12 @@
 //! Promise: a history grows by whole entries and forgets none.
 #![tactic(auto)]
 
+mod accepted;
 mod history;
 mod replies;
 mod steps;
 
+pub use accepted::accepted_of;
 pub use history::{Claims, Entry1, History};
 pub use nofs_inode::inode::FileKind;
 pub use replies::{Found, NameLine, NameList, Refusal, Reply, Stat};

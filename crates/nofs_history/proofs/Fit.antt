@@ -1,0 +1,171 @@
+-- Every step that the machine accepts keeps the bounds without which its gift is no cell or no file.
+use Rattle.std.proofs.Common.{◌≡◌, ℕ, ◌+◌, ◌-◌, ◌*◌, ◌/◌, ◌<◌, ◌≤◌, inl, inr, min, Bool, true, false, ◌&&◌, ◌||◌, not, cond, eqb, ltb, leb, List, [], ◌∷◌, length, Option, Some, None, is_some, option_map, refl, sym, ap, ◌∙◌, subst, arith}
+use Rattle.nofs_dirent.specs.Names.{is_name}
+use Rattle.nofs_model.specs.Image.{InRecord, Under}
+use Rattle.nofs_history.specs.Search.{first_of}
+use Rattle.nofs_history.specs.Machine.{found, first_dead, first_lost_slot, is_write_fault, may_give, size_of, slots_in, node_of}
+use Rattle.nofs_history.specs.World.{World}
+use Rattle.nofs_history.specs.Refusals.{row, rows, slots, missing, not_empty_at, lost_resize, is_damaged}
+use Rattle.nofs_history.specs.Claims.{IsClaim, IsInodeClaim, ClaimedInode, next_stamp}
+use Rattle.nofs_history.specs.Next.{Next, AfterFault, ByRow, Done, ByRead, ByWrite, Run}
+use Rattle.nofs_history.specs.Kept.{is_fit, AreFit}
+use Rattle.nofs_history.specs.declared.history.Claims.{Claims}
+use Rattle.nofs_history.specs.declared.history.Entry1.{Entry1}
+use Rattle.nofs_history.specs.declared.steps.Step.{Step}
+use Rattle.nofs_history.specs.declared.steps.Step.TheVariants as step
+use Rattle.nofs_history.specs.declared.replies.Reply.{Reply}
+use Rattle.nofs_history.specs.declared.replies.Reply.TheVariants as reply
+use Rattle.nofs_history.specs.declared.replies.Refusal.{Refusal}
+use Rattle.nofs_history.specs.declared.replies.Refusal.TheVariants as refusal
+
+-- No row is a fault of writing
+
+abbrev Sound : Option Refusal → Type 0
+Sound None = Unit {0}
+Sound (Some why) = is_write_fault (reply.Refused why) ≡ false
+
+abbrev AllSound : List (Option Refusal) → Type 0
+AllSound [] = Unit {0}
+AllSound (o ∷ os) = Sound o × AllSound os
+
+first-sound : (os : List (Option Refusal)) → AllSound os → Sound (first_of os)
+first-sound [] a = tt
+first-sound (None ∷ os) a = first-sound os a.1
+first-sound (Some why ∷ os) a = a.0
+
+tested : (t : Bool) (why : Refusal) → is_write_fault (reply.Refused why) ≡ false → Sound (row t why)
+tested true why r = r
+tested false why r = tt
+
+missing-sound : (W : World) (d : ℕ) (name : List ℕ) → Sound (missing W d name)
+missing-sound W d name = go (is_some (found W.files d name)) (first_dead W.files d name) (first_lost_slot W.files d)
+  where
+    go : (b : Bool) (o p : Option ℕ) → Sound (cond b None (first_of (option_map refusal.LostEntry o ∷ option_map refusal.LostSlot p ∷ Some refusal.Missing ∷ [])))
+    go true o p = tt
+    go false (Some e) p = refl
+    go false None (Some k) = refl
+    go false None None = refl
+
+empty-sound : (W : World) (d : ℕ) (o : Option ℕ) → Sound (not_empty_at W d o)
+empty-sound W d None = tt
+empty-sound W d (Some e) = tested _ refusal.NotEmpty refl
+
+stale-sound : (b t : Bool) → Sound (cond b None (row t refusal.Stale))
+stale-sound true t = tt
+stale-sound false t = tested t refusal.Stale refl
+
+lost-sound : (a b c : Bool) (x y z : ℕ) → Sound (first_of (row a (refusal.LostSlot x) ∷ row b (refusal.LostSlot y) ∷ row c (refusal.LostSlot z) ∷ []))
+lost-sound true b c x y z = refl
+lost-sound false true c x y z = refl
+lost-sound false false true x y z = refl
+lost-sound false false false x y z = tt
+
+resize-sound : (W : World) (i size : ℕ) → Sound (lost_resize W i size)
+resize-sound W i size =
+    let m : ℕ = min (slots_in (size_of W.files i)) (slots_in size) in
+    let j : ℕ = (m - 73) / 64 in
+    lost-sound (ltb 8 m && is_damaged (node_of W.files i (InRecord 8))) (ltb 72 m && is_damaged (node_of W.files i (InRecord 9))) (ltb 72 m && is_damaged (node_of W.files i (Under (InRecord 9) j))) 8 72 (72 + 64 * j)
+
+rows-sound : (W V : World) (s : Step) → AllSound (rows W V s)
+rows-sound W V (step.Look d g name) = (tested _ refusal.BadName refl, (tested _ refusal.Stale refl, (tested _ refusal.NotDirectory refl, (missing-sound W d name, tt))))
+rows-sound W V (step.Make d g name kind) = (tested _ refusal.BadName refl, (tested _ refusal.Stale refl, (tested _ refusal.NotDirectory refl, (tested _ refusal.Exists refl, (tested _ refusal.DirectoryFull refl, (tested _ (refusal.InodesFull _ _) refl, (tested _ (refusal.Full _ _ _ _) refl, (tested _ refusal.SerialsSpent refl, tt))))))))
+rows-sound W V (step.Link d g name i of) = (tested _ refusal.BadName refl, (tested _ refusal.Stale refl, (tested _ refusal.Stale refl, (tested _ refusal.NotDirectory refl, (tested _ refusal.IsDirectory refl, (tested _ refusal.Exists refl, (tested _ refusal.TooManyLinks refl, (tested _ refusal.DirectoryFull refl, (tested _ (refusal.Full _ _ _ _) refl, (tested _ refusal.SerialsSpent refl, tt))))))))))
+rows-sound W V (step.Drop d g name) = (tested _ refusal.BadName refl, (tested _ refusal.Stale refl, (tested _ refusal.NotDirectory refl, (missing-sound W d name, (empty-sound W d (found W.files d name), tt)))))
+rows-sound W V (step.Rename d g old new) = (tested _ refusal.BadName refl, (tested _ refusal.BadName refl, (tested _ refusal.Stale refl, (tested _ refusal.NotDirectory refl, (missing-sound W d old, (tested _ refusal.Exists refl, tt))))))
+rows-sound W V (step.List d g slot) = (tested _ refusal.Stale refl, (tested _ refusal.NotDirectory refl, tt))
+rows-sound W V (step.Get i g k) = (tested _ refusal.TooLarge refl, (tested _ refusal.Stale refl, (tested _ refusal.IsDirectory refl, tt)))
+rows-sound W V (step.Put i g k at bytes) = (tested _ refusal.BadRange refl, (tested _ refusal.TooLarge refl, (tested _ refusal.Stale refl, (tested _ refusal.IsDirectory refl, (tested _ refusal.PastEnd refl, (tested _ (refusal.LostSlot _) refl, (tested _ (refusal.Full _ _ _ _) refl, (tested _ refusal.SerialsSpent refl, tt))))))))
+rows-sound W V (step.Resize i g size) = (tested _ refusal.TooLarge refl, (tested _ refusal.Stale refl, (tested _ refusal.IsDirectory refl, (resize-sound W i size, tt))))
+rows-sound W V (step.Stat i g) = (tested _ refusal.Stale refl, tt)
+rows-sound W V (step.Flush i g) = (stale-sound (eqb i 0 && eqb g 0) _, tt)
+rows-sound W V (step.SeeInode i) = (tested _ refusal.BadRange refl, tt)
+rows-sound W V (step.SeeBlock p) = (tested _ refusal.BadRange refl, tt)
+
+-- Where no row comes
+
+none-first : (o : Option Refusal) (os : List (Option Refusal)) → first_of (o ∷ os) ≡ None → (o ≡ None) × (first_of os ≡ None)
+none-first None os e = (refl, e)
+none-first (Some why) os e = absurd (cc e)
+
+untested : (t : Bool) (why : Refusal) → row t why ≡ None → t ≡ false
+untested true why e = absurd (cc e)
+untested false why e = refl
+
+or-first : (a b : Bool) → (a || b) ≡ false → a ≡ false
+or-first false b e = refl
+or-first true b e = absurd (cc e)
+
+and-both : (a b : Bool) → (a && b) ≡ true → (a ≡ true) × (b ≡ true)
+and-both true b e = (refl, e)
+and-both false b e = absurd (cc e)
+
+not-false : (b : Bool) → not b ≡ false → b ≡ true
+not-false true e = refl
+not-false false e = absurd (cc e)
+
+name-short : (name : List ℕ) → is_name name ≡ true → leb (length name) 48 ≡ true
+unfolding is_name
+name-short name e = (and-both _ _ (and-both _ _ e).1).0
+
+good-name : (name : List ℕ) (os : List (Option Refusal)) → first_of (row (not (is_name name)) refusal.BadName ∷ os) ≡ None → leb (length name) 48 ≡ true
+good-name name os e = name-short name (not-false (is_name name) (untested (not (is_name name)) refusal.BadName (none-first (row (not (is_name name)) refusal.BadName) os e).0))
+
+claimed-inode : (W : World) (g : ℕ) (c : Claims) (b : Bool) → b ≡ true → IsInodeClaim W g c b → ltb 0 c.inode ≡ true
+claimed-inode W g c true e (ClaimedInode free some most generation) = grind (arith, some)
+claimed-inode W g c false e n = absurd (cc e)
+
+slots-most : (W : World) → slots W ≤ 4168
+slots-most W = go (eqb W.version 1)
+  where
+    go : (b : Bool) → cond b 72 4168 ≤ 4168
+    go true = omega arith
+    go false = omega arith
+
+above-most : (k m : ℕ) → leb m k ≡ false → m ≤ 4168 → ltb k 4168 ≡ true
+above-most k m e le = let lt : k < m = grind (arith, e) in let less : k < 4168 = omega (arith, lt, le) in grind (arith, less)
+
+at-most : (a n : ℕ) → ltb a n ≡ false → leb n a ≡ true
+at-most a n e = grind (arith, e)
+
+pub rows-fit : (W V : World) (s : Step) (c : Claims) → first_of (rows W V s) ≡ None → IsClaim W s c → is_fit s c ≡ true
+rows-fit W V (step.Put i g k at bytes) c none claim =
+    let first = none-first (row (ltb 1024 (at + length bytes) || eqb (length bytes) 0) refusal.BadRange) _ none in
+    let second = none-first (row (leb (slots W) k) refusal.TooLarge) _ first.1 in
+    let range = or-first (ltb 1024 (at + length bytes)) (eqb (length bytes) 0) (untested _ refusal.BadRange first.0) in
+    let slot = untested (leb (slots W) k) refusal.TooLarge second.0 in
+    let most = slots-most W in
+    let a : ltb k 4168 ≡ true = above-most k (slots W) slot most in
+    let b : leb (at + length bytes) 1024 ≡ true = at-most 1024 (at + length bytes) range in
+    rw (a, b) refl
+rows-fit W V (step.Make d g name kind) c none claim =
+    let a = good-name name _ none in
+    let b = claimed-inode W (next_stamp W) c (ltb 0 1) refl claim.inode in
+    rw (a, b) refl
+rows-fit W V (step.Link d g name i of) c none claim = good-name name _ none
+rows-fit W V (step.Rename d g old new) c none claim = good-name new _ (none-first (row (not (is_name old)) refusal.BadName) _ none).1
+rows-fit W V (step.Look d g name) c none claim = refl
+rows-fit W V (step.Drop d g name) c none claim = refl
+rows-fit W V (step.List d g k) c none claim = refl
+rows-fit W V (step.Get i g k) c none claim = refl
+rows-fit W V (step.Resize i g size) c none claim = refl
+rows-fit W V (step.Stat i g) c none claim = refl
+rows-fit W V (step.Flush i g) c none claim = refl
+rows-fit W V (step.SeeInode i) c none claim = refl
+rows-fit W V (step.SeeBlock p) c none claim = refl
+
+-- a refusal that gives nothing
+silent : (r : Reply) (why : Refusal) → r ≡ reply.Refused why → is_write_fault (reply.Refused why) ≡ false → may_give r ≡ true → ⊥
+silent r why is sound gives = let e : may_give (reply.Refused why) ≡ true = sym (ap may_give is) ∙ gives in absurd (cc (sound, e))
+
+next-fit : (W : World) (e : Entry1) (V : World) → Next W e V → may_give e.reply ≡ true → is_fit e.step e.claims ≡ true
+next-fit W e V (AfterFault s r c v) gives = absurd (silent e.reply refusal.Stopped r refl gives)
+next-fit W e V (ByRow why s row (inl r) c k t l) gives = absurd (silent e.reply why r (subst Sound row (first-sound (rows W V e.step) (rows-sound W V e.step))) gives)
+next-fit W e V (ByRow why s row (inr r) c k t l) gives = absurd (silent e.reply refusal.ReadFault r.0 refl gives)
+next-fit W e V (Done s row r c fs hs se vs l) gives = rows-fit W V e.step e.claims row c
+next-fit W e V (ByRead s row r c k t l) gives = absurd (silent e.reply refusal.ReadFault r refl gives)
+next-fit W e V (ByWrite s row m r c k t l) gives = rows-fit W V e.step e.claims row c
+
+-- the entries of a run
+pub run-fit : (es : List Entry1) (start : ℕ) (W V : World) → Run start W es V → AreFit es
+run-fit [] start W V run = tt
+run-fit (e ∷ es) start W V (U, from, le, time, next, rest) = (next-fit W e U next, run-fit es e.to U V rest)

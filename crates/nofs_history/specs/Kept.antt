@@ -1,0 +1,105 @@
+-- The files that a list of accepted values is computed from, as files of the machine, and how they change.
+use Rattle.std.specs.Prelude.{◌≡◌, ℕ, true, [], ◌∷◌, length, ◌+◌, ◌-◌, ◌%◌, min, ◌&&◌, not, nat_le, ◌++◌, take, unwrap_or, ◌==◌, List, Bool, false, Option, Some, None, if◌then◌else◌, nat_lt, slice_get}
+use Rattle.nofs_model.specs.Files.{Absent, FileState, Files}
+use Rattle.nofs_model.specs.declared.value.Value.{Value}
+use Rattle.nofs_model.specs.declared.value.Value.TheVariants as value
+use Rattle.nofs_history.specs.Meta.{Meta, is_bytes}
+use Rattle.nofs_history.specs.Machine.{Given, nothing, link_to, may_give, slots_in, zeros, bytes_in, trimmed}
+use Rattle.nofs_model.specs.Cells.{FileKind, BackLink}
+use Rattle.nofs_history.specs.declared.history.Claims.{Claims}
+use Rattle.nofs_history.specs.declared.history.Entry1.{Entry1}
+use Rattle.nofs_history.specs.declared.steps.Step.{Step}
+use Rattle.nofs_history.specs.declared.steps.Step.TheVariants as step
+use Rattle.nofs_history.specs.declared.accepted.files.Kept.{Kept}
+use Rattle.nofs_history.specs.declared.accepted.files.Kept.TheVariants as kept
+use Rattle.nofs_history.specs.declared.accepted.files.FileNow.{FileNow}
+use Rattle.nofs_history.specs.declared.accepted.files.FilesNow.{FilesNow}
+
+-- what is kept of a slot
+abbrev pub value_in : Kept → Value
+value_in kept.Hole = value.Hole
+value_in (kept.Bytes bytes) = value.Bytes bytes.value
+value_in kept.Lost = value.Lost
+
+-- a slot behind the last one kept is a hole
+abbrev pub value_at : Option Kept → Value
+value_at None = value.Hole
+value_at (Some it) = value_in it
+
+-- a file with these values; its blocks of pointers are not kept
+abbrev pub file_of : FileNow → FileState
+file_of f = record { generation = f.generation; kind = f.kind; size = f.size; links = f.links; values = λ k. value_at (slice_get f.values.items k); nodes = λ path. Absent }
+
+-- an inode's file, where one is kept
+abbrev pub file_at : Option (Option FileNow) → Option FileState
+file_at None = None
+file_at (Some None) = None
+file_at (Some (Some f)) = Some (file_of f)
+
+-- inodes are counted from 1
+abbrev pub files_of : FilesNow → Files
+files_of F i = if i == 0 then None else file_at (slice_get F.files.items (i - 1))
+
+-- what is kept of a file: not its blocks of pointers, and nothing past the 4,168 slots that a file can have
+abbrev pub kept_file : Option FileState → Option FileState
+kept_file None = None
+kept_file (Some f) = Some (record { generation = f.generation; kind = f.kind; size = f.size; links = f.links; values = λ k. if nat_lt k 4168 then f.values k else value.Hole; nodes = λ path. Absent })
+
+-- what is kept of files
+abbrev pub kept_files : Files → Files
+kept_files F i = kept_file (F i)
+
+-- these files with another one, or none, at inode i
+abbrev pub with_file : Files → ℕ → Option FileState → Files
+with_file F i o j = if i == j then o else F j
+
+-- what gives these metas alone
+abbrev pub metas_alone : (ℕ → ℕ → Option Meta) → Given
+metas_alone metas = record nothing { metas = metas }
+
+-- whether the inode has a file of this generation
+abbrev pub has_generation : Files → ℕ → ℕ → Bool
+has_generation F i g = elim (F i) [ None ↦ false | Some f ↦ f.generation == g ]
+
+-- a file with a value in slot k
+abbrev pub with_value : FileState → ℕ → Value → FileState
+with_value f k v = record f { values = λ l. if k == l then v else f.values l }
+
+-- what a file's new size gives to slot k, by the value that stands there
+abbrev pub resized_value : ℕ → ℕ → Value → ℕ → Option Value
+resized_value old size v k =
+    let m : ℕ = min (slots_in old) (slots_in size) in
+    if nat_le m k then (if nat_lt k 4168 then Some value.Hole else None) else
+    (if nat_le old size && ((k + 1 == m) && (not (old % 1024 == 0) && is_bytes v))
+    then Some (value.Bytes (take (old % 1024) (bytes_in v) ++ zeros (1024 - old % 1024))) else None)
+
+-- a file of another size
+abbrev pub resized_file : FileState → ℕ → FileState
+resized_file f size = record f { size = size; values = λ k. unwrap_or (resized_value f.size size (f.values k) k) (f.values k) }
+
+-- a value with zeros from a place on
+abbrev pub trimmed_value : ℕ → Value → Value
+trimmed_value cut (value.Bytes content) = value.Bytes (trimmed cut content)
+trimmed_value cut value.Hole = value.Hole
+trimmed_value cut value.Lost = value.Lost
+
+-- the value of slot k with zeros behind the old end, where a file of m slots does not shrink
+abbrev pub end_value : ℕ → ℕ → ℕ → ℕ → Value → Value
+end_value old size m k v = if nat_le old size && ((k + 1 == m) && not (old % 1024 == 0)) then trimmed_value (old % 1024) v else v
+
+-- a file without content, with one back link
+abbrev pub made_file : ℕ → FileKind → BackLink → FileState
+made_file g kind link = record { generation = g; kind = kind; size = 0; links = link ∷ link_to 0 0 0 ∷ link_to 0 0 0 ∷ link_to 0 0 0 ∷ []; values = λ k. value.Hole; nodes = λ path. Absent }
+
+-- the bounds without which a step's gift is no cell or no file: every step that the machine accepts keeps them
+abbrev pub is_fit : Step → Claims → Bool
+is_fit (step.Put i g k at bytes) claims = nat_lt k 4168 && nat_le (at + length bytes) 1024
+is_fit (step.Make d g name kind) claims = nat_le (length name) 48 && nat_lt 0 claims.inode
+is_fit (step.Link d g name i of) claims = nat_le (length name) 48
+is_fit (step.Rename d g old new) claims = nat_le (length new) 48
+is_fit _ claims = true
+
+-- each of these entries that gives something keeps them
+abbrev pub AreFit : List Entry1 → Type 0
+AreFit [] = Unit {0}
+AreFit (e ∷ es) = (may_give e.reply ≡ true → is_fit e.step e.claims ≡ true) × AreFit es

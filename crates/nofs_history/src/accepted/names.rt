@@ -1,0 +1,244 @@
+//! Which names of a directory lead to files, and where a new one goes.
+ghost use Rattle.std.specs.Prelude.{◌≡◌, ◌<◌, ◌≤◌, ◌+◌, ◌/◌, ◌&&◌, not, ℕ, IfOk, IfSome, IsNone, Some, None, bytes_eq};
+ghost use Rattle.std.specs.List.{list_any};
+ghost use Rattle.nofs_inode.specs.declared.inode.FileKind.TheVariants as kind;
+ghost use Rattle.nofs_history.specs.Machine as machine;
+ghost use Rattle.nofs_history.specs.Search.{least_from};
+ghost use Rattle.nofs_model.specs.Files as files;
+ghost use Rattle.nofs_history.specs.Kept.{file_of, files_of};
+
+use crate::accepted::files::{FileNow, FilesNow, names};
+use nofs_inode::inode::{BackLink, FileKind};
+use std::alloc::{AllocError, Global};
+
+pub(crate) fn same_link(a: &BackLink, b: &BackLink) -> bool
+    ensures { result ≡ machine.same_link a.now b.now }
+{
+    a.directory == b.directory && a.entry == b.entry && a.generation == b.generation
+}
+
+fn has_link(file: &FileNow, wanted: &BackLink) -> bool
+    ensures { result ≡ list_any (λ link. machine.same_link link wanted.now) file.now.links }
+{
+    file.links.iter().any(|link| same_link(link, wanted))
+}
+
+impl FilesNow {
+    pub fn is_directory(&self, directory: u32, generation: u64) -> bool
+        ensures { result ≡ files.is_a kind.Directory generation (files_of self.now directory) }
+    {
+        match self.file(directory) {
+            None => false,
+            Some(file) => file.kind == FileKind::Directory && file.generation == generation,
+        }
+    }
+
+    /// The generation of a file, 0 where there is none.
+    pub fn generation(&self, inode: u32) -> u64
+        ensures { result ≡ machine.generation_of (files_of self.now) inode }
+    {
+        match self.file(inode) {
+            None => 0,
+            Some(file) => file.generation,
+        }
+    }
+
+    /// Whether a back link of an inode is a pair.
+    pub fn is_pair(&self, alloc: Global, inode: u32, link: &BackLink) -> Result<bool, AllocError>
+        ensures { IfOk result (λ is. is ≡ files.is_pair (files_of self.now) inode link.now) }
+    {
+        match self.file(inode) {
+            None => Ok(false),
+            Some(file) => self.pairs(alloc, inode, file, link),
+        }
+    }
+
+    fn pairs(
+        &self,
+        alloc: Global,
+        inode: u32,
+        file: &FileNow,
+        link: &BackLink,
+    ) -> Result<bool, AllocError>
+        ensures { IfOk result (λ is. is ≡ files.pairs (Some (file_of file.now)) (files_of self.now link.now.directory) inode link.now) }
+    {
+        if !self.is_directory(link.directory, link.generation) {
+            return Ok(false);
+        }
+        let entry = self.entry_at(alloc, link.directory, link.entry)?;
+        Ok(
+            names(&entry, inode, file.generation)
+                && (file.kind != FileKind::Directory || link.generation < file.generation),
+        )
+    }
+
+    /// Whether the inode has this back link, as a pair.
+    fn is_linked(&self, alloc: Global, inode: u32, link: &BackLink) -> Result<bool, AllocError>
+        ensures { IfOk result (λ is. is ≡ list_any (λ l. machine.same_link l link.now && files.is_pair (files_of self.now) inode l) (files.links_of (files_of self.now) inode)) }
+    {
+        match self.file(inode) {
+            None => Ok(false),
+            Some(file) => self.links_back(alloc, inode, file, link),
+        }
+    }
+
+    fn links_back(
+        &self,
+        alloc: Global,
+        inode: u32,
+        file: &FileNow,
+        link: &BackLink,
+    ) -> Result<bool, AllocError>
+        ensures { IfOk result (λ is. is ≡ list_any (λ l. machine.same_link l link.now && files.is_pair (files_of self.now) inode l) file.now.links) }
+    {
+        self.has_pair(alloc, inode, file, link)
+    }
+
+    fn has_pair(
+        &self,
+        alloc: Global,
+        inode: u32,
+        file: &FileNow,
+        link: &BackLink,
+    ) -> Result<bool, AllocError>
+        ensures { IfOk result (λ is. is ≡ (list_any (λ l. machine.same_link l link.now) file.now.links && files.is_pair (files_of self.now) inode link.now)) }
+    {
+        if !has_link(file, link) {
+            return Ok(false);
+        }
+        self.is_pair(alloc, inode, link)
+    }
+
+    /// Whether an entry of a directory is the other half of a back link.
+    pub fn is_paired(&self, alloc: Global, directory: u32, entry: u32) -> Result<bool, AllocError>
+        ensures { IfOk result (λ is. is ≡ machine.is_paired (files_of self.now) directory entry) }
+    {
+        match self.entry_at(alloc, directory, entry)? {
+            None => Ok(false),
+            Some(found) => {
+                let link = BackLink {
+                    directory,
+                    entry,
+                    generation: self.generation(directory),
+                };
+                self.is_linked(alloc, found.inode, &link)
+            }
+        }
+    }
+
+    /// Whether an entry of a directory has this name.
+    fn has_name(
+        &self,
+        alloc: Global,
+        directory: u32,
+        name: &[u8],
+        entry: u32,
+    ) -> Result<bool, AllocError>
+        ensures { IfOk result (λ has. has ≡ machine.has_name (files_of self.now) directory name.now entry) }
+    {
+        match self.entry_at(alloc, directory, entry)? {
+            None => Ok(false),
+            Some(found) => Ok(found.name.as_slice() == name),
+        }
+    }
+
+    /// Whether a name leads to a file by this entry.
+    fn finds(
+        &self,
+        alloc: Global,
+        directory: u32,
+        name: &[u8],
+        entry: u32,
+    ) -> Result<bool, AllocError>
+        ensures { IfOk result (λ is. is ≡ (machine.has_name (files_of self.now) directory name.now entry && machine.is_paired (files_of self.now) directory entry)) }
+    {
+        if !self.has_name(alloc, directory, name, entry)? {
+            return Ok(false);
+        }
+        self.is_paired(alloc, directory, entry)
+    }
+
+    #[tactic(auto, using(crate::proofs::Links::least_none, crate::proofs::Links::least_here, crate::proofs::Links::least_further))]
+    fn found_from(
+        &self,
+        alloc: Global,
+        directory: u32,
+        name: &[u8],
+        at: u32,
+        count: u32,
+    ) -> Result<Option<u32>, AllocError>
+        requires { at + count ≤ 1152 }
+        ensures { IfOk result (λ found. found ≡ least_from (λ e. machine.has_name (files_of self.now) directory name.now e && machine.is_paired (files_of self.now) directory e) at count) }
+    {
+        if count == 0 {
+            return Ok(None);
+        }
+        if self.finds(alloc, directory, name, at)? {
+            return Ok(Some(at));
+        }
+        self.found_from(alloc, directory, name, at + 1, count - 1)
+    }
+
+    /// The least entry by which a name leads to a file.
+    #[tactic(auto, unfolding(crate::specs::Machine::found))]
+    pub fn found(
+        &self,
+        alloc: Global,
+        directory: u32,
+        name: &[u8],
+    ) -> Result<Option<u32>, AllocError>
+        ensures { IfOk result (λ found. found ≡ machine.found (files_of self.now) directory name.now) }
+    {
+        self.found_from(alloc, directory, name, 0, 1152)
+    }
+
+    /// Whether a name stands in this entry and leads to no file.
+    fn is_dead(
+        &self,
+        alloc: Global,
+        directory: u32,
+        name: &[u8],
+        entry: u32,
+    ) -> Result<bool, AllocError>
+        ensures { IfOk result (λ is. is ≡ (machine.has_name (files_of self.now) directory name.now entry && not (machine.is_paired (files_of self.now) directory entry))) }
+    {
+        if !self.has_name(alloc, directory, name, entry)? {
+            return Ok(false);
+        }
+        Ok(!self.is_paired(alloc, directory, entry)?)
+    }
+
+    #[tactic(auto, using(crate::proofs::Links::least_none, crate::proofs::Links::least_here, crate::proofs::Links::least_further))]
+    fn dead_from(
+        &self,
+        alloc: Global,
+        directory: u32,
+        name: &[u8],
+        at: u32,
+        count: u32,
+    ) -> Result<Option<u32>, AllocError>
+        requires { at + count ≤ 1152 }
+        ensures { IfOk result (λ found. found ≡ least_from (λ e. machine.has_name (files_of self.now) directory name.now e && not (machine.is_paired (files_of self.now) directory e)) at count) }
+    {
+        if count == 0 {
+            return Ok(None);
+        }
+        if self.is_dead(alloc, directory, name, at)? {
+            return Ok(Some(at));
+        }
+        self.dead_from(alloc, directory, name, at + 1, count - 1)
+    }
+
+    /// The least entry of a name that leads to no file.
+    #[tactic(auto, unfolding(crate::specs::Machine::first_dead))]
+    pub fn first_dead(
+        &self,
+        alloc: Global,
+        directory: u32,
+        name: &[u8],
+    ) -> Result<Option<u32>, AllocError>
+        ensures { IfOk result (λ found. found ≡ machine.first_dead (files_of self.now) directory name.now) }
+    {
+        self.dead_from(alloc, directory, name, 0, 1152)
+    }
+}
