@@ -2,7 +2,7 @@ ghost use Rattle.std.specs.Prelude.{◌≡◌, ◌+◌, ◌<◌, All, IfOk, IfSo
 ghost use Rattle.nofs_turn.specs.Turns.{view_of, IsPassOf};
 
 use crate::{Busy, Kept, Pass, PassesOut, Section, Turn, TurnFault};
-use std::alloc::Global;
+use std::alloc::{AllocError, Global};
 use std::sync::Wait;
 use std::test::Fail;
 use std::thread;
@@ -82,12 +82,12 @@ fn word_of(tried: Result<(), Busy<Add>>) -> Option<u64> {
     }
 }
 
-// A turn over a log without entries, with two passes.
+// A turn over a log without entries, with two passes. The log has room for all entries of a test.
 fn two_passes(alloc: Global) -> Option<(Turn<Log>, Pass<Log>, Pass<Log>)>
     ensures { IfSome result (λ t. IsPassOf t.0 t.1 × IsPassOf t.0 t.2) }
 {
     let log = Log {
-        entries: Vec::new(alloc),
+        entries: Vec::with_capacity(alloc, 20_000).ok()?,
     };
     let (turn, mut passes) = match Turn::new(alloc, log, 2) {
         Ok(made) => made,
@@ -142,6 +142,33 @@ fn both_add<R: Threads + Wait + Sync>(
     first
 }
 
+// A log with one entry, behind a turn or handed back for want of memory.
+fn log_of_a_turn(alloc: Global) -> Result<Option<Log>, AllocError> {
+    let mut log = Log {
+        entries: Vec::new(alloc),
+    };
+    log.entries.push(7)?;
+    match Turn::new(alloc, log, 1) {
+        Ok((turn, mut passes)) => match passes.pop() {
+            Some(pass) => Ok(turn.close(pass).ok()),
+            None => Ok(None),
+        },
+        Err(TurnFault { value }) => Ok(Some(value)),
+    }
+}
+
+// `rt try --test --fail-alloc N` refuses the memory of `new`.
+#[test]
+fn a_turn_hands_its_value_back_at_the_end_and_for_want_of_memory(
+    rt: HostRuntime,
+) -> Result<(), Fail> {
+    let Some(log) = log_of_a_turn(rt.alloc())? else {
+        panic!(rt; "a pass is out")
+    };
+    assert_eq!(rt; log.entries.as_slice(), [7].as_slice());
+    Ok(())
+}
+
 #[test]
 fn two_threads_make_ten_thousand_sections_each(rt: HostRuntime) -> Result<(), Fail> {
     let Some((turn, first, second)) = two_passes(rt.alloc()) else {
@@ -176,9 +203,10 @@ fn a_try_within_a_section_is_busy_with_an_odd_word(rt: HostRuntime) -> Result<()
 
 #[test]
 fn a_pass_that_is_not_joined_keeps_the_turn_open(rt: HostRuntime) -> Result<(), Fail> {
-    let Some((turn, first, second)) = two_passes(rt.alloc()) else {
+    let Some((turn, mut first, second)) = two_passes(rt.alloc()) else {
         panic!(rt; "no memory")
     };
+    turn.with(&rt, &mut first, Add(1));
     let Err(
         PassesOut {
             turn,
@@ -191,6 +219,9 @@ fn a_pass_that_is_not_joined_keeps_the_turn_open(rt: HostRuntime) -> Result<(), 
     };
     assert_eq!(rt; out, 1);
     turn.join(&mut pass, second);
-    assert!(rt; turn.close(pass).is_ok());
+    let Ok(log) = turn.close(pass) else {
+        panic!(rt; "a pass is out")
+    };
+    assert_eq!(rt; log.entries.as_slice(), [1].as_slice());
     Ok(())
 }
