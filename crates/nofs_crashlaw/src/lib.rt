@@ -8,10 +8,8 @@ ghost use Rattle.nofs_crashlaw.specs.Laws.{LawLater, LawNames, LawRest, LawStep,
 ghost use Rattle.nofs_crashlaw.specs.Stage.{LawFirstStage, LawFlushStage, LawIdleStage, LawLasts, LawStage, LawTracked};
 
 use nofs_disk::Disk;
-pub use nofs_lives::{law_begin, law_lives, law_mount_stamps};
 pub use nofs_model::law_sound;
 pub use nofs_reasons::{law_flush, law_images, law_moment};
-pub use nofs_statelaw::{law_fresh, law_good, law_homes, law_moves, law_pieces};
 
 /// A step whose writes are proper leaves only images that are allowed with its entry under way.
 pub fn law_step()

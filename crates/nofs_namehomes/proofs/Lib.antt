@@ -1,0 +1,5 @@
+pub mod NameSlots
+pub mod NameStands
+pub mod OldHomes
+pub mod NewHomes
+pub mod EntryPlace

@@ -1,0 +1,5 @@
+pub mod WrittenCells
+pub mod WrittenTables
+pub mod FileNumbers
+pub mod NameNumbers
+pub mod NewNumbers
