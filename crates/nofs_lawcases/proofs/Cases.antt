@@ -1,17 +1,15 @@
 -- The instances.
-use Rattle.std.proofs.Common.{◌≡◌, ◌≢◌, ℕ, zero, suc, ◌+◌, ◌<◌, ◌≤◌, inl, inr, Bool, true, false, cond, leb, ltb, ◌&&◌, List, [], ◌∷◌, Option, Some, None, refl, sym, ap, ◌∙◌, subst, arith, le_refl}
-use Rattle.std.proofs.lemmas.Bool.{le-ltb, lt-ltb, cases_lt}
-use Rattle.nofs_model.specs.Cells.{Record, Pointer, free_record, null, is_null, number_at, record_of, record_at, fields_in, link_in, pointer_in}
+use Rattle.std.proofs.Common.{◌≡◌, ℕ, zero, suc, ◌<◌, ◌≤◌, inl, inr, Bool, true, false, cond, leb, ◌&&◌, [], ◌∷◌, refl, sym, ap, ◌∙◌, subst, arith}
+use Rattle.std.proofs.lemmas.Bool.{cases_lt}
+use Rattle.nofs_model.specs.Cells.{Record, free_record, null, is_null, number_at, record_of, record_at, fields_in, link_in, pointer_in}
 use Rattle.nofs_model.specs.Image.{Image, is_mountable, super_in, is_super, is_geometry, super_at, inode, is_inode, record_pointer}
 use Rattle.nofs_super.specs.Geometry.{format_fault}
 use Rattle.nofs_history.specs.History.{mark, is_flushed}
 use Rattle.nofs_history.specs.World.{World, world_of}
 use Rattle.nofs_history.specs.Next.{Next, AfterFault, ByRow, Done, ByRead, ByWrite}
 use Rattle.nofs_history.specs.declared.history.Entry1.{Entry1}
-use Rattle.nofs_history.specs.declared.steps.Step.{Step}
 use Rattle.nofs_machinelaw.specs.Laws.{LawTotal}
 use Rattle.nofs_crashlaw.proofs.Unflushed.{law-unflushed}
-use Rattle.nofs_lives.specs.Lives.{IsNew, Upgraded, Raised}
 use Rattle.nofs_lawcases.specs.Cases.{disk, NewDisk, TwoLives, EarlyLife}
 
 -- a step at other moments

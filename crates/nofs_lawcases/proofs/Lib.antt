@@ -1,1 +1,7 @@
 pub mod Cases
+pub mod CrashCases
+pub mod RaceCases
+pub mod PathCases
+pub mod BeginCases
+pub mod MachineCases
+pub mod LivesCase

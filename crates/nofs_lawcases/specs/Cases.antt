@@ -1,11 +1,11 @@
 -- Small instances of the laws of lives.
-use Rattle.std.specs.Prelude.{◌≡◌, ℕ, ◌+◌, true, List, [], ◌∷◌, ◌++◌, replicate}
+use Rattle.std.specs.Prelude.{◌≡◌, ℕ, true, List, [], ◌∷◌, ◌++◌, replicate}
 use Rattle.nofs_model.specs.Cells.{Cell}
 use Rattle.nofs_model.specs.Image.{Image, is_mountable}
 use Rattle.nofs_history.specs.World.{World, world_of}
 use Rattle.nofs_history.specs.declared.history.Entry1.{Entry1}
 use Rattle.nofs_history.specs.declared.steps.Step.{Step}
-use Rattle.nofs_lives.specs.Lives.{Life, IsNew, Upgraded, Raised, Lives}
+use Rattle.nofs_lives.specs.Lives.{IsNew, Upgraded, Raised, Lives}
 
 -- this many zeros
 abbrev pub z : ℕ → List ℕ

@@ -1,10 +1,17 @@
 //! Small instances of the laws: their premises are met by real disks.
 //!
 //! Promise: the lists of lives and the stages of which the laws speak are there, an upgrade and a
-//! mount that ended early among them.
+//! mount that ended early among them; so are a mark with the writes of a Put, the states of a disk
+//! around it, a run in which something is not known at its end, and a name that leads to its file.
 #![tactic(auto)]
 
+ghost use Rattle.nofs_lawcases.specs.BeginCases.{BeginCase, UpgradeCase};
 ghost use Rattle.nofs_lawcases.specs.Cases.{EarlyLife, NewDisk, TwoLives};
+ghost use Rattle.nofs_lawcases.specs.CrashCases.{FirstStageCase, FlushCase, FlushStageCase, IdleStageCase, ImagesCase, LaterCase, MomentCase, NamesCase, PointersCase, RestCase, SameDisk, StageCase, StepCase, UnflushedCase, WritesCase};
+ghost use Rattle.nofs_lawcases.specs.LivesCase.{BytesCase};
+ghost use Rattle.nofs_lawcases.specs.MachineCases.{AcceptedCase, FitsCase};
+ghost use Rattle.nofs_lawcases.specs.PathCases.{NamePathCase, RootCase};
+ghost use Rattle.nofs_lawcases.specs.RaceCases.{EmptyRunCase, StaleCase, UnchangedCase};
 
 use nofs_machinelaw::law_next;
 
@@ -18,3 +25,59 @@ pub fn law_cases()
 {
     law_next();
 }
+
+/// The formatted disk is a mark, each write of a Put is proper, and a pick that has one of its two
+/// writes alone is explained.
+pub fn law_mark_cases()
+    ensures same_disk { SameDisk }
+    ensures images { ImagesCase }
+    ensures moment { MomentCase }
+    ensures flush { FlushCase }
+    ensures writes { WritesCase }
+    ensures pointers { PointersCase }
+{}
+
+/// The Put is a step under way, comes after moment 0, has no flush, and spares the rest.
+pub fn law_history_cases()
+    ensures step { StepCase }
+    ensures later { LaterCase }
+    ensures names { NamesCase }
+    ensures unflushed { UnflushedCase }
+    ensures rest { RestCase }
+{}
+
+/// The states of a disk after a mount, over a Put of two writes, over a look at a block, and over a
+/// flush.
+pub fn law_stage_cases()
+    ensures first { FirstStageCase }
+    ensures stage { StageCase }
+    ensures idle { IdleStageCase }
+    ensures flush { FlushStageCase }
+{}
+
+/// A look at inode 3 leaves inode 4 and block 2 unknown, and the maps right.
+pub fn law_verdict_cases()
+    ensures unchanged { UnchangedCase }
+    ensures empty { EmptyRunCase }
+    ensures stale { StaleCase }
+{}
+
+/// The root leads to itself, and a name to its file.
+pub fn law_path_cases()
+    ensures root { RootCase }
+    ensures name { NamePathCase }
+{}
+
+/// The formatted disk is sound; the next mount raises it, before or after an upgrade. A life begins
+/// with the byte that the life before it put.
+pub fn law_begin_cases()
+    ensures begin { BeginCase }
+    ensures upgrade { UpgradeCase }
+    ensures bytes { BytesCase }
+{}
+
+/// The Put is a step of a sized world, in a history without a write fault.
+pub fn law_machine_cases()
+    ensures fits { FitsCase }
+    ensures accepted { AcceptedCase }
+{}

@@ -1,5 +1,5 @@
 mod Choosing
-mod Faultless
+pub mod Faultless
 mod Total
 mod Function
 mod Shown

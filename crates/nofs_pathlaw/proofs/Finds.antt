@@ -12,7 +12,7 @@ use Rattle.nofs_history.specs.Meta.{Meta, Gone, Is, meta_of, is_bytes, MayRead}
 use Rattle.nofs_history.specs.History.{since, since_meta, stands}
 use Rattle.nofs_history.specs.Allowed.{IsAllowed, IsFolderMeta, link_in}
 use Rattle.nofs_history.specs.declared.history.Entry1.{Entry1}
-use Rattle.nofs_pathlaw.specs.Finds.{SureName, SureChain, SureRoot, SureEntry, LawSureChain, LawSureName}
+use Rattle.nofs_pathlaw.specs.Finds.{SureName, SureLink, SureChain, SureRoot, SureEntry, LawSureChain, LawSureName}
 
 folder-kind : (r : Record) → IsFolderMeta (meta_of r) → r.kind ≡ Some Folder
 folder-kind r h = go r.kind refl h
@@ -50,13 +50,10 @@ module _ (B : Image) (H : List Entry1) (m : ℕ) (X : Image) (a : IsAllowed B H 
       let g : eqb (inode X 1).generation 1 ≡ true = eq-eqb (inode X 1).generation 1 r.1 in
       root (rw (k, files_in) (ap (λ (b : Bool). (true && (true && b)) || false) g))
 
-  module _ (i g b : ℕ) (link : BackLink) (name : List ℕ) (p : SureName B H m i g b link name) where
+  module _ (i g b : ℕ) (link : BackLink) (p : SureLink B H m i g b link) where
     -- the name is a pair of the image
     pub paired : is_pair (files_in X) i link ≡ true
-    paired = (a.names i g b link p.file_stands p.directory_stands p.folders p.older p.linked p.range (λ v c. let h = p.cell v c in (h.0, h.1, named h.0 h.2))).1
-      where
-        named : (content : List ℕ) → entry_in content (link.entry % 16) ≡ Some (record { inode = i; generation = g; name = name }) → names (entry_in content (link.entry % 16)) i g ≡ true
-        named content e = rw e (λ j. eq-eqb i i refl j && eq-eqb g g refl j)
+    paired = (a.names i g b link p.file_stands p.directory_stands p.folders p.older p.linked p.range p.cell).1
 
     -- its back link is in the record
     pub has-link : Contains (links_of (files_in X) i) link
@@ -66,6 +63,22 @@ module _ (B : Image) (H : List Entry1) (m : ℕ) (X : Image) (a : IsAllowed B H 
         go None e h live = cc live
         go (Some kind) e h live = rw (e, files_in) (in-list (inode X i).links b link h)
 
+  -- a name that every version has is a link that every version has
+  pub as-link : (i g b : ℕ) (link : BackLink) (name : List ℕ) → SureName B H m i g b link name → SureLink B H m i g b link
+  as-link i g b link name p = record {
+    file_stands = p.file_stands;
+    directory_stands = p.directory_stands;
+    folders = p.folders;
+    older = p.older;
+    linked = p.linked;
+    range = p.range;
+    cell = λ v c. let h = p.cell v c in (h.0, h.1, by-name h.0 h.2);
+  }
+    where
+      by-name : (content : List ℕ) → entry_in content (link.entry % 16) ≡ Some (record { inode = i; generation = g; name = name }) → names (entry_in content (link.entry % 16)) i g ≡ true
+      by-name content e = rw e (λ j. eq-eqb i i refl j && eq-eqb g g refl j)
+
+  module _ (i g b : ℕ) (link : BackLink) (name : List ℕ) (p : SureName B H m i g b link name) where
     -- and the entry is the one that every version has
     pub entry-now : entry_at (files_in X) link.directory link.entry ≡ Some (record { inode = i; generation = g; name = name })
     entry-now =
@@ -82,7 +95,7 @@ module _ (B : Image) (H : List Entry1) (m : ℕ) (X : Image) (a : IsAllowed B H 
 
   chain : (i : ℕ) → SureChain B H m i → Agreed (files_in X) i
   chain i (SureRoot s folders) = root-agreed s folders
-  chain i (SureEntry g b link name plain p up) = linked link plain (has-link i g b link name p) (paired i g b link name p) (chain link.directory up)
+  chain i (SureEntry g b link plain p up) = linked link plain (has-link i g b link p) (paired i g b link p) (chain link.directory up)
 
 pub law-sure-chain : LawSureChain
 law-sure-chain B H m X i a c = holds-agreed (files_in X) i (chain B H m X a i c)
@@ -94,8 +107,8 @@ law-sure-name B H m X i g b link name a c p = record {
   file = (a.versions.records i g p.file_stands).1;
   link = link;
   leads = refl;
-  has = has-link B H m X a i g b link name p;
-  pair = paired B H m X a i g b link name p;
+  has = has-link B H m X a i g b link (as-link B H m X a i g b link name p);
+  pair = paired B H m X a i g b link (as-link B H m X a i g b link name p);
   entry = record { inode = i; generation = g; name = name };
   found = entry-now B H m X a i g b link name p;
   named = refl;

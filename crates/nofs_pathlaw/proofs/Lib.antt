@@ -1,1 +1,5 @@
 pub mod Finds
+pub mod Since
+pub mod Moving
+pub mod Moves
+pub mod Alone

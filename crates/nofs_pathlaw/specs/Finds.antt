@@ -1,7 +1,7 @@
 -- Which name finds which file, in an image and in every version since the last flush.
 use Rattle.std.specs.Prelude.{◌≡◌, ℕ, ◌/◌, ◌%◌, ◌<◌, true, false, List, Some, Contains}
 use Rattle.nofs_model.specs.Cells.{BackLink, Entry, entry_in}
-use Rattle.nofs_model.specs.Image.{Image, inode, files_in, agreed, entry_at, is_pair, links_of, is_special}
+use Rattle.nofs_model.specs.Image.{Image, inode, files_in, agreed, entry_at, names, is_pair, links_of, is_special}
 use Rattle.nofs_model.specs.declared.value.Value.{Value}
 use Rattle.nofs_model.specs.declared.value.Value.TheVariants.{Bytes}
 use Rattle.nofs_history.specs.Meta.{Meta}
@@ -33,12 +33,23 @@ pub record SureName (B : Image) (H : List Entry1) (m i g b : ℕ) (link : BackLi
   pub cell : (v : Value) → Contains (since B H m link.directory link.generation (link.entry / 16)) v
       → (content : List ℕ) × (v ≡ Bytes content) × (entry_in content (link.entry % 16) ≡ Some (record { inode = i; generation = g; name = name }))
 
+-- each version since the mark has some name of (i, g): its back link in place b, and in the entry some name that may change
+pub record SureLink (B : Image) (H : List Entry1) (m i g b : ℕ) (link : BackLink) : Type 0 where
+  pub file_stands : stands B H m i g ≡ true
+  pub directory_stands : stands B H m link.directory link.generation ≡ true
+  pub folders : (meta : Meta) → Contains (since_meta B H m link.directory link.generation) meta → IsFolderMeta meta
+  pub older : (meta : Meta) → Contains (since_meta B H m i g) meta → IsFolderMeta meta → link.generation < g
+  pub linked : (meta : Meta) → Contains (since_meta B H m i g) meta → (none : BackLink) → link_in meta b none ≡ link
+  pub range : link.entry < 1152
+  pub cell : (v : Value) → Contains (since B H m link.directory link.generation (link.entry / 16)) v
+      → (content : List ℕ) × (v ≡ Bytes content) × (names (entry_in content (link.entry % 16)) i g ≡ true)
+
 -- names that every version has lead from the root to this inode
 pub data SureChain (B : Image) (H : List Entry1) (m : ℕ) : ℕ → Type 0 where
   SureRoot : stands B H m 1 1 ≡ true → ((meta : Meta) → Contains (since_meta B H m 1 1) meta → IsFolderMeta meta) → SureChain B H m 1
-  SureEntry : {i : ℕ} (g b : ℕ) (link : BackLink) (name : List ℕ) → is_special i ≡ false → SureName B H m i g b link name → SureChain B H m link.directory → SureChain B H m i
+  SureEntry : {i : ℕ} (g b : ℕ) (link : BackLink) → is_special i ≡ false → SureLink B H m i g b link → SureChain B H m link.directory → SureChain B H m i
 
--- Such an inode is agreed in each image that a crash may leave.
+-- Such an inode is agreed in each image that a crash may leave. A directory on the way may get other names.
 abbrev pub LawSureChain : Type 0
 LawSureChain = (B : Image) (H : List Entry1) (m : ℕ) (X : Image) (i : ℕ) → IsAllowed B H m X → SureChain B H m i → agreed (files_in X) i ≡ true
 

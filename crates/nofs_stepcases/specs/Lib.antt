@@ -1,0 +1,5 @@
+pub mod Images
+pub mod Worlds
+pub mod FileCases
+pub mod StateCases
+pub mod LeafCase
