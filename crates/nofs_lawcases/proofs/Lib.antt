@@ -5,3 +5,7 @@ pub mod PathCases
 pub mod BeginCases
 pub mod MachineCases
 pub mod LivesCase
+pub mod HomesCases
+pub mod CutCase
+pub mod KeptCase
+pub mod DeepCase

@@ -2,12 +2,18 @@
 //!
 //! Promise: the lists of lives and the stages of which the laws speak are there, an upgrade and a
 //! mount that ended early among them; so are a mark with the writes of a Put, the states of a disk
-//! around it, a run in which something is not known at its end, and a name that leads to its file.
+//! around it, a run in which something is not known at its end, a name that leads to its file, steps
+//! with all that the laws of their homes and numbers ask, a Resize that cuts a block off, a Make under
+//! a leaf, and a step that is refused.
 #![tactic(auto)]
 
 ghost use Rattle.nofs_lawcases.specs.BeginCases.{BeginCase, UpgradeCase};
 ghost use Rattle.nofs_lawcases.specs.Cases.{EarlyLife, NewDisk, TwoLives};
 ghost use Rattle.nofs_lawcases.specs.CrashCases.{FirstStageCase, FlushCase, FlushStageCase, IdleStageCase, ImagesCase, LaterCase, MomentCase, NamesCase, PointersCase, RestCase, SameDisk, StageCase, StepCase, UnflushedCase, WritesCase};
+ghost use Rattle.nofs_lawcases.specs.CutCase.{CutCase, CutSlotCase};
+ghost use Rattle.nofs_lawcases.specs.DeepCase.{DeepMakeCase};
+ghost use Rattle.nofs_lawcases.specs.HomesCases.{DropFileHomesCase, DropNameHomesCase, DropNumbersCase, LinkHomesCase, LinkNumbersCase, MakeHomesCase, MakeNumbersCase, PutNumbersCase, RenameHomesCase, RenameNumbersCase};
+ghost use Rattle.nofs_lawcases.specs.KeptCase.{KeptCase};
 ghost use Rattle.nofs_lawcases.specs.LivesCase.{BytesCase};
 ghost use Rattle.nofs_lawcases.specs.MachineCases.{AcceptedCase, FitsCase};
 ghost use Rattle.nofs_lawcases.specs.PathCases.{NamePathCase, RootCase};
@@ -80,4 +86,32 @@ pub fn law_begin_cases()
 pub fn law_machine_cases()
     ensures fits { FitsCase }
     ensures accepted { AcceptedCase }
+{}
+
+/// A Make in a hole, a Link in place, a Rename, and a Drop of one of two names and of the only one, each
+/// with all that the law of its homes asks.
+pub fn law_home_cases()
+    ensures make { MakeHomesCase }
+    ensures link { LinkHomesCase }
+    ensures rename { RenameHomesCase }
+    ensures drop_name { DropNameHomesCase }
+    ensures drop_file { DropFileHomesCase }
+{}
+
+/// The same steps and a Put, each with all that the law of its numbers asks.
+pub fn law_number_cases()
+    ensures make { MakeNumbersCase }
+    ensures link { LinkNumbersCase }
+    ensures rename { RenameNumbersCase }
+    ensures drop { DropNumbersCase }
+    ensures put { PutNumbersCase }
+{}
+
+/// A Resize to the size 0 cuts off the one block of a file, a Make claims a leaf for its entry, and a
+/// step that is refused keeps the maps right.
+pub fn law_step_cases()
+    ensures cut { CutCase }
+    ensures slot { CutSlotCase }
+    ensures leaf { DeepMakeCase }
+    ensures kept { KeptCase }
 {}
