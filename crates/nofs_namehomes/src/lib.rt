@@ -5,11 +5,16 @@
 #![tactic(auto)]
 
 ghost use Rattle.nofs_namehomes.specs.Homes.{LawDropFileHomes, LawDropNameHomes, LawLinkInHoleHomes, LawLinkInPlaceHomes, LawMakeInHoleHomes, LawMakeInPlaceHomes, LawRenameHomes};
-ghost use Rattle.nofs_namehomes.specs.Place.{LawEntryPlace};
+ghost use Rattle.nofs_namehomes.specs.Place.{LawEntryPlace, LawSpelledEntry};
 
 /// A new entry goes into a slot that holds or into a hole, and never into one that is lost.
 pub fn law_entry_place()
     ensures { LawEntryPlace }
+{}
+
+/// The bytes of a spelled entry are read back as the entry, as the laws of Link and Make ask.
+pub fn law_spelled_entry()
+    ensures { LawSpelledEntry }
 {}
 
 /// After a Rename each block has the home that it had.
