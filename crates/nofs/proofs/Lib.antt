@@ -1,2 +1,3 @@
-mod Records
-mod Users
+pub mod Sessions
+pub mod Failing
+pub mod Outcomes

@@ -1,8 +1,5 @@
 pub mod Words
-pub mod Label
-pub mod Answers
 pub mod Entries
-pub mod Goes
+pub mod Serving
 pub mod Begin
-pub mod Built
 pub mod Tool

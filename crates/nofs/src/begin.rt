@@ -3,17 +3,17 @@
 //! Promise: a mount that begins has raised the mount number, durably. A fault of the device is answered only where the
 //! device's count of faults rose.
 
-ghost use Rattle.std.specs.Prelude.{◌≡◌, ◌<◌, ◌≤◌, Err, IfErr, OnOk, Some};
-ghost use Rattle.nofs_super.specs.Geometry.{format_fault};
-ghost use Rattle.nofs_super.specs.Super.{CanMount};
-ghost use Rattle.nofs.specs.Begin.{BeginsAs, IsMounted, IsRefusedFormat, IsWhy, status_of as status_in};
+ghost use Rattle.std.specs.Prelude.{◌≡◌, ◌≤◌, [], IfErr, IfOk};
+ghost use Rattle.nofs.specs.Begin.{IsUnformatted, IsUnmounted, format_cause as format_cause_in, mount_cause as mount_cause_in, status_of as status_in};
 
 use nofs_disk::Disk;
-use nofs_super::{FormatFault, MountFault, SuperBlock, format, raise_mount, read_super};
+use nofs_shared::{BeginFault, Mount};
+use nofs_super::{FormatFault, MountFault, format};
+use std::alloc::Global;
 
 /// Why a device was not formatted and mounted.
 #[derive(Clone, Copy, Debug, PartialEq, Eq)]
-pub enum BeginFault {
+pub enum Cause {
     /// A call of the device failed.
     Device,
     /// Memory was wanting.
@@ -24,79 +24,83 @@ pub enum BeginFault {
     Mount(MountFault),
 }
 
-/// The status that a fault ends the program with: 3 for the device, 7 for memory, else 4.
-pub fn status_of(fault: BeginFault) -> u8
-    ensures { result ≡ status_in fault }
+/// A device that was not mounted.
+#[derive(Drop)]
+pub struct Refused<D> {
+    pub disk: D,
+    pub cause: Cause,
+}
+
+/// The numbers of blocks and inodes of a new file system.
+#[derive(Clone, Copy, Debug, PartialEq, Eq)]
+pub struct Numbers {
+    pub blocks: u64,
+    pub inodes: u64,
+}
+
+/// The status that a cause ends the program with: 3 for the device, 7 for memory, else 4.
+pub fn status_of(cause: Cause) -> u8
+    ensures { result ≡ status_in cause }
+{
+    match cause {
+        Cause::Device => 3,
+        Cause::NoMemory => 7,
+        Cause::Format(_) => 4,
+        Cause::Mount(_) => 4,
+    }
+}
+
+fn format_cause(fault: FormatFault) -> Cause
+    ensures { result ≡ format_cause_in fault }
 {
     match fault {
-        BeginFault::Device => 3,
-        BeginFault::NoMemory => 7,
-        BeginFault::Format(_) => 4,
-        BeginFault::Mount(_) => 4,
+        FormatFault::WriteFault => Cause::Device,
+        FormatFault::OutOfMemory => Cause::NoMemory,
+        FormatFault::TooSmall { least } => Cause::Format(FormatFault::TooSmall { least }),
+        FormatFault::TooLarge { most } => Cause::Format(FormatFault::TooLarge { most }),
+        FormatFault::NotMultiple { inodes } => Cause::Format(FormatFault::NotMultiple { inodes }),
     }
 }
 
-fn format_device<D: Disk>(disk: &mut D, blocks: u64, inodes: u64) -> Result<(), BeginFault>
-    ensures begins { BeginsAs (λ _ _. Unit {0}) (D.state disk.old) (D.state disk.new) result }
-    ensures began { OnOk result ((D.state disk.old).moment < (D.state disk.new).moment) }
-    ensures why { IfErr result (λ fault. status_in fault ≡ 4 → IsRefusedFormat (D.state disk.old) blocks inodes) }
-    ensures refused { (f : FormatFault) → format_fault (D.state disk.old).blocks blocks inodes ≡ Some f → result ≡ Err (BeginFault.Format f) }
+fn mount_cause(fault: MountFault) -> Cause
+    ensures { result ≡ mount_cause_in fault }
 {
-    match format(disk, blocks, inodes) {
-        Ok(()) => Ok(()),
-        Err(FormatFault::WriteFault) => Err(BeginFault::Device),
-        Err(FormatFault::OutOfMemory) => Err(BeginFault::NoMemory),
-        Err(FormatFault::TooSmall { least }) => {
-            Err(BeginFault::Format(FormatFault::TooSmall { least }))
-        }
-        Err(FormatFault::TooLarge { most }) => {
-            Err(BeginFault::Format(FormatFault::TooLarge { most }))
-        }
-        Err(FormatFault::NotMultiple { inodes }) => {
-            Err(BeginFault::Format(FormatFault::NotMultiple { inodes }))
-        }
+    match fault {
+        MountFault::ReadFault | MountFault::WriteFault => Cause::Device,
+        MountFault::OutOfMemory => Cause::NoMemory,
+        _ => Cause::Mount(fault),
     }
 }
 
-fn ready<D: Disk>(disk: &mut D) -> Result<(), BeginFault>
-    ensures { BeginsAs (λ d _. 2 ≤ d.spare) (D.state disk.old) (D.state disk.new) result }
+/// Mounts a device: its mount number is then one higher, durably.
+pub fn mount<D: Disk + Drop>(alloc: Global, disk: D) -> Result<Mount<D>, Refused<D>>
+    ensures mount { IfOk result (λ m. (m.found.value ≡ disk) × (m.first ≡ 0) × (m.core.books.history.entries ≡ [])) }
+    ensures refused { IfErr result (λ r. IsUnmounted (D.state disk) (D.state r.disk) r.cause) }
 {
-    match disk.ready(2) {
-        Ok(()) => Ok(()),
-        Err(_) => Err(BeginFault::NoMemory),
+    match Mount::begin(alloc, disk, 0) {
+        Ok(mount) => Ok(mount),
+        Err(BeginFault { disk, cause }) => Err(Refused {
+            disk,
+            cause: mount_cause(cause),
+        }),
     }
 }
 
-fn read<D: Disk>(disk: &mut D) -> Result<SuperBlock, BeginFault>
-    ensures begins { BeginsAs (λ d it. CanMount d.blocks it) (D.state disk.old) (D.state disk.new) result }
-    ensures spare { (D.state disk.new).spare ≡ (D.state disk.old).spare }
+/// Formats a device with these numbers, and mounts it.
+pub fn format_and_mount<D: Disk + Drop>(
+    alloc: Global,
+    disk: D,
+    numbers: Numbers,
+) -> Result<Mount<D>, Refused<D>>
+    ensures mount { IfOk result (λ m. (m.first ≡ 0) × (m.core.books.history.entries ≡ []) × ((D.state disk).faults ≤ (D.state m.found.value).faults)) }
+    ensures refused { IfErr result (λ r. IsUnformatted (D.state disk) (D.state r.disk) numbers.blocks numbers.inodes r.cause) }
 {
-    match read_super(disk) {
-        Ok(it) => Ok(it),
-        Err(MountFault::ReadFault) => Err(BeginFault::Device),
-        Err(fault) => Err(BeginFault::Mount(fault)),
+    let mut disk = disk;
+    match format(&mut disk, numbers.blocks, numbers.inodes) {
+        Ok(()) => mount(alloc, disk),
+        Err(fault) => Err(Refused {
+            disk,
+            cause: format_cause(fault),
+        }),
     }
-}
-
-fn raise<D: Disk>(disk: &mut D, old: &SuperBlock) -> Result<SuperBlock, BeginFault>
-    requires mountable { CanMount (D.state disk.old).blocks old.now }
-    requires spare { 2 ≤ (D.state disk.old).spare }
-    ensures { BeginsAs IsMounted (D.state disk.old) (D.state disk.new) result }
-{
-    match raise_mount(disk, old) {
-        Ok(it) => Ok(it),
-        Err(_) => Err(BeginFault::Device),
-    }
-}
-
-/// Formats a device with these numbers, and mounts it: its mount number is then one, durably.
-pub fn begin<D: Disk>(disk: &mut D, blocks: u64, inodes: u64) -> Result<SuperBlock, BeginFault>
-    ensures begins { BeginsAs IsMounted (D.state disk.old) (D.state disk.new) result }
-    ensures why { IfErr result (λ fault. status_in fault ≡ 4 → IsWhy (D.state disk.old) (D.state disk.new) blocks inodes) }
-    ensures refused { (f : FormatFault) → format_fault (D.state disk.old).blocks blocks inodes ≡ Some f → result ≡ Err (BeginFault.Format f) }
-{
-    format_device(disk, blocks, inodes)?;
-    ready(disk)?;
-    let old = read(disk)?;
-    raise(disk, &old)
 }

@@ -1,12 +1,12 @@
 //! The lines of a run that served no session (docs/FORMAT.md, "Other lines of the program").
 
-use crate::begin::BeginFault;
+use crate::begin::Cause;
 use nofs_script::{ScriptFault, ScriptKind};
 use nofs_super::{FormatFault, MountFault};
 use std::alloc::{AllocError, Global};
 
 /// The line of words that are no command.
-pub const USAGE: &str = "usage: nofs IMAGE new BLOCKS INODES\n";
+pub const USAGE: &str = "usage: nofs IMAGE new BLOCKS INODES | run | scan\n";
 
 /// The line of a source that failed.
 pub const SOURCE_FAULT: &str = "source fault\n";
@@ -35,11 +35,6 @@ pub fn script_text(alloc: Global, fault: ScriptFault) -> Result<String, AllocErr
     let line = fault.line;
     let text = kind_text(fault.kind);
     format!(in alloc; "line {line}: {text}\n")
-}
-
-/// The line of a session with a command that is not served yet.
-pub fn not_built_text(alloc: Global, line: u64) -> Result<String, AllocError> {
-    format!(in alloc; "line {line}: not built yet\n")
 }
 
 fn format_text(alloc: Global, fault: FormatFault) -> Result<String, AllocError> {
@@ -79,11 +74,11 @@ fn mount_text(alloc: Global, fault: MountFault) -> Result<String, AllocError> {
 }
 
 /// The line of a format or a mount that was refused; nothing is said where memory was wanting.
-pub fn begin_text(alloc: Global, fault: BeginFault) -> Result<String, AllocError> {
-    match fault {
-        BeginFault::Device => String::from_str(alloc, DEVICE_FAULT),
-        BeginFault::NoMemory => String::from_str(alloc, ""),
-        BeginFault::Format(fault) => format_text(alloc, fault),
-        BeginFault::Mount(fault) => mount_text(alloc, fault),
+pub fn cause_text(alloc: Global, cause: Cause) -> Result<String, AllocError> {
+    match cause {
+        Cause::Device => String::from_str(alloc, DEVICE_FAULT),
+        Cause::NoMemory => String::from_str(alloc, ""),
+        Cause::Format(fault) => format_text(alloc, fault),
+        Cause::Mount(fault) => mount_text(alloc, fault),
     }
 }

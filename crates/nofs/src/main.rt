@@ -5,10 +5,8 @@
 #![tactic(auto)]
 
 mod begin;
-mod built;
 mod faults;
-mod label;
-mod mount;
+mod scan;
 mod serve;
 #[cfg(test)]
 mod tests;
@@ -18,14 +16,22 @@ mod words;
 use crate::faults::{DEVICE_FAULT, USAGE};
 use crate::tool::{Outcome, tool};
 use crate::words::task_of;
-use nofs_io::{ReadSource, WriteSink, write_all};
+use nofs_disk::Disk;
+use nofs_filedisk::{FileDisk, HostFile};
+use nofs_io::{ReadSource, Sink, Source, WriteSink, write_all};
 use nofs_memdisk::MemDisk;
+use std::alloc::Global;
 use std::process::ExitCode;
 use std::rt::Env;
+use std::sync::Wait;
+use std::thread::Threads;
 use std::{env, io};
 
 // The blocks of the disk in memory, whose path is `-`.
 const MEMORY_BLOCKS: u64 = 4096;
+
+// The status of want of memory.
+const NO_MEMORY: u8 = 7;
 
 // The words behind the program's name. One that isn't UTF-8 is an error.
 fn all_words<R: Env + AllocGlobal>(rt: &R) -> io::Result<Vec<String>> {
@@ -36,54 +42,83 @@ fn all_words<R: Env + AllocGlobal>(rt: &R) -> io::Result<Vec<String>> {
     Ok(words)
 }
 
-// Where the image is.
-enum Image {
-    Memory,
-    File,
-}
-
-// The image and the words behind its path, where they are a command. They are judged before any image is opened: a mistyped
+// The image's path and the words behind it, where they are a command. They are judged before any image is opened: a mistyped
 // command line leaves nothing behind.
-fn command(words: &[String]) -> Option<(Image, &[String])> {
+fn command(words: &[String]) -> Option<(&str, &[String])> {
     match words {
-        [path, rest @ ..] if task_of(rest).is_some() => {
-            if path.as_bytes() == b"-".as_slice() {
-                Some((Image::Memory, rest))
-            } else {
-                Some((Image::File, rest))
-            }
-        }
+        [path, rest @ ..] if task_of(rest).is_some() => Some((path.as_str(), rest)),
         _ => None,
     }
 }
 
+// The status of a run on a disk.
+fn run_on<R: Threads + Wait + Sync, S: Source, K: Sink, D: Disk + Drop + Send>(
+    rt: &R,
+    alloc: Global,
+    words: &[String],
+    source: &mut S,
+    sink: &mut K,
+    disk: D,
+) -> u8 {
+    let Outcome {
+        status,
+        disk: _,
+        history: _,
+    } = tool(rt, alloc, words, source, sink, disk);
+    status
+}
+
+// A run on a disk in memory.
+fn run_in_memory<R: Threads + Wait + Sync, S: Source, K: Sink>(
+    rt: &R,
+    alloc: Global,
+    words: &[String],
+    source: &mut S,
+    sink: &mut K,
+) -> u8 {
+    match MemDisk::new(alloc, MEMORY_BLOCKS) {
+        Ok(disk) => run_on(rt, alloc, words, source, sink, disk),
+        Err(_) => NO_MEMORY,
+    }
+}
+
+// A run on a disk in a file, where it could be opened.
+fn run_in_file<R: Threads + Wait + Sync, S: Source, K: Sink>(
+    rt: &R,
+    alloc: Global,
+    words: &[String],
+    source: &mut S,
+    sink: &mut K,
+    file: io::Result<HostFile>,
+) -> u8 {
+    let Ok(file) = file else {
+        let _told = write_all(sink, DEVICE_FAULT.as_bytes());
+        return 3;
+    };
+    match FileDisk::over(alloc, file) {
+        Ok(disk) => run_on(rt, alloc, words, source, sink, disk),
+        Err(_) => NO_MEMORY,
+    }
+}
+
 fn main(rt: HostRuntime) -> ExitCode {
-    let mut sink = WriteSink::new(rt.stdout());
+    let (mut source, mut sink) = (ReadSource::new(rt.stdin()), WriteSink::new(rt.stdout()));
     let words = match all_words(&rt) {
         Ok(words) => words,
-        Err(error) if error.kind() == io::ErrorKind::OutOfMemory => return ExitCode::from(7),
+        Err(error) if error.kind() == io::ErrorKind::OutOfMemory => {
+            return ExitCode::from(NO_MEMORY);
+        }
         Err(_) => Vec::new(rt.alloc()),
     };
-    match command(&words) {
-        None => {
-            let _told = write_all(&mut sink, USAGE.as_bytes());
-            ExitCode::from(1)
-        }
-        Some((Image::File, _)) => {
-            let _told = write_all(&mut sink, DEVICE_FAULT.as_bytes());
-            ExitCode::from(3)
-        }
-        Some((Image::Memory, rest)) => {
-            let Ok(disk) = MemDisk::new(rt.alloc(), MEMORY_BLOCKS) else {
-                return ExitCode::from(7);
-            };
-            let mut source = ReadSource::new(rt.stdin());
-            let Outcome {
-                status,
-                disk: _,
-                history: _,
-            } = tool(&rt, rt.alloc(), rest, &mut source, &mut sink, disk);
-            ExitCode::from(status)
-        }
+    let Some((path, rest)) = command(&words) else {
+        let _told = write_all(&mut sink, USAGE.as_bytes());
+        return ExitCode::from(1);
+    };
+    if path == "-" {
+        let status = run_in_memory(&rt, rt.alloc(), rest, &mut source, &mut sink);
+        return ExitCode::from(status);
     }
+    let file = HostFile::open(&rt, path);
+    let status = run_in_file(&rt, rt.alloc(), rest, &mut source, &mut sink, file);
+    ExitCode::from(status)
 }

@@ -1,123 +1,220 @@
-//! Serving a session of one user on the label file.
+//! Serving a session at a mount, and counting what is used.
 //!
-//! Promise: the user is caller 1, and caller 0 makes the last entry, a flush of the whole disk. The text is that of the
-//! session by the replies in the history; there is none where memory was wanting.
+//! Promise: user `u` of a session is caller `u`, the sweeps are callers 9 and 10, and caller 0 makes the last entry, a flush of
+//! the whole disk. The text is that of the session by the replies in the history; there is none where memory was wanting.
 
-ghost use Rattle.std.specs.Prelude.{◌≡◌, ◌≢◌, ◌≤◌, ◌∷◌, [], None, flat_map, true, IfOk, IfSome};
-ghost use Rattle.nofs_disk.specs.Disk.{Rose};
+ghost use Rattle.std.specs.Prelude.{◌≡◌, ◌≢◌, ℕ, ◌≤◌, ◌<◌, ◌++◌, [], None, Some, slice_get, true, false, not, map, flat_map, All, Bool, List, vec_len, IfOk, IfSome, OnOk};
+ghost use Rattle.nofs_machine.specs.Steps.{is_out_of_memory};
+ghost use Rattle.nofs_machine.specs.declared.history.Entry1.{Entry1};
+ghost use Rattle.nofs_machine.specs.declared.steps.Step.TheVariants as step;
+ghost use Rattle.nofs_machine.specs.declared.replies.Reply.{Reply};
 ghost use Rattle.nofs_client.specs.Commands.{AreWellFormed};
+ghost use Rattle.nofs_client.specs.declared.lines.Line.{Line};
+ghost use Rattle.nofs_script.specs.Sessions.{IsSession};
 ghost use Rattle.nofs_script.specs.Text.{text_of};
-ghost use Rattle.nofs.specs.Entries.{Goes, has_fault, session_text};
+ghost use Rattle.nofs_shared.specs.Added.{AddsStep};
+ghost use Rattle.nofs_shared.specs.Ends.{Ends};
+ghost use Rattle.nofs_shared.specs.Forms.{is_fault as is_fault_in};
+ghost use Rattle.nofs.specs.Entries.{has_fault, session_text};
+ghost use Rattle.nofs.specs.Serving.{IsRun};
 
-use crate::label::Label;
-use crate::mount::LabelMount;
-use nofs_client::{Client, CommandList, Line, LineList};
+use crate::scan::counts_text;
+use nofs_client::{Line, LineList};
 use nofs_disk::Disk;
-use nofs_history::{History, Refusal, Reply, Step, Steps};
 use nofs_lists::Content;
-use nofs_script::line_text;
+use nofs_machine::{Entry1, History, Refusal, Reply, Step};
+use nofs_script::{Session, line_text};
+use nofs_serve::{Plan, Served, Sweeps, serve};
+use nofs_shared::Mount;
+use nofs_workers::OpenGate;
 use std::alloc::{AllocError, Global};
+use std::sync::Wait;
+use std::thread::Threads;
 
-/// A device after a session, with the history and the text; none where memory was wanting.
-pub struct Served<D: Disk> {
+/// A device after a run, with the history and the text; none where memory was wanting.
+#[derive(Drop)]
+pub struct Ran<D> {
     pub disk: D,
     pub history: History,
-    pub faulty: bool,
     pub text: Option<Content>,
 }
 
-const USER: u32 = 1;
-
 const CLOSING: u32 = 0;
 
-fn texts(alloc: Global, lines: &[Line]) -> Result<Content, AllocError>
-    ensures { IfOk result (λ text. text ≡ flat_map text_of lines.now) }
+// Adds the text of a user's lines.
+fn add_text(alloc: Global, lines: &[Line], text: &mut Vec<u8>) -> Result<(), AllocError>
+    ensures { OnOk result (text.new.items ≡ text.old.items ++ flat_map text_of lines.now) }
 {
-    let mut text = Vec::new(alloc);
     for line in lines {
         text.extend_from_slice(&line_text(alloc, line)?)?;
+    }
+    Ok(())
+}
+
+// The text of all users' lines.
+fn lines_text(alloc: Global, users: &[LineList]) -> Result<Content, AllocError>
+    ensures { IfOk result (λ text. text ≡ flat_map (λ lines. flat_map text_of lines) users.now) }
+{
+    let mut text = Vec::new(alloc);
+    for lines in users {
+        add_text(alloc, lines.as_slice(), &mut text)?;
     }
     Ok(Content::from_vec(text))
 }
 
 // Makes all durable; false where memory was wanting.
-fn close<D: Disk>(mount: &mut LabelMount<D>) -> bool
-    requires { mount.old.caller ≡ 0 }
-    ensures { Goes 0 0 mount.old.history.entries mount.new.history.entries (D.state mount.old.label.disk).faults (D.state mount.new.label.disk).faults }
+fn close<D: Disk + Drop>(alloc: Global, mount: &mut Mount<D>) -> bool
+    ensures adds { (reply : Reply) × AddsStep 0 (step.Flush 0 0) reply mount.old.core.books.history.entries mount.new.core.books.history.entries × (result ≡ not (is_out_of_memory reply)) }
+    ensures same { (mount.new.found ≡ mount.old.found) × (mount.new.first ≡ mount.old.first) }
 {
-    let reply = mount.step(Step::Flush {
+    let flush = Step::Flush {
         inode: 0,
         generation: 0,
-    });
+    };
+    let reply = mount.step(alloc, CLOSING, flush);
     !matches!(reply, Reply::Refused(Refusal::OutOfMemory))
 }
 
-// Runs a user's script; the lines of all its commands, or None where memory was wanting.
-fn run_user<D: Disk>(
-    alloc: Global,
-    mount: LabelMount<D>,
-    script: &CommandList,
-) -> (LabelMount<D>, Option<LineList>)
-    requires formed { AreWellFormed script.now }
-    requires first { (mount.caller ≡ 1) × (mount.history.entries ≡ []) }
-    ensures goes { Goes 1 result.0.caller [] result.0.history.entries (D.state mount.label.disk).faults (D.state result.0.label.disk).faults }
-    ensures lines { IfSome result.1 (λ lines. flat_map text_of lines ≡ session_text (script.now ∷ []) result.0.history.entries) }
+// A plan for each user: nothing holds its steps.
+fn plans_of(alloc: Global, session: Session) -> Result<Vec<Plan<OpenGate>>, AllocError>
+    requires { IsSession session }
+    ensures few { IfOk result (λ plans. vec_len plans ≤ 8) }
+    ensures formed { IfOk result (λ plans. All (λ p. AreWellFormed p.commands) plans.items) }
+    ensures scripts { IfOk result (λ plans. map (λ p. p.commands) plans.items ≡ session) }
 {
-    let mut client = Client::new(mount);
-    let mut lines = LineList::new(alloc);
-    let ran = client.run_all(alloc, script, &mut lines);
-    let mount = client.into_inner();
-    match ran {
-        Ok(()) => (mount, Some(lines)),
-        Err(_) => (mount, None),
+    let mut scripts = session.into_vec();
+    let mut plans = Vec::new(alloc);
+    while !scripts.is_empty() {
+        plans.push(Plan {
+            commands: scripts.remove(0),
+            gate: OpenGate,
+        })?;
+    }
+    Ok(plans)
+}
+
+fn is_fault(entry: &Entry1) -> bool
+    ensures { result ≡ is_fault_in entry.now.reply }
+{
+    match &entry.reply {
+        Reply::Refused(Refusal::ReadFault) => true,
+        Reply::Refused(Refusal::WriteFault) => true,
+        _ => false,
     }
 }
 
-// The text of the lines; None where memory was wanting.
-fn text_of_lines(alloc: Global, lines: Option<LineList>, closed: bool) -> Option<Content>
-    ensures { IfSome result (λ text. IfSome lines (λ lines. text ≡ flat_map text_of lines) × (lines ≢ None)) }
+fn is_fault_at(history: &History, at: u64) -> bool
+    ensures { (entry : Entry1) → slice_get history.now.entries at ≡ Some entry → result ≡ is_fault_in entry.reply }
 {
-    match lines {
-        Some(lines) => {
-            if closed {
-                texts(alloc, lines.as_slice()).ok()
-            } else {
-                None
-            }
+    match history.entry(at) {
+        Some(entry) => is_fault(entry),
+        None => false,
+    }
+}
+
+/// Whether a call of the device failed in some step.
+pub fn has_fault_in(history: &History) -> bool
+    ensures { result ≡ has_fault history.now.entries }
+{
+    for at in 0..history.len() {
+        if is_fault_at(history, at) {
+            return true;
         }
-        None => None,
+    }
+    false
+}
+
+// Serves users, each beside the sweeps, and makes all durable.
+fn serve_and_close<R: Threads + Wait + Sync, D: Disk + Drop + Send>(
+    rt: &R,
+    alloc: Global,
+    mount: Mount<D>,
+    plans: Vec<Plan<OpenGate>>,
+) -> Served<Mount<D>>
+    requires few { vec_len plans ≤ 8 }
+    requires formed { All (λ p. AreWellFormed p.commands) plans.items }
+    requires new { mount.core.books.history.entries ≡ [] }
+    ensures same { (result.mount.found.value ≡ mount.found.value) × (result.mount.first ≡ mount.first) }
+    ensures ran { IsRun (map (λ p. p.commands) plans.items) mount.core.books.at.inodes mount.core.books.at.blocks result.out_of_memory result.lines.items result.mount.core.books.history.entries }
+{
+    let at = mount.numbers();
+    let sweeps = Sweeps {
+        inodes: at.inodes,
+        blocks: at.blocks,
+        gates: (OpenGate, OpenGate),
+    };
+    let Served {
+        mount,
+        lines,
+        out_of_memory,
+    } = serve(rt, alloc, mount, plans, sweeps);
+    let mut mount = mount;
+    let closed = close(alloc, &mut mount);
+    Served {
+        mount,
+        lines,
+        out_of_memory: out_of_memory || !closed,
     }
 }
 
-/// Serves a user's commands on the label file, and then makes all durable. The history begins at moment `start`.
-pub fn serve<D: Disk>(alloc: Global, label: Label<D>, start: u64, script: &CommandList) -> Served<D>
-    requires { AreWellFormed script.now }
-    ensures text { IfSome result.text (λ text. text ≡ session_text (script.now ∷ []) result.history.entries) }
-    ensures later { (D.state label.disk).faults ≤ (D.state result.disk).faults }
-    ensures cause { has_fault result.history.entries ≡ true → Rose (D.state label.disk).faults (D.state result.disk).faults }
-    ensures faulty { result.faulty ≡ has_fault result.history.entries }
+// A mount at its end with a text.
+fn ended<D: Disk + Drop>(mount: Mount<D>, text: Option<Content>) -> Ran<D>
+    ensures text { result.text ≡ text }
+    ensures history { result.history ≡ mount.core.books.history }
+    ensures ends { ∥ Ends (D.state mount.found.value) (D.state result.disk) mount.first result.history ∥₁ }
 {
-    let mount = LabelMount {
-        label,
-        history: History::new(alloc, start),
-        caller: USER,
-        faulty: false,
-        alloc,
-    };
-    let (mut mount, lines) = run_user(alloc, mount, script);
-    mount.caller = CLOSING;
-    let closed = close(&mut mount);
-    let LabelMount {
-        label,
+    let (disk, history) = mount.end();
+    Ran {
+        disk,
         history,
-        caller: _,
-        faulty,
-        alloc: _,
-    } = mount;
-    Served {
-        disk: label.into_disk(),
-        history,
-        faulty,
-        text: text_of_lines(alloc, lines, closed),
+        text,
     }
+}
+
+/// Serves the users of a session, and then makes all durable.
+pub fn run_session<R: Threads + Wait + Sync, D: Disk + Drop + Send>(
+    rt: &R,
+    alloc: Global,
+    mount: Mount<D>,
+    session: Session,
+) -> Ran<D>
+    requires session { IsSession session }
+    requires new { mount.core.books.history.entries ≡ [] }
+    ensures ends { ∥ Ends (D.state mount.found.value) (D.state result.disk) mount.first result.history ∥₁ }
+    ensures ran { IfSome result.text (λ text. (lines : List (List Line)) × IsRun session mount.core.books.at.inodes mount.core.books.at.blocks false lines result.history.entries × (text ≡ session_text session result.history.entries)) }
+{
+    let Ok(plans) = plans_of(alloc, session) else {
+        return ended(mount, None);
+    };
+    let Served {
+        mount,
+        lines,
+        out_of_memory,
+    } = serve_and_close(rt, alloc, mount, plans);
+    if out_of_memory {
+        return ended(mount, None);
+    }
+    ended(mount, lines_text(alloc, &lines).ok())
+}
+
+/// Examines every inode and every block, makes all durable, and says how many are used.
+pub fn run_scan<R: Threads + Wait + Sync, D: Disk + Drop + Send>(
+    rt: &R,
+    alloc: Global,
+    mount: Mount<D>,
+) -> Ran<D>
+    requires { mount.core.books.history.entries ≡ [] }
+    ensures ends { ∥ Ends (D.state mount.found.value) (D.state result.disk) mount.first result.history ∥₁ }
+    ensures ran { IfSome result.text (λ text. (lines : List (List Line)) × IsRun [] mount.core.books.at.inodes mount.core.books.at.blocks false lines result.history.entries) }
+{
+    let Served {
+        mount,
+        lines: _,
+        out_of_memory,
+    } = serve_and_close(rt, alloc, mount, Vec::new(alloc));
+    if out_of_memory {
+        return ended(mount, None);
+    }
+    let text = counts_text(alloc, &mount.counts()).ok();
+    ended(mount, text)
 }

@@ -1,6 +1,11 @@
 //! Whole runs over a disk in memory, with the texts and statuses that a user sees.
 
+mod days;
+mod files;
+mod images;
+
 use crate::tool::{Outcome, tool};
+use byteorder::ByteOrder;
 use nofs_disk::{Cell, Disk};
 use nofs_io::{MemSink, MemSource};
 use nofs_memdisk::{CallKind, FaultAt, MemDisk};
@@ -12,7 +17,7 @@ use std::thread::Threads;
 const NO_CALLS: [u64; 0] = [];
 
 // The words of a command, from one text.
-fn words(alloc: Global, text: &str) -> Result<Vec<String>, AllocError> {
+pub fn words(alloc: Global, text: &str) -> Result<Vec<String>, AllocError> {
     let mut words = Vec::new(alloc);
     for word in text.split(' ') {
         words.push(String::from_str(alloc, word)?)?;
@@ -21,7 +26,7 @@ fn words(alloc: Global, text: &str) -> Result<Vec<String>, AllocError> {
 }
 
 // A run over a disk: its status, what the sink took, and the disk.
-fn run_on<R: Threads + Wait + Sync>(
+pub fn run_on<R: Threads + Wait + Sync>(
     rt: &R,
     alloc: Global,
     command: &str,
@@ -39,49 +44,84 @@ fn run_on<R: Threads + Wait + Sync>(
     Ok((status, sink, disk))
 }
 
+const USAGE: &str = "usage: nofs IMAGE new BLOCKS INODES | run | scan\n";
+
 #[test]
 fn each_run_prints_its_lines_and_ends_with_its_status(rt: HostRuntime) -> Result<(), Fail> {
     let alloc = rt.alloc();
     for (command, session, want, status) in [
+        ("new 16 4", "", "", 0),
         (
             "new 64 16",
             "put @ 0 616263\nget @ 0 3\nfsync @",
             "put 3\ngot bytes:616263\nsynced\n",
             0,
         ),
+        ("new 64 16", "get @ 0 10\nstat @", "got\nstat file 0 0\n", 0),
         (
             "new 64 16",
-            "put @ 1022 aabbccdd\nget @ 1020 6",
-            "put 4\ngot bytes:0000aabb bytes:ccdd\n",
+            "put @ 1022 aabbccdd\nget @ 1020 6\nstat @",
+            "put 4\ngot bytes:0000aabb bytes:ccdd\nstat file 1026 0\n",
             0,
         ),
-        ("new 64 16", "get @ 0 10", "got\n", 0),
-        ("new 16 4", "", "", 0),
-        ("new 16 6", "", "format: bad inodes 6\n", 4),
-        ("new 16 64", "", "format: too small, least 18\n", 4),
-        ("new 5000 16", "", "format: too large, most 4096\n", 4),
-        ("new 16", "", "usage: nofs IMAGE new BLOCKS INODES\n", 1),
-        ("new 64 016", "", "usage: nofs IMAGE new BLOCKS INODES\n", 1),
+        (
+            "new 64 16",
+            "size @ 5000\nget @ 0 5000\nput @ 2048 ff\nget @ 2047 3",
+            "sized 5000\ngot hole:1024 hole:1024 hole:1024 hole:1024 hole:904\nput 1\ngot hole:1 bytes:ff00\n",
+            0,
+        ),
+        (
+            "new 64 16",
+            "size @ 73728\nput @ 7168 01\nput @ 8192 02\nput @ 72704 03\nput @ 73728 04\nget @ 8191 2\nsize @ 73729",
+            "sized 73728\nput 1\nput 1\nput 1\nrefused 12 too large, stored 0\ngot bytes:00 bytes:02\nrefused 12 too large\n",
+            0,
+        ),
+        (
+            "new 64 16",
+            "make /a\nlink /a /b\nlink /a /c\nlink /a /d\nlink /a /e\nstat /a\nmake /xxxxxxxxxxxxxxxxxxxxxxxxxxxxxxxxxxxxxxxxxxxxxxxx\nmake /xxxxxxxxxxxxxxxxxxxxxxxxxxxxxxxxxxxxxxxxxxxxxxxxx",
+            "made\nlinked\nlinked\nlinked\nrefused 10 too many links\nstat file 0 4\nmade\nrefused 8 bad name\n",
+            0,
+        ),
+        (
+            "new 16 4",
+            "make /a\nmake /b\nmake /c",
+            "made\nmade\nrefused 16 inodes full, unchecked 0\n",
+            0,
+        ),
+        (
+            "new 64 16",
+            "mkdir /d\nmake /d/a\nmake /d/b\nrename /d/a c\nlist /d\nlist /\ndrop /d\ndrop /d/b\nmake /d/x\nlist /d",
+            "made\nmade\nmade\nrenamed\nnames c b\nnames d/\nrefused 7 not empty\ndropped\nmade\nnames c x\n",
+            0,
+        ),
+        (
+            "new 64 16",
+            "put @ 2048 01\nmake /a\nmake /a\nget / 0 1\nlist /a\nstat /q",
+            "refused 13 past end, stored 0\nmade\nrefused 4 exists\nrefused 6 is a directory\nrefused 5 not a directory\nrefused 1 missing\n",
+            0,
+        ),
         (
             "new 64 16",
             "put @ 0 616263\nfrob",
             "line 2: unknown command\n",
             2,
         ),
+        ("new 16", "", USAGE, 1),
+        ("new 64 016", "", USAGE, 1),
+        ("scan 1", "", USAGE, 1),
+        ("run 1", "", USAGE, 1),
+        ("new -16 4", "", USAGE, 1),
+        ("new 16 6", "", "format: bad inodes 6\n", 4),
+        ("new 16 64", "", "format: too small, least 18\n", 4),
+        ("new 5000 16", "", "format: too large, most 4096\n", 4),
+        ("run", "", "mount: bad magic 0000000000000000\n", 4),
+        ("scan", "", "mount: bad magic 0000000000000000\n", 4),
         (
             "new 64 16",
-            "# a comment\nget @ 0 1\n\nmake /a",
-            "line 4: not built yet\n",
-            2,
+            "mkdir /src\nmake /src/main.rs\nput /src/main.rs 0 666e206d61696e28297b7d0a\nfsync /src/main.rs\nrename /src/main.rs lib.rs\nlist /src\nuser\nmkdir /doc\nmake /doc/a\nput /doc/a 0 7465787400\nlink /doc/a /doc/b\ndrop /doc/a\nget /doc/b 0 100\nlist /doc",
+            "made\nmade\nput 12\nsynced\nrenamed\nnames lib.rs\nmade\nmade\nput 5\nlinked\ndropped\ngot bytes:7465787400\nnames b\n",
+            0,
         ),
-        (
-            "new 64 16",
-            "fsync @\nuser\nfsync @",
-            "line 2: not built yet\n",
-            2,
-        ),
-        ("new 64 16", "put @ 8191 0102", "line 1: not built yet\n", 2),
-        ("new 16 6", "stat @", "line 1: not built yet\n", 2),
     ] {
         let disk = MemDisk::new(alloc, 4096)?;
         let (ended, sink, _) = run_on(&rt, alloc, command, session.as_bytes(), disk)?;
@@ -91,24 +131,67 @@ fn each_run_prints_its_lines_and_ends_with_its_status(rt: HostRuntime) -> Result
     Ok(())
 }
 
-// A put of 1,025 bytes `A`.
-fn long_put(alloc: Global) -> Result<Vec<u8>, AllocError> {
+#[test]
+fn a_scan_counts_what_a_session_left(rt: HostRuntime) -> Result<(), Fail> {
+    let alloc = rt.alloc();
+    for (command, session, want) in [
+        (
+            "new 16 4",
+            "",
+            "inodes used 2 free 2 unchecked 0, blocks used 2 free 14 unchecked 0\n",
+        ),
+        (
+            "new 64 16",
+            "put @ 0 616263\nget @ 0 3\nfsync @",
+            "inodes used 2 free 14 unchecked 0, blocks used 6 free 58 unchecked 0\n",
+        ),
+    ] {
+        let disk = MemDisk::new(alloc, 4096)?;
+        let (_, _, disk) = run_on(&rt, alloc, command, session.as_bytes(), disk)?;
+        let (ended, sink, _) = run_on(&rt, alloc, "scan", b"".as_slice(), disk)?;
+        assert_eq!(rt; sink.bytes(), want.as_bytes(), "{command}: {session}");
+        assert_eq!(rt; ended, 0);
+    }
+    Ok(())
+}
+
+// A put of so many bytes `A`, and one byte behind them.
+fn long_puts(alloc: Global, count: usize) -> Result<Vec<u8>, AllocError> {
     let mut text = Vec::new(alloc);
     text.extend_from_slice(b"put @ 0 ".as_slice())?;
-    for _ in 0..1025 {
+    for _ in 0..count {
         text.extend_from_slice(b"41".as_slice())?;
     }
+    text.extend_from_slice(b"\nput @ 13312 01".as_slice())?;
     Ok(text)
 }
 
 #[test]
-fn a_put_that_finds_no_block_says_what_it_stored(rt: HostRuntime) -> Result<(), Fail> {
+fn a_put_that_finds_no_block_says_how_full_the_disk_is(rt: HostRuntime) -> Result<(), Fail> {
     let alloc = rt.alloc();
     let disk = MemDisk::new(alloc, 4096)?;
-    let (status, sink, _) = run_on(&rt, alloc, "new 18 64", &long_put(alloc)?, disk)?;
-    let want = "refused 15 full, needed 1, free 0, unchecked 0, stored 1024\n";
+    let text = long_puts(alloc, 13_312)?;
+    let (status, sink, _) = run_on(&rt, alloc, "new 16 4", &text, disk)?;
+    let want = "put 13312\nrefused 15 full, needed 1, free 0, unchecked 0, stored 0\n";
     assert_eq!(rt; sink.bytes(), want.as_bytes());
     assert_eq!(rt; status, 0);
+    Ok(())
+}
+
+#[test]
+fn a_write_that_fails_stops_the_mount(rt: HostRuntime) -> Result<(), Fail> {
+    let alloc = rt.alloc();
+    let mut disk = MemDisk::new(alloc, 4096)?;
+    disk.fail_at(&[FaultAt {
+        call: CallKind::Write,
+        number: 18,
+        taken: false,
+    }])?;
+    let session = b"make /a\nget @ 0 1".as_slice();
+    let (status, sink, _) = run_on(&rt, alloc, "new 16 4", session, disk)?;
+    let want = "refused 19 write fault\nrefused 20 stopped\n";
+    assert_eq!(rt; sink.bytes(), want.as_bytes());
+    assert_eq!(rt; status, 3);
     Ok(())
 }
 
@@ -124,7 +207,11 @@ fn a_flush_that_fails_at_the_end_is_told_by_the_status(rt: HostRuntime) -> Resul
     let (status, sink, disk) = run_on(&rt, alloc, "new 64 16", b"put @ 0 616263".as_slice(), disk)?;
     assert_eq!(rt; sink.bytes(), b"put 3\n".as_slice());
     assert_eq!(rt; status, 3);
-    assert!(rt; disk.blocks() > 5 && disk.choices(5) >= 2);
+    let mut claimed = 0;
+    for block in 5..64 {
+        claimed += disk.choices(block) - 1;
+    }
+    assert!(rt; claimed >= 1);
     Ok(())
 }
 
@@ -179,7 +266,9 @@ fn the_bytes_on_the_disk_are_those_of_the_format(rt: HostRuntime) -> Result<(), 
         hex::encode(alloc, &cell.payload[256..288])?.as_str(),
         record
     );
-    assert!(rt; disk.read(5, &mut cell).is_ok());
+    let block = byteorder::LittleEndian::read_u64(&cell.payload[352..360]);
+    assert!(rt; (5..64).contains(&block));
+    assert!(rt; disk.read(block, &mut cell).is_ok());
     let tag = "0100000002000000020000000000000000000000000000000000000000010000";
     assert_eq!(rt; hex::encode(alloc, cell.tag.as_slice())?.as_str(), tag);
     assert_eq!(rt; &cell.payload[0..4], b"abc\0".as_slice());

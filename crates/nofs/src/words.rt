@@ -3,7 +3,7 @@
 //! Promise: words are a command exactly where they have a shape of one.
 
 ghost use Rattle.std.specs.Prelude.{◌≡◌, map, string_bytes};
-ghost use Rattle.nofs.specs.Words.{new_in, task_in};
+ghost use Rattle.nofs.specs.Words.{new_in, plain_in, task_in};
 
 use nofs_script::number_of;
 
@@ -12,6 +12,10 @@ use nofs_script::number_of;
 pub enum Task {
     /// Formats the device, mounts it and serves a session.
     New { blocks: u64, inodes: u64 },
+    /// Mounts the device and serves a session.
+    Run,
+    /// Mounts the device, examines all of it, and prints what is used.
+    Scan,
 }
 
 fn new_task(blocks: &str, inodes: &str) -> Option<Task>
@@ -22,11 +26,24 @@ fn new_task(blocks: &str, inodes: &str) -> Option<Task>
     Some(Task::New { blocks, inodes })
 }
 
+fn plain_task(word: &str) -> Option<Task>
+    ensures { result ≡ plain_in word.now }
+{
+    if word.as_bytes() == b"run".as_slice() {
+        Some(Task::Run)
+    } else if word.as_bytes() == b"scan".as_slice() {
+        Some(Task::Scan)
+    } else {
+        None
+    }
+}
+
 /// The task that the words behind the image's path ask for.
 pub fn task_of(words: &[String]) -> Option<Task>
     ensures { result ≡ task_in (map string_bytes words.now) }
 {
     match words {
+        [word] => plain_task(word),
         [first, blocks, inodes] => {
             if first.as_bytes() == b"new".as_slice() {
                 new_task(blocks, inodes)

@@ -11,7 +11,7 @@ use Rattle.nofs_model.specs.Cells.{BackLink, Record, SuperBlock, no_link}
 use Rattle.nofs_model.specs.Files.{agreed, files_in, has_agreed_link, is_pair, is_root, is_special}
 use Rattle.nofs_model.specs.Geometry.{Image, IsGeometry, inode, super_at}
 use Rattle.nofs_model.proofs.Parents.{any-links, linked-is, root-is, special-is}
-use Rattle.nofs_agree.specs.Chains.{AreAgreed, IsAbove, IsPartner, ReadsPair, ReadsParent, TellsAgreed, first_link, is_agreed_link}
+use Rattle.nofs_agree.specs.Chains.{AreAgreed, IsDirectoryAbove, IsPartner, ReadsPair, ReadsParent, TellsAgreed, first_link, is_agreed_link}
 use Rattle.nofs_agree.proofs.Links.{first-decides, four-links}
 use Rattle.nofs_agree.specs.Reading.{IsAt, IsLast, KnowsDirectory, KnowsInode}
 use Rattle.nofs_agree.specs.declared.chain.Directory.{Directory}
@@ -32,6 +32,7 @@ KnowsInode-on old new at i r s k = record {
   numbers = IsAt-on old new at s k.numbers;
   same = λ t. ap (λ (X : Image). inode X i) s.cells.now ∙ k.same (subst (λ (b : Bool). IsTrue b) s.disk.tells t);
   spelled = k.spelled;
+  range = k.range;
 }
 
 -- the record of a disk that stayed is that of the image at first
@@ -94,7 +95,7 @@ pub climb-goes : (old now new : DiskState) (at : SuperBlock) (first here parent 
     → ReadsParent now new at here next res → res ≡ Ok (Some parent) → Climbed old new at first parent next
 climb-goes old now new at first here parent last next res c root special reads is =
     let p : ReadsParent now new at here next (Ok (Some parent)) = subst (λ (q : Result (Option Directory) Failed). ReadsParent now new at here next q) is reads in
-    let above : IsAbove now new at here parent = p.parent in
+    let above : IsDirectoryAbove now new at here parent = p.parent in
     record {
       stays = StaysButFaults-trans old now new c.stays p.stays;
       known = above.known;

@@ -29,7 +29,7 @@ abbrev pub is_agreed_link : Files → ℕ → BackLink → Bool
 is_agreed_link F i link = is_pair F i link && agreed F link.directory
 
 -- the answer is this one of the image, where the disk tells
-pub record Tells (old new : DiskState) (answer : Image → Bool) (last : LastRead) (result : Result Bool Failed) : Type 0 where
+pub record TellsAnswer (old new : DiskState) (answer : Image → Bool) (last : LastRead) (result : Result Bool Failed) : Type 0 where
   pub stays : StaysButFaults old new
   pub found : IfOk result (λ a. IsTrue old.tells → a ≡ answer old.now)
   pub kept : OnOk result (IsLast new last)
@@ -56,7 +56,7 @@ pub record ReadsPair (old new : DiskState) (at : SuperBlock) (i : ℕ) (it : Rec
   pub cause : OnErr result (Rose old.faults new.faults)
 
 -- a directory above this one: it is older, and agreed exactly where this one has an agreed back link
-pub record IsAbove (old new : DiskState) (at : SuperBlock) (it parent : Directory) : Type 0 where
+pub record IsDirectoryAbove (old new : DiskState) (at : SuperBlock) (it parent : Directory) : Type 0 where
   pub known : KnowsDirectory new at parent.inode parent.record.generation parent.record
   pub older : parent.record.generation < it.record.generation
   pub same : IsTrue old.tells → has_agreed_link (files_in old.now) it.inode ≡ agreed (files_in old.now) parent.inode
@@ -64,7 +64,7 @@ pub record IsAbove (old new : DiskState) (at : SuperBlock) (it parent : Director
 -- the directory that names this one, where there is one
 pub record ReadsParent (old new : DiskState) (at : SuperBlock) (it : Directory) (last : LastRead) (result : Result (Option Directory) Failed) : Type 0 where
   pub stays : StaysButFaults old new
-  pub parent : IfOk result (λ found. IfSome found (IsAbove old new at it))
+  pub parent : IfOk result (λ found. IfSome found (IsDirectoryAbove old new at it))
   pub none : IfOk result (λ found. IsTrue old.tells → IsNone found → has_agreed_link (files_in old.now) it.inode ≡ false)
   pub kept : OnOk result (IsLast new last)
   pub cause : OnErr result (Rose old.faults new.faults)

@@ -1,8 +1,8 @@
 -- What reads of blocks and records answer, over any disk.
-use Rattle.std.specs.Prelude.{◌≡◌, ℕ, IsTrue, Some, Result, IfOk, IfSome, OnOk, OnErr}
+use Rattle.std.specs.Prelude.{◌≡◌, ◌≤◌, ℕ, IsTrue, Some, Result, IfOk, IfSome, OnOk, OnErr}
 use Rattle.nofs_disk.specs.declared.Failed.{Failed}
 use Rattle.nofs_disk.specs.Disk.{DiskState, StaysButFaults, Rose, cell_at}
-use Rattle.nofs_inode.specs.InodeRecords.{HasRecordSpelling}
+use Rattle.nofs_inode.specs.InodeRecords.{HasRecordSpelling, is_live}
 use Rattle.nofs_inode.specs.declared.inode.FileKind.TheVariants.{Directory}
 use Rattle.nofs_model.specs.Cells.{Record, SuperBlock}
 use Rattle.nofs_model.specs.Geometry.{IsGeometry, super_at, inode}
@@ -29,6 +29,8 @@ pub record KnowsInode (d : DiskState) (at : SuperBlock) (i : ℕ) (r : Record) :
   pub numbers : IsAt d at
   pub same : IsTrue d.tells → inode d.now i ≡ r
   pub spelled : HasRecordSpelling r
+  -- a live one is in the table
+  pub range : IsTrue (is_live r) → (1 ≤ i) × (i ≤ at.inodes)
 
 -- the record of an inode is read
 pub record ReadsInode (old new : DiskState) (at : SuperBlock) (i : ℕ) (last : LastRead) (result : Result Record Failed) : Type 0 where

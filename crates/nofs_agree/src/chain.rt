@@ -104,7 +104,8 @@ fn has_agreed_link<D: Disk>(
     Ok(false)
 }
 
-fn is_agreed_link<D: Disk>(
+/// Whether a back link of an inode is a pair with an agreed directory.
+pub fn is_agreed_link<D: Disk>(
     disk: &mut D,
     at: &SuperBlock,
     known: &Bits,

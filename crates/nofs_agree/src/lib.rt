@@ -9,6 +9,7 @@ mod pair;
 mod path;
 mod reads;
 
-pub use chain::check_chain;
+pub use chain::{check_chain, is_agreed_link};
 pub use nofs_model::PathAnswer;
-pub use path::check_path;
+pub use path::{check_path, find_slot};
+pub use reads::{LastRead, read_block, read_inode};

@@ -4,7 +4,7 @@ ghost use Rattle.std.specs.List.{position};
 ghost use Rattle.nofs_inode.specs.InodeRecords.{is_empty_link};
 ghost use Rattle.nofs_inode.specs.declared.inode.FileKind.TheVariants as kind;
 ghost use Rattle.nofs_model.specs.Files as files;
-ghost use Rattle.nofs_agree.specs.Chains.{ReadsPair, Tells, first_link};
+ghost use Rattle.nofs_agree.specs.Chains.{ReadsPair, TellsAnswer, first_link};
 ghost use Rattle.nofs_agree.specs.Reading.{IsLast, KnowsDirectory, KnowsInode};
 
 use crate::path::find_slot;
@@ -72,7 +72,7 @@ fn has_entry<D: Disk>(
 ) -> Result<bool, Failed>
     requires directory { KnowsDirectory (D.state disk.old) at.now link.now.directory link.now.generation directory.now }
     requires last { IsLast (D.state disk.old) last.old }
-    ensures { Tells (D.state disk.old) (D.state disk.new) (λ X. files.names (files.entry_at (files.files_in X) link.now.directory link.now.entry) inode generation) last.new result }
+    ensures { TellsAnswer (D.state disk.old) (D.state disk.new) (λ X. files.names (files.entry_at (files.files_in X) link.now.directory link.now.entry) inode generation) last.new result }
 {
     if link.entry >= 1152 {
         return Ok(false);

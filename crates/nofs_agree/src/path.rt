@@ -4,10 +4,10 @@
 //! record, the blocks above the slot, and its own block.
 ghost use Rattle.std.specs.Prelude.{◌≡◌, ◌<◌, IsTrue, IfOk, OnErr};
 ghost use Rattle.nofs_disk.specs.Disk.{Rose, StaysButFaults};
-ghost use Rattle.nofs_model.specs.Places.{IsPlace, path_in};
+ghost use Rattle.nofs_model.specs.Places.{IsPlace, place_path};
 ghost use Rattle.nofs_model.specs.Slots as slots;
 ghost use Rattle.nofs_agree.specs.Reading.{IsAt, IsLast, KnowsInode};
-ghost use Rattle.nofs_agree.specs.Finding.{Finds};
+ghost use Rattle.nofs_agree.specs.Finding.{FindsSlot};
 
 use crate::reads::{LastRead, read_block, read_inode};
 use nofs_disk::{Disk, Failed, Pointer, Tag};
@@ -41,7 +41,7 @@ pub fn check_path<D: Disk>(
 }
 
 /// What stands in the slot at a place. Where it holds, its block is the one that was read last.
-pub(crate) fn find_slot<D: Disk>(
+pub fn find_slot<D: Disk>(
     disk: &mut D,
     at: &SuperBlock,
     inode: u32,
@@ -52,7 +52,7 @@ pub(crate) fn find_slot<D: Disk>(
     requires known { KnowsInode (D.state disk.old) at.now inode it.now }
     requires place { IsPlace place }
     requires last { IsLast (D.state disk.old) last.old }
-    ensures { Finds (D.state disk.old) (D.state disk.new) at.now (λ X. slots.find X inode (path_in place)) last.new result }
+    ensures { FindsSlot (D.state disk.old) (D.state disk.new) at.now (λ X. slots.find X inode (place_path place)) last.new result }
 {
     match place {
         Place::InRecord(n) => find_in_record(disk, at, inode, it, n, last),
@@ -76,7 +76,7 @@ fn find_in_record<D: Disk>(
     requires known { KnowsInode (D.state disk.old) at.now inode it.now }
     requires place { place < 10 }
     requires last { IsLast (D.state disk.old) last.old }
-    ensures { Finds (D.state disk.old) (D.state disk.new) at.now (λ X. slots.find X inode (slots.InRecord place)) last.new result }
+    ensures { FindsSlot (D.state disk.old) (D.state disk.new) at.now (λ X. slots.find X inode (slots.InRecord place)) last.new result }
 {
     let pointer = record_pointer(it, place);
     judge(disk, at, inode, it, Place::InRecord(place), pointer, last)
@@ -94,7 +94,7 @@ fn find_under_record<D: Disk>(
     requires known { KnowsInode (D.state disk.old) at.now inode it.now }
     requires place { IsPlace (Place.UnderRecord above place) }
     requires last { IsLast (D.state disk.old) last.old }
-    ensures { Finds (D.state disk.old) (D.state disk.new) at.now (λ X. slots.find X inode (slots.Under (slots.InRecord above) place)) last.new result }
+    ensures { FindsSlot (D.state disk.old) (D.state disk.new) at.now (λ X. slots.find X inode (slots.Under (slots.InRecord above) place)) last.new result }
 {
     match find_in_record(disk, at, inode, it, above, last)? {
         PathAnswer::Hole => Ok(PathAnswer::Hole),
@@ -119,7 +119,7 @@ fn find_under_child<D: Disk>(
     requires known { KnowsInode (D.state disk.old) at.now inode it.now }
     requires place { IsPlace (Place.UnderChild child place) }
     requires last { IsLast (D.state disk.old) last.old }
-    ensures { Finds (D.state disk.old) (D.state disk.new) at.now (λ X. slots.find X inode (slots.Under (slots.child child) place)) last.new result }
+    ensures { FindsSlot (D.state disk.old) (D.state disk.new) at.now (λ X. slots.find X inode (slots.Under (slots.child child) place)) last.new result }
 {
     match find_under_record(disk, at, inode, it, 9, child, last)? {
         PathAnswer::Hole => Ok(PathAnswer::Hole),
@@ -145,7 +145,7 @@ fn judge<D: Disk>(
     requires known { KnowsInode (D.state disk.old) at.now inode it.now }
     requires place { IsPlace place }
     requires last { IsLast (D.state disk.old) last.old }
-    ensures { Finds (D.state disk.old) (D.state disk.new) at.now (λ X. slots.judged X inode (path_in place) pointer) last.new result }
+    ensures { FindsSlot (D.state disk.old) (D.state disk.new) at.now (λ X. slots.judged X inode (place_path place) pointer) last.new result }
 {
     if pointer.block == 0 && pointer.stamp == 0 {
         return Ok(PathAnswer::Hole);

@@ -10,7 +10,7 @@ use nofs_super::SuperBlock;
 
 /// The block that was read last, and its cell.
 #[derive(Drop)]
-pub(crate) struct LastRead {
+pub struct LastRead {
     /// `None` before the first read.
     pub block: Option<u64>,
     pub cell: Cell,
@@ -25,11 +25,7 @@ impl LastRead {
 }
 
 /// Reads a block, where it isn't the one that was read last.
-pub(crate) fn read_block<D: Disk>(
-    disk: &mut D,
-    block: u64,
-    last: &mut LastRead,
-) -> Result<(), Failed>
+pub fn read_block<D: Disk>(disk: &mut D, block: u64, last: &mut LastRead) -> Result<(), Failed>
     requires there { block < (D.state disk.old).blocks }
     requires last { IsLast (D.state disk.old) last.old }
     ensures { ReadsBlock (D.state disk.old) (D.state disk.new) block last.new result }
@@ -51,7 +47,7 @@ fn is_last(last: &LastRead, block: u64) -> bool
 
 /// Reads the record of an inode: free where its bytes spell none, and where there is no such inode.
 #[tactic(auto, unfolding(nofs_model::specs::Geometry::inode))]
-pub(crate) fn read_inode<D: Disk>(
+pub fn read_inode<D: Disk>(
     disk: &mut D,
     at: &SuperBlock,
     inode: u32,

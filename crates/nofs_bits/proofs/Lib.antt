@@ -1,3 +1,4 @@
 pub mod Searches
 pub mod Truths
 pub mod Words
+mod Firsts

@@ -1,5 +1,5 @@
 -- Truth values by place, and the words in which they lie as bits.
-use Rattle.std.specs.Prelude.{◌≡◌, ℕ, ◌/◌, ◌%◌, ◌<◌, ◌≤◌, Bool, false, eqb, List, map, slice_index_or, count_by}
+use Rattle.std.specs.Prelude.{◌≡◌, ℕ, ◌/◌, ◌%◌, ◌<◌, ◌≤◌, Bool, true, false, eqb, List, length, map, slice_index_or, count_by}
 use Rattle.std.specs.List.{range_with_len}
 use Rattle.std.specs.Int.{bit_at}
 
@@ -14,6 +14,11 @@ count_set bits = count_by (λ bit. bit) bits
 -- no place is set from the first one given up to the second, which is not meant
 abbrev pub NoneSet : List Bool → ℕ → ℕ → Type 0
 NoneSet bits from end = (at : ℕ) → from ≤ at → at < end → is_set bits at ≡ false
+
+-- the least place that is set; where none is, the end
+pub record IsFirst (bits : List Bool) (first : ℕ) : Type 0 where
+  pub none : NoneSet bits 0 first
+  pub set : first < length bits → is_set bits first ≡ true
 
 -- the bit of a place: 64 places a word, the first in the lowest bit
 unfoldable pub bit_of : List ℕ → ℕ → Bool

@@ -1,12 +1,15 @@
 //! Maps of bits: one truth value for each place below a number, one bit each in memory.
 //!
 //! Promise: a map is the list of its truth values. Setting one changes no other, the count of
-//! those that are set stays exact, and the next one that is set is found by words.
+//! those that are set stays exact, and the next one that is set is found.
+//!
+//! The count and the least place that is set are kept, not searched for, and a search goes by words:
+//! a loop that clears the least place again and again passes each word once. Speed is not promised.
 #![tactic(auto)]
 
-ghost use Rattle.std.specs.Prelude.{◌≡◌, ◌≢◌, ◌+◌, ◌*◌, ◌^◌, ◌<◌, ◌≤◌, ℕ, None, IfOk, IfSome, cond, eqb, false, true, length, replicate, slice_set};
+ghost use Rattle.std.specs.Prelude.{◌≡◌, ◌≢◌, ◌+◌, ◌*◌, ◌^◌, ◌<◌, ◌≤◌, ℕ, Bool, List, None, IfOk, IfSome, cond, eqb, false, true, length, replicate, slice_set};
 ghost use Rattle.std.specs.Int.{bit_at};
-ghost use Rattle.nofs_bits.specs.Bits.{NoneInWords, NoneSet, bit_of, count_set, is_set};
+ghost use Rattle.nofs_bits.specs.Bits.{IsFirst, NoneInWords, NoneSet, bit_of, count_set, is_set, truths};
 
 use std::alloc::{AllocError, Global};
 use std::marker::Model;
@@ -20,17 +23,19 @@ pub struct Bits {
     words: Vec<u64>,
     places: u64,
     set_places: u64,
+    /// The least place that is set; `places` where none is.
+    first: u64,
 }
 
 impl Model for Bits {
     ghost use Rattle.std.specs.Prelude.{◌≡◌, ◌+◌, ◌/◌, Bool, List, vec_len};
-    ghost use Rattle.nofs_bits.specs.Bits.{count_set, truths};
+    ghost use Rattle.nofs_bits.specs.Bits.{IsFirst, count_set, truths};
 
     ghost Value = { List Bool };
 
     ghost view = { λ bits. truths bits.words.items bits.places };
 
-    ghost invariant = { λ bits. (vec_len bits.words ≡ (bits.places + 63) / 64) × (bits.set_places ≡ count_set (truths bits.words.items bits.places)) };
+    ghost invariant = { λ bits. (vec_len bits.words ≡ (bits.places + 63) / 64) × (bits.set_places ≡ count_set (truths bits.words.items bits.places)) × IsFirst (truths bits.words.items bits.places) bits.first };
 }
 
 impl Bits {
@@ -42,6 +47,7 @@ impl Bits {
             words: vec![in alloc; 0u64; n.div_ceil(WORD) as usize]?,
             places: n,
             set_places: 0,
+            first: n,
         })
     }
 
@@ -62,6 +68,7 @@ impl Bits {
         let index = (at / WORD) as usize;
         self.words[index] = with_bit(self.words[index], at % WORD, value);
         self.set_places = self.set_places - was as u64 + value as u64;
+        self.first = first_after(&self.words, self.places, self.first, at, value);
     }
 
     /// How many places are set. It is kept, not counted.
@@ -77,11 +84,47 @@ impl Bits {
         ensures least { IfSome result (λ at. NoneSet self.now from at) }
         ensures none { result ≡ None → NoneSet self.now from (length self.now) }
     {
-        let places = self.places;
-        match next_in_words(&self.words, from) {
-            Some(at) if at < places => Some(at),
-            _ => None,
+        if self.first < from {
+            return next_within(&self.words, self.places, from);
         }
+        if self.first < self.places {
+            Some(self.first)
+        } else {
+            None
+        }
+    }
+}
+
+/// The least place that is set once a place was changed, where `first` was the least before.
+fn first_after(words: &[u64], places: u64, first: u64, at: u64, value: bool) -> u64
+    requires long { length words.now ≤ 2 ^ 58 }
+    requires whole { places ≤ length words.now * 64 }
+    requires at { at < places }
+    ensures { (bits : List Bool) → truths words.now places ≡ slice_set bits at value → IsFirst bits first → IsFirst (slice_set bits at value) result }
+{
+    if value {
+        return if at < first { at } else { first };
+    }
+    if at != first {
+        return first;
+    }
+    match next_within(words, places, at + 1) {
+        Some(next) => next,
+        None => places,
+    }
+}
+
+/// The least place of a map at or after `from` that is set, where it lies in these words.
+fn next_within(words: &[u64], places: u64, from: u64) -> Option<u64>
+    requires long { length words.now ≤ 2 ^ 58 }
+    requires whole { places ≤ length words.now * 64 }
+    ensures found { IfSome result (λ at. (from ≤ at) × (at < places) × (is_set (truths words.now places) at ≡ true)) }
+    ensures least { IfSome result (NoneSet (truths words.now places) from) }
+    ensures none { result ≡ None → NoneSet (truths words.now places) from places }
+{
+    match next_in_words(words, from) {
+        Some(at) if at < places => Some(at),
+        _ => None,
     }
 }
 

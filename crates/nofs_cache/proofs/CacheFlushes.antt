@@ -1,6 +1,6 @@
 -- Flushes and write-outs of a cached disk.
 use Rattle.std.proofs.Common.{◌≡◌, ◌↔◌, ℕ, zero, suc, ◌+◌, ◌*◌, ◌<◌, Bool, true, false, List, [], ◌∷◌, length, map, arith, refl, sym, ap, subst, ◌∙◌, Option, None, Some, Result, Ok, Err}
-use Rattle.std.specs.Prelude.{Contains, IfOk, IfSome, IsPermutation, OnErr, is_ok}
+use Rattle.std.specs.Prelude.{Contains, IfOk, IfSome, IsPermutation, OnErr, OnOk, is_ok}
 use Rattle.std.proofs.Math.Logic.{∥∥₁_elim, ∥∥₁_prop}
 use Rattle.std.proofs.lemmas.List.{length-map}
 use Rattle.nofs_disk.specs.declared.Failed.{Failed}
@@ -9,10 +9,10 @@ use Rattle.nofs_disk.specs.Cells.{Picks-known, has_cell, has_cell-true}
 use Rattle.nofs_disk.specs.Disk.{DiskState, Flushes, IsDisk, IsSettled, Picks, Rose, WritesOut, cell_at}
 use Rattle.nofs_disk.specs.Moments.{AtEach}
 use Rattle.nofs_cache.specs.declared.dirty.DirtyEntry.{DirtyEntry}
-use Rattle.nofs_cache.specs.declared.past.Call.{Call}
-use Rattle.nofs_cache.specs.declared.past.Call.TheVariants.{Flush}
-use Rattle.nofs_cache.specs.Cache.{Agrees, Covers, Held, IsMarked, IsWithin, Left, WrittenBack, Settles, TakesOut, after_flush, cache_state, held, last_end, only}
-use Rattle.nofs_cache.specs.Laws.{IsKept, first_held, only_has}
+use Rattle.nofs_cache.specs.declared.past.CacheCall.{CacheCall}
+use Rattle.nofs_cache.specs.declared.past.CacheCall.TheVariants.{Flush}
+use Rattle.nofs_cache.specs.Cache.{Agrees, Covers, Held, IsMarked, IsWithin, Left, WrittenBack, SettlesDirty, TakesOut, after_flush, cache_state, held, last_end, only}
+use Rattle.nofs_cache.specs.Laws.{CacheKeeps, first_held, only_has}
 use Rattle.nofs_cache.proofs.CacheCalls.{agrees_of, cache_disk, cache_past_more, left_before, left_during, left_keeps, left_more, was_keeps, was_now}
 use Rattle.nofs_cache.proofs.CacheWrites.{rest_at}
 
@@ -50,10 +50,10 @@ flush_within h n w = record { beyond = λ b c low has. w.beyond b c low (back b 
         subst F (sym one.0) one.1
 
 -- dirty cells are written out
-pub kept_writes_back : (under new first : DiskState) (past : List Call) (before after : List DirtyEntry) → WrittenBack under new before after → ∥ IsKept under first past before ∥₁ → ∥ IsKept new first past after ∥₁
+pub kept_writes_back : (under new first : DiskState) (past : List CacheCall) (before after : List DirtyEntry) → WrittenBack under new before after → ∥ CacheKeeps under first past before ∥₁ → ∥ CacheKeeps new first past after ∥₁
 kept_writes_back under new first past before after p kept = ∥∥₁_elim kept ∥∥₁_prop (λ k. ∣ goes k ∣₁)
   where
-    goes : IsKept under first past before → IsKept new first past after
+    goes : CacheKeeps under first past before → CacheKeeps new first past after
     goes k =
         let h = held (first_held first) past in
         record {
@@ -75,11 +75,11 @@ flush_covers h new after settled none ag cov =
       kept = λ i low. absurd (omega arith);
     }
 
-pub kept_flush : (under new first : DiskState) (past : List Call) (before after : List DirtyEntry) (from to : ℕ) (result : Result (Unit {0}) Failed) → IsDisk new → to ≡ new.moment → Settles under new before after result
-    → ∥ IsKept under first past before ∥₁ → ∥ IsKept new first (Flush (is_ok result) from to ∷ past) after ∥₁
+pub kept_flush : (under new first : DiskState) (past : List CacheCall) (before after : List DirtyEntry) (from to : ℕ) (result : Result (Unit {0}) Failed) → IsDisk new → to ≡ new.moment → SettlesDirty under new before after result
+    → ∥ CacheKeeps under first past before ∥₁ → ∥ CacheKeeps new first (Flush (is_ok result) from to ∷ past) after ∥₁
 kept_flush under new first past before after from to (Ok u) is ends s kept = ∥∥₁_elim kept ∥∥₁_prop (λ k. ∣ goes k ∣₁)
   where
-    goes : IsKept under first past before → IsKept new first (Flush true from to ∷ past) after
+    goes : CacheKeeps under first past before → CacheKeeps new first (Flush true from to ∷ past) after
     goes k =
         let h = held (first_held first) past in
         let ag = s.writes_back.agrees h.now k.agrees in
@@ -88,7 +88,7 @@ kept_flush under new first past before after from to (Ok u) is ends s kept = ∥
         record { covers = cov; picks = subst F (sym ends) (rest_at (after_flush true h).may new after is cov); agrees = ag; within = same_within (after_flush true h).may under new s.writes_back.disk.blocks (flush_within h under.blocks k.within) }
 kept_flush under new first past before after from to (Err failed) is ends s kept = ∥∥₁_elim kept ∥∥₁_prop (λ k. ∣ goes k ∣₁)
   where
-    goes : IsKept under first past before → IsKept new first (Flush false from to ∷ past) after
+    goes : CacheKeeps under first past before → CacheKeeps new first (Flush false from to ∷ past) after
     goes k =
         let h = held (first_held first) past in
         let cov = same_blocks h.may under new before after s.writes_back k.covers in
@@ -96,7 +96,7 @@ kept_flush under new first past before after from to (Err failed) is ends s kept
         record { covers = cov; picks = subst F (sym ends) (rest_at h.may new after is cov); agrees = s.writes_back.agrees h.now k.agrees; within = same_within h.may under new s.writes_back.disk.blocks k.within }
 
 -- what the disk below may leave during a flush
-flush_during : (under new first : DiskState) (past : List Call) (before after : List DirtyEntry) (call : Call) (image : List Cell) → WrittenBack under new before after → ∥ IsKept under first past before ∥₁
+flush_during : (under new first : DiskState) (past : List CacheCall) (before after : List DirtyEntry) (call : CacheCall) (image : List Cell) → WrittenBack under new before after → ∥ CacheKeeps under first past before ∥₁
     → (from to : ℕ) → from ≡ under.moment → to ≡ new.moment
     → Left new.left first.moment (Flush true from to ∷ past) new.moment (2 * length past + 1) image → Picks (held (first_held first) past).may under.blocks image
 flush_during under new first past before after call image p kept from to begins ends left =
@@ -109,8 +109,8 @@ flush_during under new first past before after call image p kept from to begins 
     let high = w.high in
     ∣ at.each w.at image (omega arith) (omega arith) w.left ∣₁))
 
-pub cache_flushes : (under new first : DiskState) (past : List Call) (before after : List DirtyEntry) (s t from to : ℕ) (result : Result (Unit {0}) Failed) → from ≡ under.moment → to ≡ new.moment → Settles under new before after result
-    → ∥ IsKept under first past before ∥₁ → IsMarked first.moment past under.moment → t + 1 ≡ s
+pub cache_flushes : (under new first : DiskState) (past : List CacheCall) (before after : List DirtyEntry) (s t from to : ℕ) (result : Result (Unit {0}) Failed) → from ≡ under.moment → to ≡ new.moment → SettlesDirty under new before after result
+    → ∥ CacheKeeps under first past before ∥₁ → IsMarked first.moment past under.moment → t + 1 ≡ s
     → Flushes (cache_state under first past before s) (cache_state new first (Flush (is_ok result) from to ∷ past) after t) result
 cache_flushes under new first past before after s t from to (Ok u) begins ends f kept marked room =
     let h = held (first_held first) past in
@@ -131,6 +131,7 @@ cache_flushes under new first past before after s t from to (Ok u) begins ends f
       dirty = f.writes_back.fewer;
       during = λ image left. flush_during under new first past before after (Flush true from to) image f.writes_back kept from to begins ends left;
       cause = tt;
+      no_fault = f.no_fault;
     }
 cache_flushes under new first past before after s t from to (Err failed) begins ends f kept marked room = record {
   disk = cache_disk under new first past (Flush false from to ∷ past) before after s t f.writes_back.disk;
@@ -146,13 +147,14 @@ cache_flushes under new first past before after s t from to (Err failed) begins 
   dirty = f.writes_back.fewer;
   during = λ image left. flush_during under new first past before after (Flush false from to) image f.writes_back kept from to begins ends left;
   cause = f.cause;
+  no_fault = tt;
 }
 
 -- one dirty cell is written out
-pub cache_writes_out : (under new first : DiskState) (past : List Call) (before after : List DirtyEntry) (s t : ℕ) (result : Result (Option ℕ) Failed) → WrittenBack under new before after → TakesOut before after result
-    → OnErr result (Rose under.faults new.faults) → IsMarked first.moment past under.moment → t + 1 ≡ s
+pub cache_writes_out : (under new first : DiskState) (past : List CacheCall) (before after : List DirtyEntry) (s t : ℕ) (result : Result (Option ℕ) Failed) → WrittenBack under new before after → TakesOut before after result
+    → OnErr result (Rose under.faults new.faults) → OnOk result (new.faults ≡ under.faults) → IsMarked first.moment past under.moment → t + 1 ≡ s
     → WritesOut (cache_state under first past before s) (cache_state new first past after t) result
-cache_writes_out under new first past before after s t result p out cause marked room = record {
+cache_writes_out under new first past before after s t result p out cause no_fault marked room = record {
   disk = cache_disk under new first past past before after s t p.disk;
   cells = record { now = refl; may = refl; moment = refl };
   spare = room;
@@ -168,6 +170,7 @@ cache_writes_out under new first past before after s t result p out cause marked
   clean = clean result out;
   err = err result out;
   cause = cause;
+  no_fault = no_fault;
 }
   where
     some_not : (entries : List DirtyEntry) (P : Type 0) → 0 < length entries → map (λ e. e.block) entries ≡ [] → P

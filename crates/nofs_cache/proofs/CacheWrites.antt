@@ -13,11 +13,11 @@ use Rattle.nofs_disk.specs.Chains.{IsSameDisk-refl, KeepsPast-refl}
 use Rattle.nofs_disk.specs.Disk.{DiskState, IsDisk, IsSizedCell, Picks, Writes, cell_at, no_cell}
 use Rattle.nofs_disk.specs.Moments.{AtEach}
 use Rattle.nofs_cache.specs.declared.dirty.DirtyEntry.{DirtyEntry}
-use Rattle.nofs_cache.specs.declared.past.Call.{Call}
-use Rattle.nofs_cache.specs.declared.past.Call.TheVariants.{Write}
+use Rattle.nofs_cache.specs.declared.past.CacheCall.{CacheCall}
+use Rattle.nofs_cache.specs.declared.past.CacheCall.TheVariants.{Write}
 use Rattle.nofs_cache.specs.Cache.{Agrees, Covers, Held, IsMarked, IsWithin, cache_state, held, written}
-use Rattle.nofs_cache.specs.DirtyEntries.{IsClean, IsPlaced, PutsDirtyEntry, dirty_entry, dirty_entry_at, no_dirty_entry}
-use Rattle.nofs_cache.specs.Laws.{IsKept, first_held, written_here, written_other}
+use Rattle.nofs_cache.specs.DirtyEntries.{IsClean, AreSlotted, PutsDirtyEntry, dirty_entry, dirty_entry_at, no_dirty_entry}
+use Rattle.nofs_cache.specs.Laws.{CacheKeeps, first_held, written_here, written_other}
 use Rattle.nofs_cache.proofs.CacheCalls.{cache_disk, cache_past_more, left_during}
 use Rattle.nofs_cache.proofs.WritesBack.{Covers-picks}
 
@@ -25,7 +25,7 @@ use Rattle.nofs_cache.proofs.WritesBack.{Covers-picks}
 abbrev pub IsDistinct : List DirtyEntry → Type 0
 IsDistinct entries = (i j : ℕ) → i < length entries → j < length entries → (dirty_entry_at entries i).block ≡ (dirty_entry_at entries j).block → i ≡ j
 
-pub placed_distinct : (slots : List ℕ) (entries : List DirtyEntry) → IsPlaced slots entries → IsDistinct entries
+pub placed_distinct : (slots : List ℕ) (entries : List DirtyEntry) → AreSlotted slots entries → IsDistinct entries
 placed_distinct slots entries placed i j low_i low_j same = sym (placed.at i low_i) ∙ ap (slice_index slots) same ∙ placed.at j low_j
 
 -- each entry is the one that was put, or one that was there of another block
@@ -136,11 +136,11 @@ write_within h n b c low size w = record {
       ];
 }
 
-pub write_kept : (under first : DiskState) (past : List Call) (entries after : List DirtyEntry) (b at : ℕ) (snap : Snapshot Cell) → IsDisk under → b < under.blocks → IsSizedCell snap.value → at ≡ under.moment → IsDistinct entries → PutsDirtyEntry entries after b snap.value
-    → ∥ IsKept under first past entries ∥₁ → ∥ IsKept under first (Write b snap at ∷ past) after ∥₁
+pub write_kept : (under first : DiskState) (past : List CacheCall) (entries after : List DirtyEntry) (b at : ℕ) (snap : Snapshot Cell) → IsDisk under → b < under.blocks → IsSizedCell snap.value → at ≡ under.moment → IsDistinct entries → PutsDirtyEntry entries after b snap.value
+    → ∥ CacheKeeps under first past entries ∥₁ → ∥ CacheKeeps under first (Write b snap at ∷ past) after ∥₁
 write_kept under first past entries after b at snap is low size begins distinct put kept = ∥∥₁_elim kept ∥∥₁_prop (λ k. ∣ goes k ∣₁)
   where
-    goes : IsKept under first past entries → IsKept under first (Write b snap at ∷ past) after
+    goes : CacheKeeps under first past entries → CacheKeeps under first (Write b snap at ∷ past) after
     goes k =
         let h = held (first_held first) past in
         let cov = put_covers h under.blocks under.may entries after b snap.value distinct put k.covers in
@@ -173,8 +173,8 @@ put_dirty entries after b c (inr a) =
       subst G (sym same) (Contains-push (map f entries) b),
     )
 
-pub cache_writes : (under first : DiskState) (past : List Call) (entries after : List DirtyEntry) (s t b at : ℕ) (snap : Snapshot Cell) → IsDisk under → b < under.blocks → IsSizedCell snap.value → at ≡ under.moment → IsDistinct entries → PutsDirtyEntry entries after b snap.value
-    → ∥ IsKept under first past entries ∥₁ → IsMarked first.moment past under.moment → t + 1 ≡ s
+pub cache_writes : (under first : DiskState) (past : List CacheCall) (entries after : List DirtyEntry) (s t b at : ℕ) (snap : Snapshot Cell) → IsDisk under → b < under.blocks → IsSizedCell snap.value → at ≡ under.moment → IsDistinct entries → PutsDirtyEntry entries after b snap.value
+    → ∥ CacheKeeps under first past entries ∥₁ → IsMarked first.moment past under.moment → t + 1 ≡ s
     → Writes (cache_state under first past entries s) (cache_state under first (Write b snap at ∷ past) after t) b snap.value (Ok tt)
 cache_writes under first past entries after s t b at snap is low size begins distinct put kept marked room =
     let h = held (first_held first) past in
@@ -195,6 +195,7 @@ cache_writes under first past entries after s t b at snap is low size begins dis
           let w = left_during under.left first.moment past (Write b snap at) under.moment image left in
           Picks-known _ _ image (∥∥₁_elim next ∥∥₁_prop (λ k. ∣ k.picks.each w.at image w.low (let u = w.high in omega arith) w.left ∣₁));
       cause = tt;
+      no_fault = refl;
       dirty = dirty.0;
       held = λ holds. (refl, dirty.1, refl);
     }

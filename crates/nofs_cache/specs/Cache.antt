@@ -5,8 +5,8 @@ use Rattle.nofs_disk.specs.declared.tag.Cell.{Cell}
 use Rattle.nofs_disk.specs.Disk.{DiskState, IsSameDisk, IsSettled, IsSizedCell, KeepsPast, Picks, Rose, cell_at}
 use Rattle.nofs_disk.specs.Cells.{has_cell}
 use Rattle.nofs_disk.specs.Moments.{AtEach}
-use Rattle.nofs_cache.specs.declared.past.Call.{Call}
-use Rattle.nofs_cache.specs.declared.past.Call.TheVariants.{Write, Flush}
+use Rattle.nofs_cache.specs.declared.past.CacheCall.{CacheCall}
+use Rattle.nofs_cache.specs.declared.past.CacheCall.TheVariants.{Write, Flush}
 use Rattle.nofs_cache.specs.declared.dirty.DirtyEntry.{DirtyEntry}
 use Rattle.nofs_cache.specs.DirtyEntries.{IsClean, dirty_entry_at}
 
@@ -30,25 +30,25 @@ after_flush true held = record { now = held.now; may = λ b. only (has_cell (hel
 after_flush false held = held
 
 -- what the disk holds after these calls
-abbrev pub held : Held → List Call → Held
+abbrev pub held : Held → List CacheCall → Held
 held first [] = first
 held first (Write block cell at ∷ past) = written (held first past) block cell.value
-held first (Flush settles began ended ∷ past) = after_flush settles (held first past)
+held first (Flush settles began ended_at ∷ past) = after_flush settles (held first past)
 
 -- the moment of the disk below at which a call began
-abbrev pub began : Call → ℕ
+abbrev pub began : CacheCall → ℕ
 began (Write block cell at) = at
 began (Flush settles from to) = from
 
 -- and the one at which it ended
-abbrev pub ended : Call → ℕ
-ended (Write block cell at) = at
-ended (Flush settles from to) = to
+abbrev pub ended_at : CacheCall → ℕ
+ended_at (Write block cell at) = at
+ended_at (Flush settles from to) = to
 
 -- the moment of the disk below at which the last call ended
-abbrev pub last_end : ℕ → List Call → ℕ
+abbrev pub last_end : ℕ → List CacheCall → ℕ
 last_end first [] = first
-last_end first (call ∷ past) = ended call
+last_end first (call ∷ past) = ended_at call
 
 -- what the disk below may have left at a moment of its own between two
 pub record LeftWithin (leaves : ℕ → List Cell → Type 0) (from to : ℕ) (image : List Cell) : Type 0 where
@@ -58,20 +58,20 @@ pub record LeftWithin (leaves : ℕ → List Cell → Type 0) (from to : ℕ) (i
   pub left : leaves at image
 
 -- what a crash at a moment may leave
-abbrev pub Left : (ℕ → List Cell → Type 0) → ℕ → List Call → ℕ → ℕ → List Cell → Type 0
+abbrev pub Left : (ℕ → List Cell → Type 0) → ℕ → List CacheCall → ℕ → ℕ → List Cell → Type 0
 Left left first [] to m image = (m ≡ 0) × LeftWithin left first to image
 Left left first (call ∷ past) to m image =
-    ((m ≡ 2 * length (call ∷ past)) × LeftWithin left (ended call) to image)
-    ⊎ (((m ≡ 2 * length past + 1) × LeftWithin left (began call) (ended call) image)
+    ((m ≡ 2 * length (call ∷ past)) × LeftWithin left (ended_at call) to image)
+    ⊎ (((m ≡ 2 * length past + 1) × LeftWithin left (began call) (ended_at call) image)
     ⊎ Left left first past (began call) m image)
 
 -- what a read gave at a moment at which a flush ended
-abbrev pub was : (ℕ → List Cell) → ℕ → List Call → ℕ → List Cell
+abbrev pub was : (ℕ → List Cell) → ℕ → List CacheCall → ℕ → List Cell
 was below first [] m = below first
-was below first (call ∷ past) m = if m == 2 * length (call ∷ past) then below (ended call) else was below first past m
+was below first (call ∷ past) m = if m == 2 * length (call ∷ past) then below (ended_at call) else was below first past m
 
 -- what contracts see of a cached disk
-abbrev pub cache_state : DiskState → DiskState → List Call → List DirtyEntry → ℕ → DiskState
+abbrev pub cache_state : DiskState → DiskState → List CacheCall → List DirtyEntry → ℕ → DiskState
 cache_state under first past entries spare = record {
   blocks = under.blocks;
   moment = 2 * length past;
@@ -114,10 +114,10 @@ pub record IsCached (held : Held) (from : ℕ) (under : DiskState) (entries : Li
   pub within : IsWithin held.may under.blocks
 
 -- each call began and ended up to this moment of the disk below
-pub record IsMarked (first : ℕ) (past : List Call) (moment : ℕ) : Type 0 where
+pub record IsMarked (first : ℕ) (past : List CacheCall) (moment : ℕ) : Type 0 where
   pub start : first ≤ moment
   pub begins : (k : ℕ) → k < length past → began (slice_index_or past k (Flush false 0 0)) ≤ moment
-  pub ends : (k : ℕ) → k < length past → ended (slice_index_or past k (Flush false 0 0)) ≤ moment
+  pub ends : (k : ℕ) → k < length past → ended_at (slice_index_or past k (Flush false 0 0)) ≤ moment
 
 -- dirty cells were written to the disk below
 pub record WrittenBack (old new : DiskState) (before after : List DirtyEntry) : Type 0 where
@@ -136,9 +136,10 @@ TakesOut before after (Ok (Some block)) = (0 < length before) × IsPermutation (
 TakesOut before after (Err failed) = (0 < length before) × (after ≡ before)
 
 -- every dirty cell was written below, and then the disk below was flushed
-pub record Settles (old new : DiskState) (before after : List DirtyEntry) (result : Result (Unit {0}) Failed) : Type 0 where
+pub record SettlesDirty (old new : DiskState) (before after : List DirtyEntry) (result : Result (Unit {0}) Failed) : Type 0 where
   pub writes_back : WrittenBack old new before after
   pub clean : OnOk result (after ≡ [])
   pub settled : OnOk result (IsSettled new)
   pub was : (now : List Cell) → Agrees now old.now before → OnOk result (new.was new.moment ≡ now)
   pub cause : OnErr result (Rose old.faults new.faults)
+  pub no_fault : OnOk result (new.faults ≡ old.faults)

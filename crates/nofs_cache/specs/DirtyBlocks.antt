@@ -8,8 +8,8 @@ abbrev pub entries_of : DirtyBlocks → List DirtyEntry
 entries_of d = d.entries.items
 
 -- how many blocks the disk has
-abbrev pub blocks_of : DirtyBlocks → ℕ
-blocks_of d = length d.slots.items
+abbrev pub block_count : DirtyBlocks → ℕ
+block_count d = length d.slots.items
 
 -- for how many entries there is room: a slot of 32 bits names each
 abbrev pub room_of : DirtyBlocks → ℕ

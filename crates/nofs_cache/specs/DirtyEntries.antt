@@ -13,7 +13,7 @@ abbrev pub dirty_entry_at : List DirtyEntry → ℕ → DirtyEntry
 dirty_entry_at entries i = slice_index_or entries i no_dirty_entry
 
 -- the slot of each entry's block names that entry
-pub record IsPlaced (slots : List ℕ) (entries : List DirtyEntry) : Type 0 where
+pub record AreSlotted (slots : List ℕ) (entries : List DirtyEntry) : Type 0 where
   pub low : (i : ℕ) → i < length entries → (dirty_entry_at entries i).block < length slots
   pub at : (i : ℕ) → i < length entries → slice_index slots (dirty_entry_at entries i).block ≡ i
 

@@ -8,8 +8,8 @@ use Rattle.std.proofs.lemmas.List.Elements.{Contains-push}
 use Rattle.nofs_disk.specs.declared.tag.Cell.{Cell}
 use Rattle.nofs_disk.specs.Cells.{IsSizedCell-known, Picks-known, has_cell, has_cell-from}
 use Rattle.nofs_disk.specs.Disk.{DiskState, IsDisk, Picks, cell_at, no_cell}
-use Rattle.nofs_cache.specs.declared.past.Call.{Call}
-use Rattle.nofs_cache.specs.declared.past.Call.TheVariants.{Write, Flush}
+use Rattle.nofs_cache.specs.declared.past.CacheCall.{CacheCall}
+use Rattle.nofs_cache.specs.declared.past.CacheCall.TheVariants.{Write, Flush}
 use Rattle.nofs_cache.specs.declared.dirty.DirtyEntry.{DirtyEntry}
 use Rattle.nofs_cache.specs.Cache.{Held, IsCached, IsWithin, Left, LeftWithin, cache_state, held, last_end, only, written}
 
@@ -52,7 +52,7 @@ only_has cells c has =
     let F : Bool → Type 0 = λ t. Contains (only t c) c in
     subst F (sym (has_cell-from cells c has)) (single c)
 
-pub held-held : (n : ℕ) (first : Held) (past : List Call) → IsHeld n first → IsHeld n (held first past)
+pub held-held : (n : ℕ) (first : Held) (past : List CacheCall) → IsHeld n first → IsHeld n (held first past)
 held-held n first [] is = is
 held-held n first (Write block cell at ∷ past) is = written-held n (held first past) block cell.value (held-held n first past is)
 held-held n first (Flush true from to ∷ past) is = let h = held-held n first past is in record { len = h.len; has_now = λ b low. only_has ((held first past).may b) (cell_at (held first past).now b) (h.has_now b low) }
@@ -63,14 +63,14 @@ abbrev pub first_held : DiskState → Held
 first_held first = record { now = first.now; may = first.may }
 
 -- what may be left at a moment that is not there yet
-pub Left-later : (leaves : ℕ → List Cell → Type 0) (first : ℕ) (past : List Call) (to m : ℕ) (image : List Cell) → 2 * length past < m → Left leaves first past to m image → ⊥
+pub Left-later : (leaves : ℕ → List Cell → Type 0) (first : ℕ) (past : List CacheCall) (to m : ℕ) (image : List Cell) → 2 * length past < m → Left leaves first past to m image → ⊥
 Left-later leaves first [] to m image later (at, left) = omega arith
 Left-later leaves first (call ∷ past) to m image later (inl (at, left)) = omega arith
 Left-later leaves first (call ∷ past) to m image later (inr (inl (at, left))) = omega arith
 Left-later leaves first (call ∷ past) to m image later (inr (inr left)) = Left-later leaves first past _ m image (omega arith) left
 
 -- what may be left at the present moment
-pub Left-now : (leaves : ℕ → List Cell → Type 0) (first : ℕ) (past : List Call) (to : ℕ) (image : List Cell)
+pub Left-now : (leaves : ℕ → List Cell → Type 0) (first : ℕ) (past : List CacheCall) (to : ℕ) (image : List Cell)
     → Left leaves first past to (2 * length past) image → LeftWithin leaves (last_end first past) to image
 Left-now leaves first [] to image (at, left) = left
 Left-now leaves first (call ∷ past) to image (inl (at, left)) = left
@@ -78,26 +78,26 @@ Left-now leaves first (call ∷ past) to image (inr (inl (at, left))) = absurd (
 Left-now leaves first (call ∷ past) to image (inr (inr left)) = absurd (Left-later leaves first past _ (2 * length (call ∷ past)) image (omega arith) left)
 
 -- what is kept of a cached disk over all its calls
-abbrev pub IsKept : DiskState → DiskState → List Call → List DirtyEntry → Type 0
-IsKept under first past entries = IsCached (held (first_held first) past) (last_end first.moment past) under entries
+abbrev pub CacheKeeps : DiskState → DiskState → List CacheCall → List DirtyEntry → Type 0
+CacheKeeps under first past entries = IsCached (held (first_held first) past) (last_end first.moment past) under entries
 
 -- an image that may be left at the present moment picks from what the cached disk may hold
-pub rest_picks : (under first : DiskState) (past : List Call) (entries : List DirtyEntry) → ∥ IsKept under first past entries ∥₁
+pub rest_picks : (under first : DiskState) (past : List CacheCall) (entries : List DirtyEntry) → ∥ CacheKeeps under first past entries ∥₁
     → (image : List Cell) → Left under.left first.moment past under.moment (2 * length past) image → Picks (held (first_held first) past).may under.blocks image
 rest_picks under first past entries kept image left =
     let within = Left-now under.left first.moment past under.moment image left in
     Picks-known _ _ image (∥∥₁_elim kept ∥∥₁_prop (λ k. ∣ k.picks.each within.at image within.low within.high within.left ∣₁))
 
 -- each cell that may be held is that of a block that is there, and has the bytes of a cell
-pub within_of : (under first : DiskState) (past : List Call) (entries : List DirtyEntry) → ∥ IsKept under first past entries ∥₁ → IsWithin (held (first_held first) past).may under.blocks
+pub within_of : (under first : DiskState) (past : List CacheCall) (entries : List DirtyEntry) → ∥ CacheKeeps under first past entries ∥₁ → IsWithin (held (first_held first) past).may under.blocks
 within_of under first past entries kept = record {
   beyond = λ b c low has. ∥∥₁_elim kept (λ x y. absurd x) (λ k. k.within.beyond b c low has);
   sized = λ b c has. IsSizedCell-known c (∥∥₁_elim kept ∥∥₁_prop (λ k. ∣ k.within.sized b c has ∣₁));
 }
 
 -- a cached disk keeps every law of a disk
-pub cache_is : (under first : DiskState) (past : List Call) (entries : List DirtyEntry) (spare : ℕ) → IsDisk under → IsDisk first → first.blocks ≡ under.blocks → first.tells ≡ under.tells
-    → {moment : ℕ} → moment ≡ 2 * length past → 2 * spare + moment < 2 ^ 64 → ∥ IsKept under first past entries ∥₁ → IsDisk (cache_state under first past entries spare)
+pub cache_is : (under first : DiskState) (past : List CacheCall) (entries : List DirtyEntry) (spare : ℕ) → IsDisk under → IsDisk first → first.blocks ≡ under.blocks → first.tells ≡ under.tells
+    → {moment : ℕ} → moment ≡ 2 * length past → 2 * spare + moment < 2 ^ 64 → ∥ CacheKeeps under first past entries ∥₁ → IsDisk (cache_state under first past entries spare)
 cache_is under first past entries spare below is blocks tells {moment} made room kept =
     let begins : IsTrue under.tells → IsHeld under.blocks (first_held first) = λ t.
     let F : Bool → Type 0 = λ x. IsTrue x in

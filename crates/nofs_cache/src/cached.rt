@@ -2,16 +2,16 @@
 //!
 //! Promise: it keeps every promise of a disk, over any disk below. A write is kept in memory and
 //! never fails, a read gives the last cell that was written, and a flush makes all of it last below.
-ghost use Rattle.std.specs.Prelude.{◌≡◌, ◌+◌, ◌*◌, ◌^◌, ◌<◌, ◌≤◌, ◌∷◌, [], length, List, IfOk, IfErr, IsOk, IsTrue, Contains};
+ghost use Rattle.std.specs.Prelude.{◌≡◌, ℕ, ◌+◌, ◌*◌, ◌^◌, ◌<◌, ◌≤◌, ◌∷◌, [], length, List, IfOk, IfErr, IsOk, IsTrue, Contains};
 ghost use Rattle.nofs_disk.specs.declared.tag.Cell.{Cell};
-ghost use Rattle.nofs_cache.specs.DirtyBlocks.{blocks_of, entries_of, room_of};
-ghost use Rattle.nofs_cache.specs.Laws.{IsKept};
-ghost use Rattle.nofs_disk.specs.Disk.{Flushes, Reads, Writes, WritesOut};
+ghost use Rattle.nofs_cache.specs.DirtyBlocks.{block_count, entries_of, room_of};
+ghost use Rattle.nofs_cache.specs.Laws.{CacheKeeps};
+ghost use Rattle.nofs_disk.specs.Disk.{Flushes, Reads, Writes, WritesOut, cell_at};
 ghost use Rattle.nofs_cache.specs.Cache.{IsMarked, LeavesAll};
 ghost use Rattle.nofs_cache.specs.Past.{past_calls};
 
 use crate::dirty::DirtyBlocks;
-use crate::past::{Call, Past};
+use crate::past::{CacheCall, Past};
 use crate::writing::{write_back, write_back_and_flush};
 use nofs_disk::{Cell, Disk, Failed};
 use std::alloc::{AllocError, Global};
@@ -35,13 +35,13 @@ pub struct Cached<D: Disk + Drop> {
     spare: u64,
     ghost blocks: { (D.state first.value).blocks ≡ (D.state under).blocks },
     ghost tells: { (D.state first.value).tells ≡ (D.state under).tells },
-    ghost slots: { blocks_of dirty ≡ (D.state under).blocks },
+    ghost slots: { block_count dirty ≡ (D.state under).blocks },
     ghost made: { moment ≡ 2 * length (past_calls past.value) },
     ghost room: { 2 * spare + moment < 2 ^ 64 },
     ghost kept_room: { length (entries_of dirty) + spare ≤ room_of dirty },
     ghost below_room: { length (entries_of dirty) + spare ≤ (D.state under).spare },
     ghost marked: { IsMarked (D.state first.value).moment (past_calls past.value) (D.state under).moment },
-    ghost kept: { ∥ IsKept (D.state under) (D.state first.value) (past_calls past.value) (entries_of dirty) ∥₁ },
+    ghost kept: { ∥ CacheKeeps (D.state under) (D.state first.value) (past_calls past.value) (entries_of dirty) ∥₁ },
 }
 
 // No calls.
@@ -52,7 +52,7 @@ fn start() -> Snapshot<Past>
 }
 
 // The calls with one more.
-fn later(call: Call, past: Snapshot<Past>) -> Snapshot<Past>
+fn later(call: CacheCall, past: Snapshot<Past>) -> Snapshot<Past>
     ensures { past_calls result.value ≡ call ∷ past_calls past.value }
 {
     let next = Past::Made(call, past);
@@ -60,7 +60,7 @@ fn later(call: Call, past: Snapshot<Past>) -> Snapshot<Past>
 }
 
 // Adds a call.
-fn add(call: Call, past: &mut Snapshot<Past>)
+fn add(call: CacheCall, past: &mut Snapshot<Past>)
     ensures { past_calls past.new.value ≡ call ∷ past_calls past.old.value }
 {
     let earlier = mem::replace(past, Snapshot::of(&Past::Start));
@@ -105,8 +105,11 @@ impl<D: Disk + Drop> Cached<D> {
     }
 
     /// The disk below. Dirty cells are dropped, as by a crash: what a crash may then leave of it is
-    /// what one might have left of the cached disk.
+    /// what one might have left of the cached disk. A block that isn't dirty has the same cell there,
+    /// and where none is, a read gives the same below.
     pub fn below(self) -> D
+        ensures now { (⟦<Cached<D> as Disk>⟧.state self).dirty ≡ [] → (D.state result).now ≡ (⟦<Cached<D> as Disk>⟧.state self).now }
+        ensures clean { (b : ℕ) → (Contains (⟦<Cached<D> as Disk>⟧.state self).dirty b → ⊥) → cell_at (D.state result).now b ≡ cell_at (⟦<Cached<D> as Disk>⟧.state self).now b }
         ensures under { result ≡ self.under }
         ensures left { LeavesAll (D.state result).moment (D.state result) (⟦<Cached<D> as Disk>⟧.state self) (⟦<Cached<D> as Disk>⟧.state self).moment }
     {
@@ -173,7 +176,7 @@ impl<D: Disk + Drop> Disk for Cached<D> {
         cell.note_sizes();
         let at = self.under.moment();
         add(
-            Call::Write {
+            CacheCall::Write {
                 block,
                 cell: Snapshot::of(cell),
                 at,
@@ -199,7 +202,7 @@ impl<D: Disk + Drop> Disk for Cached<D> {
         let result = write_back_and_flush(&mut self.under, &mut self.dirty);
         let ended = self.under.moment();
         add(
-            Call::Flush {
+            CacheCall::Flush {
                 settles: result.is_ok(),
                 began,
                 ended,

@@ -4,7 +4,7 @@
 //! Promise: each dirty block has one cell, the last that was put. It is found in constant time by
 //! the block's number, and a clean block takes the four bytes of its slot.
 ghost use Rattle.std.specs.Prelude.{◌≡◌, ◌+◌, ◌<◌, ◌≤◌, ◌∷◌, [], ◌++◌, ◌-◌, take, IfOk, IfSome, IfNone, length, slice_set, vec_capacity, OnOk};
-ghost use Rattle.nofs_cache.specs.DirtyEntries.{HasCell, HasLast, IsClean, IsDirtyEntryOf, IsPlaced, PutsDirtyEntry, dirty_entry};
+ghost use Rattle.nofs_cache.specs.DirtyEntries.{HasCell, HasLast, IsClean, IsDirtyEntryOf, AreSlotted, PutsDirtyEntry, dirty_entry};
 
 use nofs_disk::Cell;
 use std::alloc::{AllocError, Global};
@@ -22,15 +22,15 @@ pub struct DirtyEntry {
 pub struct DirtyBlocks {
     slots: Vec<u32>,
     entries: Vec<DirtyEntry>,
-    ghost placed: { IsPlaced slots.items entries.items },
+    ghost placed: { AreSlotted slots.items entries.items },
 }
 
 impl DirtyBlocks {
-    ghost use Rattle.nofs_cache.specs.DirtyBlocks.{blocks_of, entries_of, room_of};
+    ghost use Rattle.nofs_cache.specs.DirtyBlocks.{block_count, entries_of, room_of};
 
     /// No dirty block of a disk with this many blocks.
     pub fn new(alloc: Global, blocks: u64) -> Result<DirtyBlocks, AllocError>
-        ensures blocks { IfOk result (λ d. blocks_of d ≡ blocks) }
+        ensures blocks { IfOk result (λ d. block_count d ≡ blocks) }
         ensures entries { IfOk result (λ d. entries_of d ≡ []) }
     {
         let slots = vec![in alloc; 0; blocks as usize]?;
@@ -51,7 +51,7 @@ impl DirtyBlocks {
     /// bits; more are refused as want of memory.
     pub fn reserve(&mut self, more: usize) -> Result<(), AllocError>
         ensures entries { entries_of self.new ≡ entries_of self.old }
-        ensures blocks { blocks_of self.new ≡ blocks_of self.old }
+        ensures blocks { block_count self.new ≡ block_count self.old }
         ensures more { room_of self.old ≤ room_of self.new }
         ensures room { OnOk result (length (entries_of self.old) + more ≤ room_of self.new) }
     {
@@ -63,7 +63,7 @@ impl DirtyBlocks {
 
     // The place of a dirty block's entry, which its slot names.
     fn find(&self, block: u64) -> Option<usize>
-        requires { block < blocks_of self.now }
+        requires { block < block_count self.now }
         ensures some { IfSome result (IsDirtyEntryOf (entries_of self.now) block) }
         ensures none { IfNone result (IsClean (entries_of self.now) block) }
     {
@@ -77,7 +77,7 @@ impl DirtyBlocks {
 
     /// The cell of a block; `None` where it is clean.
     pub fn get(&self, block: u64) -> Option<&Cell>
-        requires { block < blocks_of self.now }
+        requires { block < block_count self.now }
         ensures some { IfSome result (λ cell. HasCell (entries_of self.now) block cell.now) }
         ensures none { IfNone result (IsClean (entries_of self.now) block) }
     {
@@ -89,11 +89,11 @@ impl DirtyBlocks {
 
     // Adds the entry of a clean block, where there is room.
     fn push(&mut self, block: u64, cell: &Cell)
-        requires block { block < blocks_of self.old }
+        requires block { block < block_count self.old }
         requires clean { IsClean (entries_of self.old) block }
         requires room { length (entries_of self.old) < room_of self.old }
         ensures entries { entries_of self.new ≡ entries_of self.old ++ dirty_entry block cell.now ∷ [] }
-        ensures blocks { blocks_of self.new ≡ blocks_of self.old }
+        ensures blocks { block_count self.new ≡ block_count self.old }
         ensures room { room_of self.old ≤ room_of self.new }
     {
         self.slots[block as usize] = self.entries.len() as u32;
@@ -106,7 +106,7 @@ impl DirtyBlocks {
     fn replace(&mut self, at: usize, block: u64, cell: &Cell)
         requires { IsDirtyEntryOf (entries_of self.old) block at }
         ensures entries { entries_of self.new ≡ slice_set (entries_of self.old) at (dirty_entry block cell.now) }
-        ensures blocks { blocks_of self.new ≡ blocks_of self.old }
+        ensures blocks { block_count self.new ≡ block_count self.old }
         ensures room { room_of self.old ≤ room_of self.new }
     {
         self.entries[at] = DirtyEntry { block, cell: *cell };
@@ -114,10 +114,10 @@ impl DirtyBlocks {
 
     /// Keeps a cell, in the place of the block's earlier one where it is dirty already.
     pub fn put(&mut self, block: u64, cell: &Cell)
-        requires block { block < blocks_of self.old }
+        requires block { block < block_count self.old }
         requires room { length (entries_of self.old) < room_of self.old }
         ensures entries { PutsDirtyEntry (entries_of self.old) (entries_of self.new) block cell.now }
-        ensures blocks { blocks_of self.new ≡ blocks_of self.old }
+        ensures blocks { block_count self.new ≡ block_count self.old }
         ensures room { room_of self.old ≤ room_of self.new }
     {
         match self.find(block) {
@@ -128,7 +128,7 @@ impl DirtyBlocks {
 
     /// The last entry; `None` where no block is dirty.
     pub fn last(&self) -> Option<DirtyEntry>
-        ensures some { IfSome result (HasLast (entries_of self.now) (blocks_of self.now)) }
+        ensures some { IfSome result (HasLast (entries_of self.now) (block_count self.now)) }
         ensures none { IfNone result (entries_of self.now ≡ []) }
     {
         let count = self.entries.len();
@@ -141,7 +141,7 @@ impl DirtyBlocks {
     /// Removes the last entry, whose block is then clean.
     pub fn pop(&mut self)
         ensures entries { entries_of self.new ≡ take (length (entries_of self.old) - 1) (entries_of self.old) }
-        ensures blocks { blocks_of self.new ≡ blocks_of self.old }
+        ensures blocks { block_count self.new ≡ block_count self.old }
         ensures room { room_of self.old ≤ room_of self.new }
     {
         self.entries.pop();

@@ -1,8 +1,8 @@
 //! A write-back cache: a disk over any disk, which keeps writes in memory until they are written
 //! out, in any order.
 //!
-//! Promise: it is a disk like the one below. It fails only where that one failed, and what a crash
-//! leaves of the disk below is what a crash may leave of it.
+//! Promise: it is a disk like the one below. It fails only where the count of faults of that one rose,
+//! and what a crash leaves of the disk below is what a crash may leave of it.
 #![tactic(auto)]
 
 mod cached;

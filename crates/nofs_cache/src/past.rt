@@ -8,7 +8,7 @@ use std::snapshot::Snapshot;
 /// A write or flush, with the moments of the disk below at its start and end. A write makes no
 /// call below, so that one moment is both.
 #[derive(Drop)]
-pub enum Call {
+pub enum CacheCall {
     Write {
         block: u64,
         cell: Snapshot<Cell>,
@@ -25,5 +25,5 @@ pub enum Call {
 #[derive(Drop)]
 pub enum Past {
     Start,
-    Made(Call, Snapshot<Past>),
+    Made(CacheCall, Snapshot<Past>),
 }

@@ -5,19 +5,19 @@
 //! gives.
 ghost use Rattle.std.specs.Prelude.{◌≡◌, ◌+◌, ◌-◌, ◌<◌, ◌≤◌, [], OnOk, OnErr, length};
 ghost use Rattle.nofs_disk.specs.Disk.{Rose};
-ghost use Rattle.nofs_cache.specs.DirtyBlocks.{blocks_of, entries_of, room_of};
-ghost use Rattle.nofs_cache.specs.Cache.{WrittenBack, Settles, TakesOut};
+ghost use Rattle.nofs_cache.specs.DirtyBlocks.{block_count, entries_of, room_of};
+ghost use Rattle.nofs_cache.specs.Cache.{WrittenBack, SettlesDirty, TakesOut};
 
 use crate::dirty::{DirtyBlocks, DirtyEntry};
 use nofs_disk::{Disk, Failed};
 
 /// Writes the block that became dirty last below, and names it; `None` where none is dirty.
 pub fn write_back<D: Disk>(under: &mut D, dirty: &mut DirtyBlocks) -> Result<Option<u64>, Failed>
-    requires blocks { blocks_of dirty.old ≡ (D.state under.old).blocks }
+    requires blocks { block_count dirty.old ≡ (D.state under.old).blocks }
     requires spare { 1 ≤ (D.state under.old).spare }
     ensures writes_back { WrittenBack (D.state under.old) (D.state under.new) (entries_of dirty.old) (entries_of dirty.new) }
     ensures out { TakesOut (entries_of dirty.old) (entries_of dirty.new) result }
-    ensures blocks { blocks_of dirty.new ≡ blocks_of dirty.old }
+    ensures blocks { block_count dirty.new ≡ block_count dirty.old }
     ensures room { room_of dirty.old ≤ room_of dirty.new }
     ensures fewer { OnOk result (length (entries_of dirty.new) ≡ length (entries_of dirty.old) - 1) }
     ensures no_more { length (entries_of dirty.new) ≤ length (entries_of dirty.old) }
@@ -25,6 +25,7 @@ pub fn write_back<D: Disk>(under: &mut D, dirty: &mut DirtyBlocks) -> Result<Opt
     ensures spare_all { (D.state under.old).spare + length (entries_of dirty.new) ≤ (D.state under.new).spare + length (entries_of dirty.old) + 1 }
     ensures spare_ok { OnOk result ((D.state under.old).spare + length (entries_of dirty.new) ≤ (D.state under.new).spare + length (entries_of dirty.old)) }
     ensures cause { OnErr result (Rose (D.state under.old).faults (D.state under.new).faults) }
+    ensures no_fault { OnOk result ((D.state under.new).faults ≡ (D.state under.old).faults) }
 {
     match dirty.last() {
         None => Ok(None),
@@ -40,16 +41,17 @@ pub fn write_back<D: Disk>(under: &mut D, dirty: &mut DirtyBlocks) -> Result<Opt
 
 /// Writes every dirty block below, up to the first call that fails.
 pub fn write_back_all<D: Disk>(under: &mut D, dirty: &mut DirtyBlocks) -> Result<(), Failed>
-    requires blocks { blocks_of dirty.old ≡ (D.state under.old).blocks }
+    requires blocks { block_count dirty.old ≡ (D.state under.old).blocks }
     requires spare { length (entries_of dirty.old) ≤ (D.state under.old).spare }
     ensures writes_back { WrittenBack (D.state under.old) (D.state under.new) (entries_of dirty.old) (entries_of dirty.new) }
-    ensures blocks { blocks_of dirty.new ≡ blocks_of dirty.old }
+    ensures blocks { block_count dirty.new ≡ block_count dirty.old }
     ensures room { room_of dirty.old ≤ room_of dirty.new }
     ensures clean { OnOk result (entries_of dirty.new ≡ []) }
     ensures no_more { length (entries_of dirty.new) ≤ length (entries_of dirty.old) }
     ensures spare_ok { OnOk result ((D.state under.old).spare ≤ (D.state under.new).spare + length (entries_of dirty.old)) }
     ensures spare_err { OnErr result ((D.state under.old).spare + length (entries_of dirty.new) ≤ (D.state under.new).spare + length (entries_of dirty.old) + 1) }
     ensures cause { OnErr result (Rose (D.state under.old).faults (D.state under.new).faults) }
+    ensures no_fault { OnOk result ((D.state under.new).faults ≡ (D.state under.old).faults) }
 {
     for _ in 0..dirty.len() {
         match write_back(under, dirty) {
@@ -62,10 +64,10 @@ pub fn write_back_all<D: Disk>(under: &mut D, dirty: &mut DirtyBlocks) -> Result
 
 /// Writes every dirty block below and then flushes there, up to the first call that fails.
 pub fn write_back_and_flush<D: Disk>(under: &mut D, dirty: &mut DirtyBlocks) -> Result<(), Failed>
-    requires blocks { blocks_of dirty.old ≡ (D.state under.old).blocks }
+    requires blocks { block_count dirty.old ≡ (D.state under.old).blocks }
     requires spare { length (entries_of dirty.old) + 1 ≤ (D.state under.old).spare }
-    ensures settles { Settles (D.state under.old) (D.state under.new) (entries_of dirty.old) (entries_of dirty.new) result }
-    ensures blocks { blocks_of dirty.new ≡ blocks_of dirty.old }
+    ensures settles { SettlesDirty (D.state under.old) (D.state under.new) (entries_of dirty.old) (entries_of dirty.new) result }
+    ensures blocks { block_count dirty.new ≡ block_count dirty.old }
     ensures room { room_of dirty.old ≤ room_of dirty.new }
     ensures no_more { length (entries_of dirty.new) ≤ length (entries_of dirty.old) }
     ensures spare { (D.state under.old).spare + length (entries_of dirty.new) ≤ (D.state under.new).spare + length (entries_of dirty.old) + 1 }

@@ -1,18 +1,18 @@
 -- How much of a command is left to do, with the steps that make room.
 use Rattle.std.proofs.Common.{◌≡◌, ℕ, zero, suc, ◌+◌, ◌*◌, ◌^◌, ◌<◌, Bool, true, false, if◌then◌else◌, Option, Some, None, refl, arith}
 use Rattle.std.proofs.lemmas.Bool.Decides.{nat_tests}
-use Rattle.nofs_history.specs.declared.replies.Reply.{Reply}
-use Rattle.nofs_history.specs.declared.replies.Reply.TheVariants as reply
-use Rattle.nofs_history.specs.declared.replies.Refusal.{Refusal}
-use Rattle.nofs_history.specs.declared.replies.Refusal.TheVariants as refusal
+use Rattle.nofs_machine.specs.declared.replies.Reply.{Reply}
+use Rattle.nofs_machine.specs.declared.replies.Reply.TheVariants as reply
+use Rattle.nofs_machine.specs.declared.replies.Refusal.{Refusal}
+use Rattle.nofs_machine.specs.declared.replies.Refusal.TheVariants as refusal
 use Rattle.nofs_client.specs.declared.commands.Command.{Command}
 use Rattle.nofs_client.specs.declared.driver.Next.{Next}
 use Rattle.nofs_client.specs.declared.driver.Next.TheVariants.{Do, Say}
 use Rattle.nofs_client.specs.declared.progress.Progress.{Progress}
 use Rattle.nofs_client.specs.declared.progress.See.{See}
-use Rattle.nofs_client.specs.Task.{Stands}
+use Rattle.nofs_client.specs.Task.{TaskStands}
 use Rattle.nofs_client.specs.Asks.{task_asks}
-use Rattle.nofs_client.specs.Drive.{Answers, asks, goes_on, ended, sees_block, sees_inode, stored_by, after, after_refused, after_step, after_see, after_beside, asks_beside}
+use Rattle.nofs_client.specs.Drive.{Answers, asks, goes_on, step_answered, examines_block, examines_inode, stored_by, progress_after, after_refused, after_step, after_see, after_beside, asks_beside}
 use Rattle.nofs_client.proofs.TaskRank.{task_rank, task-falls, refused-rank}
 
 -- how often a reply of one kind may still come to a step
@@ -63,14 +63,14 @@ small-inodes : (n : Next) (unverified next : ℕ) → Answers n (reply.Refused (
 small-inodes (Do s) unverified next h = h.0.0
 small-inodes (Say l) unverified next h = absurd h
 
-refused-falls : (c : Command) (p : Progress) (r : Refusal) → Stands c p.task → Answers (task_asks c p.task) (reply.Refused r)
+refused-falls : (c : Command) (p : Progress) (r : Refusal) → TaskStands c p.task → Answers (task_asks c p.task) (reply.Refused r)
     → rank c (after_refused c p r) < rank c p
 refused-falls c p (refusal.Full needed free unverified next) stands h =
     let falls = task-falls c p.task (reply.Refused (refusal.Full needed free unverified next)) stands h in
     let big : 0 < task_rank c p.task = omega arith in
     let small = small-full (task_asks c p.task) needed free unverified next h in
     let P : Bool → Type 0 = λ b. goes_on unverified p.full ≡ b →
-    rank c (if b then sees_block p unverified next else ended c p (reply.Refused (refusal.Full needed free unverified next))) < rank c p in
+    rank c (if b then examines_block p unverified next else step_answered c p (reply.Refused (refusal.Full needed free unverified next))) < rank c p in
     let k : P (goes_on unverified p.full) = elim (goes_on unverified p.full) as P [
       | true ↦ λ e. weight-beside (task_rank c p.task) (room p.full + room p.inodes) (unverified + room p.inodes) (see_rank p.see) big
           (let f = room-falls unverified p.full small e in omega arith)
@@ -82,7 +82,7 @@ refused-falls c p (refusal.InodesFull unverified next) stands h =
     let big : 0 < task_rank c p.task = omega arith in
     let small = small-inodes (task_asks c p.task) unverified next h in
     let P : Bool → Type 0 = λ b. goes_on unverified p.inodes ≡ b →
-    rank c (if b then sees_inode p unverified next else ended c p (reply.Refused (refusal.InodesFull unverified next))) < rank c p in
+    rank c (if b then examines_inode p unverified next else step_answered c p (reply.Refused (refusal.InodesFull unverified next))) < rank c p in
     let k : P (goes_on unverified p.inodes) = elim (goes_on unverified p.inodes) as P [
       | true ↦ λ e. weight-beside (task_rank c p.task) (room p.full + room p.inodes) (room p.full + unverified) (see_rank p.see) big
           (let f = room-falls unverified p.inodes small e in omega arith)
@@ -91,7 +91,7 @@ refused-falls c p (refusal.InodesFull unverified next) stands h =
     k refl
 refused-falls c p r stands h = weight-falls _ _ (room p.full + room p.inodes) (see_rank p.see) (task-falls c p.task (reply.Refused r) stands h)
 
-step-falls : (c : Command) (p : Progress) (r : Reply) → Stands c p.task → Answers (task_asks c p.task) r → rank c (after_step c p r) < rank c p
+step-falls : (c : Command) (p : Progress) (r : Reply) → TaskStands c p.task → Answers (task_asks c p.task) r → rank c (after_step c p r) < rank c p
 step-falls c p (reply.Refused r) stands h = refused-falls c p r stands h
 step-falls c p r stands h = weight-falls _ _ (room p.full + room p.inodes) (see_rank p.see) (task-falls c p.task r stands h)
 
@@ -101,11 +101,11 @@ see-falls c p s (reply.Refused r) e =
     rw (e, none) (weight-pos (task_rank c p.task) (room p.full + room p.inodes))
 see-falls c p s r e = rw e (weight-see (task_rank c p.task) (room p.full + room p.inodes))
 
-falls-at : (c : Command) (p : Progress) (o : Option See) (r : Reply) → p.see ≡ o → Stands c p.task → Answers (asks_beside o (task_asks c p.task)) r
+falls-at : (c : Command) (p : Progress) (o : Option See) (r : Reply) → p.see ≡ o → TaskStands c p.task → Answers (asks_beside o (task_asks c p.task)) r
     → rank c (after_beside o c p r) < rank c p
 falls-at c p None r e stands h = step-falls c p r stands h
 falls-at c p (Some s) r e stands h = see-falls c p s r e
 
 -- less is left of a command after each reply
-pub rank-falls : (c : Command) (p : Progress) (r : Reply) → Stands c p.task → Answers (asks c p) r → rank c (after c p r) < rank c p
+pub rank-falls : (c : Command) (p : Progress) (r : Reply) → TaskStands c p.task → Answers (asks c p) r → rank c (progress_after c p r) < rank c p
 rank-falls c p r stands h = falls-at c p p.see r refl stands h

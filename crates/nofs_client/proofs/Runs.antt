@@ -3,15 +3,15 @@ use Rattle.std.proofs.Common.{◌≡◌, ℕ, suc, ◌+◌, ◌<◌, length, tak
 use Rattle.std.specs.Option.{option_map_or}
 use Rattle.std.proofs.Math.Seq.{drop-cons}
 use Rattle.std.proofs.lemmas.List.{map-append, append-nil, take-append-drop, take_more}
-use Rattle.nofs_history.specs.Steps.{Made, with_made, is_out_of_memory}
-use Rattle.nofs_history.specs.declared.replies.Reply.{Reply}
-use Rattle.nofs_history.specs.declared.steps.Step.{Step}
+use Rattle.nofs_machine.specs.Steps.{Made, with_made, is_out_of_memory}
+use Rattle.nofs_machine.specs.declared.replies.Reply.{Reply}
+use Rattle.nofs_machine.specs.declared.steps.Step.{Step}
 use Rattle.nofs_client.specs.declared.commands.Command.{Command}
 use Rattle.nofs_client.specs.declared.driver.Next.TheVariants.{Do, Say}
 use Rattle.nofs_client.specs.declared.lines.Line.{Line}
 use Rattle.nofs_client.specs.declared.progress.Progress.{Progress}
-use Rattle.nofs_client.specs.Drive.{asks, after, progress, start_of, drive_of}
-use Rattle.nofs_client.specs.Runs.{Asked, IsRun, IsDriven, IsBegun, RunsAll, RunsSome, LinesFollow, reply_of, said_of, chosen, lines_of}
+use Rattle.nofs_client.specs.Drive.{asks, progress_after, progress, start_of, drive_of}
+use Rattle.nofs_client.specs.Runs.{Asked, IsCommandRun, IsDriven, IsBegun, RunsAll, RunsSome, LinesFollow, made_reply, said_of, chosen, lines_of}
 
 fold-more : {A B X : Type 0} (f : B → A → B) (g : X → A) (a : B) (xs : List X) (x : X)
     → fold f a (map g (xs ++ x ∷ [])) ≡ f (fold f a (map g xs)) (g x)
@@ -20,14 +20,14 @@ fold-more f g a (y ∷ ys) x = fold-more f g (f a (g y)) ys x
 
 -- one more step is asked for
 pub Asked-more : (c : Command) (p : Progress) (ms : List Made) (s : Step) (r : Reply) → Asked c p ms
-    → asks c (fold (after c) p (map reply_of ms)) ≡ Do s → Asked c p (ms ++ (s, r) ∷ [])
+    → asks c (fold (progress_after c) p (map made_reply ms)) ≡ Do s → Asked c p (ms ++ (s, r) ∷ [])
 Asked-more c p [] s r h e = (e, tt)
-Asked-more c p (m ∷ ms) s r h e = (h.0, Asked-more c (after c p m.1) ms s r h.1 e)
+Asked-more c p (m ∷ ms) s r h e = (h.0, Asked-more c (progress_after c p m.1) ms s r h.1 e)
 
 -- where a command stands after one more reply
 pub progress-more : (c : Command) (ms : List Made) (s : Step) (r : Reply)
-    → progress c (map reply_of (ms ++ (s, r) ∷ [])) ≡ after c (progress c (map reply_of ms)) r
-progress-more c ms s r = fold-more (after c) reply_of (start_of c) ms (s, r)
+    → progress c (map made_reply (ms ++ (s, r) ∷ [])) ≡ progress_after c (progress c (map made_reply ms)) r
+progress-more c ms s r = fold-more (progress_after c) made_reply (start_of c) ms (s, r)
 
 -- the list of made steps after one more
 pub made-more : (old mid new ms : List Made) (s : Step) (r : Reply) → mid ≡ old ++ ms → is_out_of_memory r ≡ false → new ≡ with_made mid s r
@@ -36,7 +36,7 @@ made-more old mid new ms s r h room more =
     more ∙ ap (λ b. if b then mid else mid ++ (s, r) ∷ []) room ∙ ap (λ l. l ++ (s, r) ∷ []) h ∙ append_assoc old ms ((s, r) ∷ [])
 
 -- one more command is run
-pub driven-more : (cs : List Command) (c : Command) (ms more : List Made) (ls : List Line) (l : Line) → IsDriven cs ms ls → IsRun c more l
+pub driven-more : (cs : List Command) (c : Command) (ms more : List Made) (ls : List Line) (l : Line) → IsDriven cs ms ls → IsCommandRun c more l
     → IsDriven (cs ++ c ∷ []) (ms ++ more) (ls ++ l ∷ [])
 driven-more [] c ms more ls l h run =
     (more, [], l, [], ap (λ m. m ++ more) h.0 ∙ sym (append-nil more), ap (λ k. k ++ l ∷ []) h.1, run, (refl, refl))
@@ -54,27 +54,27 @@ driven-more (d ∷ ds) c ms more ls l h run =
 
 -- what is said after the replies of a command that was run
 said-run : (c : Command) (p : Progress) (ms : List Made) (l : Line) (more : List Reply) → Asked c p ms
-    → asks c (fold (after c) p (map reply_of ms)) ≡ Say l → said_of c p (map reply_of ms ++ more) ≡ Some (l, more)
+    → asks c (fold (progress_after c) p (map made_reply ms)) ≡ Say l → said_of c p (map made_reply ms ++ more) ≡ Some (l, more)
 said-run c p [] l [] h e = ap (λ n. chosen n [] None) e
-said-run c p [] l (r ∷ rs) h e = ap (λ n. chosen n (r ∷ rs) (said_of c (after c p r) rs)) e
+said-run c p [] l (r ∷ rs) h e = ap (λ n. chosen n (r ∷ rs) (said_of c (progress_after c p r) rs)) e
 said-run c p (m ∷ ms) l more h e =
-    ap (λ n. chosen n (m.1 ∷ (map reply_of ms ++ more)) (said_of c (after c p m.1) (map reply_of ms ++ more))) h.0
-    ∙ said-run c (after c p m.1) ms l more h.1 e
+    ap (λ n. chosen n (m.1 ∷ (map made_reply ms ++ more)) (said_of c (progress_after c p m.1) (map made_reply ms ++ more))) h.0
+    ∙ said-run c (progress_after c p m.1) ms l more h.1 e
 
-lines-run : (cs : List Command) (ms : List Made) (ls : List Line) (more : List Reply) → IsDriven cs ms ls → lines_of cs (map reply_of ms ++ more) ≡ ls
+lines-run : (cs : List Command) (ms : List Made) (ls : List Line) (more : List Reply) → IsDriven cs ms ls → lines_of cs (map made_reply ms ++ more) ≡ ls
 unfolding lines_of drive_of
 lines-run [] ms ls more h = sym h.1
 lines-run (c ∷ cs) ms ls more h =
     let (front, back, line, others, made, lines, first, rest) = h in
-    let parts : map reply_of ms ++ more ≡ map reply_of front ++ (map reply_of back ++ more) =
-    ap (λ m. map reply_of m ++ more) made ∙ ap (λ k. k ++ more) (map-append reply_of front back) ∙ append_assoc (map reply_of front) (map reply_of back) more in
-    let one = said-run c (start_of c) front line (map reply_of back ++ more) first.asked first.says in
+    let parts : map made_reply ms ++ more ≡ map made_reply front ++ (map made_reply back ++ more) =
+    ap (λ m. map made_reply m ++ more) made ∙ ap (λ k. k ++ more) (map-append made_reply front back) ∙ append_assoc (map made_reply front) (map made_reply back) more in
+    let one = said-run c (start_of c) front line (map made_reply back ++ more) first.asked first.says in
     ap (lines_of (c ∷ cs)) parts ∙ ap (λ (o : Option (Line × List Reply)). option_map_or (λ p. p.0 ∷ lines_of cs p.1) o []) one
     ∙ ap (λ k. line ∷ k) (lines-run cs back others more rest) ∙ sym lines
 
 -- the lines of a run are those that the replies give
 pub lines-follow : LinesFollow
-lines-follow cs ms ls h = ap (lines_of cs) (sym (append-nil (map reply_of ms))) ∙ lines-run cs ms ls [] h
+lines-follow cs ms ls h = ap (lines_of cs) (sym (append-nil (map made_reply ms))) ∙ lines-run cs ms ls [] h
 
 -- nothing is made of what is left
 nothing-begun : (cs : List Command) → IsBegun cs []
@@ -114,7 +114,7 @@ runs-in-part cs i c old mid new ms old_lines lines lt is all more asked =
 
 -- one more command is run
 pub runs-more : (cs : List Command) (i : ℕ) (c : Command) (old mid new ms : List Made) (old_lines lines new_lines : List Line) (l : Line) → i < length cs → c ≡ get_or cs i c
-    → RunsAll (take i cs) old mid old_lines lines → new ≡ mid ++ ms → IsRun c ms l → new_lines ≡ lines ++ l ∷ []
+    → RunsAll (take i cs) old mid old_lines lines → new ≡ mid ++ ms → IsCommandRun c ms l → new_lines ≡ lines ++ l ∷ []
     → RunsAll (take (i + 1) cs) old new old_lines new_lines
 runs-more cs i c old mid new ms old_lines lines new_lines l lt is all more run more_lines =
     let front : take (i + 1) cs ≡ take i cs ++ c ∷ [] = take_more cs i c lt ∙ ap (λ d. take i cs ++ d ∷ []) (sym is) in

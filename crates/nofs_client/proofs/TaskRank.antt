@@ -3,12 +3,12 @@ use Rattle.std.proofs.Common.{◌≡◌, ℕ, ◌+◌, ◌-◌, ◌^◌, ◌<◌
 use Rattle.std.proofs.lemmas.Bool.Decides.{nat_tests}
 use Rattle.nofs_inode.specs.declared.inode.FileKind.{FileKind}
 use Rattle.nofs_inode.specs.declared.inode.FileKind.TheVariants as kind
-use Rattle.nofs_history.specs.declared.replies.Stat.{Stat}
-use Rattle.nofs_history.specs.declared.replies.Reply.{Reply}
-use Rattle.nofs_history.specs.declared.replies.Reply.TheVariants as reply
-use Rattle.nofs_history.specs.declared.replies.Refusal.{Refusal}
+use Rattle.nofs_machine.specs.declared.replies.Stat.{Stat}
+use Rattle.nofs_machine.specs.declared.replies.Reply.{Reply}
+use Rattle.nofs_machine.specs.declared.replies.Reply.TheVariants as reply
+use Rattle.nofs_machine.specs.declared.replies.Refusal.{Refusal}
 use Rattle.nofs_client.specs.declared.places.Handle.{Handle}
-use Rattle.nofs_client.specs.declared.places.Place.{Place}
+use Rattle.nofs_client.specs.declared.places.Location.{Location}
 use Rattle.nofs_client.specs.declared.commands.Command.{Command}
 use Rattle.nofs_client.specs.declared.commands.Command.TheVariants as command
 use Rattle.nofs_client.specs.declared.lines.Line.TheVariants as line
@@ -19,10 +19,10 @@ use Rattle.nofs_client.specs.declared.task.Stage.{Stage}
 use Rattle.nofs_client.specs.declared.task.Stage.TheVariants as stage
 use Rattle.nofs_client.specs.declared.task.Task.{Task}
 use Rattle.nofs_client.specs.declared.task.Task.TheVariants as task
-use Rattle.nofs_client.specs.Places.{first_of, looks, new_looks}
-use Rattle.nofs_client.specs.Task.{acting, arrived, arrived_new, first_stage, refused, Stands, IsActing, IsPutting, IsLinking, HasTwoPaths}
-use Rattle.nofs_client.specs.Asks.{act_of, put_of, put_at, within_slot, task_asks}
-use Rattle.nofs_client.specs.Answers.{handle_of, got_here, looked, looked_new, acted, sized, getting, linked, next_stage, stored, after_put, after_get, listing, after_list, task_after}
+use Rattle.nofs_client.specs.Places.{first_handle, looks, new_looks}
+use Rattle.nofs_client.specs.Task.{acting, arrived, arrived_new, first_stage, refused, TaskStands, IsActing, IsPutting, IsLinking, HasTwoPaths}
+use Rattle.nofs_client.specs.Asks.{act_of, put_slot_step, put_at, within_slot, task_asks}
+use Rattle.nofs_client.specs.Answers.{handle_of, got_here, looked, looked_new, acted, task_after_stat, getting, linked, next_stage, stored, after_put, after_get, listing, after_list, task_after}
 use Rattle.nofs_client.specs.Drive.{Answers}
 
 -- a test with what it says
@@ -58,7 +58,7 @@ task_rank c (task.Getting at from end parts) = end - from
 task_rank c (task.Listing at slot parts) = 73 - slot
 task_rank c (task.Ended line) = 0
 
-arrived_new-rank : (c : Command) (place : Place) (to : Handle) (depth : ℕ) → HasTwoPaths c → task_rank c (arrived_new c place to depth) ≤ act_rank c + (new_looks c - depth)
+arrived_new-rank : (c : Command) (place : Location) (to : Handle) (depth : ℕ) → HasTwoPaths c → task_rank c (arrived_new c place to depth) ≤ act_rank c + (new_looks c - depth)
 arrived_new-rank (command.Link path new_path) place to depth two =
     let c = command.Link path new_path in
     let P : Bool → Type 0 = λ b. task_rank c (if b then task.LookingNew place to depth else task.Linking place to (first_stage c)) ≤ act_rank c + (new_looks c - depth) in
@@ -69,14 +69,14 @@ arrived_new-rank (command.Move from to') place to depth two =
     tested depth (new_looks c) P (λ lt. le_refl _) (λ le. omega arith)
 arrived_new-rank _ place to depth two = absurd two
 
-acting-rank : (c : Command) (place : Place) → task_rank c (acting c place) ≤ act_rank c + new_looks c
+acting-rank : (c : Command) (place : Location) → task_rank c (acting c place) ≤ act_rank c + new_looks c
 acting-rank (command.Put path offset bytes) place = omega arith
 acting-rank (command.List path) place = omega arith
-acting-rank (command.Link path new_path) place = let h = arrived_new-rank (command.Link path new_path) place (first_of new_path) 0 tt in omega arith
-acting-rank (command.Move from to) place = let h = arrived_new-rank (command.Move from to) place (first_of to) 0 tt in omega arith
+acting-rank (command.Link path new_path) place = let h = arrived_new-rank (command.Link path new_path) place (first_handle new_path) 0 tt in omega arith
+acting-rank (command.Move from to) place = let h = arrived_new-rank (command.Move from to) place (first_handle to) 0 tt in omega arith
 acting-rank _ place = omega arith
 
-arrived-rank : (c : Command) (place : Place) (depth : ℕ) → task_rank c (arrived c place depth) ≤ act_rank c + new_looks c + (looks c - depth)
+arrived-rank : (c : Command) (place : Location) (depth : ℕ) → task_rank c (arrived c place depth) ≤ act_rank c + new_looks c + (looks c - depth)
 arrived-rank c place depth =
     let P : Bool → Type 0 = λ b. task_rank c (if b then task.Looking place depth else acting c place) ≤ act_rank c + new_looks c + (looks c - depth) in
     tested depth (looks c) P (λ lt. le_refl _) (λ le. (let h = acting-rank c place in omega arith))
@@ -85,14 +85,14 @@ pub refused-rank : (c : Command) (n : ℕ) (r : Refusal) → task_rank c (refuse
 refused-rank (command.Put path offset bytes) n r = refl
 refused-rank _ n r = refl
 
-looked-falls : (c : Command) (place : Place) (depth : ℕ) (r : Reply) → depth < looks c → Answers (task_asks c (task.Looking place depth)) r
+looked-falls : (c : Command) (place : Location) (depth : ℕ) (r : Reply) → depth < looks c → Answers (task_asks c (task.Looking place depth)) r
     → task_rank c (looked c place depth r) < act_rank c + new_looks c + (looks c - depth)
 looked-falls c place depth (reply.Found found) lt h =
     let k = arrived-rank c (record { directory = place.found; found = handle_of found }) (depth + 1) in omega arith
 looked-falls c place depth (reply.Refused r) lt h = let k = refused-rank c 0 r in omega arith
 looked-falls c place depth _ lt h = absurd h.0
 
-looked_new-falls : (c : Command) (place : Place) (to : Handle) (depth : ℕ) (r : Reply) → HasTwoPaths c → depth < new_looks c
+looked_new-falls : (c : Command) (place : Location) (to : Handle) (depth : ℕ) (r : Reply) → HasTwoPaths c → depth < new_looks c
     → Answers (task_asks c (task.LookingNew place to depth)) r → task_rank c (looked_new c place to depth r) < act_rank c + (new_looks c - depth)
 looked_new-falls c place to depth (reply.Found found) two lt h = let k = arrived_new-rank c place (handle_of found) (depth + 1) two in omega arith
 looked_new-falls c place to depth (reply.Refused r) two lt h = let k = refused-rank c 0 r in omega arith
@@ -103,7 +103,7 @@ getting-rank c at from end parts =
     let P : Bool → Type 0 = λ b. task_rank c (if b then task.Getting at from end parts else task.Ended (line.Got parts)) ≤ end - from in
     tested from end P (λ lt. le_refl _) (λ le. omega arith)
 
-sized-rank : (c : Command) (at : Handle) (offset len : ℕ) (stat : Stat) (k : FileKind) → task_rank c (sized at offset len stat k) < 2 ^ 64
+sized-rank : (c : Command) (at : Handle) (offset len : ℕ) (stat : Stat) (k : FileKind) → task_rank c (task_after_stat at offset len stat k) < 2 ^ 64
 sized-rank c at offset len stat kind.Directory = omega arith
 sized-rank c at offset len stat kind.File = let h = getting-rank c at offset (min (min (offset + len) (2 ^ 64 - 1)) stat.size) [] in omega arith
 
@@ -137,7 +137,7 @@ acted-falls (command.List path) at r acts h = absurd acts
 acted-falls (command.Link path new_path) at r acts h = absurd acts
 acted-falls (command.Move from to) at r acts h = absurd acts
 
-next_stage-falls : (c : Command) (place : Place) (to : Handle) (s : Stage) → IsLinking c s → task_rank c (next_stage c place to s) < stage_rank s
+next_stage-falls : (c : Command) (place : Location) (to : Handle) (s : Stage) → IsLinking c s → task_rank c (next_stage c place to s) < stage_rank s
 next_stage-falls (command.Link path new_path) place to stage.Link is = omega arith
 next_stage-falls (command.Move from to') place to stage.Flush is = omega arith
 next_stage-falls (command.Move from to') place to stage.Link is = omega arith
@@ -151,7 +151,7 @@ stage-pos stage.Link = omega arith
 stage-pos stage.FlushAgain = omega arith
 stage-pos stage.Drop = omega arith
 
-linked-falls : (c : Command) (place : Place) (to : Handle) (s : Stage) (r : Reply) → IsLinking c s → task_rank c (linked c place to s r) < stage_rank s
+linked-falls : (c : Command) (place : Location) (to : Handle) (s : Stage) (r : Reply) → IsLinking c s → task_rank c (linked c place to s r) < stage_rank s
 linked-falls c place to s (reply.Refused r) is = let k = refused-rank c 0 r in let pos = stage-pos s in omega arith
 linked-falls c place to s _ is = next_stage-falls c place to s is
 
@@ -166,7 +166,7 @@ put-room : (c : Command) (done : ℕ) → IsPutting c done → 0 < act_rank c - 
 put-room (command.Put path offset bytes) done lt = omega arith
 put-room _ done lt = absurd lt
 
-put-falls : (c : Command) (at : Handle) (done : ℕ) (r : Reply) → IsPutting c done → Answers (Do (put_of c at done)) r → task_rank c (after_put c at done r) < act_rank c - done
+put-falls : (c : Command) (at : Handle) (done : ℕ) (r : Reply) → IsPutting c done → Answers (Do (put_slot_step c at done)) r → task_rank c (after_put c at done r) < act_rank c - done
 put-falls c at done reply.Stored lt h = stored-falls c at done lt
 put-falls c at done (reply.Refused r) lt h = let k = refused-rank c done r in let room = put-room c done lt in omega arith
 put-falls (command.Put path offset bytes) at done _ lt h = absurd h.0
@@ -197,7 +197,7 @@ list-falls c at slot parts (reply.Refused r) le h = omega arith
 list-falls c at slot parts _ le h = absurd h.0
 
 -- less is left of a task after each reply
-pub task-falls : (c : Command) (t : Task) (r : Reply) → Stands c t → Answers (task_asks c t) r → task_rank c (task_after c t r) < task_rank c t
+pub task-falls : (c : Command) (t : Task) (r : Reply) → TaskStands c t → Answers (task_asks c t) r → task_rank c (task_after c t r) < task_rank c t
 task-falls c (task.Looking place depth) r stands h = looked-falls c place depth r stands h
 task-falls c (task.LookingNew place to depth) r stands h = looked_new-falls c place to depth r stands.0 stands.1 h
 task-falls c (task.Acting at) r stands h = acted-falls c at r stands h

@@ -2,11 +2,11 @@
 use Rattle.std.specs.Prelude.{ℕ, ◌+◌, ◌-◌, ◌%◌, ◌^◌, ◌++◌, List, [], ◌∷◌, length, take, drop, map, min, nat_lt, if◌then◌else◌}
 use Rattle.nofs_inode.specs.declared.inode.FileKind.{FileKind}
 use Rattle.nofs_inode.specs.declared.inode.FileKind.TheVariants as kind
-use Rattle.nofs_history.specs.declared.replies.Found.{Found}
-use Rattle.nofs_history.specs.declared.replies.Refusal.TheVariants as refusal
-use Rattle.nofs_history.specs.declared.replies.Reply.{Reply}
-use Rattle.nofs_history.specs.declared.replies.Reply.TheVariants as reply
-use Rattle.nofs_history.specs.declared.replies.Stat.{Stat}
+use Rattle.nofs_machine.specs.declared.replies.Found.{Found}
+use Rattle.nofs_machine.specs.declared.replies.Refusal.TheVariants as refusal
+use Rattle.nofs_machine.specs.declared.replies.Reply.{Reply}
+use Rattle.nofs_machine.specs.declared.replies.Reply.TheVariants as reply
+use Rattle.nofs_machine.specs.declared.replies.Stat.{Stat}
 use Rattle.nofs_client.specs.declared.commands.Command.{Command}
 use Rattle.nofs_client.specs.declared.commands.Command.TheVariants as command
 use Rattle.nofs_client.specs.declared.lines.GotPart.{GotPart}
@@ -15,7 +15,7 @@ use Rattle.nofs_client.specs.declared.lines.Line.TheVariants as line
 use Rattle.nofs_client.specs.declared.lines.ListPart.{ListPart}
 use Rattle.nofs_client.specs.declared.lines.ListPart.TheVariants as listed
 use Rattle.nofs_client.specs.declared.places.Handle.{Handle}
-use Rattle.nofs_client.specs.declared.places.Place.{Place}
+use Rattle.nofs_client.specs.declared.places.Location.{Location}
 use Rattle.nofs_client.specs.declared.task.Stage.{Stage}
 use Rattle.nofs_client.specs.declared.task.Stage.TheVariants as stage
 use Rattle.nofs_client.specs.declared.task.Task.{Task}
@@ -28,13 +28,13 @@ abbrev pub handle_of : Found → Handle
 handle_of found = record { inode = found.inode; generation = found.generation }
 
 -- after a Look of the path
-abbrev pub looked : Command → Place → ℕ → Reply → Task
+abbrev pub looked : Command → Location → ℕ → Reply → Task
 looked c place depth (reply.Found found) = arrived c (record { directory = place.found; found = handle_of found }) (depth + 1)
 looked c place depth (reply.Refused r) = refused c 0 r
 looked c place depth _ = task.Looking place depth
 
 -- after a Look of the new path
-abbrev pub looked_new : Command → Place → Handle → ℕ → Reply → Task
+abbrev pub looked_new : Command → Location → Handle → ℕ → Reply → Task
 looked_new c place to depth (reply.Found found) = arrived_new c place (handle_of found) (depth + 1)
 looked_new c place to depth (reply.Refused r) = refused c 0 r
 looked_new c place to depth _ = task.LookingNew place to depth
@@ -44,14 +44,14 @@ abbrev pub getting : Handle → ℕ → ℕ → List GotPart → Task
 getting at from end parts = if nat_lt from end then task.Getting at from end parts else task.Ended (line.Got parts)
 
 -- what a Stat tells a get: a directory has no bytes, and a file only those below its size
-abbrev pub sized : Handle → ℕ → ℕ → Stat → FileKind → Task
-sized at offset len stat kind.Directory = task.Ended (line.Refused refusal.IsDirectory)
-sized at offset len stat kind.File = getting at offset (min (min (offset + len) (2 ^ 64 - 1)) stat.size) []
+abbrev pub task_after_stat : Handle → ℕ → ℕ → Stat → FileKind → Task
+task_after_stat at offset len stat kind.Directory = task.Ended (line.Refused refusal.IsDirectory)
+task_after_stat at offset len stat kind.File = getting at offset (min (min (offset + len) (2 ^ 64 - 1)) stat.size) []
 
 -- after the one step of a command
 abbrev pub acted : Command → Handle → Reply → Task
 acted c at (reply.Refused r) = refused c 0 r
-acted (command.Get path offset len) at (reply.Stat stat) = sized at offset len stat stat.kind
+acted (command.Get path offset len) at (reply.Stat stat) = task_after_stat at offset len stat stat.kind
 acted c at (reply.Stat stat) = task.Ended (line.Stat stat)
 acted (command.Size path size) at reply.Resized = task.Ended (line.Sized size)
 acted c at (reply.Made inode generation) = task.Ended line.Made
@@ -61,7 +61,7 @@ acted c at reply.Flushed = task.Ended line.Synced
 acted c at _ = task.Acting at
 
 -- the next stage of a move; a link ends with its only one
-abbrev pub next_stage : Command → Place → Handle → Stage → Task
+abbrev pub next_stage : Command → Location → Handle → Stage → Task
 next_stage (command.Link path new_path) place to s = task.Ended line.Linked
 next_stage c place to stage.Flush = task.Linking place to stage.Link
 next_stage c place to stage.Link = task.Linking place to stage.FlushAgain
@@ -69,7 +69,7 @@ next_stage c place to stage.FlushAgain = task.Linking place to stage.Drop
 next_stage c place to stage.Drop = task.Ended line.Moved
 
 -- after a step of a link or a move
-abbrev pub linked : Command → Place → Handle → Stage → Reply → Task
+abbrev pub linked : Command → Location → Handle → Stage → Reply → Task
 linked c place to s (reply.Refused r) = refused c 0 r
 linked c place to s _ = next_stage c place to s
 

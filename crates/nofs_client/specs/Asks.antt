@@ -2,19 +2,19 @@
 use Rattle.std.specs.Prelude.{ℕ, List, ◌≡◌, ◌+◌, ◌-◌, ◌/◌, ◌%◌, length, take, drop, min, Some, None}
 use Rattle.std.specs.declared.option.Option.{Option}
 use Rattle.nofs_inode.specs.declared.inode.FileKind.TheVariants as kind
-use Rattle.nofs_history.specs.declared.steps.Step.{Step}
-use Rattle.nofs_history.specs.declared.steps.Step.TheVariants as step
+use Rattle.nofs_machine.specs.declared.steps.Step.{Step}
+use Rattle.nofs_machine.specs.declared.steps.Step.TheVariants as step
 use Rattle.nofs_client.specs.declared.commands.Command.{Command}
 use Rattle.nofs_client.specs.declared.commands.Command.TheVariants as command
 use Rattle.nofs_client.specs.declared.driver.Next.{Next}
 use Rattle.nofs_client.specs.declared.driver.Next.TheVariants.{Do, Say}
 use Rattle.nofs_client.specs.declared.places.Handle.{Handle}
-use Rattle.nofs_client.specs.declared.places.Place.{Place}
+use Rattle.nofs_client.specs.declared.places.Location.{Location}
 use Rattle.nofs_client.specs.declared.task.Stage.{Stage}
 use Rattle.nofs_client.specs.declared.task.Stage.TheVariants as stage
 use Rattle.nofs_client.specs.declared.task.Task.{Task}
 use Rattle.nofs_client.specs.declared.task.Task.TheVariants as task
-use Rattle.nofs_client.specs.Places.{path_of, new_path_of, name_at, last_name}
+use Rattle.nofs_client.specs.Places.{command_path, new_path_of, name_at, last_name}
 
 -- a name is looked up in a directory
 abbrev pub look_of : Handle → List ℕ → Step
@@ -32,11 +32,11 @@ act_of (command.Rename path name) at = step.Rename at.inode at.generation (last_
 act_of _ at = step.Flush at.inode at.generation
 
 -- the steps of a link and of a move
-abbrev pub link_of : Command → Place → Handle → Stage → Step
-link_of c place to stage.Flush = step.Flush place.found.inode place.found.generation
-link_of c place to stage.Link = step.Link to.inode to.generation (last_name (new_path_of c)) place.found.inode place.found.generation
-link_of c place to stage.FlushAgain = step.Flush place.found.inode place.found.generation
-link_of c place to stage.Drop = step.Drop place.directory.inode place.directory.generation (last_name (path_of c))
+abbrev pub link_step : Command → Location → Handle → Stage → Step
+link_step c place to stage.Flush = step.Flush place.found.inode place.found.generation
+link_step c place to stage.Link = step.Link to.inode to.generation (last_name (new_path_of c)) place.found.inode place.found.generation
+link_step c place to stage.FlushAgain = step.Flush place.found.inode place.found.generation
+link_step c place to stage.Drop = step.Drop place.directory.inode place.directory.generation (last_name (command_path c))
 
 -- the slot of the byte of a put after so many
 abbrev pub put_slot : ℕ → ℕ → ℕ
@@ -51,18 +51,18 @@ abbrev pub within_slot : ℕ → ℕ → ℕ
 within_slot at rest = min (1024 - at) rest
 
 -- the bytes of a put that lie in the next slot
-abbrev pub put_of : Command → Handle → ℕ → Step
-put_of (command.Put path offset bytes) at done = step.Put at.inode at.generation (put_slot offset done) (put_at offset done)
+abbrev pub put_slot_step : Command → Handle → ℕ → Step
+put_slot_step (command.Put path offset bytes) at done = step.Put at.inode at.generation (put_slot offset done) (put_at offset done)
     (take (within_slot (put_at offset done) (length bytes - done)) (drop done bytes))
-put_of _ at done = step.Flush at.inode at.generation
+put_slot_step _ at done = step.Flush at.inode at.generation
 
 -- the next step of a task, or its line
 abbrev pub task_asks : Command → Task → Next
-task_asks c (task.Looking place depth) = Do (look_of place.found (name_at (path_of c) depth))
+task_asks c (task.Looking place depth) = Do (look_of place.found (name_at (command_path c) depth))
 task_asks c (task.LookingNew place to depth) = Do (look_of to (name_at (new_path_of c) depth))
 task_asks c (task.Acting at) = Do (act_of c at)
-task_asks c (task.Linking place to s) = Do (link_of c place to s)
-task_asks c (task.Putting at done) = Do (put_of c at done)
+task_asks c (task.Linking place to s) = Do (link_step c place to s)
+task_asks c (task.Putting at done) = Do (put_slot_step c at done)
 task_asks c (task.Getting at from end parts) = Do (step.Get at.inode at.generation (from / 1024))
 task_asks c (task.Listing at slot parts) = Do (step.List at.inode at.generation slot)
 task_asks c (task.Ended line) = Say line

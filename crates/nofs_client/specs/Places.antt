@@ -8,9 +8,9 @@ use Rattle.nofs_client.specs.declared.commands.Command.TheVariants as command
 use Rattle.nofs_client.specs.Commands.{names_of}
 
 -- where the first name is looked up: the label file, or the root
-abbrev pub first_of : Path → Handle
-first_of Label = record { inode = 2; generation = 2 }
-first_of (Names names) = record { inode = 1; generation = 1 }
+abbrev pub first_handle : Path → Handle
+first_handle Label = record { inode = 2; generation = 2 }
+first_handle (Names names) = record { inode = 1; generation = 1 }
 
 -- one name of a path
 abbrev pub name_at : Path → ℕ → List ℕ
@@ -21,25 +21,25 @@ abbrev pub last_name : Path → List ℕ
 last_name path = name_at path (length (names_of path) - 1)
 
 -- the path of a command, of two the first
-abbrev pub path_of : Command → Path
-path_of (command.Make path) = path
-path_of (command.MakeDirectory path) = path
-path_of (command.Put path offset bytes) = path
-path_of (command.Get path offset len) = path
-path_of (command.Size path size) = path
-path_of (command.Stat path) = path
-path_of (command.List path) = path
-path_of (command.Link path new_path) = path
-path_of (command.Drop path) = path
-path_of (command.Rename path name) = path
-path_of (command.Fsync path) = path
-path_of (command.Move from to) = from
+abbrev pub command_path : Command → Path
+command_path (command.Make path) = path
+command_path (command.MakeDirectory path) = path
+command_path (command.Put path offset bytes) = path
+command_path (command.Get path offset len) = path
+command_path (command.Size path size) = path
+command_path (command.Stat path) = path
+command_path (command.List path) = path
+command_path (command.Link path new_path) = path
+command_path (command.Drop path) = path
+command_path (command.Rename path name) = path
+command_path (command.Fsync path) = path
+command_path (command.Move from to) = from
 
 -- the path of a command, of two the second
 abbrev pub new_path_of : Command → Path
 new_path_of (command.Link path new_path) = new_path
 new_path_of (command.Move from to) = to
-new_path_of c = path_of c
+new_path_of c = command_path c
 
 -- how many names of its path a command looks up: all, but for a step in the directory all but the last
 abbrev pub looks : Command → ℕ
@@ -47,7 +47,7 @@ looks (command.Make path) = length (names_of path) - 1
 looks (command.MakeDirectory path) = length (names_of path) - 1
 looks (command.Drop path) = length (names_of path) - 1
 looks (command.Rename path name) = length (names_of path) - 1
-looks c = length (names_of (path_of c))
+looks c = length (names_of (command_path c))
 
 -- how many names of its new path a command looks up: all but the last
 abbrev pub new_looks : Command → ℕ

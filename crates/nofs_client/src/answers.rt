@@ -1,23 +1,23 @@
 //! Where a command stands after the reply to its step, as if there were always room.
 ghost use Rattle.std.specs.Prelude.{◌≡◌, ◌+◌, ◌-◌, ◌/◌, ◌%◌, ◌<◌, ◌≤◌, ◌^◌, ◌++◌, [], ◌∷◌, length, IfOk, map, take, drop, ℕ, List};
-ghost use Rattle.nofs_history.specs.Steps.{Fits};
-ghost use Rattle.nofs_history.specs.declared.steps.Step.TheVariants.{Get as get_step, List as list_step};
-ghost use Rattle.nofs_history.specs.declared.replies.Reply.TheVariants.{Stat as stat_reply};
+ghost use Rattle.nofs_machine.specs.Steps.{Fits};
+ghost use Rattle.nofs_machine.specs.declared.steps.Step.TheVariants.{Get as get_step, List as list_step};
+ghost use Rattle.nofs_machine.specs.declared.replies.Reply.TheVariants.{Stat as stat_reply};
 ghost use Rattle.nofs_client.specs.declared.lines.ListPart.TheVariants.{Name as listed_name, Lost as listed_lost};
 ghost use Rattle.nofs_client.specs.Commands.{IsWellFormed};
 ghost use Rattle.nofs_client.specs.Places.{looks, new_looks};
-ghost use Rattle.nofs_client.specs.Task.{Stands, IsActing, IsPutting, IsLinking, HasTwoPaths};
-ghost use Rattle.nofs_client.specs.Asks.{act_of, link_of, put_at, within_slot, task_asks};
-ghost use Rattle.nofs_client.specs.Answers.{handle_of as handle_in, looked as looked_by, looked_new as looked_new_by, getting as getting_from, sized as sized_by, acted as acted_by, next_stage as stage_after, linked as linked_by, stored as stored_of, after_put as put_after, after_get as get_after, got_here, listing as listing_from, after_list as list_after, task_after as after_task};
+ghost use Rattle.nofs_client.specs.Task.{TaskStands, IsActing, IsPutting, IsLinking, HasTwoPaths};
+ghost use Rattle.nofs_client.specs.Asks.{act_of, link_step, put_at, within_slot, task_asks};
+ghost use Rattle.nofs_client.specs.Answers.{handle_of as handle_in, looked as looked_by, looked_new as looked_new_by, getting as getting_from, task_after_stat as sized_by, acted as acted_by, next_stage as stage_after, linked as linked_by, stored as stored_of, after_put as put_after, after_get as get_after, got_here, listing as listing_from, after_list as list_after, task_after as after_task};
 ghost use Rattle.nofs_client.specs.Drive.{Answers};
 
 use crate::commands::Command;
 use crate::lines::{GotPart, GotParts, Line, ListPart, ListParts};
-use crate::places::{Handle, Place, look_count, new_look_count};
+use crate::places::{Handle, Location, look_count, new_look_count};
 use crate::steps::SLOT;
 use crate::task::{Stage, Task, arrived, arrived_new, refused};
-use nofs_history::{FileKind, Found, NameLine, NameList, Refusal, Reply, Stat};
 use nofs_lists::Content;
+use nofs_machine::{FileKind, Found, NameLine, NameList, Refusal, Reply, Stat};
 use std::alloc::{AllocError, Global};
 
 fn handle_of(found: &Found) -> Handle
@@ -29,16 +29,16 @@ fn handle_of(found: &Found) -> Handle
     }
 }
 
-fn looked(alloc: Global, command: &Command, place: Place, depth: u64, reply: &Reply) -> Task
+fn looked(alloc: Global, command: &Command, place: Location, depth: u64, reply: &Reply) -> Task
     requires formed { IsWellFormed command.now }
     requires stands { depth < looks command.now }
     ensures is { result ≡ looked_by command.now place depth reply.now }
-    ensures stands { Stands command.now result }
+    ensures stands { TaskStands command.now result }
 {
     let _count = look_count(command);
     match reply {
         Reply::Found(found) => {
-            let next = Place {
+            let next = Location {
                 directory: place.found,
                 found: handle_of(found),
             };
@@ -49,11 +49,11 @@ fn looked(alloc: Global, command: &Command, place: Place, depth: u64, reply: &Re
     }
 }
 
-fn looked_new(command: &Command, place: Place, to: Handle, depth: u64, reply: &Reply) -> Task
+fn looked_new(command: &Command, place: Location, to: Handle, depth: u64, reply: &Reply) -> Task
     requires paths { HasTwoPaths command.now }
     requires stands { depth < new_looks command.now }
     ensures is { result ≡ looked_new_by command.now place to depth reply.now }
-    ensures stands { Stands command.now result }
+    ensures stands { TaskStands command.now result }
 {
     let _count = new_look_count(command);
     match reply {
@@ -65,7 +65,7 @@ fn looked_new(command: &Command, place: Place, to: Handle, depth: u64, reply: &R
 
 fn getting(at: Handle, from: u64, end: u64, parts: GotParts) -> Task
     ensures is { result ≡ getting_from at from end parts }
-    ensures stands { (c : _) → Stands c result }
+    ensures stands { (c : _) → TaskStands c result }
 {
     if from < end {
         Task::Getting {
@@ -81,7 +81,7 @@ fn getting(at: Handle, from: u64, end: u64, parts: GotParts) -> Task
 
 fn sized(alloc: Global, at: Handle, offset: u64, length: u64, stat: &Stat) -> Task
     ensures is { result ≡ sized_by at offset length stat.now stat.now.kind }
-    ensures stands { (c : _) → Stands c result }
+    ensures stands { (c : _) → TaskStands c result }
 {
     match stat.kind {
         FileKind::Directory => Task::Ended(Line::Refused(Refusal::IsDirectory)),
@@ -94,7 +94,7 @@ fn sized(alloc: Global, at: Handle, offset: u64, length: u64, stat: &Stat) -> Ta
 
 fn told(alloc: Global, command: &Command, at: Handle, stat: &Stat) -> Task
     ensures is { result ≡ acted_by command.now at (stat_reply stat.now) }
-    ensures stands { Stands command.now result }
+    ensures stands { TaskStands command.now result }
 {
     match command {
         Command::Get {
@@ -109,7 +109,7 @@ fn told(alloc: Global, command: &Command, at: Handle, stat: &Stat) -> Task
 fn acted(alloc: Global, command: &Command, at: Handle, reply: &Reply) -> Task
     requires { IsActing command.now }
     ensures is { result ≡ acted_by command.now at reply.now }
-    ensures stands { Stands command.now result }
+    ensures stands { TaskStands command.now result }
 {
     match reply {
         Reply::Refused(refusal) => refused(command, 0, *refusal),
@@ -126,10 +126,10 @@ fn acted(alloc: Global, command: &Command, at: Handle, reply: &Reply) -> Task
     }
 }
 
-fn next_stage(command: &Command, place: Place, to: Handle, stage: Stage) -> Task
+fn next_stage(command: &Command, place: Location, to: Handle, stage: Stage) -> Task
     requires { IsLinking command.now stage }
     ensures is { result ≡ stage_after command.now place to stage }
-    ensures stands { Stands command.now result }
+    ensures stands { TaskStands command.now result }
 {
     if let Command::Link { .. } = command {
         return Task::Ended(Line::Linked);
@@ -143,10 +143,10 @@ fn next_stage(command: &Command, place: Place, to: Handle, stage: Stage) -> Task
     Task::Linking { place, to, stage }
 }
 
-fn linked(command: &Command, place: Place, to: Handle, stage: Stage, reply: &Reply) -> Task
+fn linked(command: &Command, place: Location, to: Handle, stage: Stage, reply: &Reply) -> Task
     requires { IsLinking command.now stage }
     ensures is { result ≡ linked_by command.now place to stage reply.now }
-    ensures stands { Stands command.now result }
+    ensures stands { TaskStands command.now result }
 {
     match reply {
         Reply::Refused(refusal) => refused(command, 0, *refusal),
@@ -157,7 +157,7 @@ fn linked(command: &Command, place: Place, to: Handle, stage: Stage, reply: &Rep
 fn stored(command: &Command, at: Handle, done: u64) -> Task
     requires { IsPutting command.now done }
     ensures is { result ≡ stored_of command.now at done }
-    ensures stands { Stands command.now result }
+    ensures stands { TaskStands command.now result }
 {
     match command {
         Command::Put {
@@ -181,7 +181,7 @@ fn stored(command: &Command, at: Handle, done: u64) -> Task
 fn after_put(command: &Command, at: Handle, done: u64, reply: &Reply) -> Task
     requires { IsPutting command.now done }
     ensures is { result ≡ put_after command.now at done reply.now }
-    ensures stands { Stands command.now result }
+    ensures stands { TaskStands command.now result }
 {
     match reply {
         Reply::Stored => stored(command, at, done),
@@ -209,7 +209,7 @@ fn after_get(
     requires here { from < end }
     requires fits { Fits (get_step at.inode at.generation (from / 1024)) reply.now }
     ensures is { IfOk result (λ task. task ≡ get_after at from end parts reply.now) }
-    ensures stands { IfOk result (λ task. (c : _) → Stands c task) }
+    ensures stands { IfOk result (λ task. (c : _) → TaskStands c task) }
 {
     let count = (SLOT - from % SLOT).min(end - from);
     match reply {
@@ -268,7 +268,7 @@ fn after_names(
 ) -> Result<Task, AllocError>
     requires { slot < 72 }
     ensures is { IfOk result (λ task. task ≡ listing_from at asked slot parts (map listed_name names.now)) }
-    ensures stands { IfOk result (λ task. (c : _) → Stands c task) }
+    ensures stands { IfOk result (λ task. (c : _) → TaskStands c task) }
 {
     if slot < asked {
         Ok(Task::Ended(Line::Names(parts)))
@@ -284,7 +284,7 @@ fn after_names(
 fn after_lost(at: Handle, asked: u64, mut parts: ListParts, slot: u64) -> Result<Task, AllocError>
     requires { slot < 72 }
     ensures is { IfOk result (λ task. task ≡ listing_from at asked slot parts (listed_lost slot ∷ [])) }
-    ensures stands { IfOk result (λ task. (c : _) → Stands c task) }
+    ensures stands { IfOk result (λ task. (c : _) → TaskStands c task) }
 {
     if slot < asked {
         Ok(Task::Ended(Line::Names(parts)))
@@ -308,7 +308,7 @@ fn after_list(
     requires slot { asked ≤ 72 }
     requires fits { Fits (list_step at.inode at.generation asked) reply.now }
     ensures is { IfOk result (λ task. task ≡ list_after at asked parts reply.now) }
-    ensures stands { IfOk result (λ task. (c : _) → Stands c task) }
+    ensures stands { IfOk result (λ task. (c : _) → TaskStands c task) }
 {
     match reply {
         Reply::Names(slot, names) => after_names(alloc, at, asked, parts, *slot, names),
@@ -331,10 +331,10 @@ pub fn task_after(
     reply: &Reply,
 ) -> Result<Task, AllocError>
     requires formed { IsWellFormed command.now }
-    requires stands { Stands command.now task }
+    requires stands { TaskStands command.now task }
     requires fits { Answers (task_asks command.now task) reply.now }
     ensures is { IfOk result (λ next. next ≡ after_task command.now task reply.now) }
-    ensures stands { IfOk result (Stands command.now) }
+    ensures stands { IfOk result (TaskStands command.now) }
 {
     match task {
         Task::Looking { place, depth } => Ok(looked(alloc, command, place, depth, reply)),

@@ -3,17 +3,17 @@
 //! Promise: a command makes just the steps that it asks for, each after the reply to the one before,
 //! and always comes to its line.
 ghost use Rattle.std.specs.Prelude.{◌≡◌, IfOk, OnOk, not};
-ghost use Rattle.nofs_history.specs.Steps.{is_out_of_memory};
+ghost use Rattle.nofs_machine.specs.Steps.{is_out_of_memory};
 ghost use Rattle.nofs_client.specs.Commands.{IsWellFormed, AreWellFormed};
-ghost use Rattle.nofs_client.specs.Task.{Stands};
-ghost use Rattle.nofs_client.specs.Drive.{Answers, asks, after as after_of};
+ghost use Rattle.nofs_client.specs.Task.{TaskStands};
+ghost use Rattle.nofs_client.specs.Drive.{Answers, asks, progress_after as after_of};
 ghost use Rattle.nofs_client.specs.Runs.{RunsTo, RunsPartly, RunsAll, RunsSome, LinesFollow};
 
 use crate::commands::{Command, CommandList};
 use crate::driver::line_of;
 use crate::lines::{Line, LineList};
 use crate::progress::{Progress, after, next_step, start};
-use nofs_history::{Refusal, Reply, Steps};
+use nofs_machine::{Refusal, Reply, Steps};
 use std::alloc::{AllocError, Global};
 
 /// A user of a mount.
@@ -36,10 +36,10 @@ fn taken(
     reply: Reply,
 ) -> Result<Progress, AllocError>
     requires formed { IsWellFormed command.now }
-    requires stands { Stands command.now progress.task }
+    requires stands { TaskStands command.now progress.task }
     requires fits { Answers (asks command.now progress) reply }
     ensures is { IfOk result (λ next. next ≡ after_of command.now progress reply) }
-    ensures stands { IfOk result (λ next. Stands command.now next.task) }
+    ensures stands { IfOk result (λ next. TaskStands command.now next.task) }
 {
     after(alloc, command, progress, &reply)
 }

@@ -3,7 +3,7 @@
 //! Promise: the answer is that of the definition, for every command and all replies that fit.
 ghost use Rattle.std.specs.Prelude.{◌≡◌, IfOk};
 ghost use Rattle.nofs_client.specs.Commands.{IsWellFormed};
-ghost use Rattle.nofs_client.specs.Task.{Stands};
+ghost use Rattle.nofs_client.specs.Task.{TaskStands};
 ghost use Rattle.nofs_client.specs.Asks.{IsSaid, task_asks};
 ghost use Rattle.nofs_client.specs.Drive.{AllAnswer, start_of, asks, drive_of};
 ghost use Rattle.nofs_client.specs.declared.driver.Next.TheVariants.{Say};
@@ -12,7 +12,7 @@ use crate::commands::Command;
 use crate::lines::Line;
 use crate::progress::{Progress, after, next_step, start};
 use crate::task::Task;
-use nofs_history::{Reply, Step};
+use nofs_machine::{Reply, Step};
 use std::alloc::{AllocError, Global};
 
 /// What a command does next.
@@ -46,7 +46,7 @@ pub fn line_of(command: &Command, progress: Progress) -> Line
 }
 
 fn what_next(alloc: Global, command: &Command, progress: Progress) -> Result<Next, AllocError>
-    requires { Stands command.now progress.task }
+    requires { TaskStands command.now progress.task }
     ensures { IfOk result (λ next. next ≡ asks command.now progress) }
 {
     match next_step(alloc, command, &progress)? {

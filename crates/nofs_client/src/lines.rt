@@ -1,7 +1,7 @@
 //! The line that a command ends with.
 
-use nofs_history::{NameLine, Refusal, Stat};
 use nofs_lists::{Content, ListOf};
+use nofs_machine::{NameLine, Refusal, Stat};
 
 /// What was got of one slot: only the bytes that were asked for.
 #[derive(Drop)]

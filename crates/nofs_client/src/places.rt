@@ -1,7 +1,7 @@
 //! Which names a command looks up, and where it begins.
 ghost use Rattle.std.specs.Prelude.{◌≡◌, [], length, IfOk, slice_get, unwrap_or};
 ghost use Rattle.nofs_client.specs.Commands.{names_of};
-ghost use Rattle.nofs_client.specs.Places.{first_of as begins_at, path_of as path_in, new_path_of as new_path_in, name_at as name_in, last_name as last_in, looks, new_looks};
+ghost use Rattle.nofs_client.specs.Places.{first_handle as begins_at, command_path as path_in, new_path_of as new_path_in, name_at as name_in, last_name as last_in, looks, new_looks};
 
 use crate::commands::{Command, Path};
 use nofs_lists::Name;
@@ -16,7 +16,7 @@ pub struct Handle {
 
 /// Where the names of a path lead, and the directory in which the last of them was looked up.
 #[derive(Clone, Copy, Debug, PartialEq, Eq)]
-pub struct Place {
+pub struct Location {
     pub directory: Handle,
     pub found: Handle,
 }

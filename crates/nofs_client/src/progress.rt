@@ -1,17 +1,17 @@
 //! Where a command stands, with the steps that make room: a step that was answered Full or InodesFull
 //! is repeated as long as the disk has unexamined elements and ever fewer of them.
 ghost use Rattle.std.specs.Prelude.{◌≡◌, ◌&&◌, IfOk, nat_lt, true, false, if◌then◌else◌};
-ghost use Rattle.nofs_history.specs.declared.replies.Reply.TheVariants.{Refused};
+ghost use Rattle.nofs_machine.specs.declared.replies.Reply.TheVariants.{Refused};
 ghost use Rattle.nofs_client.specs.Commands.{IsWellFormed};
-ghost use Rattle.nofs_client.specs.Task.{Stands, refused as refused_by};
+ghost use Rattle.nofs_client.specs.Task.{TaskStands, refused as refused_by};
 ghost use Rattle.nofs_client.specs.Asks.{IsAsked, task_asks};
-ghost use Rattle.nofs_client.specs.Drive.{Answers, goes_on as is_going_on, start_of, fresh as fresh_of, ended as ended_by, sees_block as block_seen, sees_inode as inode_seen, see_step, asks as asks_of, stored_by, after_step as step_after, after_refused as refused_after, after_see as see_after, after as after_of};
+ghost use Rattle.nofs_client.specs.Drive.{Answers, goes_on as is_going_on, start_of, fresh_progress as fresh_of, step_answered as ended_by, examines_block as block_seen, examines_inode as inode_seen, step_before_repeat, asks as asks_of, stored_by, after_step as step_after, after_refused as refused_after, after_see as see_after, progress_after as after_of};
 
 use crate::answers::task_after;
 use crate::commands::Command;
 use crate::steps::task_step;
 use crate::task::{Task, first_task, refused};
-use nofs_history::{Refusal, Reply, Step};
+use nofs_machine::{Refusal, Reply, Step};
 use std::alloc::{AllocError, Global};
 
 /// What is examined before a step is repeated.
@@ -48,7 +48,7 @@ fn fresh(task: Task) -> Progress
 pub fn start(alloc: Global, command: &Command) -> Progress
     requires { IsWellFormed command.now }
     ensures is { result ≡ start_of command.now }
-    ensures stands { Stands command.now result.task }
+    ensures stands { TaskStands command.now result.task }
 {
     fresh(first_task(alloc, command))
 }
@@ -59,7 +59,7 @@ pub fn next_step(
     command: &Command,
     progress: &Progress,
 ) -> Result<Option<Step>, AllocError>
-    requires { Stands command.now progress.now.task }
+    requires { TaskStands command.now progress.now.task }
     ensures { IfOk result (λ step. IsAsked (asks_of command.now progress.now) step) }
 {
     match progress.see {
@@ -85,10 +85,10 @@ fn ended(
     reply: &Reply,
 ) -> Result<Progress, AllocError>
     requires formed { IsWellFormed command.now }
-    requires stands { Stands command.now progress.task }
+    requires stands { TaskStands command.now progress.task }
     requires fits { Answers (task_asks command.now progress.task) reply.now }
     ensures is { IfOk result (λ next. next ≡ ended_by command.now progress reply.now) }
-    ensures stands { IfOk result (λ next. Stands command.now next.task) }
+    ensures stands { IfOk result (λ next. TaskStands command.now next.task) }
 {
     Ok(fresh(task_after(alloc, command, progress.task, reply)?))
 }
@@ -124,10 +124,10 @@ fn after_full(
     next: u64,
 ) -> Result<Progress, AllocError>
     requires formed { IsWellFormed command.now }
-    requires stands { Stands command.now progress.task }
+    requires stands { TaskStands command.now progress.task }
     requires fits { Answers (task_asks command.now progress.task) (Refused refusal.now) }
     ensures is { IfOk result (λ after. after ≡ (if is_going_on unverified progress.full then block_seen progress unverified next else ended_by command.now progress (Refused refusal.now))) }
-    ensures stands { IfOk result (λ after. Stands command.now after.task) }
+    ensures stands { IfOk result (λ after. TaskStands command.now after.task) }
 {
     if goes_on(unverified, progress.full) {
         Ok(sees_block(progress, unverified, next))
@@ -145,10 +145,10 @@ fn after_inodes_full(
     next: u32,
 ) -> Result<Progress, AllocError>
     requires formed { IsWellFormed command.now }
-    requires stands { Stands command.now progress.task }
+    requires stands { TaskStands command.now progress.task }
     requires fits { Answers (task_asks command.now progress.task) (Refused refusal.now) }
     ensures is { IfOk result (λ after. after ≡ (if is_going_on unverified progress.inodes then inode_seen progress unverified next else ended_by command.now progress (Refused refusal.now))) }
-    ensures stands { IfOk result (λ after. Stands command.now after.task) }
+    ensures stands { IfOk result (λ after. TaskStands command.now after.task) }
 {
     if goes_on(unverified, progress.inodes) {
         Ok(sees_inode(progress, unverified, next))
@@ -164,10 +164,10 @@ fn after_refused(
     refusal: &Refusal,
 ) -> Result<Progress, AllocError>
     requires formed { IsWellFormed command.now }
-    requires stands { Stands command.now progress.task }
+    requires stands { TaskStands command.now progress.task }
     requires fits { Answers (task_asks command.now progress.task) (Refused refusal.now) }
     ensures is { IfOk result (λ next. next ≡ refused_after command.now progress refusal.now) }
-    ensures stands { IfOk result (λ next. Stands command.now next.task) }
+    ensures stands { IfOk result (λ next. TaskStands command.now next.task) }
 {
     match refusal {
         Refusal::Full {
@@ -190,10 +190,10 @@ fn after_step(
     reply: &Reply,
 ) -> Result<Progress, AllocError>
     requires formed { IsWellFormed command.now }
-    requires stands { Stands command.now progress.task }
+    requires stands { TaskStands command.now progress.task }
     requires fits { Answers (task_asks command.now progress.task) reply.now }
     ensures is { IfOk result (λ next. next ≡ step_after command.now progress reply.now) }
-    ensures stands { IfOk result (λ next. Stands command.now next.task) }
+    ensures stands { IfOk result (λ next. TaskStands command.now next.task) }
 {
     match reply {
         Reply::Refused(refusal) => after_refused(alloc, command, progress, refusal),
@@ -211,9 +211,9 @@ fn stored(task: &Task) -> u64
 }
 
 fn after_see(command: &Command, progress: Progress, reply: &Reply) -> Progress
-    requires { Stands command.now progress.task }
+    requires { TaskStands command.now progress.task }
     ensures is { result ≡ see_after command.now progress reply.now }
-    ensures stands { Stands command.now result.task }
+    ensures stands { TaskStands command.now result.task }
 {
     match reply {
         Reply::Refused(refusal) => fresh(refused(command, stored(&progress.task), *refusal)),
@@ -242,10 +242,10 @@ pub fn after(
     reply: &Reply,
 ) -> Result<Progress, AllocError>
     requires formed { IsWellFormed command.now }
-    requires stands { Stands command.now progress.task }
+    requires stands { TaskStands command.now progress.task }
     requires fits { Answers (asks_of command.now progress) reply.now }
     ensures is { IfOk result (λ next. next ≡ after_of command.now progress reply.now) }
-    ensures stands { IfOk result (λ next. Stands command.now next.task) }
+    ensures stands { IfOk result (λ next. TaskStands command.now next.task) }
 {
     match progress.see {
         None => after_step(alloc, command, progress, reply),

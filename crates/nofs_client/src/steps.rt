@@ -1,14 +1,14 @@
 //! The next step of a command, as if there were always room.
 ghost use Rattle.std.specs.Prelude.{◌≡◌, ◌+◌, ◌-◌, ◌/◌, ◌%◌, ◌<◌, ◌≤◌, length, IfOk, take, drop, ℕ, List};
-ghost use Rattle.nofs_client.specs.Places.{path_of as path_in, new_path_of as new_path_in, name_at as name_in, last_name as last_in};
-ghost use Rattle.nofs_client.specs.Task.{IsActing, IsPutting, Stands};
-ghost use Rattle.nofs_client.specs.Asks.{IsAsked, look_of, act_of, link_of, put_of, put_at as place_of_put, put_slot as slot_of_put, within_slot, task_asks};
+ghost use Rattle.nofs_client.specs.Places.{command_path as path_in, new_path_of as new_path_in, name_at as name_in, last_name as last_in};
+ghost use Rattle.nofs_client.specs.Task.{IsActing, IsPutting, TaskStands};
+ghost use Rattle.nofs_client.specs.Asks.{IsAsked, look_of, act_of, link_step, put_slot_step, put_at as place_of_put, put_slot as slot_of_put, within_slot, task_asks};
 
 use crate::commands::Command;
-use crate::places::{Handle, Place, last_name, name_at, new_path_of, path_of};
+use crate::places::{Handle, Location, last_name, name_at, new_path_of, path_of};
 use crate::task::{Stage, Task};
-use nofs_history::{FileKind, Step};
 use nofs_lists::{Content, Name};
+use nofs_machine::{FileKind, Step};
 use std::alloc::{AllocError, Global};
 
 /// The bytes of a slot.
@@ -67,13 +67,13 @@ fn act(alloc: Global, command: &Command, at: Handle) -> Result<Step, AllocError>
 fn link(
     alloc: Global,
     command: &Command,
-    place: Place,
+    place: Location,
     to: Handle,
     stage: Stage,
 ) -> Result<Step, AllocError>
-    ensures { IfOk result (λ step. step ≡ link_of command.now place to stage) }
+    ensures { IfOk result (λ step. step ≡ link_step command.now place to stage) }
 {
-    let Place { directory, found } = place;
+    let Location { directory, found } = place;
     Ok(match stage {
         Stage::Link => Step::Link {
             directory: to.inode,
@@ -96,7 +96,7 @@ fn link(
 
 fn put(alloc: Global, command: &Command, at: Handle, done: u64) -> Result<Step, AllocError>
     requires { IsPutting command.now done }
-    ensures { IfOk result (λ step. step ≡ put_of command.now at done) }
+    ensures { IfOk result (λ step. step ≡ put_slot_step command.now at done) }
 {
     let Handle { inode, generation } = at;
     match command {
@@ -123,7 +123,7 @@ fn put(alloc: Global, command: &Command, at: Handle, done: u64) -> Result<Step, 
 
 /// The next step of a task; none where it has ended.
 pub fn task_step(alloc: Global, command: &Command, task: &Task) -> Result<Option<Step>, AllocError>
-    requires { Stands command.now task.now }
+    requires { TaskStands command.now task.now }
     ensures { IfOk result (λ step. IsAsked (task_asks command.now task.now) step) }
 {
     match task {

@@ -1,13 +1,13 @@
 //! Where a command stands, apart from the steps that make room.
 ghost use Rattle.std.specs.Prelude.{◌≡◌};
 ghost use Rattle.nofs_client.specs.Commands.{IsWellFormed};
-ghost use Rattle.nofs_client.specs.Places.{first_of as begins_at, path_of as path_in, new_path_of as new_path_in};
-ghost use Rattle.nofs_client.specs.Task.{Stands, HasTwoPaths, first_stage as stage_of, arrived_new as arrived_at_new, acting as acting_at, arrived as arrived_at, first_task as first_task_of, refused as refused_by};
+ghost use Rattle.nofs_client.specs.Places.{first_handle as begins_at, command_path as path_in, new_path_of as new_path_in};
+ghost use Rattle.nofs_client.specs.Task.{TaskStands, HasTwoPaths, first_stage as stage_of, arrived_new as arrived_at_new, acting as acting_at, arrived as arrived_at, first_task as first_task_of, refused as refused_by};
 
 use crate::commands::Command;
 use crate::lines::{GotParts, Line, ListParts};
-use crate::places::{Handle, Place, first_of, look_count, new_look_count, new_path_of, path_of};
-use nofs_history::Refusal;
+use crate::places::{Handle, Location, first_of, look_count, new_look_count, new_path_of, path_of};
+use nofs_machine::Refusal;
 use std::alloc::Global;
 
 /// The steps of a command with two paths, after both are looked up.
@@ -28,12 +28,12 @@ pub enum Stage {
 pub enum Task {
     /// So many names of the path were looked up.
     Looking {
-        place: Place,
+        place: Location,
         depth: u64,
     },
     /// So many names of the new path were looked up, and lead to `to`.
     LookingNew {
-        place: Place,
+        place: Location,
         to: Handle,
         depth: u64,
     },
@@ -43,7 +43,7 @@ pub enum Task {
     },
     /// The names of both paths are looked up, and `to` is the directory of the new name.
     Linking {
-        place: Place,
+        place: Location,
         to: Handle,
         stage: Stage,
     },
@@ -79,10 +79,10 @@ fn first_stage(command: &Command) -> Stage
 }
 
 /// The task after so many names of the new path.
-pub fn arrived_new(command: &Command, place: Place, to: Handle, depth: u64) -> Task
+pub fn arrived_new(command: &Command, place: Location, to: Handle, depth: u64) -> Task
     requires { HasTwoPaths command.now }
     ensures is { result ≡ arrived_at_new command.now place to depth }
-    ensures stands { Stands command.now result }
+    ensures stands { TaskStands command.now result }
 {
     if depth < new_look_count(command) {
         Task::LookingNew { place, to, depth }
@@ -95,10 +95,10 @@ pub fn arrived_new(command: &Command, place: Place, to: Handle, depth: u64) -> T
     }
 }
 
-fn acting(alloc: Global, command: &Command, place: Place) -> Task
+fn acting(alloc: Global, command: &Command, place: Location) -> Task
     requires { IsWellFormed command.now }
     ensures is { result ≡ acting_at command.now place }
-    ensures stands { Stands command.now result }
+    ensures stands { TaskStands command.now result }
 {
     match command {
         Command::Put { .. } => Task::Putting {
@@ -117,10 +117,10 @@ fn acting(alloc: Global, command: &Command, place: Place) -> Task
 }
 
 /// The task after so many names of the path.
-pub fn arrived(alloc: Global, command: &Command, place: Place, depth: u64) -> Task
+pub fn arrived(alloc: Global, command: &Command, place: Location, depth: u64) -> Task
     requires { IsWellFormed command.now }
     ensures is { result ≡ arrived_at command.now place depth }
-    ensures stands { Stands command.now result }
+    ensures stands { TaskStands command.now result }
 {
     if depth < look_count(command) {
         Task::Looking { place, depth }
@@ -133,10 +133,10 @@ pub fn arrived(alloc: Global, command: &Command, place: Place, depth: u64) -> Ta
 pub fn first_task(alloc: Global, command: &Command) -> Task
     requires { IsWellFormed command.now }
     ensures is { result ≡ first_task_of command.now }
-    ensures stands { Stands command.now result }
+    ensures stands { TaskStands command.now result }
 {
     let at = first_of(path_of(command));
-    let place = Place {
+    let place = Location {
         directory: at,
         found: at,
     };
@@ -146,7 +146,7 @@ pub fn first_task(alloc: Global, command: &Command) -> Task
 /// The end of a command of which a step was refused after so many bytes were stored.
 pub fn refused(command: &Command, stored: u64, refusal: Refusal) -> Task
     ensures is { result ≡ refused_by command.now stored refusal }
-    ensures stands { Stands command.now result }
+    ensures stands { TaskStands command.now result }
 {
     match command {
         Command::Put { .. } => Task::Ended(Line::RefusedPut { refusal, stored }),

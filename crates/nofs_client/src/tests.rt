@@ -10,7 +10,7 @@ use crate::tests::asked::{Asked, command};
 use crate::tests::text::note_line;
 use crate::tests::told::{Past, Told};
 use crate::{Client, Command, CommandList, Line, LineList, Next, Path, drive};
-use nofs_history::{FileKind, Refusal, Reply, Stat, Step};
+use nofs_machine::{FileKind, Refusal, Reply, Stat, Step};
 use std::alloc::{AllocError, Global};
 use std::test::Fail;
 

@@ -8,11 +8,12 @@ use Rattle.nofs_super.specs.Geometry.{IsGeometry}
 use Rattle.nofs_model.specs.Cells.{Cell}
 use Rattle.nofs_model.specs.Image.{Image, super_at, CellBelow}
 use Rattle.nofs_model.proofs.Sound.{mountable-law}
-use Rattle.nofs_history.specs.History.{mark_at, new_mark}
-use Rattle.nofs_history.specs.Allowed.{IsAllowed, SteadyRest}
-use Rattle.nofs_reasons.specs.Reasons.{IsMark}
-use Rattle.nofs_reasons.proofs.Moments.{law-flush}
-use Rattle.nofs_crashlaw.specs.Stage.{Survives, Stage, IsFirst, LawFirstStage}
+use Rattle.nofs_machine.specs.History.{mark_at, new_mark}
+use Rattle.nofs_machine.specs.Allowed.{IsAllowed}
+use Rattle.nofs_machine.specs.Steady.{SteadyRest}
+use Rattle.nofs_law_images.specs.Reasons.{IsMark}
+use Rattle.nofs_law_images.proofs.Moments.{law-flush}
+use Rattle.nofs_crashlaw.specs.Stage.{CellsSurvive, Stage, IsFirst, LawFirstStage}
 use Rattle.nofs_crashlaw.proofs.Below.{live-below, tag-below}
 use Rattle.nofs_crashlaw.proofs.Flushing.{flushed}
 use Rattle.nofs_crashlaw.proofs.NewMark.{mark-new}
@@ -42,7 +43,7 @@ module _ (d : DiskState) (s : ℕ) (p : IsFirst d s) where
   new = flushed d.now [] d.now s tt (self-match d.now) (rest-first d.now) p.positive (geometry.multiple)
       (live-below d.now s (super_at d.now).blocks p.below (le_refl (super_at d.now).blocks) geometry.table) (tag-below d.now s (super_at d.now).blocks p.below (le_refl (super_at d.now).blocks))
 
-  survives : Survives d (mark_at d.now [] (d.moment + 1) d.now s)
+  survives : CellsSurvive d (mark_at d.now [] (d.moment + 1) d.now s)
   survives =
       let m : IsMark (mark_at d.now [] (d.moment + 1) d.now s) = subst IsMark (sym (new-is (d.moment + 1))) new in
       record { mark = m; size = p.disk.whole p.tells; explained = law-flush (mark_at d.now [] (d.moment + 1) d.now s) d.may m alone }
@@ -61,7 +62,7 @@ module _ (d : DiskState) (s : ℕ) (p : IsFirst d s) where
 
   pub first-stage : Stage d.now [] d.now s d.moment s d
   first-stage = record {
-    lasts = record { first = refl; by = tt; survives = survives; images = images };
+    lasts = record { size = refl; first = refl; by = tt; survives = survives; images = images };
     ready = record {
       files = self-match d.now;
       survives = survives;

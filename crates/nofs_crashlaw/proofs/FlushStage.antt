@@ -2,23 +2,26 @@
 use Rattle.nofs_super.specs.Geometry.{IsGeometry}
 use Rattle.std.proofs.Common.{◌≡◌, ℕ, suc, ◌+◌, ◌%◌, ◌<◌, ◌≤◌, inl, inr, true, false, cond, is_some, append-nil, eqb, if◌then◌else◌, leb, ◌&&◌, List, [], ◌∷◌, ◌++◌, length, Option, Some, None, IsTrue, Ok, refl, sym, ap, ◌∙◌, subst, arith, le_refl}
 use Rattle.std.proofs.lemmas.Bool.{cases_lt}
-use Rattle.nofs_disk.specs.Disk.{DiskState, IsDisk, IsSettled, Flushes, cell_at}
+use Rattle.nofs_disk.specs.Disk.{DiskState, IsDisk, IsSettled, Flushes, Picks, cell_at}
 use Rattle.nofs_model.specs.Cells.{SuperBlock}
 use Rattle.nofs_model.specs.Image.{Image, super_at, is_mountable, inode, value, Files, FileState, CellBelow}
 use Rattle.nofs_model.proofs.Sound.{supers, mountable-law}
-use Rattle.nofs_reasons.specs.Reasons.{IsMark}
-use Rattle.nofs_reasons.specs.Moments.{AllExplained, IsPick}
-use Rattle.nofs_reasons.proofs.Moments.{law-images, law-flush}
-use Rattle.nofs_history.specs.Meta.{Mark, meta_of}
-use Rattle.nofs_history.specs.Machine.{generation_of, nothing, gives, file_after, files_after}
-use Rattle.nofs_history.specs.History.{agreed_files, files_along, mark_at, mark, mark_from, is_flushed, new_mark, last_in, is_generation, values_given, metas_given, FilesMatch, NoWriteFault}
-use Rattle.nofs_history.specs.Allowed.{IsAllowed, IsUnderWay, SteadyRest}
-use Rattle.nofs_history.specs.declared.history.Entry1.{Entry1}
-use Rattle.nofs_history.proofs.Lives.{along-append, values-append, metas-append}
-use Rattle.nofs_crashlaw.specs.Stage.{Stage, Survives, flush_entry, LawFlushStage}
+use Rattle.nofs_law_images.specs.Reasons.{IsMark}
+use Rattle.nofs_law_images.specs.Moments.{AllExplained}
+use Rattle.nofs_law_images.proofs.Moments.{law-images, law-flush}
+use Rattle.nofs_machine.specs.Meta.{meta_of}
+use Rattle.nofs_machine.specs.Marks.{Mark}
+use Rattle.nofs_machine.specs.Machine.{generation_of, nothing, gives, file_after, files_after}
+use Rattle.nofs_machine.specs.History.{agreed_files, files_along, mark_at, mark, mark_from, is_flushed, new_mark, last_in, is_generation, values_given, metas_given, FilesMatch, NoWriteFault}
+use Rattle.nofs_machine.specs.Allowed.{IsAllowed}
+use Rattle.nofs_machine.specs.Marks.{IsUnderWay}
+use Rattle.nofs_machine.specs.Steady.{SteadyRest}
+use Rattle.nofs_machine.specs.declared.history.Entry1.{Entry1}
+use Rattle.nofs_machine.proofs.Lives.{along-append, values-append, metas-append}
+use Rattle.nofs_crashlaw.specs.Stage.{Stage, CellsSurvive, flush_entry, LawFlushStage}
 use Rattle.nofs_crashlaw.proofs.Below.{live-below, tag-below}
 use Rattle.nofs_crashlaw.proofs.Flushing.{flushed}
-use Rattle.nofs_crashlaw.proofs.Histories.{allowed-image, step-allowed}
+use Rattle.nofs_crashlaw.proofs.Histories.{allowed-image, step-allowed, now-picks}
 use Rattle.nofs_crashlaw.proofs.Later.{law-later, mark-within}
 use Rattle.nofs_crashlaw.proofs.NewMark.{mark-new}
 use Rattle.nofs_crashlaw.proofs.Staging.{all-begun, same-marks, by-more, by-append, begun-append, mark-plain, le-test}
@@ -46,8 +49,11 @@ module _ (B : Image) (H : List Entry1) (M : Image) (S start s caller i g : ℕ) 
   F : Files
   F = files_along (agreed_files B) H
 
-  pick : IsPick (mark_at B H (old.moment + 1) M S) old.may old.now
-  pick = (is_old.whole tells ∙ sym st.ready.survives.size, λ b lt. is_old.has_now b tells (let q = st.ready.survives.size in omega (arith, lt, q)))
+  pick : Picks old.may (length M) old.now
+  pick = now-picks old M is_old tells st.ready.survives.size
+
+  size : length old.now ≡ length B
+  size = pick.len ∙ st.lasts.size
 
   first : cell_at old.now 0 ≡ cell_at B 0
   first = (law-images (mark_at B H (old.moment + 1) M S) old.may old.now st.ready.survives.mark st.ready.survives.explained pick).reads.super ∙ st.lasts.first
@@ -105,7 +111,7 @@ module _ (B : Image) (H : List Entry1) (M : Image) (S start s caller i g : ℕ) 
     | inr past ↦ absurd (is_new.beyond b c past has)
   ])
 
-  pub flush-survives : Survives new (mark_at B (H ++ flush_entry caller old new i g ∷ []) (new.moment + 1) old.now s)
+  pub flush-survives : CellsSurvive new (mark_at B (H ++ flush_entry caller old new i g ∷ []) (new.moment + 1) old.now s)
   flush-survives = record { mark = mark-again (new.moment + 1) (omega arith); size = is_old.whole tells ∙ sym f.disk.blocks; explained = explained-again (new.moment + 1) (omega arith) }
 
   images : (m : ℕ) (X : Image) → start ≤ m → m ≤ new.moment → new.left m X → IsAllowed B (H ++ flush_entry caller old new i g ∷ []) m X
@@ -128,8 +134,8 @@ module _ (B : Image) (H : List Entry1) (M : Image) (S start s caller i g : ℕ) 
             same_mark = mark-plain H (flush_entry caller old new i g) m 0 0 late ∙ same-marks H old.moment (old.moment + 1) m 0 0 (omega arith) (omega arith) st.lasts.by;
             mark_within = (let w = mark-within H (old.moment + 1) 0 0 (omega arith) in omega (arith, w));
           } in
-          (step-allowed B H (flush_entry caller old new i g) (old.moment + 1) m M S old.may old.may old.now (record { under_way = u; mark = st.ready.survives.mark; super = st.lasts.first; explained = st.ready.survives.explained; pick = pick; files = st.ready.files; proper = λ b c has. inl has })).allowed X
-          (p.len ∙ sym st.ready.survives.size, λ b lt. p.each b (let q = st.ready.survives.size in omega (arith, lt, q)))
+          (step-allowed B H (flush_entry caller old new i g) (old.moment + 1) m M S old.may old.may old.now (record { under_way = u; mark = st.ready.survives.mark; size = st.lasts.size; super = st.lasts.first; explained = st.ready.survives.explained; pick = pick; files = st.ready.files; proper = λ b c has. inl has })).allowed X
+          (record { len = p.len ∙ sym st.ready.survives.size; each = λ b lt. p.each b (let q = st.ready.survives.size in omega (arith, lt, q)) })
 
       end-image : m ≡ new.moment → IsAllowed B (H ++ flush_entry caller old new i g ∷ []) m X
       end-image e =
@@ -137,13 +143,14 @@ module _ (B : Image) (H : List Entry1) (M : Image) (S start s caller i g : ℕ) 
           let p = is_new.at_rest X (subst L e left) in
           let w = is_old.whole tells in
           let same = f.disk.blocks in
-          allowed-image B (H ++ flush_entry caller old new i g ∷ []) m old.now s new.may X (mark-again m (omega arith)) first (explained-again m (omega arith))
-          (p.len ∙ same ∙ sym w, λ b lt. p.each b (omega (arith, lt, w, same)))
+          allowed-image B (H ++ flush_entry caller old new i g ∷ []) m old.now s new.may X (mark-again m (omega arith)) size first (explained-again m (omega arith))
+          (record { len = p.len ∙ same ∙ sym w; each = λ b lt. p.each b (omega (arith, lt, w, same)) })
 
   -- after a flush the next step may begin, from the new mark
   pub flush-stage : Stage B (H ++ flush_entry caller old new i g ∷ []) old.now s start s new
   flush-stage = record {
     lasts = record {
+      size = size;
       first = first;
       by = by-append H (flush_entry caller old new i g) new.moment (by-more H old.moment new.moment (let q = f.moment in omega arith) st.lasts.by) (let q = f.moment in omega arith) (omega arith);
       survives = flush-survives;

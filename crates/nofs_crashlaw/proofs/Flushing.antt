@@ -1,14 +1,15 @@
 -- A flush makes a new mark.
 use Rattle.std.proofs.Common.{◌≡◌, ℕ, ◌%◌, ◌<◌, inl, inr, Bool, true, false, eqb, ◌&&◌, List, [], ◌∷◌, Some, is_some, refl, sym, ap, ◌∙◌, subst, subst₂, arith, Contains, eqb-true, eq-eqb}
-use Rattle.nofs_reasons.specs.Reasons.{IsMark}
+use Rattle.nofs_ptrs.specs.Paths.{slot_limit}
+use Rattle.nofs_law_images.specs.Reasons.{IsMark}
 use Rattle.nofs_model.proofs.Find.{and-both}
-use Rattle.nofs_history.proofs.Era.{IsCurrent, current-accepted}
-use Rattle.nofs_frames.proofs.Matching.{Matched, matched-file, matched-agreed, gen-of}
-use Rattle.nofs_history.specs.Meta.{Meta, meta_of, MayRead}
-use Rattle.nofs_history.specs.declared.history.Entry1.{Entry1}
-use Rattle.nofs_history.specs.Machine.{generation_of}
-use Rattle.nofs_history.specs.History.{agreed_files, files_along, accepted_of, accepted_meta_of, last_in, is_generation, FilesMatch, NoWriteFault, new_mark}
-use Rattle.nofs_history.specs.Allowed.{Untouched, SteadyRest}
+use Rattle.nofs_machine.proofs.Era.{IsCurrent, current-accepted}
+use Rattle.nofs_law_untouched.proofs.Matching.{Matched, matched-file, matched-agreed, gen-of}
+use Rattle.nofs_machine.specs.Meta.{Meta, meta_of, MayRead}
+use Rattle.nofs_machine.specs.declared.history.Entry1.{Entry1}
+use Rattle.nofs_machine.specs.Machine.{generation_of}
+use Rattle.nofs_machine.specs.History.{agreed_files, files_along, accepted_of, accepted_meta_of, last_in, is_generation, FilesMatch, NoWriteFault, new_mark}
+use Rattle.nofs_machine.specs.Steady.{Untouched, SteadyRest}
 use Rattle.nofs_model.specs.Cells.{Tag, is_live, tag_of}
 use Rattle.nofs_model.specs.Image.{Image, super_at, cell_at, is_data_block, inode, files_in, agreed, value, Files}
 use Rattle.nofs_model.specs.declared.value.Value.{Value}
@@ -33,7 +34,7 @@ module _ (B : Image) (H : List Entry1) (X : Image) (stamps : ℕ) (ok : NoWriteF
       let g : is_generation B i (inode X i).generation ≡ true = rw (u.live, eq-eqb (inode B i).generation (inode X i).generation u.generation) in
       rw (g, u.no_meta) refl
 
-  values : (i k : ℕ) → is_live (inode X i) ≡ true → k < 4168 → MayRead (last_in (accepted_of B H i (inode X i).generation k)) (value X i k)
+  values : (i k : ℕ) → is_live (inode X i) ≡ true → k < slot_limit → MayRead (last_in (accepted_of B H i (inode X i).generation k)) (value X i k)
   values i k live lt = go (agreed (files_in X) i) refl
     where
       go : (a : Bool) → agreed (files_in X) i ≡ a → MayRead (last_in (accepted_of B H i (inode X i).generation k)) (value X i k)

@@ -5,7 +5,6 @@ pub mod Rest
 pub mod Resting
 pub mod Histories
 pub mod Later
-pub mod Names
 pub mod Unflushed
 pub mod Below
 pub mod Staging

@@ -3,16 +3,16 @@ use Rattle.std.proofs.Common.{◌≡◌, ◌≢◌, ℕ, Bool, true, false, cond
 use Rattle.std.specs.List.{list_any}
 use Rattle.std.proofs.lemmas.List.{take-append-le, drop-append-le}
 use Rattle.std.proofs.lemmas.List.Folds.{list_any-append}
-use Rattle.nofs_reasons.specs.Moments.{is_removal}
-use Rattle.nofs_history.proofs.Era.{IsBirth, gives-birth}
-use Rattle.nofs_frames.proofs.Matching.{gen-of}
+use Rattle.nofs_law_images.specs.Moments.{is_removal}
+use Rattle.nofs_machine.proofs.Era.{IsBirth, gives-birth}
+use Rattle.nofs_law_untouched.proofs.Matching.{gen-of}
 use Rattle.nofs_model.proofs.Find.{and-both}
-use Rattle.nofs_history.proofs.Lives.{values-append, metas-append, along-append}
-use Rattle.nofs_history.specs.Meta.{Meta, Gone, Is, is_gone}
-use Rattle.nofs_history.specs.declared.history.Entry1.{Entry1}
-use Rattle.nofs_history.specs.Machine.{Given, gives, given_by, files_by, nothing, generation_of, filled, after_meta, born_file, new_file, file_after, files_after, is_refused, is_write_fault}
-use Rattle.nofs_history.specs.History.{agreed_files, files_along, values_given, metas_given, accepted_of, accepted_meta_of, last_in, begun, mark, before_mark, since_mark, files_at_mark, since, since_meta, stands}
-use Rattle.nofs_history.specs.Allowed.{IsUnderWay}
+use Rattle.nofs_machine.proofs.Lives.{values-append, metas-append, along-append}
+use Rattle.nofs_machine.specs.Meta.{Meta, Gone, Is, is_gone}
+use Rattle.nofs_machine.specs.declared.history.Entry1.{Entry1}
+use Rattle.nofs_machine.specs.Machine.{Given, gives, given_by, files_by, nothing, generation_of, filled, after_meta, born_file, new_file, file_after, files_after, is_refused, is_write_fault}
+use Rattle.nofs_machine.specs.History.{agreed_files, files_along, values_given, metas_given, accepted_of, accepted_meta_of, last_in, begun, mark, before_mark, since_mark, files_at_mark, since, since_meta, stands}
+use Rattle.nofs_machine.specs.Marks.{IsUnderWay}
 use Rattle.nofs_model.specs.Image.{Image, FileState, Files}
 use Rattle.nofs_model.specs.declared.value.Value.{Value}
 

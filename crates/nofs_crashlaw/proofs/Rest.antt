@@ -1,10 +1,11 @@
 -- What is not agreed loses slots at most.
 use Rattle.std.proofs.Common.{◌≡◌, ℕ, ◌<◌, ◌≤◌, ◌⊎◌, inl, inr, Bool, true, false, Some, refl, sym, ap, ◌∙◌, subst, arith}
+use Rattle.nofs_ptrs.specs.Paths.{slot_limit}
 use Rattle.nofs_model.specs.declared.path.PathAnswer.{PathAnswer}
-use Rattle.nofs_frames.specs.Frames.{OldPointers, Touches}
+use Rattle.nofs_law_untouched.specs.Frames.{OldPointers, Touches}
 use Rattle.nofs_model.proofs.Find.{agrees-true, find-held}
 use Rattle.nofs_model.proofs.Paths.{path_of-slot}
-use Rattle.nofs_frames.proofs.Touching.{one-owner}
+use Rattle.nofs_law_untouched.proofs.Touching.{one-owner}
 use Rattle.nofs_model.specs.declared.path.PathAnswer.TheVariants as answer
 use Rattle.nofs_model.specs.Cells.{Cell, Tag, Pointer, Record, tag_of, is_null, pointer_at}
 use Rattle.nofs_model.specs.Image.{super_in, Image, cell_at, super_at, is_data_block, inode, value, value_in, Path, InRecord, Under, path_of, tag_for, agrees, judged, find, pointer, record_pointer, IsSlot}
@@ -102,7 +103,7 @@ module _ (s : ℕ) (touched : ℕ → Bool) (X Y : Image) (w : Touches s touched
           ]
 
   -- each value stays or is lost
-  pub value-or-lost : (k : ℕ) → k < 4168 → (value Y i k ≡ value X i k) ⊎ (value Y i k ≡ Lost)
+  pub value-or-lost : (k : ℕ) → k < slot_limit → (value Y i k ≡ value X i k) ⊎ (value Y i k ≡ Lost)
   value-or-lost k lt = elim (same-or-broken (path_of k) (path_of-slot k lt)) [
     | inl same ↦ inl (go (find X i (path_of k)) refl same)
     | inr broken ↦ inr (ap (λ (q : PathAnswer). value_in Y q) broken)

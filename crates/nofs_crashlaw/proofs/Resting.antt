@@ -1,15 +1,15 @@
 -- What is live and not agreed stays the base's, as far as it is still there.
 use Rattle.nofs_crashlaw.specs.Laws.{LawRest}
 use Rattle.std.proofs.Common.{◌≡◌, ℕ, ◌⊎◌, inl, inr, Bool, true, false, List, [], ◌∷◌, ◌++◌, Option, Some, None, is_some, option_to_list, refl, sym, ap, ◌∙◌, subst}
-use Rattle.nofs_frames.specs.Frames.{OldPointers, Touches}
-use Rattle.nofs_history.proofs.Lives.{values-append, metas-append}
-use Rattle.nofs_frames.proofs.Matching.{matched-file, matched-agreed}
+use Rattle.nofs_law_untouched.specs.Frames.{OldPointers, Touches}
+use Rattle.nofs_machine.proofs.Lives.{values-append, metas-append}
+use Rattle.nofs_law_untouched.proofs.Matching.{matched-file, matched-agreed}
 use Rattle.nofs_crashlaw.proofs.Rest.{value-or-lost}
-use Rattle.nofs_history.specs.Meta.{meta_of}
-use Rattle.nofs_history.specs.declared.history.Entry1.{Entry1}
-use Rattle.nofs_history.specs.Machine.{given_by}
-use Rattle.nofs_history.specs.History.{agreed_files, files_along, values_given, metas_given, FilesMatch}
-use Rattle.nofs_history.specs.Allowed.{Untouched, SteadyRest}
+use Rattle.nofs_machine.specs.Meta.{meta_of}
+use Rattle.nofs_machine.specs.declared.history.Entry1.{Entry1}
+use Rattle.nofs_machine.specs.Machine.{given_by}
+use Rattle.nofs_machine.specs.History.{agreed_files, files_along, values_given, metas_given, FilesMatch}
+use Rattle.nofs_machine.specs.Steady.{Untouched, SteadyRest}
 use Rattle.nofs_model.specs.Cells.{Record, is_live}
 use Rattle.nofs_model.specs.Image.{Image, inode, value, FileState, Files, files_in, agreed}
 use Rattle.nofs_model.specs.declared.value.Value.TheVariants.{Lost}

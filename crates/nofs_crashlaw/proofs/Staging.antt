@@ -1,23 +1,24 @@
 -- Any step: where all that it puts on the disk is proper, every image at every moment is allowed.
 use Rattle.std.proofs.Common.{◌≡◌, ℕ, suc, ◌+◌, ◌<◌, ◌≤◌, inl, inr, Bool, true, false, cond, ltb, ltb-true, leb, zero, ◌&&◌, List, [], ◌∷◌, ◌++◌, length, IsTrue, refl, sym, ap, ◌∙◌, subst, subst₂, arith, Contains}
 use Rattle.std.proofs.lemmas.Bool.{cases_lt}
-use Rattle.nofs_disk.specs.Disk.{DiskState, IsDisk, cell_at}
+use Rattle.nofs_disk.specs.Disk.{DiskState, IsDisk, Picks, cell_at}
 use Rattle.nofs_disk.specs.Moments.{AtEach}
 use Rattle.nofs_disk.specs.Adds.{Adds, WasOr, Adds-stays}
 use Rattle.nofs_model.specs.Cells.{Cell}
 use Rattle.nofs_model.specs.Image.{Image, super_at, Files, CellBelow}
-use Rattle.nofs_reasons.specs.Proper.{Proper}
-use Rattle.nofs_reasons.specs.Moments.{during, IsPick, OnlyProper}
-use Rattle.nofs_history.specs.Machine.{given_by, files_by}
-use Rattle.nofs_history.specs.History.{FilesMatch, agreed_files, files_along, mark_at, mark_from, begun, is_flushed}
-use Rattle.nofs_history.specs.Allowed.{IsAllowed, IsUnderWay}
-use Rattle.nofs_history.specs.declared.history.Entry1.{Entry1}
-use Rattle.nofs_history.proofs.Lives.{along-append}
-use Rattle.nofs_frames.proofs.Matching.{matched-file}
-use Rattle.nofs_crashlaw.proofs.Histories.{step-allowed}
+use Rattle.nofs_law_images.specs.Proper.{Proper}
+use Rattle.nofs_law_images.specs.Moments.{during, OnlyProper}
+use Rattle.nofs_machine.specs.Machine.{given_by, files_by}
+use Rattle.nofs_machine.specs.History.{FilesMatch, agreed_files, files_along, mark_at, mark_from, begun, is_flushed}
+use Rattle.nofs_machine.specs.Allowed.{IsAllowed}
+use Rattle.nofs_machine.specs.Marks.{IsUnderWay}
+use Rattle.nofs_machine.specs.declared.history.Entry1.{Entry1}
+use Rattle.nofs_machine.proofs.Lives.{along-append}
+use Rattle.nofs_law_untouched.proofs.Matching.{matched-file}
+use Rattle.nofs_crashlaw.proofs.Histories.{step-allowed, now-picks}
 use Rattle.nofs_crashlaw.proofs.Later.{law-later, mark-within}
 use Rattle.nofs_crashlaw.proofs.Marks.{stands-now}
-use Rattle.nofs_crashlaw.specs.Stage.{AllBy, HasFiles, Lasts, Stage, Survives, LawLasts, LawStage, LawIdleStage, LawTracked}
+use Rattle.nofs_crashlaw.specs.Stage.{AllBy, HasFiles, Lasts, Stage, CellsSurvive, LawLasts, LawStage, LawIdleStage, LawTracked}
 
 -- the cell of the image alone
 abbrev these : Image → ℕ → ℕ → List Cell
@@ -81,18 +82,18 @@ module _ (B : Image) (H : List Entry1) (e : Entry1) (M : Image) (S start s : ℕ
     mark_within = (let w = mark-within H (old.moment + 1) 0 0 (omega arith) in omega (arith, w));
   }
 
-  pick : IsPick (mark_at B H (old.moment + 1) M S) old.may old.now
-  pick = (is_old.whole tells ∙ sym st.ready.survives.size, λ b lt. is_old.has_now b tells (let q = st.ready.survives.size in omega (arith, lt, q)))
+  pick : Picks old.may (length M) old.now
+  pick = now-picks old M is_old tells st.ready.survives.size
 
-  pub survives-step : Survives new (mark_at B (H ++ e ∷ []) (new.moment + 1) M S)
+  pub survives-step : CellsSurvive new (mark_at B (H ++ e ∷ []) (new.moment + 1) M S)
   survives-step =
       let u = under-way (new.moment + 1) (let q = adds.later in omega arith) in
-      let r = step-allowed B H e (old.moment + 1) (new.moment + 1) M S old.may new.may old.now (record { under_way = u; mark = st.ready.survives.mark; super = st.lasts.first; explained = st.ready.survives.explained; pick = pick; files = st.ready.files; proper = adds.cells }) in
+      let r = step-allowed B H e (old.moment + 1) (new.moment + 1) M S old.may new.may old.now (record { under_way = u; mark = st.ready.survives.mark; size = st.lasts.size; super = st.lasts.first; explained = st.ready.survives.explained; pick = pick; files = st.ready.files; proper = adds.cells }) in
       record { mark = r.mark; size = st.ready.survives.size ∙ sym adds.disk.blocks; explained = r.explained }
 
   -- an image that is left during the step
   new-image : (m : ℕ) (X : Image) → old.moment < m → m ≤ new.moment → new.left m X → IsAllowed B (H ++ e ∷ []) m X
-  new-image m X low high left = (step-allowed B H e (old.moment + 1) m M S old.may (these X old.blocks) old.now (record { under_way = under-way m low; mark = st.ready.survives.mark; super = st.lasts.first; explained = st.ready.survives.explained; pick = pick; files = st.ready.files; proper = only })).allowed X picks
+  new-image m X low high left = (step-allowed B H e (old.moment + 1) m M S old.may (these X old.blocks) old.now (record { under_way = under-way m low; mark = st.ready.survives.mark; size = st.lasts.size; super = st.lasts.first; explained = st.ready.survives.explained; pick = pick; files = st.ready.files; proper = only })).allowed X picks
     where
       got : (length X ≡ old.blocks) × ((b : ℕ) → b < old.blocks → WasOr (Proper (during (mark_at B H (old.moment + 1) M S) (given_by (files_along (agreed_files B) H) e)) old.now) old b (cell_at X b))
       got = adds.left m X low high left
@@ -114,13 +115,13 @@ module _ (B : Image) (H : List Entry1) (e : Entry1) (M : Image) (S start s : ℕ
       only : OnlyProper (during (mark_at B H (old.moment + 1) M S) (given_by (files_along (agreed_files B) H) e)) old.now old.may (these X old.blocks)
       only b c has = only-at b c (ltb b old.blocks) refl has
 
-      picks : IsPick (mark_at B H (old.moment + 1) M S) (these X old.blocks) X
-      picks = (
-        got.0 ∙ sym st.ready.survives.size,
-        λ b lt.
+      picks : Picks (these X old.blocks) (length M) X
+      picks = record {
+        len = got.0 ∙ sym st.ready.survives.size;
+        each = λ b lt.
             let t : ltb b old.blocks ≡ true = ltb-from b old.blocks (let q = st.ready.survives.size in omega (arith, lt, q)) in
-            subst (λ (v : Bool). Contains (cond v (cell_at X b ∷ []) []) (cell_at X b)) (sym t) (0, omega arith, refl),
-      )
+            subst (λ (v : Bool). Contains (cond v (cell_at X b ∷ []) []) (cell_at X b)) (sym t) (0, omega arith, refl);
+      }
 
   pub images-step : AtEach (λ m X. IsAllowed B (H ++ e ∷ []) m X) start new
   images-step = record {
@@ -134,6 +135,7 @@ module _ (B : Image) (H : List Entry1) (e : Entry1) (M : Image) (S start s : ℕ
   -- whatever the step did, all that a crash may leave is allowed
   pub lasts-step : Lasts B (H ++ e ∷ []) M S start new
   lasts-step = record {
+    size = st.lasts.size;
     first = st.lasts.first;
     by = by-append H e new.moment (by-more H old.moment new.moment adds.later st.lasts.by) (let q = adds.later in omega arith) (omega arith);
     survives = survives-step;

@@ -3,14 +3,15 @@ use Rattle.std.proofs.Common.{◌≡◌, ◌≢◌, ℕ, true, false, cond, eqb,
 use Rattle.std.specs.List.{list_any}
 use Rattle.std.proofs.lemmas.List.Elements.{Contains-append_left}
 use Rattle.nofs_crashlaw.specs.Laws.{LawUnflushed}
-use Rattle.nofs_crashlaw.proofs.Names.{names-stay}
+use Rattle.nofs_machine.proofs.Names.{names-stay}
 use Rattle.nofs_model.proofs.Find.{and-both}
-use Rattle.nofs_frames.proofs.Matching.{matched-file, gen-of}
-use Rattle.nofs_history.specs.Meta.{Meta, meta_of, is_bytes, is_gone}
-use Rattle.nofs_history.specs.declared.history.Entry1.{Entry1}
-use Rattle.nofs_history.specs.Machine.{generation_of}
-use Rattle.nofs_history.specs.History.{SameFile, FilesMatch, agreed_files, files_along, accepted_of, accepted_meta_of, last_in, is_generation, mark, before_mark, since_mark, files_at_mark, values_given, metas_given, since, since_meta, stands}
-use Rattle.nofs_history.specs.Allowed.{HasVersions}
+use Rattle.nofs_law_untouched.proofs.Matching.{matched-file, gen-of}
+use Rattle.nofs_machine.specs.Meta.{Meta, meta_of, is_bytes, is_gone}
+use Rattle.nofs_machine.specs.declared.history.Entry1.{Entry1}
+use Rattle.nofs_machine.specs.Machine.{generation_of}
+use Rattle.nofs_machine.specs.History.{SameFile, FilesMatch, agreed_files, files_along, accepted_of, accepted_meta_of, last_in, is_generation, mark, before_mark, since_mark, files_at_mark, values_given, metas_given, since, since_meta, stands}
+use Rattle.nofs_machine.specs.Since.{IsSure}
+use Rattle.nofs_machine.specs.Allowed.{HasVersions}
 use Rattle.nofs_model.specs.Cells.{is_live}
 use Rattle.nofs_model.specs.Image.{Image, inode, value, FileState, Files}
 use Rattle.nofs_model.specs.declared.value.Value.{Value}
@@ -63,7 +64,7 @@ module _ (B : Image) (H : List Entry1) (m : ℕ) (none : mark H m ≡ 0) where
       let f = matched-file (agreed_files B) B i (self-match B) t.0 in
       (f.live, sym f.generation ∙ sym (gen-of (agreed_files B) i f.file f.is) ∙ t.1)
 
-  not-lost : (i g k : ℕ) → stands B H m i g ≡ true → ((v : Value) → Contains (since B H m i g k) v → is_bytes v ≡ true) → value B i k ≢ Lost
+  not-lost : (i g k : ℕ) → stands B H m i g ≡ true → IsSure B H m i g k → value B i k ≢ Lost
   not-lost i g k s sure lost =
       let b = in-base i g s in
       let here : Contains (since B H m i g k) (value B i k) = subst (λ (q : ℕ). Contains (since B H m i q k) (value B i k)) b.1 (has-value i k b.0) in
@@ -81,4 +82,4 @@ versions B H m none = record {
 }
 
 pub law-unflushed : LawUnflushed
-law-unflushed B H m none = record { versions = versions B H m none; names = names-stay B H m B (versions B H m none) }
+law-unflushed B H m none = record { len = refl; versions = versions B H m none; names = names-stay B H m B (versions B H m none) }

@@ -1,12 +1,15 @@
 -- The laws of steps, of later entries, of the rest and of names.
-use Rattle.std.specs.Prelude.{◌≡◌, ℕ, ◌<◌, ◌≤◌, Bool, true, false, List, [], ◌∷◌, ◌++◌, None, is_some}
-use Rattle.nofs_frames.specs.Frames.{Touches, OldPointers}
-use Rattle.nofs_reasons.specs.Reasons.{IsMark}
-use Rattle.nofs_reasons.specs.Moments.{during, AllExplained, IsPick, OnlyProper}
-use Rattle.nofs_history.specs.declared.history.Entry1.{Entry1}
-use Rattle.nofs_history.specs.Machine.{given_by}
-use Rattle.nofs_history.specs.History.{agreed_files, files_along, mark, mark_at, is_flushed, FilesMatch}
-use Rattle.nofs_history.specs.Allowed.{SteadyRest, HasVersions, NamesStay, IsAllowed, IsUnderWay}
+use Rattle.std.specs.Prelude.{◌≡◌, ℕ, ◌<◌, ◌≤◌, Bool, true, false, List, [], ◌∷◌, ◌++◌, length, None, is_some}
+use Rattle.nofs_disk.specs.Disk.{Picks}
+use Rattle.nofs_law_untouched.specs.Frames.{Touches, OldPointers}
+use Rattle.nofs_law_images.specs.Reasons.{IsMark}
+use Rattle.nofs_law_images.specs.Moments.{during, AllExplained, OnlyProper}
+use Rattle.nofs_machine.specs.declared.history.Entry1.{Entry1}
+use Rattle.nofs_machine.specs.Machine.{given_by}
+use Rattle.nofs_machine.specs.History.{agreed_files, files_along, mark, mark_at, is_flushed, FilesMatch}
+use Rattle.nofs_machine.specs.Allowed.{HasVersions, NamesStay, IsAllowed}
+use Rattle.nofs_machine.specs.Steady.{SteadyPointers, SteadyRest}
+use Rattle.nofs_machine.specs.Marks.{IsUnderWay}
 use Rattle.nofs_model.specs.Cells.{Cell, is_live}
 use Rattle.nofs_model.specs.Image.{Image, cell_at, inode, Files}
 
@@ -14,9 +17,10 @@ use Rattle.nofs_model.specs.Image.{Image, cell_at, inode, Files}
 pub record StepUnderWay (B : Image) (H : List Entry1) (e : Entry1) (l m : ℕ) (image : Image) (stamps : ℕ) (before after : ℕ → List Cell) (X : Image) : Type 0 where
   pub under_way : IsUnderWay H e l m
   pub mark : IsMark (mark_at B H l image stamps)
+  pub size : length image ≡ length B
   pub super : cell_at image 0 ≡ cell_at B 0
   pub explained : AllExplained (mark_at B H l image stamps) before
-  pub pick : IsPick (mark_at B H l image stamps) before X
+  pub pick : Picks before (length image) X
   pub files : FilesMatch (files_along (agreed_files B) H) X
   pub proper : OnlyProper (during (mark_at B H l image stamps) (given_by (files_along (agreed_files B) H) e)) X before after
 
@@ -24,9 +28,11 @@ pub record StepUnderWay (B : Image) (H : List Entry1) (e : Entry1) (l m : ℕ) (
 pub record StepKeeps (B : Image) (H : List Entry1) (e : Entry1) (l m : ℕ) (image : Image) (stamps : ℕ) (after : ℕ → List Cell) : Type 0 where
   pub mark : IsMark (mark_at B (H ++ e ∷ []) m image stamps)
   pub explained : AllExplained (mark_at B (H ++ e ∷ []) m image stamps) after
-  pub allowed : (Y : Image) → IsPick (mark_at B H l image stamps) after Y → IsAllowed B (H ++ e ∷ []) m Y
+  pub allowed : (Y : Image) → Picks after (length image) Y → IsAllowed B (H ++ e ∷ []) m Y
+  pub steady : (Y : Image) → Picks after (length image) Y → SteadyPointers B (H ++ e ∷ []) m after Y
 
--- A step: where each cell that it may leave was there before it, or is a proper write, every image is allowed with the step's entry under way.
+-- A step: where each cell that it may leave was there before it, or is a proper write, every image is allowed with the
+-- step's entry under way, and the pointers of what is sure are the same in all of them.
 abbrev pub LawStep : Type 0
 LawStep = (B : Image) (H : List Entry1) (e : Entry1) (l m : ℕ) (image : Image) (stamps : ℕ) (before after : ℕ → List Cell) (X : Image)
     → StepUnderWay B H e l m image stamps before after X → StepKeeps B H e l m image stamps after

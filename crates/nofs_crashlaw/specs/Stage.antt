@@ -5,20 +5,21 @@ use Rattle.nofs_disk.specs.Moments.{AtEach}
 use Rattle.nofs_disk.specs.Adds.{Adds}
 use Rattle.nofs_model.specs.Cells.{Cell}
 use Rattle.nofs_model.specs.Image.{Image, super_at, is_mountable, Files, CellBelow, IsBelow}
-use Rattle.nofs_history.specs.Meta.{Mark}
-use Rattle.nofs_history.specs.Machine.{given_by, files_by}
-use Rattle.nofs_history.specs.History.{FilesMatch, NoWriteFault, agreed_files, files_along, is_flushed, mark_at}
-use Rattle.nofs_history.specs.Allowed.{IsAllowed, SteadyRest}
-use Rattle.nofs_history.specs.Claims.{no_claims}
-use Rattle.nofs_history.specs.declared.history.Entry1.{Entry1}
-use Rattle.nofs_history.specs.declared.steps.Step.TheVariants as step
-use Rattle.nofs_history.specs.declared.replies.Reply.TheVariants as reply
-use Rattle.nofs_reasons.specs.Reasons.{IsMark}
-use Rattle.nofs_reasons.specs.Proper.{Proper}
-use Rattle.nofs_reasons.specs.Moments.{during, AllExplained, IsTracked}
+use Rattle.nofs_machine.specs.Marks.{Mark}
+use Rattle.nofs_machine.specs.Machine.{given_by, files_by}
+use Rattle.nofs_machine.specs.History.{FilesMatch, NoWriteFault, agreed_files, files_along, is_flushed, mark_at}
+use Rattle.nofs_machine.specs.Allowed.{IsAllowed}
+use Rattle.nofs_machine.specs.Steady.{SteadyRest, IsSteady}
+use Rattle.nofs_machine.specs.Claims.{no_claims}
+use Rattle.nofs_machine.specs.declared.history.Entry1.{Entry1}
+use Rattle.nofs_machine.specs.declared.steps.Step.TheVariants as step
+use Rattle.nofs_machine.specs.declared.replies.Reply.TheVariants as reply
+use Rattle.nofs_law_images.specs.Reasons.{IsMark}
+use Rattle.nofs_law_images.specs.Proper.{Proper}
+use Rattle.nofs_law_images.specs.Moments.{during, AllExplained, IsTracked}
 
 -- the cells that a crash may leave have their reasons since the mark
-pub record Survives (d : DiskState) (m : Mark) : Type 0 where
+pub record CellsSurvive (d : DiskState) (m : Mark) : Type 0 where
   pub mark : IsMark m
   pub size : length m.image ≡ d.blocks
   pub explained : AllExplained m d.may
@@ -26,7 +27,7 @@ pub record Survives (d : DiskState) (m : Mark) : Type 0 where
 -- the machine's files are those of the disk, and every number on it is below the next one
 pub record Ready (d : DiskState) (F : Files) (m : Mark) (s : ℕ) : Type 0 where
   pub files : FilesMatch F d.now
-  pub survives : Survives d m
+  pub survives : CellsSurvive d m
   pub positive : 0 < s
   pub fresh : (b : ℕ) (c : Cell) → b < (super_at d.now).blocks → Contains (d.may b) c → CellBelow s d.now b c
 
@@ -36,11 +37,12 @@ AllBy [] n = Unit {0}
 AllBy (e ∷ es) n = (e.from ≤ n) × (e.to ≤ n) × AllBy es n
 
 -- Whatever has failed: all that a crash may leave is allowed, now and at each moment since the start. B is the disk as
--- the mount found it, M the disk as the last flush left it, S a bound above M's stamps
+-- the mount's flush left it, with the raised mount number, M the disk as the last flush left it, S a bound above M's stamps
 pub record Lasts (B : Image) (H : List Entry1) (M : Image) (S start : ℕ) (d : DiskState) : Type 0 where
+  pub size : length M ≡ length B
   pub first : cell_at M 0 ≡ cell_at B 0
   pub by : AllBy H d.moment
-  pub survives : Survives d (mark_at B H (d.moment + 1) M S)
+  pub survives : CellsSurvive d (mark_at B H (d.moment + 1) M S)
   pub images : AtEach (λ m X. IsAllowed B H m X) start d
 
 -- where no write has failed: the next step may begin. s is the next stamp
@@ -125,3 +127,8 @@ pub record IsFirst (d : DiskState) (s : ℕ) : Type 0 where
 -- The first step of a mount may begin, and so may a flush: the rest is steady.
 abbrev pub LawFirstStage : DiskState → Type 0
 LawFirstStage d = (s : ℕ) → IsFirst d s → Stage d.now [] d.now s d.moment s d × SteadyRest d.now [] d.now
+
+-- Between two steps, also after a write fault: what a read gives is steady, as far as its rest is.
+abbrev pub LawSteady : DiskState → Type 0
+LawSteady d = (B : Image) (H : List Entry1) (M : Image) (S start : ℕ) → IsDisk d → IsTrue d.tells → Lasts B H M S start d → SteadyRest B H d.now
+    → IsSteady B H (d.moment + 1) d.may d.now

@@ -5,13 +5,14 @@
 #![tactic(auto)]
 
 ghost use Rattle.nofs_crashlaw.specs.Laws.{LawLater, LawNames, LawRest, LawStep, LawUnflushed};
-ghost use Rattle.nofs_crashlaw.specs.Stage.{LawFirstStage, LawFlushStage, LawIdleStage, LawLasts, LawStage, LawTracked};
+ghost use Rattle.nofs_crashlaw.specs.Stage.{LawFirstStage, LawFlushStage, LawIdleStage, LawLasts, LawStage, LawSteady, LawTracked};
 
 use nofs_disk::Disk;
+pub use nofs_law_images::{law_flush, law_images, law_moment};
 pub use nofs_model::law_sound;
-pub use nofs_reasons::{law_flush, law_images, law_moment};
 
-/// A step whose writes are proper leaves only images that are allowed with its entry under way.
+/// A step whose writes are proper leaves only images that are allowed with its entry under way, and
+/// in which the pointers of what is sure are the same.
 pub fn law_step()
     ensures { LawStep }
 {}
@@ -54,4 +55,10 @@ pub fn law_flush_stage<D: Disk>()
 /// flush.
 pub fn law_first_stage<D: Disk>()
     ensures { (disk : D) → LawFirstStage (D.state disk) }
+{}
+
+/// Over the states of a disk: between two steps every image that a crash may leave has the pointers of
+/// what is sure that a read finds, and what is live and not agreed is the base's.
+pub fn law_steady<D: Disk>()
+    ensures { (disk : D) → LawSteady (D.state disk) }
 {}

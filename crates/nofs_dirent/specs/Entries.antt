@@ -5,6 +5,10 @@ use Rattle.nofs_disk.specs.Number.{number_at, put_bytes, put_number, zeros}
 use Rattle.nofs_dirent.specs.Names.{NameOk, is_name, longest_name}
 use Rattle.nofs_dirent.specs.declared.entry.Entry.{Entry}
 
+-- how many entries a directory has at most: 16 in each of its slots 0 to 71
+abbrev pub entry_limit : ℕ
+entry_limit = 1152
+
 -- some 64 bytes spell this entry
 pub record HasEntrySpelling (e : Entry) : Type 0 where
   pub inode : 1 ≤ e.inode

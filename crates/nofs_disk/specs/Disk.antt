@@ -109,6 +109,7 @@ pub record Reads (old new : DiskState) (block : ℕ) (into : Cell) (result : Res
   pub stays : StaysButFaults old new
   pub cell : OnOk result (IsTrue old.tells → into ≡ cell_at old.now block)
   pub cause : OnErr result (Rose old.faults new.faults)
+  pub no_fault : OnOk result (new.faults ≡ old.faults)
 
 -- `write(block, cell)`: the block's cell is this one, or, where it fails, may still be the old one; a crash may leave either
 pub record Writes (old new : DiskState) (block : ℕ) (cell : Cell) (result : Result (Unit {0}) Failed) : Type 0 where
@@ -122,6 +123,7 @@ pub record Writes (old new : DiskState) (block : ℕ) (cell : Cell) (result : Re
   pub others : (b : ℕ) → b ≢ block → new.may b ≡ old.may b
   pub during : (image : List Cell) → new.left (old.moment + 1) image → Picks new.may new.blocks image
   pub cause : OnErr result (Rose old.faults new.faults)
+  pub no_fault : OnOk result (new.faults ≡ old.faults)
   pub dirty : (b : ℕ) → b ≢ block → Contains new.dirty b ↔ Contains old.dirty b
   pub held : IsTrue old.holds_back → IsOk result × Contains new.dirty block × (new.faults ≡ old.faults)
 
@@ -144,6 +146,7 @@ pub record Flushes (old new : DiskState) (result : Result (Unit {0}) Failed) : T
   pub dirty : (b : ℕ) → Contains new.dirty b → Contains old.dirty b
   pub during : (image : List Cell) → new.left (old.moment + 1) image → Picks old.may old.blocks image
   pub cause : OnErr result (Rose old.faults new.faults)
+  pub no_fault : OnOk result (new.faults ≡ old.faults)
 
 -- `write_out()`: one dirty block is dirty no more; what a read gives and what a crash may leave stays
 pub record WritesOut (old new : DiskState) (result : Result (Option ℕ) Failed) : Type 0 where
@@ -158,3 +161,4 @@ pub record WritesOut (old new : DiskState) (result : Result (Option ℕ) Failed)
   pub clean : result ≡ Ok None → new.dirty ≡ []
   pub err : OnErr result (new.dirty ≡ old.dirty)
   pub cause : OnErr result (Rose old.faults new.faults)
+  pub no_fault : OnOk result (new.faults ≡ old.faults)

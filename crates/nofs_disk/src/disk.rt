@@ -1,7 +1,8 @@
 //! The interface of a disk of cells.
 //!
 //! Promise: each call says what it does to what a read gives and to what a crash may leave, at
-//! every moment, and answers `Failed` only where the disk's count of faults rose.
+//! every moment, and answers `Failed` only where the disk's count of faults rose. A call that
+//! succeeds leaves that count.
 ghost use Rattle.std.specs.Prelude.{◌≡◌, ◌<◌, ◌≤◌};
 ghost use Rattle.nofs_disk.specs.Disk.{DiskState, Flushes, IsDisk, MakesReady, Reads, Writes, WritesOut};
 
@@ -24,7 +25,7 @@ pub trait Disk {
         ensures { result ≡ (state self.now).moment };
 
     /// Makes room for at least this many calls of `write`, `flush` and `write_out`, and changes
-    /// nothing else. No other call takes memory.
+    /// nothing else. No other call is refused for want of memory.
     fn ready(&mut self, calls: u64) -> Result<(), AllocError>
         ensures { MakesReady (state self.old) (state self.new) calls result };
 

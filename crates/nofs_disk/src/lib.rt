@@ -2,7 +2,7 @@
 //!
 //! Promise: a tag and a pointer are read as they were written, a tag has one spelling, and every
 //! disk says what a read gives, what a crash may leave, and that a call fails only where its count
-//! of faults rose.
+//! of faults rose, which a call that succeeds leaves.
 #![tactic(auto)]
 
 mod disk;

@@ -1,4 +1,5 @@
 //! What the definitions say of each example image, derived by hand.
+ghost use Rattle.nofs_ptrs.specs.Paths.{slot_limit};
 ghost use Rattle.std.specs.Prelude.{◌<◌};
 
 use crate::*;
@@ -20,7 +21,7 @@ enum Says {
 }
 
 fn slot_says(alloc: Global, cells: &[Cell], inode: u32, slot: u64) -> Result<Says, AllocError>
-    requires { slot < 4168 }
+    requires { slot < slot_limit }
 {
     if !is_mountable(cells) {
         return Ok(Says::First(b'?'));

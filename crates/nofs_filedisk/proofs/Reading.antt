@@ -7,12 +7,12 @@ use Rattle.std.proofs.lemmas.Bool.{cases_lt}
 use Rattle.std.proofs.lemmas.List.{append-nil, drop_all, get_or-drop, get_or-take, length-drop, length-take-le, take_all}
 use borrow.Rule.Slice.PartMut.{put_mid}
 use Rattle.nofs_disk.specs.Number.{zeros}
-use Rattle.nofs_filedisk.specs.Bytes.{FileState, IsPart, KeepsBytes}
+use Rattle.nofs_filedisk.specs.Bytes.{HostFileState, IsPart, KeepsBytes}
 
-pub KeepsBytes-refl : (f : FileState) → KeepsBytes f f
+pub KeepsBytes-refl : (f : HostFileState) → KeepsBytes f f
 KeepsBytes-refl f = record { tells = refl; bytes = refl; durable = refl; faults = omega arith }
 
-pub KeepsBytes-trans : (a b c : FileState) → KeepsBytes a b → KeepsBytes b c → KeepsBytes a c
+pub KeepsBytes-trans : (a b c : HostFileState) → KeepsBytes a b → KeepsBytes b c → KeepsBytes a c
 KeepsBytes-trans a b c p q = record {
   tells = q.tells ∙ p.tells;
   bytes = q.bytes ∙ p.bytes;
@@ -21,14 +21,15 @@ KeepsBytes-trans a b c p q = record {
 }
 
 -- the first bytes of a part are read
-pub record HasRead (at size done : ℕ) (into : List ℕ) (old now : FileState) : Type 0 where
+pub record HasRead (at size done : ℕ) (into : List ℕ) (old now : HostFileState) : Type 0 where
   pub keeps : KeepsBytes old now
   pub len : length into ≡ size
   pub fits : done ≤ size
   pub part : IsTrue old.tells → IsPart old.bytes at (take done into)
+  pub no_fault : now.faults ≡ old.faults
 
-pub begins : (at : ℕ) (into : List ℕ) (f : FileState) → HasRead at (length into) 0 into f f
-begins at into f = record { keeps = KeepsBytes-refl f; len = refl; fits = omega arith; part = λ tells k low. absurd (omega (arith, low)) }
+pub begins : (at : ℕ) (into : List ℕ) (f : HostFileState) → HasRead at (length into) 0 into f f
+begins at into f = record { keeps = KeepsBytes-refl f; len = refl; fits = omega arith; part = λ tells k low. absurd (omega (arith, low)); no_fault = refl }
 
 -- parts one behind the other
 part-more : (bytes : List ℕ) (at done n : ℕ) (was into : List ℕ) → done + n ≤ length into → take done into ≡ take done was → IsPart bytes at (take done was) → IsPart bytes (at + done) (take n (drop done into))
@@ -49,9 +50,9 @@ part-more bytes at done n was into fits same first next k low =
           ∙ next (k - done) (omega arith) ∙ ap (slice_index bytes) place
     ]
 
-pub goes-on : (at size done n : ℕ) (was into : List ℕ) (old mid new : FileState) → HasRead at size done was old mid → KeepsBytes mid new → length into ≡ length was → take done into ≡ take done was → done + n ≤ length was
-    → (IsTrue mid.tells → IsPart mid.bytes (at + done) (take n (drop done into))) → HasRead at size (done + n) into old new
-goes-on at size done n was into old mid new has keeps len same fits part =
+pub goes-on : (at size done n : ℕ) (was into : List ℕ) (old mid new : HostFileState) → HasRead at size done was old mid → KeepsBytes mid new → length into ≡ length was → take done into ≡ take done was → done + n ≤ length was
+    → (IsTrue mid.tells → IsPart mid.bytes (at + done) (take n (drop done into))) → new.faults ≡ mid.faults → HasRead at size (done + n) into old new
+goes-on at size done n was into old mid new has keeps len same fits part no_fault =
     let size_was = has.len in
     record {
       keeps = KeepsBytes-trans old mid new has.keeps keeps;
@@ -60,16 +61,17 @@ goes-on at size done n was into old mid new has keeps len same fits part =
       part = λ tells.
           let next = subst (λ (l : List ℕ). IsPart l (at + done) (take n (drop done into))) has.keeps.bytes (part (has.keeps.tells ∙ tells)) in
           part-more old.bytes at done n was into (omega arith) same (has.part tells) next;
+      no_fault = no_fault ∙ has.no_fault;
     }
 
 -- all bytes are read
-pub ends : (at size done : ℕ) (into : List ℕ) (old now : FileState) → HasRead at size done into old now → size ≤ done → IsTrue old.tells → IsPart old.bytes at into
+pub ends : (at size done : ℕ) (into : List ℕ) (old now : HostFileState) → HasRead at size done into old now → size ≤ done → IsTrue old.tells → IsPart old.bytes at into
 ends at size done into old now has all tells =
     let size_is = has.len in
     subst (λ (l : List ℕ). IsPart old.bytes at l) (take_all done into (omega arith)) (has.part tells)
 
 -- the file has ended, and what is left is cleared
-pub ends-short : (at size done : ℕ) (was into : List ℕ) (old mid new : FileState) → HasRead at size done was old mid → KeepsBytes mid new → take done into ≡ take done was → length into ≡ length was
+pub ends-short : (at size done : ℕ) (was into : List ℕ) (old mid new : HostFileState) → HasRead at size done was old mid → KeepsBytes mid new → take done into ≡ take done was → length into ≡ length was
     → ((k : ℕ) → done ≤ k → slice_index into k ≡ 0) → (IsTrue mid.tells → length mid.bytes ≤ at + done) → IsTrue old.tells → IsPart old.bytes at into
 ends-short at size done was into old mid new has keeps same len zero_from end tells k low =
     let ended : length old.bytes ≤ at + done = subst (λ (l : List ℕ). length l ≤ at + done) has.keeps.bytes (end (has.keeps.tells ∙ tells)) in

@@ -3,29 +3,30 @@ use Rattle.std.proofs.Common.{◌≡◌, ℕ, ◌+◌, ◌-◌, ◌≤◌, List,
 use Rattle.std.specs.Prelude.{IsTrue, OnErr}
 use Rattle.std.proofs.lemmas.List.{length-drop, take_all}
 use Rattle.nofs_disk.specs.declared.Failed.{Failed}
-use Rattle.nofs_filedisk.specs.Bytes.{FileState, IsPartlyPut, IsPut, KeepsDurable, WritesSome}
+use Rattle.nofs_filedisk.specs.Bytes.{HostFileState, IsPartlyPut, IsPut, KeepsDurable, WritesSome}
 use Rattle.nofs_filedisk.proofs.Putting.{put-more, put-none}
 
 -- the first bytes of a part are written
-pub record HasPut (at : ℕ) (part : List ℕ) (done : ℕ) (old now : FileState) : Type 0 where
+pub record HasPut (at : ℕ) (part : List ℕ) (done : ℕ) (old now : HostFileState) : Type 0 where
   pub keeps : KeepsDurable old now
   pub fits : done ≤ length part
   pub put : IsTrue old.tells → IsPut at (take done part) old.bytes now.bytes
+  pub no_fault : now.faults ≡ old.faults
 
-pub KeepsDurable-refl : (f : FileState) → KeepsDurable f f
+pub KeepsDurable-refl : (f : HostFileState) → KeepsDurable f f
 KeepsDurable-refl f = record { tells = refl; durable = refl; faults = omega arith }
 
-pub KeepsDurable-trans : (a b c : FileState) → KeepsDurable a b → KeepsDurable b c → KeepsDurable a c
+pub KeepsDurable-trans : (a b c : HostFileState) → KeepsDurable a b → KeepsDurable b c → KeepsDurable a c
 KeepsDurable-trans a b c p q = record { tells = q.tells ∙ p.tells; durable = q.durable ∙ p.durable; faults = (let x = p.faults in let y = q.faults in omega arith) }
 
-pub begins : (at : ℕ) (part : List ℕ) (f : FileState) → HasPut at part 0 f f
-begins at part f = record { keeps = KeepsDurable-refl f; fits = omega arith; put = λ tells. put-none at f.bytes }
+pub begins : (at : ℕ) (part : List ℕ) (f : HostFileState) → HasPut at part 0 f f
+begins at part f = record { keeps = KeepsDurable-refl f; fits = omega arith; put = λ tells. put-none at f.bytes; no_fault = refl }
 
 -- what is left of a part
 rest-is : (done : ℕ) (part : List ℕ) → take (length part - done) (drop done part) ≡ drop done part
 rest-is done part = take_all (length part - done) (drop done part) (omega (arith, length-drop done part))
 
-pub goes-on : (at : ℕ) (part : List ℕ) (done n : ℕ) (old mid new : FileState) → HasPut at part done old mid → WritesSome mid new (at + done) (take (length part - done) (drop done part)) (Ok n) → HasPut at part (done + n) old new
+pub goes-on : (at : ℕ) (part : List ℕ) (done n : ℕ) (old mid new : HostFileState) → HasPut at part done old mid → WritesSome mid new (at + done) (take (length part - done) (drop done part)) (Ok n) → HasPut at part (done + n) old new
 goes-on at part done n old mid new has writes =
     let w = subst (λ (l : List ℕ). WritesSome mid new (at + done) l (Ok n)) (rest-is done part) writes in
     let fits = w.fits in
@@ -35,12 +36,13 @@ goes-on at part done n old mid new has writes =
       keeps = KeepsDurable-trans old mid new has.keeps w.keeps;
       fits = omega arith;
       put = λ tells. put-more at done n part old.bytes mid.bytes new.bytes (omega arith) (has.put tells) (w.put (has.keeps.tells ∙ tells));
+      no_fault = w.no_fault ∙ has.no_fault;
     }
 
-pub ends : (at : ℕ) (part : List ℕ) (done : ℕ) (old now : FileState) → HasPut at part done old now → length part ≤ done → IsTrue old.tells → IsPut at part old.bytes now.bytes
+pub ends : (at : ℕ) (part : List ℕ) (done : ℕ) (old now : HostFileState) → HasPut at part done old now → length part ≤ done → IsTrue old.tells → IsPut at part old.bytes now.bytes
 ends at part done old now has all tells = subst (λ (l : List ℕ). IsPut at l old.bytes now.bytes) (take_all done part all) (has.put tells)
 
-pub fails : (at : ℕ) (part : List ℕ) (done : ℕ) (x : Failed) (old mid new : FileState) → HasPut at part done old mid → WritesSome mid new (at + done) (take (length part - done) (drop done part)) (Err x) → IsTrue old.tells → IsPartlyPut at part old.bytes new.bytes
+pub fails : (at : ℕ) (part : List ℕ) (done : ℕ) (x : Failed) (old mid new : HostFileState) → HasPut at part done old mid → WritesSome mid new (at + done) (take (length part - done) (drop done part)) (Err x) → IsTrue old.tells → IsPartlyPut at part old.bytes new.bytes
 fails at part done x old mid new has writes tells =
     let w = subst (λ (l : List ℕ). WritesSome mid new (at + done) l (Err x)) (rest-is done part) writes in
     let partly = w.err (has.keeps.tells ∙ tells) in

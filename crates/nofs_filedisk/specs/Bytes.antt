@@ -4,7 +4,7 @@ use Rattle.nofs_disk.specs.Disk.{Rose}
 use Rattle.nofs_disk.specs.declared.Failed.{Failed}
 
 -- what contracts see of a file
-pub record FileState : Type 0 where
+pub record HostFileState : Type 0 where
   -- whether the file tells what it holds
   pub tells : Bool
   -- its bytes
@@ -15,7 +15,7 @@ pub record FileState : Type 0 where
   pub faults : ℕ
 
 -- what holds of each file
-pub record IsFile (f : FileState) : Type 0 where
+pub record IsHostFile (f : HostFileState) : Type 0 where
   pub counted : f.faults < 2 ^ 64
 
 -- these are the bytes from a place on, with zeros past the end
@@ -40,40 +40,43 @@ pub record IsPartlyPut (at : ℕ) (part old new : List ℕ) : Type 0 where
   pub put : IsPut at (take count part) old new
 
 -- a call changes nothing but the count of faults
-pub record KeepsBytes (old new : FileState) : Type 0 where
+pub record KeepsBytes (old new : HostFileState) : Type 0 where
   pub tells : new.tells ≡ old.tells
   pub bytes : new.bytes ≡ old.bytes
   pub durable : new.durable ≡ old.durable
   pub faults : old.faults ≤ new.faults
 
 -- a call makes nothing durable
-pub record KeepsDurable (old new : FileState) : Type 0 where
+pub record KeepsDurable (old new : HostFileState) : Type 0 where
   pub tells : new.tells ≡ old.tells
   pub durable : new.durable ≡ old.durable
   pub faults : old.faults ≤ new.faults
 
 -- `read_at(at, into)`: some bytes, none only at the end
-pub record ReadsSome (old new : FileState) (at : ℕ) (from into : List ℕ) (result : Result ℕ Failed) : Type 0 where
+pub record ReadsSome (old new : HostFileState) (at : ℕ) (from into : List ℕ) (result : Result ℕ Failed) : Type 0 where
   pub keeps : KeepsBytes old new
   pub len : length into ≡ length from
   pub fits : IfOk result (λ n. n ≤ length from)
   pub part : IfOk result (λ n. IsTrue old.tells → IsPart old.bytes at (take n into))
   pub end : IfOk result (λ n. n ≡ 0 → 0 < length from → IsTrue old.tells → length old.bytes ≤ at)
   pub cause : OnErr result (Rose old.faults new.faults)
+  pub no_fault : OnOk result (new.faults ≡ old.faults)
 
 -- `write_at(at, part)`: some bytes, at least one where there is one; where it fails, any of them
-pub record WritesSome (old new : FileState) (at : ℕ) (part : List ℕ) (result : Result ℕ Failed) : Type 0 where
+pub record WritesSome (old new : HostFileState) (at : ℕ) (part : List ℕ) (result : Result ℕ Failed) : Type 0 where
   pub keeps : KeepsDurable old new
   pub fits : IfOk result (λ n. n ≤ length part)
   pub some : IfOk result (λ n. 0 < length part → 0 < n)
   pub put : IfOk result (λ n. IsTrue old.tells → IsPut at (take n part) old.bytes new.bytes)
   pub err : OnErr result (IsTrue old.tells → IsPartlyPut at part old.bytes new.bytes)
   pub cause : OnErr result (Rose old.faults new.faults)
+  pub no_fault : OnOk result (new.faults ≡ old.faults)
 
 -- `sync()`: all bytes are durable
-pub record Syncs (old new : FileState) (result : Result (Unit {0}) Failed) : Type 0 where
+pub record Syncs (old new : HostFileState) (result : Result (Unit {0}) Failed) : Type 0 where
   pub tells : new.tells ≡ old.tells
   pub bytes : new.bytes ≡ old.bytes
   pub faults : old.faults ≤ new.faults
   pub durable : OnOk result (new.durable ≡ old.bytes)
   pub cause : OnErr result (Rose old.faults new.faults)
+  pub no_fault : OnOk result (new.faults ≡ old.faults)

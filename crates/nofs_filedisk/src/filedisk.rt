@@ -1,12 +1,12 @@
 //! A disk over a file of bytes.
 //!
 //! Promise: a read gives the cell that the file holds, a write changes the bytes of its block alone,
-//! and a flush makes all bytes durable.
+//! and a flush makes all bytes durable. No other call touches the file.
 ghost use Rattle.std.specs.Prelude.{◌≡◌, ◌+◌, ◌*◌, ◌++◌, ◌^◌, ◌<◌, ◌≤◌, IfOk, IsTrue, OnErr, OnOk, length};
-ghost use Rattle.nofs_disk.specs.Disk.{Flushes, Reads, Writes};
+ghost use Rattle.nofs_disk.specs.Disk.{Flushes, MakesReady, Reads, Writes, WritesOut};
 ghost use Rattle.nofs_filedisk.specs.Bytes.{IsPartlyPut, IsPut, KeepsBytes, KeepsDurable};
 ghost use Rattle.nofs_filedisk.specs.Cells.{cell_bytes, cell_in};
-ghost use Rattle.nofs_filedisk.specs.Shown.{Shows};
+ghost use Rattle.nofs_filedisk.specs.Shown.{ShowsFile};
 
 use crate::moving::write_part;
 use crate::positioned::Positioned;
@@ -26,7 +26,7 @@ pub struct FileDisk<B: Positioned + Drop> {
     moment: u64,
     spare: u64,
     ghost room: { 2 * spare + moment < 2 ^ 64 },
-    ghost shows: { Shows (B.state file) windows },
+    ghost shows: { ShowsFile (B.state file) windows },
 }
 
 impl<B: Positioned + Drop> FileDisk<B> {
@@ -76,7 +76,10 @@ impl<B: Positioned + Drop> Disk for FileDisk<B> {
         self.moment
     }
 
-    fn ready(&mut self, calls: u64) -> Result<(), AllocError> {
+    fn ready(&mut self, calls: u64) -> Result<(), AllocError>
+        ensures makes_ready { MakesReady (silent_state self.old.moment self.old.spare (B.state self.old.file).faults) (silent_state self.new.moment self.new.spare (B.state self.new.file).faults) calls result }
+        ensures file { self.new.file ≡ self.old.file }
+    {
         if calls <= self.spare {
             return Ok(());
         }
@@ -131,7 +134,11 @@ impl<B: Positioned + Drop> Disk for FileDisk<B> {
         self.file.sync()
     }
 
-    fn write_out(&mut self) -> Result<Option<u64>, Failed> {
+    fn write_out(&mut self) -> Result<Option<u64>, Failed>
+        requires { 1 ≤ self.old.spare }
+        ensures writes_out { WritesOut (silent_state self.old.moment self.old.spare (B.state self.old.file).faults) (silent_state self.new.moment self.new.spare (B.state self.new.file).faults) result }
+        ensures file { self.new.file ≡ self.old.file }
+    {
         self.spare -= 1;
         Ok(None)
     }

@@ -1,7 +1,7 @@
 //! A file in memory, which tells its bytes.
 //!
 //! Promise: a call fails where its number was named, or where there is no memory to grow.
-ghost use Rattle.std.specs.Prelude.{◌≡◌, ◌+◌, ◌≤◌, ◌<◌, ◌^◌, ◌-◌, ◌==◌, max, min, IfOk, OnErr, OnOk, is_err, length, slice_index, slice_range, take, ℕ};
+ghost use Rattle.std.specs.Prelude.{◌≡◌, ◌+◌, ◌≤◌, ◌<◌, ◌^◌, ◌-◌, ◌==◌, max, min, [], IfOk, OnErr, OnOk, is_err, length, slice_index, slice_range, take, ℕ};
 ghost use Rattle.std.specs.List.{list_any};
 ghost use Rattle.nofs_disk.specs.Disk.{Rose};
 ghost use Rattle.nofs_filedisk.specs.Bytes.{IsPut};
@@ -25,7 +25,8 @@ pub struct MemFile {
 }
 
 impl MemFile {
-    /// A file with these bytes. Its calls are numbered from 1; those in `fails` fail and do nothing.
+    /// A file with these bytes, none of which is durable yet. Its calls are numbered from 1; those in
+    /// `fails` fail and do nothing.
     pub fn new(
         alloc: Global,
         bytes: &[u8],
@@ -34,6 +35,11 @@ impl MemFile {
     ) -> Result<MemFile, AllocError>
         requires { 1 ≤ piece }
         ensures bytes { IfOk result (λ file. file.bytes.items ≡ bytes.now) }
+        ensures durable { IfOk result (λ file. file.durable.items ≡ []) }
+        ensures piece { IfOk result (λ file. file.piece ≡ piece) }
+        ensures fails { IfOk result (λ file. file.fails.items ≡ fails.now) }
+        ensures calls { IfOk result (λ file. file.calls ≡ 0) }
+        ensures faults { IfOk result (λ file. file.faults ≡ 0) }
     {
         Ok(MemFile {
             bytes: bytes.to_vec(alloc)?,
@@ -68,12 +74,15 @@ impl MemFile {
 }
 
 impl MemFile {
-    // Counts a call, and whether it fails.
+    // Counts a call, up to the greatest u64, and whether it fails.
     fn begin(&mut self) -> Result<(), Failed>
         ensures bytes { self.new.bytes ≡ self.old.bytes }
         ensures durable { self.new.durable ≡ self.old.durable }
         ensures piece { self.new.piece ≡ self.old.piece }
+        ensures named { self.new.fails ≡ self.old.fails }
+        ensures calls { self.new.calls ≡ min (self.old.calls + 1) (2 ^ 64 - 1) }
         ensures faults { self.old.faults ≤ self.new.faults }
+        ensures no_fault { OnOk result (self.new.faults ≡ self.old.faults) }
         ensures fails { is_err result ≡ list_any (λ call. call == self.new.calls) self.old.fails.items }
         ensures cause { OnErr result (Rose self.old.faults self.new.faults) }
     {
@@ -96,6 +105,7 @@ impl MemFile {
         ensures bytes { self.new.bytes ≡ self.old.bytes }
         ensures durable { self.new.durable ≡ self.old.durable }
         ensures piece { self.new.piece ≡ self.old.piece }
+        ensures named { self.new.fails ≡ self.old.fails }
         ensures calls { self.new.calls ≡ self.old.calls }
         ensures faults { self.old.faults ≤ self.new.faults }
         ensures cause { Rose self.old.faults self.new.faults }
@@ -114,9 +124,9 @@ impl MemFile {
 }
 
 impl Positioned for MemFile {
-    ghost use Rattle.nofs_filedisk.specs.Memory.{told, told_is};
+    ghost use Rattle.nofs_filedisk.specs.Memory.{telling_file, told_is};
 
-    ghost state = { λ f. told f.bytes.items f.durable.items f.faults };
+    ghost state = { λ f. telling_file f.bytes.items f.durable.items f.faults };
 
     fn read_at(&mut self, at: u64, into: &mut [u8]) -> Result<usize, Failed> {
         self.begin()?;

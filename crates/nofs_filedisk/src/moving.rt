@@ -15,6 +15,7 @@ pub fn read_part<B: Positioned>(file: &mut B, at: u64, into: &mut [u8]) -> Resul
     ensures len { length into.new ≡ length into.old }
     ensures part { OnOk result (IsTrue (B.state file.old).tells → IsPart (B.state file.old).bytes at into.new) }
     ensures cause { OnErr result (Rose (B.state file.old).faults (B.state file.new).faults) }
+    ensures no_fault { OnOk result ((B.state file.new).faults ≡ (B.state file.old).faults) }
 {
     let mut done = 0;
     while done < into.len() {
@@ -44,6 +45,7 @@ fn read_on<B: Positioned>(
     ensures part { IfOk result (λ n. IsTrue (B.state file.old).tells → IsPart (B.state file.old).bytes (at + done) (take n (drop done into.new))) }
     ensures end { IfOk result (λ n. n ≡ 0 → IsTrue (B.state file.old).tells → length (B.state file.old).bytes ≤ at + done) }
     ensures cause { OnErr result (Rose (B.state file.old).faults (B.state file.new).faults) }
+    ensures no_fault { OnOk result ((B.state file.new).faults ≡ (B.state file.old).faults) }
 {
     let end = into.len();
     file.read_at(at + done as u64, &mut into[done..end])
@@ -67,6 +69,7 @@ pub fn write_part<B: Positioned>(file: &mut B, at: u64, part: &[u8]) -> Result<(
     ensures put { OnOk result (IsTrue (B.state file.old).tells → IsPut at part.now (B.state file.old).bytes (B.state file.new).bytes) }
     ensures err { OnErr result (IsTrue (B.state file.old).tells → IsPartlyPut at part.now (B.state file.old).bytes (B.state file.new).bytes) }
     ensures cause { OnErr result (Rose (B.state file.old).faults (B.state file.new).faults) }
+    ensures no_fault { OnOk result ((B.state file.new).faults ≡ (B.state file.old).faults) }
 {
     let mut done = 0;
     while done < part.len() {

@@ -1,13 +1,14 @@
 //! A file of bytes that are read and written at places.
 ghost use Rattle.std.specs.Prelude.{◌+◌, ◌^◌, ◌<◌, length};
-ghost use Rattle.nofs_filedisk.specs.Bytes.{FileState, IsFile, ReadsSome, Syncs, WritesSome};
+ghost use Rattle.nofs_filedisk.specs.Bytes.{HostFileState, IsHostFile, ReadsSome, Syncs, WritesSome};
 
 use nofs_disk::Failed;
 
-/// A file of bytes. A call answers `Failed` only where the count of faults rose in it.
+/// A file of bytes. A call answers `Failed` only where the count of faults rose in it, and
+/// one that succeeds leaves the count.
 pub trait Positioned {
     /// What contracts see of it.
-    ghost state: { Self → FileState };
+    ghost state: { Self → HostFileState };
 
     /// Reads some bytes from a place on, and answers how many; 0 only at the end of the file.
     fn read_at(&mut self, at: u64, into: &mut [u8]) -> Result<usize, Failed>
@@ -23,5 +24,5 @@ pub trait Positioned {
     fn sync(&mut self) -> Result<(), Failed>
         ensures { Syncs (state self.old) (state self.new) result };
 
-    ghost is_file: { (file : Self) → IsFile (state file) };
+    ghost is_file: { (file : Self) → IsHostFile (state file) };
 }

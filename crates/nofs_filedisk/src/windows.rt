@@ -4,7 +4,7 @@
 ghost use Rattle.std.specs.Prelude.{◌≡◌, ◌≢◌, ◌+◌, ◌*◌, ◌/◌, ◌%◌, ◌<◌, ◌≤◌, All, IfOk, IfSome, IsFalse, IsTrue, List, None, OnErr, OnOk, Some, length, slice_get, slice_range, ℕ};
 ghost use Rattle.nofs_disk.specs.Disk.{Rose};
 ghost use Rattle.nofs_disk.specs.Number.{put_bytes};
-ghost use Rattle.nofs_filedisk.specs.Bytes.{FileState, IsPart, IsPartlyPut, IsPut, KeepsBytes};
+ghost use Rattle.nofs_filedisk.specs.Bytes.{HostFileState, IsPart, IsPartlyPut, IsPut, KeepsBytes};
 ghost use Rattle.nofs_filedisk.specs.Cells.{cell_in};
 
 use crate::moving::read_part;
@@ -64,6 +64,7 @@ fn read_window<B: Positioned>(file: &mut B, number: u64, into: &mut Vec<u8>) -> 
     ensures size { length into.new.items ≡ 67584 }
     ensures part { OnOk result (IsTrue (B.state file.old).tells → IsPart (B.state file.old).bytes (67584 * number) into.new.items) }
     ensures cause { OnErr result (Rose (B.state file.old).faults (B.state file.new).faults) }
+    ensures no_fault { OnOk result ((B.state file.new).faults ≡ (B.state file.old).faults) }
 {
     read_part(file, WINDOW_BYTES as u64 * number, into.as_mut_slice())
 }
@@ -95,6 +96,7 @@ impl Window {
         ensures number { OnOk result (self.new.number ≡ Some number) }
         ensures shown { IsTrue (B.state file.old).tells → IsShown (B.state file.old).bytes self.new }
         ensures cause { OnErr result (Rose (B.state file.old).faults (B.state file.new).faults) }
+        ensures no_fault { OnOk result ((B.state file.new).faults ≡ (B.state file.old).faults) }
     {
         self.number = None;
         read_window(file, number, &mut self.bytes)?;
@@ -152,11 +154,11 @@ impl Window {
 }
 
 impl Windows {
-    ghost use Rattle.nofs_filedisk.specs.Shown.{HasNumber, IsShown, Shows};
+    ghost use Rattle.nofs_filedisk.specs.Shown.{HasNumber, IsShown, ShowsFile};
 
     /// Windows that show nothing.
     pub fn new(alloc: Global) -> Result<Windows, AllocError>
-        ensures { IfOk result (λ windows. (file : FileState) → Shows file windows) }
+        ensures { IfOk result (λ windows. (file : HostFileState) → ShowsFile file windows) }
     {
         let mut windows = Vec::with_capacity(alloc, WINDOWS)?;
         for _ in 0..WINDOWS {
@@ -173,11 +175,12 @@ impl Windows {
         into: &mut Cell,
     ) -> Result<(), Failed>
         requires block { block < 1048576 }
-        requires shows { Shows (B.state file.old) self.old }
+        requires shows { ShowsFile (B.state file.old) self.old }
         ensures keeps { KeepsBytes (B.state file.old) (B.state file.new) }
-        ensures shows { Shows (B.state file.new) self.new }
+        ensures shows { ShowsFile (B.state file.new) self.new }
         ensures cell { OnOk result (IsTrue (B.state file.old).tells → into.new ≡ cell_in (B.state file.old).bytes block) }
         ensures cause { OnErr result (Rose (B.state file.old).faults (B.state file.new).faults) }
+        ensures no_fault { OnOk result ((B.state file.new).faults ≡ (B.state file.old).faults) }
     {
         let at = self.showing(file, block / WINDOW_CELLS)?;
         self.windows[at].cell(block, into);
@@ -187,11 +190,12 @@ impl Windows {
     // The place of the window with a number, which is read where there is none.
     fn showing<B: Positioned>(&mut self, file: &mut B, number: u64) -> Result<usize, Failed>
         requires number { number < 16384 }
-        requires shows { Shows (B.state file.old) self.old }
+        requires shows { ShowsFile (B.state file.old) self.old }
         ensures keeps { KeepsBytes (B.state file.old) (B.state file.new) }
-        ensures shows { Shows (B.state file.new) self.new }
+        ensures shows { ShowsFile (B.state file.new) self.new }
         ensures at { IfOk result (λ at. HasNumber self.new.windows.items at number) }
         ensures cause { OnErr result (Rose (B.state file.old).faults (B.state file.new).faults) }
+        ensures no_fault { OnOk result ((B.state file.new).faults ≡ (B.state file.old).faults) }
     {
         match self.find(number) {
             Some(at) => Ok(at),
@@ -211,11 +215,12 @@ impl Windows {
     // Reads the window with a number in place of another.
     fn load<B: Positioned>(&mut self, file: &mut B, number: u64) -> Result<usize, Failed>
         requires number { number < 16384 }
-        requires shows { Shows (B.state file.old) self.old }
+        requires shows { ShowsFile (B.state file.old) self.old }
         ensures keeps { KeepsBytes (B.state file.old) (B.state file.new) }
-        ensures shows { Shows (B.state file.new) self.new }
+        ensures shows { ShowsFile (B.state file.new) self.new }
         ensures at { IfOk result (λ at. HasNumber self.new.windows.items at number) }
         ensures cause { OnErr result (Rose (B.state file.old).faults (B.state file.new).faults) }
+        ensures no_fault { OnOk result ((B.state file.new).faults ≡ (B.state file.old).faults) }
     {
         let at = self.next;
         self.next = (at + 1) % WINDOWS;

@@ -7,6 +7,7 @@ use Rattle.std.specs.List.{slice_get}
 use Rattle.std.proofs.lemmas.Option.{slice_get_past}
 use Rattle.std.proofs.lemmas.Bool.{cases_lt, lt-leb}
 use Rattle.std.proofs.lemmas.Bool.Decides.{nat_tests}
+use Rattle.nofs_ptrs.specs.Paths.{slot_limit}
 use Rattle.nofs_model.proofs.Paths.{path-leaf, path-far}
 use Rattle.nofs_model.proofs.Find.{and-both, find-held}
 use Rattle.nofs_model.specs.Cells.{FileKind, null}
@@ -15,8 +16,8 @@ use Rattle.nofs_model.specs.Image.{Image, inode, is_inode, file_from, files_in, 
 use Rattle.nofs_model.specs.declared.path.PathAnswer.{PathAnswer}
 use Rattle.nofs_model.specs.declared.path.PathAnswer.TheVariants as answer
 use Rattle.nofs_model.specs.declared.value.Value.TheVariants.{Hole, Bytes}
-use Rattle.nofs_history.specs.History.{agreed_files}
-use Rattle.nofs_history.specs.Kept.{file_at, files_of, kept_file, kept_files}
+use Rattle.nofs_machine.specs.History.{agreed_files}
+use Rattle.nofs_history.specs.Kept.{file_at, kept_files_of, kept_file, kept_files}
 use Rattle.nofs_history.specs.BaseFiles.{AreFiles}
 use Rattle.nofs_history.specs.declared.accepted.files.FileNow.{FileNow}
 use Rattle.nofs_history.specs.declared.accepted.files.FilesNow.{FilesNow}
@@ -39,7 +40,7 @@ holes-behind-leaf X i k e low lt =
     let under = under-hole X i (k - 8) leaf (leaf-hole X i e) in
     ap (λ (path : Path). value_found X (find X i path)) (path-leaf k low lt) ∙ ap (value_found X) under
 
-pub holes-behind-top : (X : Image) (i k : ℕ) → (inode X i).top ≡ null → 72 ≤ k → k < 4168 → value X i k ≡ Hole
+pub holes-behind-top : (X : Image) (i k : ℕ) → (inode X i).top ≡ null → 72 ≤ k → k < slot_limit → value X i k ≡ Hole
 holes-behind-top X i k e low lt =
     let under = under-hole X i ((k - 72) % 64) (child ((k - 72) / 64)) (under-hole X i ((k - 72) / 64) top (top-hole X i e)) in
     ap (λ (path : Path). value_found X (find X i path)) (path-far k low lt) ∙ ap (value_found X) under
@@ -95,10 +96,10 @@ not-zero : (k : ℕ) → eqb (suc k) 0 ≡ false
 not-zero k = grind (arith, nat_tests)
 
 -- the files of all inodes are all agreed files
-pub files-whole : (X : Image) (files : FilesNow) → AreFiles X (inodes_of X) files.files.items → kept_files (files_of files) ≡ kept_files (agreed_files X)
+pub files-whole : (X : Image) (files : FilesNow) → AreFiles X (inodes_of X) files.files.items → kept_files (kept_files_of files) ≡ kept_files (agreed_files X)
 files-whole X files are = fun_ext each
   where
-    each : (i : ℕ) → kept_files (files_of files) i ≡ kept_files (agreed_files X) i
+    each : (i : ℕ) → kept_files (kept_files_of files) i ≡ kept_files (agreed_files X) i
     each zero = ap kept_file (sym (no-inode X 0 refl))
     each (suc k) =
         let back : suc k - 1 ≡ k = omega arith in

@@ -5,8 +5,8 @@ use Rattle.nofs_model.specs.Cells.{BackLink}
 use Rattle.nofs_model.specs.Files.{FileState, Files, is_pair, is_special, links_of, links_in_file}
 use Rattle.nofs_model.specs.declared.value.Value.{Value}
 use Rattle.nofs_model.specs.declared.value.Value.TheVariants.{Bytes}
-use Rattle.nofs_history.specs.Meta.{Meta, Gone, Is}
-use Rattle.nofs_history.specs.Machine.{Given, is_at, value_of, size_of, put_content, cell_given, meta_given, no_meta, meta_with, put_given, resize_slot, resize_given, set_link, without_link, drop_meta, file_after, files_after}
+use Rattle.nofs_machine.specs.Meta.{Meta, Gone, Is}
+use Rattle.nofs_machine.specs.Machine.{Given, is_at, value_of, size_of, put_content, cell_given, meta_given, no_meta, meta_with, put_given, resize_slot, resize_given, set_link, without_link, drop_meta, file_after, files_after}
 use Rattle.nofs_history.specs.Kept.{kept_file, kept_files, with_file, with_value, has_generation, metas_alone, resized_value, resized_file}
 use Rattle.nofs_history.proofs.Gifts.{ends, held, ends-after}
 use Rattle.nofs_history.proofs.Aimed.{IsAimed, aimed-missing, aimed-there, aimed-gone}

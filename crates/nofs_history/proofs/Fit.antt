@@ -1,22 +1,23 @@
 -- Every step that the machine accepts keeps the bounds without which its gift is no cell or no file.
 use Rattle.std.proofs.Common.{◌≡◌, ℕ, ◌+◌, ◌-◌, ◌*◌, ◌/◌, ◌<◌, ◌≤◌, inl, inr, min, Bool, true, false, ◌&&◌, ◌||◌, not, cond, eqb, ltb, leb, List, [], ◌∷◌, length, Option, Some, None, is_some, option_map, refl, sym, ap, ◌∙◌, subst, arith}
+use Rattle.nofs_ptrs.specs.Paths.{slot_limit}
 use Rattle.nofs_dirent.specs.Names.{is_name}
 use Rattle.nofs_model.specs.Image.{InRecord, Under}
-use Rattle.nofs_history.specs.Search.{first_of}
-use Rattle.nofs_history.specs.Machine.{found, first_dead, first_lost_slot, is_write_fault, may_give, size_of, slots_in, node_of}
-use Rattle.nofs_history.specs.World.{World}
-use Rattle.nofs_history.specs.Refusals.{row, rows, slots, missing, not_empty_at, lost_resize, is_damaged}
-use Rattle.nofs_history.specs.Claims.{IsClaim, IsInodeClaim, ClaimedInode, next_stamp}
-use Rattle.nofs_history.specs.Next.{Next, AfterFault, ByRow, Done, ByRead, ByWrite, Run}
+use Rattle.nofs_machine.specs.Search.{first_of}
+use Rattle.nofs_machine.specs.Machine.{found, first_dead, first_lost_slot, is_write_fault, may_give, size_of, slots_in, node_of}
+use Rattle.nofs_machine.specs.World.{World}
+use Rattle.nofs_machine.specs.Refusals.{row, rows, slots, missing, not_empty_at, lost_resize, is_damaged}
+use Rattle.nofs_machine.specs.Claims.{IsClaim, IsInodeClaim, ClaimedInode, next_stamp}
+use Rattle.nofs_machine.specs.Next.{Next, AfterFault, ByRow, Done, ByRead, ByWrite, Run}
 use Rattle.nofs_history.specs.Kept.{is_fit, AreFit}
-use Rattle.nofs_history.specs.declared.history.Claims.{Claims}
-use Rattle.nofs_history.specs.declared.history.Entry1.{Entry1}
-use Rattle.nofs_history.specs.declared.steps.Step.{Step}
-use Rattle.nofs_history.specs.declared.steps.Step.TheVariants as step
-use Rattle.nofs_history.specs.declared.replies.Reply.{Reply}
-use Rattle.nofs_history.specs.declared.replies.Reply.TheVariants as reply
-use Rattle.nofs_history.specs.declared.replies.Refusal.{Refusal}
-use Rattle.nofs_history.specs.declared.replies.Refusal.TheVariants as refusal
+use Rattle.nofs_machine.specs.declared.history.Claims.{Claims}
+use Rattle.nofs_machine.specs.declared.history.Entry1.{Entry1}
+use Rattle.nofs_machine.specs.declared.steps.Step.{Step}
+use Rattle.nofs_machine.specs.declared.steps.Step.TheVariants as step
+use Rattle.nofs_machine.specs.declared.replies.Reply.{Reply}
+use Rattle.nofs_machine.specs.declared.replies.Reply.TheVariants as reply
+use Rattle.nofs_machine.specs.declared.replies.Refusal.{Refusal}
+use Rattle.nofs_machine.specs.declared.replies.Refusal.TheVariants as refusal
 
 -- No row is a fault of writing
 
@@ -114,15 +115,15 @@ claimed-inode : (W : World) (g : ℕ) (c : Claims) (b : Bool) → b ≡ true →
 claimed-inode W g c true e (ClaimedInode free some most generation) = grind (arith, some)
 claimed-inode W g c false e n = absurd (cc e)
 
-slots-most : (W : World) → slots W ≤ 4168
+slots-most : (W : World) → slots W ≤ slot_limit
 slots-most W = go (eqb W.version 1)
   where
-    go : (b : Bool) → cond b 72 4168 ≤ 4168
+    go : (b : Bool) → cond b 72 slot_limit ≤ slot_limit
     go true = omega arith
     go false = omega arith
 
-above-most : (k m : ℕ) → leb m k ≡ false → m ≤ 4168 → ltb k 4168 ≡ true
-above-most k m e le = let lt : k < m = grind (arith, e) in let less : k < 4168 = omega (arith, lt, le) in grind (arith, less)
+above-most : (k m : ℕ) → leb m k ≡ false → m ≤ slot_limit → ltb k slot_limit ≡ true
+above-most k m e le = let lt : k < m = grind (arith, e) in let less : k < slot_limit = omega (arith, lt, le) in grind (arith, less)
 
 at-most : (a n : ℕ) → ltb a n ≡ false → leb n a ≡ true
 at-most a n e = grind (arith, e)
@@ -134,7 +135,7 @@ rows-fit W V (step.Put i g k at bytes) c none claim =
     let range = or-first (ltb 1024 (at + length bytes)) (eqb (length bytes) 0) (untested _ refusal.BadRange first.0) in
     let slot = untested (leb (slots W) k) refusal.TooLarge second.0 in
     let most = slots-most W in
-    let a : ltb k 4168 ≡ true = above-most k (slots W) slot most in
+    let a : ltb k slot_limit ≡ true = above-most k (slots W) slot most in
     let b : leb (at + length bytes) 1024 ≡ true = at-most 1024 (at + length bytes) range in
     rw (a, b) refl
 rows-fit W V (step.Make d g name kind) c none claim =

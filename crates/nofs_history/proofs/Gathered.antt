@@ -1,11 +1,12 @@
 -- The values that entries give, one entry at a time.
 use Rattle.std.proofs.Common.{◌≡◌, ℕ, zero, suc, ◌+◌, ◌<◌, Bool, true, false, cond, List, [], ◌∷◌, ◌++◌, length, drop, Some, None, option_to_list, slice_get, refl, sym, ap, ◌∙◌, append_assoc, append-nil, arith}
+use Rattle.nofs_ptrs.specs.Paths.{slot_limit}
 use Rattle.nofs_model.specs.Files.{Files}
 use Rattle.nofs_model.specs.declared.value.Value.{Value}
-use Rattle.nofs_history.specs.Machine.{nothing, gives, files_after, given_by, files_by, is_refused, may_give}
-use Rattle.nofs_history.specs.History.{values_given}
+use Rattle.nofs_machine.specs.Machine.{nothing, gives, files_after, given_by, files_by, is_refused, may_give}
+use Rattle.nofs_machine.specs.History.{values_given}
 use Rattle.nofs_history.specs.Kept.{kept_files, is_fit, AreFit}
-use Rattle.nofs_history.specs.declared.history.Entry1.{Entry1}
+use Rattle.nofs_machine.specs.declared.history.Entry1.{Entry1}
 use Rattle.nofs_history.proofs.Gifts.{SameGiven, gives-same, after-same}
 
 -- alike files give alike
@@ -19,7 +20,7 @@ step-same F G alike e =
       metas = λ i g. a.metas i g ∙ ap (λ (H : Files). (gives H e.step e.claims).metas i g) alike ∙ sym (b.metas i g);
     }
 
-gift-same : (F G : Files) → kept_files F ≡ kept_files G → (e : Entry1) (i g k : ℕ) → k < 4168 → (given_by F e).slots i g k ≡ (given_by G e).slots i g k
+gift-same : (F G : Files) → kept_files F ≡ kept_files G → (e : Entry1) (i g k : ℕ) → k < slot_limit → (given_by F e).slots i g k ≡ (given_by G e).slots i g k
 gift-same F G alike e i g k lt = go (may_give e.reply)
   where
     go : (b : Bool) → (cond b (gives F e.step e.claims) nothing).slots i g k ≡ (cond b (gives G e.step e.claims) nothing).slots i g k
@@ -33,7 +34,7 @@ by-same F G alike e = go (is_refused e.reply)
     go true = alike
     go false = after-same F G alike (gives F e.step e.claims) (gives G e.step e.claims) (step-same F G alike e)
 
-pub values-same : (es : List Entry1) (F G : Files) → kept_files F ≡ kept_files G → (i g k : ℕ) → k < 4168 → values_given F es i g k ≡ values_given G es i g k
+pub values-same : (es : List Entry1) (F G : Files) → kept_files F ≡ kept_files G → (i g k : ℕ) → k < slot_limit → values_given F es i g k ≡ values_given G es i g k
 values-same [] F G alike i g k lt = refl
 values-same (e ∷ es) F G alike i g k lt =
     let here = gift-same F G alike e i g k lt in
@@ -57,7 +58,7 @@ is-there (x ∷ es) zero lt is = cc is
 is-there (x ∷ es) (suc at) lt is = is-there es at (omega (arith, lt)) is
 
 -- one entry more is gathered
-pub gather-next : (es : List Entry1) (at : ℕ) (e : Entry1) (F G : Files) (i g k : ℕ) (old new : List Value) → slice_get es at ≡ Some e → k < 4168
+pub gather-next : (es : List Entry1) (at : ℕ) (e : Entry1) (F G : Files) (i g k : ℕ) (old new : List Value) → slice_get es at ≡ Some e → k < slot_limit
     → new ≡ old ++ option_to_list ((given_by F e).slots i g k) → kept_files G ≡ kept_files (files_by F e)
     → new ++ values_given G (drop (at + 1) es) i g k ≡ old ++ values_given F (drop at es) i g k
 gather-next es at e F G i g k old new is lt gained alike =

@@ -1,24 +1,25 @@
 -- What a step gives to slots and metas rests on what is kept of files alone, and files that are alike stay so.
 use Rattle.std.proofs.Common.{if◌then◌else◌, ◌≡◌, ℕ, ◌+◌, ◌*◌, ◌/◌, ◌<◌, max, Bool, true, false, ◌&&◌, not, cond, eqb, ltb, List, [], length, Option, Some, None, unwrap_or, refl, sym, ap, ◌∙◌, arith, eqb-true}
 use Rattle.std.specs.List.{list_any}
+use Rattle.nofs_ptrs.specs.Paths.{slot_limit}
 use Rattle.nofs_dirent.specs.Entries.{spelled_entry}
 use Rattle.nofs_model.specs.Cells.{FileKind, BackLink, Entry}
 use Rattle.nofs_model.specs.Files.{Absent, FileState, Files, entry_at, is_pair, is_special}
 use Rattle.nofs_model.specs.declared.value.Value.{Value}
 use Rattle.nofs_model.specs.declared.value.Value.TheVariants.{Hole, Bytes}
-use Rattle.nofs_history.specs.Meta.{Meta, Gone, Is}
-use Rattle.nofs_history.specs.Machine.{Given, nothing, is_at, value_of, size_of, link_to, found, place_for, link_place, zeros, put_content, with_entry, cell_given, meta_given, no_meta, meta_with, put_given, resize_slot, resize_given, entry_given, make_given, link_given, drop_given, rename_given, set_link, without_link, drop_meta, at_place, gives, filled, after_meta, file_after, new_file, born_file, files_after}
+use Rattle.nofs_machine.specs.Meta.{Meta, Gone, Is}
+use Rattle.nofs_machine.specs.Machine.{Given, nothing, is_at, value_of, size_of, link_to, found, place_for, link_place, zeros, put_content, with_entry, cell_given, meta_given, no_meta, meta_with, put_given, resize_slot, resize_given, entry_given, make_given, link_given, drop_given, rename_given, set_link, without_link, drop_meta, at_place, gives, filled, after_meta, file_after, new_file, born_file, files_after}
 use Rattle.nofs_history.specs.Kept.{kept_file, kept_files, resized_value}
-use Rattle.nofs_history.specs.declared.history.Claims.{Claims}
-use Rattle.nofs_history.specs.declared.steps.Step.{Step}
-use Rattle.nofs_history.specs.declared.steps.Step.TheVariants as step
+use Rattle.nofs_machine.specs.declared.history.Claims.{Claims}
+use Rattle.nofs_machine.specs.declared.steps.Step.{Step}
+use Rattle.nofs_machine.specs.declared.steps.Step.TheVariants as step
 use Rattle.nofs_history.proofs.Keeping.{entry_at-kept, is_pair-kept, size-kept, value-kept, found-kept, place-kept, link_place-kept}
 
 -- Gifts that are alike, but for blocks of pointers and slots that no file can have
 
 pub record SameGiven (a b : Given) : Type 0 where
   pub born : (i : ℕ) → a.born i ≡ b.born i
-  pub slots : (i g k : ℕ) → k < 4168 → a.slots i g k ≡ b.slots i g k
+  pub slots : (i g k : ℕ) → k < slot_limit → a.slots i g k ≡ b.slots i g k
   pub metas : (i g : ℕ) → a.metas i g ≡ b.metas i g
 
 pub same-given : (a : Given) → SameGiven a a
@@ -33,7 +34,7 @@ ends (Some Gone) g kind size links values = None
 ends (Some (Is k s l)) g kind size links values = Some (record { generation = g; kind = k; size = s; links = l; values = values; nodes = λ path. Absent })
 
 abbrev pub held : (ℕ → Value) → ℕ → Value
-held values k = cond (ltb k 4168) (values k) Hole
+held values k = cond (ltb k slot_limit) (values k) Hole
 
 pub ends-after : (a : Given) (i : ℕ) (m : Option Meta) (f : FileState) → kept_file (after_meta m (filled a i f)) ≡ ends m f.generation f.kind f.size f.links (held (λ k. unwrap_or (a.slots i f.generation k) (f.values k)))
 ends-after a i None f = refl
@@ -42,10 +43,10 @@ ends-after a i (Some (Is k s l)) f = refl
 
 -- a value that is given, or stood
 held-same : (a b : Given) → SameGiven a b → (i g : ℕ) (values : ℕ → Value) (k : ℕ) → held (λ l. unwrap_or (a.slots i g l) (values l)) k ≡ held (λ l. unwrap_or (b.slots i g l) (held values l)) k
-held-same a b same i g values k = go (ltb k 4168) refl
+held-same a b same i g values k = go (ltb k slot_limit) refl
   where
-    go : (t : Bool) → ltb k 4168 ≡ t → cond t (unwrap_or (a.slots i g k) (values k)) Hole ≡ cond t (unwrap_or (b.slots i g k) (cond (ltb k 4168) (values k) Hole)) Hole
-    go true e = let lt : k < 4168 = grind (arith, e) in rw e (ap (λ (o : Option Value). unwrap_or o (values k)) (same.slots i g k lt))
+    go : (t : Bool) → ltb k slot_limit ≡ t → cond t (unwrap_or (a.slots i g k) (values k)) Hole ≡ cond t (unwrap_or (b.slots i g k) (cond (ltb k slot_limit) (values k) Hole)) Hole
+    go true e = let lt : k < slot_limit = grind (arith, e) in rw e (ap (λ (o : Option Value). unwrap_or o (values k)) (same.slots i g k lt))
     go false e = refl
 
 file-same : (a b : Given) → SameGiven a b → (i : ℕ) (o : Option FileState) → kept_file (file_after a i o) ≡ kept_file (file_after b i (kept_file o))
@@ -59,7 +60,7 @@ born-same : (a b : Given) → SameGiven a b → (i : ℕ) (n : Option ℕ) (o : 
 born-same a b same i None o = file-same a b same i o
 born-same a b same i (Some g) o =
     file-same a b same i (Some (new_file g))
-    ∙ ap (λ (values : ℕ → Value). kept_file (file_after b i (Some (record { generation = g; kind = (new_file g).kind; size = 0; links = []; values = values; nodes = λ path. Absent })))) (λ j k. hole k (ltb k 4168) j)
+    ∙ ap (λ (values : ℕ → Value). kept_file (file_after b i (Some (record { generation = g; kind = (new_file g).kind; size = 0; links = []; values = values; nodes = λ path. Absent })))) (λ j k. hole k (ltb k slot_limit) j)
   where
     hole : (k : ℕ) (t : Bool) → cond t Hole Hole ≡ Hole
     hole k true = refl
@@ -82,7 +83,7 @@ cell-same : (F : Files) (i g k : ℕ) (content : Value → Value) (m n : ℕ →
     → SameGiven (cell_given i g k (content (value_of F i k)) m) (cell_given i g k (content (value_of (kept_files F) i k)) n)
 cell-same F i g k content m n metas = record { born = λ j. refl; slots = slots; metas = metas }
   where
-    slots : (j h l : ℕ) → l < 4168 → cond (is_at i g j h && eqb k l) (Some (content (value_of F i k))) None ≡ cond (is_at i g j h && eqb k l) (Some (content (value_of (kept_files F) i k))) None
+    slots : (j h l : ℕ) → l < slot_limit → cond (is_at i g j h && eqb k l) (Some (content (value_of F i k))) None ≡ cond (is_at i g j h && eqb k l) (Some (content (value_of (kept_files F) i k))) None
     slots j h l lt = go (is_at i g j h) (eqb k l) refl
       where
         go : (a b : Bool) → eqb k l ≡ b → cond (a && b) (Some (content (value_of F i k))) None ≡ cond (a && b) (Some (content (value_of (kept_files F) i k))) None

@@ -3,7 +3,7 @@ use Rattle.std.proofs.Common.{ne_eqb, ◌≡◌, ℕ, zero, suc, ◌<◌, ◌≤
 use Rattle.std.proofs.Math.Dec.{eqb-suc-suc, eqb-suc-zero}
 use Rattle.nofs_model.specs.Files.{FileState}
 use Rattle.nofs_model.specs.declared.value.Value.TheVariants as value
-use Rattle.nofs_history.specs.Kept.{value_in, value_at, file_of, file_at}
+use Rattle.nofs_history.specs.Kept.{kept_value, value_at, file_of, file_at}
 use Rattle.nofs_history.specs.declared.accepted.files.Kept.{Kept}
 use Rattle.nofs_history.specs.declared.accepted.files.Kept.TheVariants as kept
 use Rattle.nofs_history.specs.declared.accepted.files.FileNow.{FileNow}
@@ -20,7 +20,7 @@ file-push [] (suc k) = refl
 file-push (x ∷ xs) zero = refl
 file-push (x ∷ xs) (suc k) = file-push xs k
 
-pub value-set : (xs : List Kept) (n : ℕ) (v : Kept) (k : ℕ) → n < length xs → value_at (slice_get (slice_set xs n v) k) ≡ cond (eqb n k) (value_in v) (value_at (slice_get xs k))
+pub value-set : (xs : List Kept) (n : ℕ) (v : Kept) (k : ℕ) → n < length xs → value_at (slice_get (slice_set xs n v) k) ≡ cond (eqb n k) (kept_value v) (value_at (slice_get xs k))
 value-set [] n v k lt = absurd (omega (arith, lt))
 value-set (x ∷ xs) zero v zero lt = refl
 value-set (x ∷ xs) zero v (suc k) lt = let n = ne_eqb 0 (suc k) (λ q. omega (arith, q)) in rw n refl

@@ -1,14 +1,16 @@
 -- Words on names and places say the same of files and of what is kept of them.
 use Rattle.std.proofs.Common.{◌≡◌, ℕ, zero, suc, ◌+◌, ◌*◌, ◌/◌, ◌<◌, Bool, true, false, ◌&&◌, ◌||◌, not, cond, eqb, ltb, List, [], ◌∷◌, Option, Some, None, is_some, option_map, refl, ap, ◌∙◌, arith, bytes_eq}
 use Rattle.std.specs.List.{list_any}
+use Rattle.nofs_dirent.specs.Entries.{entry_limit}
+use Rattle.nofs_ptrs.specs.Paths.{slot_limit}
 use Rattle.nofs_model.specs.Cells.{BackLink, Entry, is_empty_link}
 use Rattle.nofs_model.specs.Files.{FileState, Files, is_folder, entry_held, entry_in_file, entry_at, names, is_a, pairs, is_pair, links_in_file, links_of}
 use Rattle.nofs_inode.specs.declared.inode.FileKind.TheVariants.{Directory as Folder}
 use Rattle.nofs_model.specs.declared.value.Value.{Value}
 use Rattle.nofs_model.specs.declared.value.Value.TheVariants.{Hole}
-use Rattle.nofs_history.specs.Meta.{is_bytes}
-use Rattle.nofs_history.specs.Search.{least_from, first_of}
-use Rattle.nofs_history.specs.Machine.{generation_of, value_of, size_of, same_link, link_to, is_paired, has_name, found, first_dead, place_for, link_place, place_in, is_hole}
+use Rattle.nofs_machine.specs.Meta.{is_bytes}
+use Rattle.nofs_machine.specs.Search.{least_from, first_of}
+use Rattle.nofs_machine.specs.Machine.{generation_of, value_of, size_of, same_link, link_to, is_paired, entry_has_name, found, first_dead, place_for, link_place, place_for_link, is_hole}
 use Rattle.nofs_history.specs.Kept.{kept_file, kept_files}
 
 -- Searches
@@ -23,17 +25,17 @@ first-same a b c x y z p q r = λ j. first_of (p j ∷ q j ∷ r j ∷ [])
 
 -- One file
 
-below : (k : ℕ) → k < 4168 → ltb k 4168 ≡ true
+below : (k : ℕ) → k < slot_limit → ltb k slot_limit ≡ true
 below k lt = grind (arith, lt)
 
 entry-kept : (o : Option FileState) (e : ℕ) → entry_in_file (kept_file o) e ≡ entry_in_file o e
 entry-kept None e = refl
-entry-kept (Some f) e = go (is_folder f.kind) (ltb e 1152) refl
+entry-kept (Some f) e = go (is_folder f.kind) (ltb e entry_limit) refl
   where
-    go : (folder b : Bool) → ltb e 1152 ≡ b → cond (folder && b) (entry_held (cond (ltb (e / 16) 4168) (f.values (e / 16)) Hole) e) None ≡ cond (folder && b) (entry_held (f.values (e / 16)) e) None
+    go : (folder b : Bool) → ltb e entry_limit ≡ b → cond (folder && b) (entry_held (cond (ltb (e / 16) slot_limit) (f.values (e / 16)) Hole) e) None ≡ cond (folder && b) (entry_held (f.values (e / 16)) e) None
     go false b eb = refl
     go true false eb = refl
-    go true true eb = let lt : e < 1152 = grind (arith, eb) in let s = below (e / 16) (omega (arith, lt)) in rw s refl
+    go true true eb = let lt : e < entry_limit = grind (arith, eb) in let s = below (e / 16) (omega (arith, lt)) in rw s refl
 
 is_a-kept : (o : Option FileState) (g : ℕ) → is_a Folder g (kept_file o) ≡ is_a Folder g o
 is_a-kept None g = refl
@@ -78,7 +80,7 @@ size-kept F i = go (F i)
     go None = refl
     go (Some f) = refl
 
-pub value-kept : (F : Files) (i k : ℕ) → k < 4168 → value_of (kept_files F) i k ≡ value_of F i k
+pub value-kept : (F : Files) (i k : ℕ) → k < slot_limit → value_of (kept_files F) i k ≡ value_of F i k
 value-kept F i k lt = go (F i)
   where
     word : Option FileState → Value
@@ -104,18 +106,18 @@ is_paired-kept F d e = ap (paired (kept_files F)) (entry_at-kept F d e) ∙ go (
     go None = refl
     go (Some entry) = λ j. list_any (λ link. same_link link (link_to d e (generation-kept F d j)) && is_pair-kept F entry.inode link j) (links_of-kept F entry.inode j)
 
-pub has_name-kept : (F : Files) (d : ℕ) (name : List ℕ) (e : ℕ) → has_name (kept_files F) d name e ≡ has_name F d name e
+pub has_name-kept : (F : Files) (d : ℕ) (name : List ℕ) (e : ℕ) → entry_has_name (kept_files F) d name e ≡ entry_has_name F d name e
 has_name-kept F d name e = ap (λ (o : Option Entry). elim o [ None ↦ false | Some entry ↦ bytes_eq entry.name name ]) (entry_at-kept F d e)
 
 pub found-kept : (F : Files) (d : ℕ) (name : List ℕ) → found (kept_files F) d name ≡ found F d name
 unfolding found
-found-kept F d name = λ j. least_from (λ e. has_name-kept F d name e j && is_paired-kept F d e j) 0 1152
+found-kept F d name = λ j. least_from (λ e. has_name-kept F d name e j && is_paired-kept F d e j) 0 entry_limit
 
 pub dead-kept : (F : Files) (d : ℕ) (name : List ℕ) → first_dead (kept_files F) d name ≡ first_dead F d name
 unfolding first_dead
-dead-kept F d name = λ j. least_from (λ e. has_name-kept F d name e j && not (is_paired-kept F d e j)) 0 1152
+dead-kept F d name = λ j. least_from (λ e. has_name-kept F d name e j && not (is_paired-kept F d e j)) 0 entry_limit
 
-empty-kept : (F : Files) (d e : ℕ) → e < 1152 → (is_bytes (value_of (kept_files F) d (e / 16)) && not (is_some (entry_at (kept_files F) d e))) ≡ (is_bytes (value_of F d (e / 16)) && not (is_some (entry_at F d e)))
+empty-kept : (F : Files) (d e : ℕ) → e < entry_limit → (is_bytes (value_of (kept_files F) d (e / 16)) && not (is_some (entry_at (kept_files F) d e))) ≡ (is_bytes (value_of F d (e / 16)) && not (is_some (entry_at F d e)))
 empty-kept F d e lt = λ j. is_bytes (value-kept F d (e / 16) (omega (arith, lt)) j) && not (is_some (entry_at-kept F d e j))
 
 hole-kept : (F : Files) (d k : ℕ) → k < 72 → is_hole (value_of (kept_files F) d k) ≡ is_hole (value_of F d k)
@@ -125,15 +127,15 @@ pub place-kept : (F : Files) (d : ℕ) (name : List ℕ) → place_for (kept_fil
 unfolding place_for
 place-kept F d name = first-same
     (first_dead (kept_files F) d name)
-    (least_from (λ e. is_bytes (value_of (kept_files F) d (e / 16)) && not (is_some (entry_at (kept_files F) d e))) 0 1152)
+    (least_from (λ e. is_bytes (value_of (kept_files F) d (e / 16)) && not (is_some (entry_at (kept_files F) d e))) 0 entry_limit)
     (option_map (λ k. 16 * k) (least_from (λ k. is_hole (value_of (kept_files F) d k)) 0 72))
     (first_dead F d name)
-    (least_from (λ e. is_bytes (value_of F d (e / 16)) && not (is_some (entry_at F d e))) 0 1152)
+    (least_from (λ e. is_bytes (value_of F d (e / 16)) && not (is_some (entry_at F d e))) 0 entry_limit)
     (option_map (λ k. 16 * k) (least_from (λ k. is_hole (value_of F d k)) 0 72))
     (dead-kept F d name)
-    (least-same (λ e. is_bytes (value_of (kept_files F) d (e / 16)) && not (is_some (entry_at (kept_files F) d e))) (λ e. is_bytes (value_of F d (e / 16)) && not (is_some (entry_at F d e))) 0 1152 (λ e lt. empty-kept F d e (omega (arith, lt))))
+    (least-same (λ e. is_bytes (value_of (kept_files F) d (e / 16)) && not (is_some (entry_at (kept_files F) d e))) (λ e. is_bytes (value_of F d (e / 16)) && not (is_some (entry_at F d e))) 0 entry_limit (λ e lt. empty-kept F d e (omega (arith, lt))))
     (ap (option_map (λ k. 16 * k)) (least-same (λ k. is_hole (value_of (kept_files F) d k)) (λ k. is_hole (value_of F d k)) 0 72 (λ k lt. hole-kept F d k (omega (arith, lt)))))
 
 pub link_place-kept : (F : Files) (i : ℕ) → link_place (kept_files F) i ≡ link_place F i
 unfolding link_place
-link_place-kept F i = λ j. cond (eqb i 2) None (first_of (place_in is_empty_link (links_of-kept F i j) 0 ∷ place_in (λ link. not (is_pair-kept F i link j)) (links_of-kept F i j) 0 ∷ []))
+link_place-kept F i = λ j. cond (eqb i 2) None (first_of (place_for_link is_empty_link (links_of-kept F i j) 0 ∷ place_for_link (λ link. not (is_pair-kept F i link j)) (links_of-kept F i j) 0 ∷ []))

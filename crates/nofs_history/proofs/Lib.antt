@@ -1,9 +1,4 @@
-pub mod Era
-pub mod Lives
-pub mod ClaimParts
 pub mod Giving
-pub mod EntryPut
-pub mod Links
 pub mod Keeping
 pub mod Gifts
 pub mod Growing

@@ -1,16 +1,16 @@
 -- What the steps on names make of files: a meta and a cell, a cell and a new file.
 use Rattle.std.proofs.Common.{◌≡◌, ℕ, zero, suc, ◌+◌, ◌*◌, ◌/◌, ◌<◌, Bool, true, false, ◌&&◌, not, cond, eqb, List, [], ◌∷◌, length, Option, Some, None, is_some, option_map, unwrap_or, refl, sym, ap, ◌∙◌, arith, eqb-true, eq-eqb, ne_eqb}
 use Rattle.std.proofs.lemmas.Bool.{eqb-false}
-use Rattle.nofs_dirent.specs.Entries.{spelled_entry}
+use Rattle.nofs_dirent.specs.Entries.{spelled_entry, entry_limit}
 use Rattle.nofs_model.specs.Cells.{FileKind, BackLink, is_empty_link}
 use Rattle.nofs_model.specs.Files.{FileState, Files, entry_at}
 use Rattle.nofs_model.specs.declared.value.Value.{Value}
 use Rattle.nofs_model.specs.declared.value.Value.TheVariants.{Hole}
-use Rattle.nofs_history.specs.Meta.{Meta, Is, is_bytes}
-use Rattle.nofs_history.specs.Search.{least_from, first_of}
-use Rattle.nofs_history.specs.Machine.{nothing, is_at, value_of, has_name, is_paired, found, first_dead, place_for, place_in, is_hole, link_to, with_entry, cell_given, no_meta, make_given, file_after, born_file, new_file, files_after}
+use Rattle.nofs_machine.specs.Meta.{Meta, Is, is_bytes}
+use Rattle.nofs_machine.specs.Search.{least_from, first_of}
+use Rattle.nofs_machine.specs.Machine.{nothing, is_at, value_of, entry_has_name, is_paired, found, first_dead, place_for, place_for_link, is_hole, link_to, with_entry, cell_given, no_meta, make_given, file_after, born_file, new_file, files_after}
 use Rattle.nofs_history.specs.Kept.{kept_file, kept_files, with_file, metas_alone, made_file}
-use Rattle.nofs_history.specs.declared.history.Claims.{Claims}
+use Rattle.nofs_machine.specs.declared.history.Claims.{Claims}
 use Rattle.nofs_history.proofs.Gifts.{ends, held, ends-after, after-same, same-given}
 use Rattle.nofs_history.proofs.Aimed.{cell-last}
 
@@ -25,39 +25,39 @@ below_least test at (suc n) k e = go (test at) (below_least test (suc at) n k) e
     go true ih e = let same : at ≡ k = cc e in omega (arith, same)
     go false ih e = let lt = ih e in omega (arith, lt)
 
-pub found_below : (F : Files) (d : ℕ) (name : List ℕ) (e : ℕ) → found F d name ≡ Some e → e < 1152
+pub found_below : (F : Files) (d : ℕ) (name : List ℕ) (e : ℕ) → found F d name ≡ Some e → e < entry_limit
 unfolding found
-found_below F d name e is = let lt = below_least (λ n. has_name F d name n && is_paired F d n) 0 1152 e is in omega (arith, lt)
+found_below F d name e is = let lt = below_least (λ n. entry_has_name F d name n && is_paired F d n) 0 entry_limit e is in omega (arith, lt)
 
-dead_below : (F : Files) (d : ℕ) (name : List ℕ) (e : ℕ) → first_dead F d name ≡ Some e → e < 1152
+dead_below : (F : Files) (d : ℕ) (name : List ℕ) (e : ℕ) → first_dead F d name ≡ Some e → e < entry_limit
 unfolding first_dead
-dead_below F d name e is = let lt = below_least (λ n. has_name F d name n && not (is_paired F d n)) 0 1152 e is in omega (arith, lt)
+dead_below F d name e is = let lt = below_least (λ n. entry_has_name F d name n && not (is_paired F d n)) 0 entry_limit e is in omega (arith, lt)
 
-hole_below : (o : Option ℕ) (e : ℕ) → ((k : ℕ) → o ≡ Some k → k < 72) → first_of (option_map (λ k. 16 * k) o ∷ []) ≡ Some e → e < 1152
+hole_below : (o : Option ℕ) (e : ℕ) → ((k : ℕ) → o ≡ Some k → k < 72) → first_of (option_map (λ k. 16 * k) o ∷ []) ≡ Some e → e < entry_limit
 hole_below None e small is = absurd (cc is)
 hole_below (Some k) e small is = let lt = small k refl in let same : 16 * k ≡ e = cc is in omega (arith, lt, same)
 
-first_below : (a b c : Option ℕ) (e : ℕ) → ((k : ℕ) → a ≡ Some k → k < 1152) → ((k : ℕ) → b ≡ Some k → k < 1152) → (first_of (c ∷ []) ≡ Some e → e < 1152) → first_of (a ∷ b ∷ c ∷ []) ≡ Some e → e < 1152
+first_below : (a b c : Option ℕ) (e : ℕ) → ((k : ℕ) → a ≡ Some k → k < entry_limit) → ((k : ℕ) → b ≡ Some k → k < entry_limit) → (first_of (c ∷ []) ≡ Some e → e < entry_limit) → first_of (a ∷ b ∷ c ∷ []) ≡ Some e → e < entry_limit
 first_below (Some x) b c e p q r is = let same : x ≡ e = cc is in let lt = p x refl in omega (arith, lt, same)
 first_below None (Some y) c e p q r is = let same : y ≡ e = cc is in let lt = q y refl in omega (arith, lt, same)
 first_below None None c e p q r is = r is
 
-pub place_below : (F : Files) (d : ℕ) (name : List ℕ) (e : ℕ) → place_for F d name ≡ Some e → e < 1152
+pub place_below : (F : Files) (d : ℕ) (name : List ℕ) (e : ℕ) → place_for F d name ≡ Some e → e < entry_limit
 unfolding place_for
 place_below F d name e is = first_below
     (first_dead F d name)
-    (least_from (λ n. is_bytes (value_of F d (n / 16)) && not (is_some (entry_at F d n))) 0 1152)
+    (least_from (λ n. is_bytes (value_of F d (n / 16)) && not (is_some (entry_at F d n))) 0 entry_limit)
     (option_map (λ k. 16 * k) (least_from (λ k. is_hole (value_of F d k)) 0 72))
     e (dead_below F d name)
-    (λ k s. let lt = below_least (λ n. is_bytes (value_of F d (n / 16)) && not (is_some (entry_at F d n))) 0 1152 k s in omega (arith, lt))
+    (λ k s. let lt = below_least (λ n. is_bytes (value_of F d (n / 16)) && not (is_some (entry_at F d n))) 0 entry_limit k s in omega (arith, lt))
     (hole_below (least_from (λ k. is_hole (value_of F d k)) 0 72) e (λ k s. let lt = below_least (λ n. is_hole (value_of F d n)) 0 72 k s in omega (arith, lt)))
     is
 
-place_in_below : (test : BackLink → Bool) (xs : List BackLink) (at b : ℕ) → place_in test xs at ≡ Some b → b < at + length xs
+place_in_below : (test : BackLink → Bool) (xs : List BackLink) (at b : ℕ) → place_for_link test xs at ≡ Some b → b < at + length xs
 place_in_below test [] at b e = absurd (cc e)
 place_in_below test (x ∷ xs) at b e = go (test x) (place_in_below test xs (suc at) b) e
   where
-    go : (t : Bool) → (place_in test xs (suc at) ≡ Some b → b < suc at + length xs) → cond t (Some at) (place_in test xs (suc at)) ≡ Some b → b < at + suc (length xs)
+    go : (t : Bool) → (place_for_link test xs (suc at) ≡ Some b → b < suc at + length xs) → cond t (Some at) (place_for_link test xs (suc at)) ≡ Some b → b < at + suc (length xs)
     go true ih e = let same : at ≡ b = cc e in omega (arith, same)
     go false ih e = let lt = ih e in omega (arith, lt)
 
@@ -66,8 +66,8 @@ first_place (Some x) c n b p q is = let same : x ≡ b = cc is in let lt = p x r
 first_place None (Some y) n b p q is = let same : y ≡ b = cc is in let lt = q y refl in omega (arith, lt, same)
 first_place None None n b p q is = absurd (cc is)
 
-pub link_below : (links : List BackLink) (pair : BackLink → Bool) (b : ℕ) → length links ≡ 4 → first_of (place_in is_empty_link links 0 ∷ place_in (λ link. not (pair link)) links 0 ∷ []) ≡ Some b → b < 4
-link_below links pair b four is = first_place (place_in is_empty_link links 0) (place_in (λ link. not (pair link)) links 0) 4 b
+pub link_below : (links : List BackLink) (pair : BackLink → Bool) (b : ℕ) → length links ≡ 4 → first_of (place_for_link is_empty_link links 0 ∷ place_for_link (λ link. not (pair link)) links 0 ∷ []) ≡ Some b → b < 4
+link_below links pair b four is = first_place (place_for_link is_empty_link links 0) (place_for_link (λ link. not (pair link)) links 0) 4 b
     (λ k s. let lt = place_in_below is_empty_link links 0 k s in omega (arith, lt, four))
     (λ k s. let lt = place_in_below (λ link. not (pair link)) links 0 k s in omega (arith, lt, four)) is
 

@@ -4,8 +4,8 @@ use Rattle.nofs_model.specs.Cells.{FileKind, BackLink}
 use Rattle.nofs_model.specs.Image.{Path, path_of, Present}
 use Rattle.nofs_model.specs.declared.value.Value.{Value}
 use Rattle.nofs_model.specs.declared.value.Value.TheVariants.{Hole}
-use Rattle.nofs_history.specs.Meta.{Meta, Gone, Is}
-use Rattle.nofs_history.specs.Machine.{Given, lies_above}
+use Rattle.nofs_machine.specs.Meta.{Meta, Gone, Is}
+use Rattle.nofs_machine.specs.Machine.{Given, lies_above}
 
 -- no generation of the inode gets anything
 pub record GivesNothing (given : Given) (j : ℕ) : Type 0 where

@@ -1,30 +1,31 @@
 -- The files that a list of accepted values is computed from, as files of the machine, and how they change.
 use Rattle.std.specs.Prelude.{◌≡◌, ℕ, true, [], ◌∷◌, length, ◌+◌, ◌-◌, ◌%◌, min, ◌&&◌, not, nat_le, ◌++◌, take, unwrap_or, ◌==◌, List, Bool, false, Option, Some, None, if◌then◌else◌, nat_lt, slice_get}
+use Rattle.nofs_ptrs.specs.Paths.{slot_limit}
 use Rattle.nofs_model.specs.Files.{Absent, FileState, Files}
 use Rattle.nofs_model.specs.declared.value.Value.{Value}
 use Rattle.nofs_model.specs.declared.value.Value.TheVariants as value
-use Rattle.nofs_history.specs.Meta.{Meta, is_bytes}
-use Rattle.nofs_history.specs.Machine.{Given, nothing, link_to, may_give, slots_in, zeros, bytes_in, trimmed}
+use Rattle.nofs_machine.specs.Meta.{Meta, is_bytes}
+use Rattle.nofs_machine.specs.Machine.{Given, nothing, link_to, may_give, slots_in, zeros, bytes_in, trimmed}
 use Rattle.nofs_model.specs.Cells.{FileKind, BackLink}
-use Rattle.nofs_history.specs.declared.history.Claims.{Claims}
-use Rattle.nofs_history.specs.declared.history.Entry1.{Entry1}
-use Rattle.nofs_history.specs.declared.steps.Step.{Step}
-use Rattle.nofs_history.specs.declared.steps.Step.TheVariants as step
+use Rattle.nofs_machine.specs.declared.history.Claims.{Claims}
+use Rattle.nofs_machine.specs.declared.history.Entry1.{Entry1}
+use Rattle.nofs_machine.specs.declared.steps.Step.{Step}
+use Rattle.nofs_machine.specs.declared.steps.Step.TheVariants as step
 use Rattle.nofs_history.specs.declared.accepted.files.Kept.{Kept}
 use Rattle.nofs_history.specs.declared.accepted.files.Kept.TheVariants as kept
 use Rattle.nofs_history.specs.declared.accepted.files.FileNow.{FileNow}
 use Rattle.nofs_history.specs.declared.accepted.files.FilesNow.{FilesNow}
 
 -- what is kept of a slot
-abbrev pub value_in : Kept → Value
-value_in kept.Hole = value.Hole
-value_in (kept.Bytes bytes) = value.Bytes bytes.value
-value_in kept.Lost = value.Lost
+abbrev pub kept_value : Kept → Value
+kept_value kept.Hole = value.Hole
+kept_value (kept.Bytes bytes) = value.Bytes bytes.value
+kept_value kept.Lost = value.Lost
 
 -- a slot behind the last one kept is a hole
 abbrev pub value_at : Option Kept → Value
 value_at None = value.Hole
-value_at (Some it) = value_in it
+value_at (Some it) = kept_value it
 
 -- a file with these values; its blocks of pointers are not kept
 abbrev pub file_of : FileNow → FileState
@@ -37,13 +38,13 @@ file_at (Some None) = None
 file_at (Some (Some f)) = Some (file_of f)
 
 -- inodes are counted from 1
-abbrev pub files_of : FilesNow → Files
-files_of F i = if i == 0 then None else file_at (slice_get F.files.items (i - 1))
+abbrev pub kept_files_of : FilesNow → Files
+kept_files_of F i = if i == 0 then None else file_at (slice_get F.files.items (i - 1))
 
 -- what is kept of a file: not its blocks of pointers, and nothing past the 4,168 slots that a file can have
 abbrev pub kept_file : Option FileState → Option FileState
 kept_file None = None
-kept_file (Some f) = Some (record { generation = f.generation; kind = f.kind; size = f.size; links = f.links; values = λ k. if nat_lt k 4168 then f.values k else value.Hole; nodes = λ path. Absent })
+kept_file (Some f) = Some (record { generation = f.generation; kind = f.kind; size = f.size; links = f.links; values = λ k. if nat_lt k slot_limit then f.values k else value.Hole; nodes = λ path. Absent })
 
 -- what is kept of files
 abbrev pub kept_files : Files → Files
@@ -69,7 +70,7 @@ with_value f k v = record f { values = λ l. if k == l then v else f.values l }
 abbrev pub resized_value : ℕ → ℕ → Value → ℕ → Option Value
 resized_value old size v k =
     let m : ℕ = min (slots_in old) (slots_in size) in
-    if nat_le m k then (if nat_lt k 4168 then Some value.Hole else None) else
+    if nat_le m k then (if nat_lt k slot_limit then Some value.Hole else None) else
     (if nat_le old size && ((k + 1 == m) && (not (old % 1024 == 0) && is_bytes v))
     then Some (value.Bytes (take (old % 1024) (bytes_in v) ++ zeros (1024 - old % 1024))) else None)
 
@@ -93,7 +94,7 @@ made_file g kind link = record { generation = g; kind = kind; size = 0; links = 
 
 -- the bounds without which a step's gift is no cell or no file: every step that the machine accepts keeps them
 abbrev pub is_fit : Step → Claims → Bool
-is_fit (step.Put i g k at bytes) claims = nat_lt k 4168 && nat_le (at + length bytes) 1024
+is_fit (step.Put i g k at bytes) claims = nat_lt k slot_limit && nat_le (at + length bytes) 1024
 is_fit (step.Make d g name kind) claims = nat_le (length name) 48 && nat_lt 0 claims.inode
 is_fit (step.Link d g name i of) claims = nat_le (length name) 48
 is_fit (step.Rename d g old new) claims = nat_le (length new) 48

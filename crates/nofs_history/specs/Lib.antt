@@ -1,16 +1,3 @@
-pub mod Steps
-pub mod HistoryState
-pub mod Meta
-pub mod Search
-pub mod Machine
-pub mod History
-pub mod Allowed
-pub mod World
-pub mod Refusals
-pub mod Answers
-pub mod Claims
-pub mod Next
-pub mod Good
 pub mod Gives
 pub mod Kept
 pub mod BaseFiles

@@ -1,15 +1,12 @@
-//! The machine that the file system is: its steps, what they are answered, and its history.
+//! What a history accepted for a slot, beside the history and its steps, which `nofs_machine` defines.
 //!
-//! Promise: a history grows by whole entries and forgets none.
+//! Promise: the list is that of the definition, entry by entry.
 #![tactic(auto)]
 
 mod accepted;
-mod history;
-mod replies;
-mod steps;
 
 pub use accepted::accepted_of;
-pub use history::{Claims, Entry1, History};
-pub use nofs_inode::inode::FileKind;
-pub use replies::{Found, NameLine, NameList, Refusal, Reply, Stat};
-pub use steps::{ElementKind, Step, Steps};
+pub use nofs_machine::{
+    Claims, ElementKind, Entry1, FileKind, Found, History, NameLine, NameList, Refusal, Reply,
+    Stat, Step, Steps,
+};

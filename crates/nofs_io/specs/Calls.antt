@@ -20,12 +20,12 @@ pub record SinkState : Type 0 where
   pub faults : ℕ
 
 -- a count that is kept in 64 bits one higher; at its last value it stays
-abbrev pub raised : ℕ → ℕ
-raised count = min (count + 1) (2 ^ 64 - 1)
+abbrev pub raised_count : ℕ → ℕ
+raised_count count = min (count + 1) (2 ^ 64 - 1)
 
 -- a count that is kept in 64 bits has risen, or stands at its last value
 abbrev pub Rose : ℕ → ℕ → Type 0
-Rose before now = raised before ≤ now
+Rose before now = raised_count before ≤ now
 
 -- the count of faults never falls, and a call fails only where it rose
 pub record HasCause {T E : Type 0} (before now : ℕ) (result : Result T E) : Type 0 where

@@ -3,7 +3,7 @@
 //! Promise: a call fails exactly where its number is among those given at the start, or where a
 //! sink without room left is given a piece that is not empty. It then takes and appends nothing.
 ghost use Rattle.std.specs.Prelude.{◌≡◌, ◌+◌, ◌-◌, ◌<◌, ◌≤◌, ◌↔◌, ◌⊎◌, min, length, drop, Contains, [], IfOk, IsErr, OnErr, OnOk};
-ghost use Rattle.nofs_io.specs.Calls.{Gives, SinkState, SourceState, Takes, raised};
+ghost use Rattle.nofs_io.specs.Calls.{Gives, SinkState, SourceState, Takes, raised_count};
 ghost use Rattle.nofs_io.specs.Memory.{MemSinkState, MemSourceState, sink_of, source_of};
 
 use crate::traits::{Failed, Sink, Source};
@@ -53,10 +53,10 @@ impl Source for MemSource {
     /// Takes as many bytes as there are left, up to the piece and to what `into` has room for.
     fn take(&mut self, into: &mut [u8]) -> Result<usize, Failed>
         ensures takes { Takes (source_of self.old) (source_of self.new) result into.new }
-        ensures number { self.new.calls ≡ raised self.old.calls }
+        ensures number { self.new.calls ≡ raised_count self.old.calls }
         ensures fails { IsErr result ↔ Contains self.old.fails self.new.calls }
         ensures most { IfOk result (λ count. count ≡ min (min self.old.piece (length into.old)) (length self.old.left)) }
-        ensures counts { OnErr result (self.new.faults ≡ raised self.old.faults) }
+        ensures counts { OnErr result (self.new.faults ≡ raised_count self.old.faults) }
         ensures counts_faults_alone { OnOk result (self.new.faults ≡ self.old.faults) }
         ensures stays { (self.new.piece ≡ self.old.piece) × (self.new.fails ≡ self.old.fails) }
     {
@@ -123,10 +123,10 @@ impl Sink for MemSink {
     /// Appends as much of the piece as there is room for. It takes no memory.
     fn give(&mut self, piece: &[u8]) -> Result<usize, Failed>
         ensures gives { Gives (sink_of self.old) (sink_of self.new) result piece.now }
-        ensures number { self.new.calls ≡ raised self.old.calls }
+        ensures number { self.new.calls ≡ raised_count self.old.calls }
         ensures fails { IsErr result ↔ (Contains self.old.fails self.new.calls ⊎ ((self.old.room ≡ 0) × (0 < length piece.now))) }
         ensures most { IfOk result (λ count. (count ≡ min self.old.room (length piece.now)) × (self.new.room + count ≡ self.old.room)) }
-        ensures counts { OnErr result ((self.new.faults ≡ raised self.old.faults) × (self.new.room ≡ self.old.room)) }
+        ensures counts { OnErr result ((self.new.faults ≡ raised_count self.old.faults) × (self.new.room ≡ self.old.room)) }
         ensures counts_faults_alone { OnOk result (self.new.faults ≡ self.old.faults) }
         ensures stays { self.new.fails ≡ self.old.fails }
     {

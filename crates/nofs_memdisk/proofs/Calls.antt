@@ -112,6 +112,7 @@ writes_ok start base calls s t f block cell low room = record {
   others = λ b other. within_others base calls block b cell true other;
   during = within_during start base calls block cell true;
   cause = tt;
+  no_fault = refl;
   dirty = λ b other. (λ has. has, λ has. has);
   held = not_held _;
 }
@@ -130,6 +131,7 @@ writes_err start base calls s t f g block cell taken failed low room later rose 
   others = λ b other. within_others base calls block b cell taken other;
   during = within_during start base calls block cell taken;
   cause = rose;
+  no_fault = tt;
   dirty = λ b other. (λ has. has, λ has. has);
   held = not_held _;
 }
@@ -163,6 +165,7 @@ flushes_ok start base calls s t f room =
       dirty = λ b has. has;
       during = λ image left. picks_in (length base) (held_after base calls).may image (during_flush start base calls true image left);
       cause = tt;
+      no_fault = refl;
     }
   where
     half : (start k : ℕ) → (start + 2 * k - start) / 2 ≡ k
@@ -195,4 +198,5 @@ flushes_err start base calls s t f g failed room later rose =
       dirty = λ b has. has;
       during = λ image left. picks_in (length base) (held_after base calls).may image (during_flush start base calls false image left);
       cause = rose;
+      no_fault = tt;
     }

@@ -7,7 +7,7 @@ use Rattle.nofs_memdisk.specs.declared.call.Call.{Call}
 use Rattle.nofs_memdisk.specs.declared.call.Call.TheVariants.{Write, Flush}
 use Rattle.nofs_memdisk.specs.Memory.{held_after}
 use Rattle.nofs_memdisk.specs.declared.call.CallKind.TheVariants as kind
-use Rattle.nofs_memdisk.specs.Faults.{counted, fault_of, next}
+use Rattle.nofs_memdisk.specs.Faults.{faults_after_call, fault_of, next}
 use Rattle.nofs_memdisk.specs.Parts.{Parts, has_flushed, has_written}
 use Rattle.nofs_memdisk.proofs.Held.{after_none}
 
@@ -22,25 +22,25 @@ next-rises f g low is = (omega arith, omega arith, omega arith)
 
 pub made_write : (d : Parts) (block : ℕ) (cell : Cell) (calls : List Call) (spare writes faults : ℕ) → spare ≡ d.spare - 1 → writes ≡ next d.writes
     → calls ≡ d.calls ++ Write block cell (unwrap_or (fault_of d.fails kind.Write writes) true) ∷ []
-    → faults ≡ counted (fault_of d.fails kind.Write writes) d.faults → record d { calls = calls; spare = spare; writes = writes; faults = faults } ≡ has_written d block cell
+    → faults ≡ faults_after_call (fault_of d.fails kind.Write writes) d.faults → record d { calls = calls; spare = spare; writes = writes; faults = faults } ≡ has_written d block cell
 made_write d block cell calls spare writes faults s w c f =
     let l = c ∙ ap (λ n. d.calls ++ Write block cell (unwrap_or (fault_of d.fails kind.Write n) true) ∷ []) w in
-    let g = f ∙ ap (λ n. counted (fault_of d.fails kind.Write n) d.faults) w in
+    let g = f ∙ ap (λ n. faults_after_call (fault_of d.fails kind.Write n) d.faults) w in
     λ i. record d { calls = l i; spare = s i; writes = w i; faults = g i }
 
 pub made_flush : (d : Parts) (calls : List Call) (spare flushes faults : ℕ) → spare ≡ d.spare - 1 → flushes ≡ next d.flushes
     → calls ≡ d.calls ++ Flush (is_none (fault_of d.fails kind.Flush flushes)) ∷ []
-    → faults ≡ counted (fault_of d.fails kind.Flush flushes) d.faults → record d { calls = calls; spare = spare; flushes = flushes; faults = faults } ≡ has_flushed d
+    → faults ≡ faults_after_call (fault_of d.fails kind.Flush flushes) d.faults → record d { calls = calls; spare = spare; flushes = flushes; faults = faults } ≡ has_flushed d
 made_flush d calls spare flushes faults s w c f =
     let l = c ∙ ap (λ n. d.calls ++ Flush (is_none (fault_of d.fails kind.Flush n)) ∷ []) w in
-    let g = f ∙ ap (λ n. counted (fault_of d.fails kind.Flush n) d.faults) w in
+    let g = f ∙ ap (λ n. faults_after_call (fault_of d.fails kind.Flush n) d.faults) w in
     λ i. record d { calls = l i; spare = s i; flushes = w i; faults = g i }
 
 -- the count of faults after a call that fails, and after one that does not
-pub counted_some : (fault : Option Bool) (faults : ℕ) → is_some fault ≡ true → counted fault faults ≡ next faults
+pub counted_some : (fault : Option Bool) (faults : ℕ) → is_some fault ≡ true → faults_after_call fault faults ≡ next faults
 counted_some fault faults e = rw e refl
 
-pub counted_none : (fault : Option Bool) (faults : ℕ) → is_some fault ≡ false → counted fault faults ≡ faults
+pub counted_none : (fault : Option Bool) (faults : ℕ) → is_some fault ≡ false → faults_after_call fault faults ≡ faults
 counted_none fault faults e = rw e refl
 
 -- a fault that there is not, and one that there is

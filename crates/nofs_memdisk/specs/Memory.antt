@@ -105,7 +105,7 @@ pub record IsSearch (held : Held) (block version : ℕ) (search : Search) : Type
   pub found : block < length held.now → version < search.count → search.found ≡ slice_index_or (held.may block) version no_cell
 
 -- a pick of a block that is there, and of a cell that it may hold
-pub record IsPick (disk : DiskState) (pick : Pick) : Type 0 where
+pub record PicksVersions (disk : DiskState) (pick : Pick) : Type 0 where
   pub block : pick.block < disk.blocks
   pub version : pick.version < length (disk.may pick.block)
 

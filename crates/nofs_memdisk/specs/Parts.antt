@@ -7,7 +7,7 @@ use Rattle.nofs_memdisk.specs.declared.call.Call.TheVariants.{Write, Flush}
 use Rattle.nofs_memdisk.specs.declared.call.CallKind.TheVariants as kind
 use Rattle.nofs_memdisk.specs.declared.call.FaultAt.{FaultAt}
 use Rattle.nofs_memdisk.specs.declared.memory.MemDisk.{MemDisk}
-use Rattle.nofs_memdisk.specs.Faults.{counted, fault_of, next}
+use Rattle.nofs_memdisk.specs.Faults.{faults_after_call, fault_of, next}
 use Rattle.nofs_memdisk.specs.Memory.{held_after, state_of}
 
 -- what contracts of every disk see of it
@@ -37,8 +37,8 @@ abbrev pub parts_of : MemDisk → Parts
 parts_of d = record { start = d.start; base = d.base.items; calls = d.calls.items; spare = d.spare; faults = d.faults; fails = d.fails.items; reads = d.reads; writes = d.writes; flushes = d.flushes }
 
 -- a disk that holds these cells as flushed content, at moment 0, that has had no calls, none of which is to fail
-abbrev pub fresh : List Cell → Parts
-fresh cells = record { start = 0; base = cells; calls = []; spare = 0; faults = 0; fails = []; reads = 0; writes = 0; flushes = 0 }
+abbrev pub fresh_parts : List Cell → Parts
+fresh_parts cells = record { start = 0; base = cells; calls = []; spare = 0; faults = 0; fails = []; reads = 0; writes = 0; flushes = 0 }
 
 -- a cell was laid down as flushed content
 abbrev pub laid : Parts → ℕ → Cell → Parts
@@ -54,14 +54,22 @@ write_fault d = fault_of d.fails kind.Write (next d.writes)
 abbrev pub flush_fault : Parts → Option Bool
 flush_fault d = fault_of d.fails kind.Flush (next d.flushes)
 
+-- room was made for so many calls
+abbrev pub made_ready : Parts → ℕ → Parts
+made_ready d spare = record d { spare = spare }
+
+-- a write-out was made, of which there is never one to do
+abbrev pub has_written_out : Parts → Parts
+has_written_out d = record d { spare = d.spare - 1 }
+
 -- a read was made
 abbrev pub has_read : Parts → Parts
-has_read d = record d { reads = next d.reads; faults = counted (read_fault d) d.faults }
+has_read d = record d { reads = next d.reads; faults = faults_after_call (read_fault d) d.faults }
 
 -- a write was made: it is taken but where it fails and was named as not taken
 abbrev pub has_written : Parts → ℕ → Cell → Parts
-has_written d block cell = record d { calls = d.calls ++ Write block cell (unwrap_or (write_fault d) true) ∷ []; spare = d.spare - 1; writes = next d.writes; faults = counted (write_fault d) d.faults }
+has_written d block cell = record d { calls = d.calls ++ Write block cell (unwrap_or (write_fault d) true) ∷ []; spare = d.spare - 1; writes = next d.writes; faults = faults_after_call (write_fault d) d.faults }
 
 -- a flush was made: it settles all but where it fails
 abbrev pub has_flushed : Parts → Parts
-has_flushed d = record d { calls = d.calls ++ Flush (is_none (flush_fault d)) ∷ []; spare = d.spare - 1; flushes = next d.flushes; faults = counted (flush_fault d) d.faults }
+has_flushed d = record d { calls = d.calls ++ Flush (is_none (flush_fault d)) ∷ []; spare = d.spare - 1; flushes = next d.flushes; faults = faults_after_call (flush_fault d) d.faults }

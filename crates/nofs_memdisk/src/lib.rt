@@ -1,7 +1,8 @@
-//! A disk in memory, for tests: it says all that a crash may leave, and fails the calls it is told.
+//! A disk in memory: it says all that a crash may leave, and fails the calls that it is told to.
 //!
-//! Promise: a call fails exactly where `fail_at` named its kind and number, and a crash may leave
-//! every image that takes for each block one of the cells that it may hold, and no other.
+//! Promise: a read, a write and a flush fail exactly where `fail_at` named their kind and number,
+//! `ready` and write-outs touch neither the counts nor what was named, and a crash may leave every
+//! image that takes for each block one of the cells that it may hold, and no other.
 #![tactic(auto)]
 
 mod call;

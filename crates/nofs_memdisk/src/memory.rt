@@ -4,10 +4,10 @@
 //! Promise: it is a disk that tells all, each of its calls changes it exactly as its kind says, and
 //! it leaves at a crash exactly the images that pick.
 ghost use Rattle.std.specs.Prelude.{◌≡◌, ◌+◌, ◌*◌, ◌^◌, ◌<◌, ◌≤◌, ◌↔◌, [], ◌∷◌, ◌++◌, ◌-◌, List, length, slice_index_or, All, OnOk, OnErr, IsErr, IsSome, IfOk, vec_capacity, replicate};
-ghost use Rattle.nofs_disk.specs.Disk.{no_cell, Flushes, IsSettled, IsSizedCell, Picks, Reads, Writes};
+ghost use Rattle.nofs_disk.specs.Disk.{no_cell, Flushes, IsSettled, IsSizedCell, MakesReady, Picks, Reads, Writes, WritesOut};
 ghost use Rattle.nofs_disk.specs.Tag.{zero_cell};
 ghost use Rattle.nofs_disk.specs.declared.tag.Cell.{Cell};
-ghost use Rattle.nofs_memdisk.specs.Memory.{IsPick, held_after, picked};
+ghost use Rattle.nofs_memdisk.specs.Memory.{PicksVersions, held_after, picked};
 ghost use Rattle.nofs_memdisk.specs.MemoryLaws.{AreSized};
 
 use crate::call::{Call, CallCounts, CallKind, FaultAt, Pick, fault_at};
@@ -45,12 +45,12 @@ pub struct MemDisk {
 }
 
 impl MemDisk {
-    ghost use Rattle.nofs_memdisk.specs.Parts.{fresh, laid, memory_state, parts_of};
+    ghost use Rattle.nofs_memdisk.specs.Parts.{fresh_parts, laid, memory_state, parts_of};
 
     /// A disk of this many cells of zeros, at moment 0.
     #[tactic(auto, unfolding(crate::specs::Memory::held_after))]
     pub fn new(alloc: Global, blocks: u64) -> Result<MemDisk, AllocError>
-        ensures parts { IfOk result (λ disk. parts_of disk ≡ fresh (replicate blocks zero_cell)) }
+        ensures parts { IfOk result (λ disk. parts_of disk ≡ fresh_parts (replicate blocks zero_cell)) }
         ensures settled { IfOk result (λ disk. IsSettled (memory_state disk)) }
     {
         let base = vec![in alloc; Cell::ZERO; blocks as usize]?;
@@ -61,7 +61,7 @@ impl MemDisk {
     #[tactic(auto, unfolding(crate::specs::Memory::held_after))]
     fn of(alloc: Global, base: Vec<Cell>) -> Result<MemDisk, AllocError>
         requires { AreSized (length base.items) (held_after base.items []).may }
-        ensures parts { IfOk result (λ disk. parts_of disk ≡ fresh base.items) }
+        ensures parts { IfOk result (λ disk. parts_of disk ≡ fresh_parts base.items) }
         ensures settled { IfOk result (λ disk. IsSettled (memory_state disk)) }
     {
         let cells = base.to_vec(alloc)?;
@@ -151,8 +151,8 @@ impl MemDisk {
     /// counts, and a block that is not named takes its last cell. All its cells are flushed.
     #[tactic(auto, unfolding(crate::specs::Memory::held_after))]
     pub fn image(&self, alloc: Global, picks: &[Pick]) -> Result<MemDisk, AllocError>
-        requires { All (IsPick (memory_state self.now)) picks.now }
-        ensures parts { IfOk result (λ disk. parts_of disk ≡ fresh (picked (memory_state self.now).may (memory_state self.now).now picks.now)) }
+        requires { All (PicksVersions (memory_state self.now)) picks.now }
+        ensures parts { IfOk result (λ disk. parts_of disk ≡ fresh_parts (picked (memory_state self.now).may (memory_state self.now).now picks.now)) }
         ensures settled { IfOk result (λ disk. IsSettled (memory_state disk)) }
     {
         let mut base = self.cells.to_vec(alloc)?;
@@ -177,7 +177,7 @@ impl MemDisk {
 }
 
 impl Disk for MemDisk {
-    ghost use Rattle.nofs_memdisk.specs.Parts.{flush_fault, has_flushed, has_read, has_written, memory_state, parts_of, read_fault, write_fault};
+    ghost use Rattle.nofs_memdisk.specs.Parts.{flush_fault, has_flushed, has_read, has_written, has_written_out, made_ready, memory_state, parts_of, read_fault, write_fault};
     ghost use Rattle.nofs_memdisk.specs.MemoryLaws.{state_of-is};
 
     ghost state = { memory_state };
@@ -192,7 +192,10 @@ impl Disk for MemDisk {
         self.start + 2 * self.calls.len() as u64
     }
 
-    fn ready(&mut self, calls: u64) -> Result<(), AllocError> {
+    fn ready(&mut self, calls: u64) -> Result<(), AllocError>
+        ensures does { MakesReady (memory_state self.old) (memory_state self.new) calls result }
+        ensures made { parts_of self.new ≡ made_ready (parts_of self.old) (parts_of self.new).spare }
+    {
         if calls <= self.spare {
             return Ok(());
         }
@@ -267,7 +270,11 @@ impl Disk for MemDisk {
         }
     }
 
-    fn write_out(&mut self) -> Result<Option<u64>, Failed> {
+    fn write_out(&mut self) -> Result<Option<u64>, Failed>
+        requires { 1 ≤ (memory_state self.old).spare }
+        ensures does { WritesOut (memory_state self.old) (memory_state self.new) result }
+        ensures made { parts_of self.new ≡ has_written_out (parts_of self.old) }
+    {
         self.spare -= 1;
         Ok(None)
     }

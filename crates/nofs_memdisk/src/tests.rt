@@ -1,6 +1,6 @@
 //! Disks in memory: what their calls do, fail and count, and the images that a crash leaves.
 ghost use Rattle.std.specs.Prelude.{◌↔◌, IsTrue};
-ghost use Rattle.nofs_memdisk.specs.Memory.{IsPick};
+ghost use Rattle.nofs_memdisk.specs.Memory.{PicksVersions};
 ghost use Rattle.nofs_memdisk.specs.Parts.{memory_state};
 
 use super::*;
@@ -47,7 +47,7 @@ fn choices_of(disk: &MemDisk, block: u64) -> u64 {
 }
 
 fn is_pick(disk: &MemDisk, pick: Pick) -> bool
-    ensures { IsTrue result ↔ IsPick (memory_state disk.now) pick }
+    ensures { IsTrue result ↔ PicksVersions (memory_state disk.now) pick }
 {
     pick.block < disk.blocks() && pick.version < disk.choices(pick.block)
 }

@@ -8,10 +8,10 @@ use Rattle.nofs_disk.specs.declared.tag.Cell.{Cell}
 use Rattle.nofs_disk.specs.Chains.{IsSameDisk-trans, KeepsPast-trans, StaysButFaults-refl, StaysButFaults-trans}
 use Rattle.nofs_disk.specs.Disk.{DiskState, Flushes, IsDisk, IsSettled, StaysButFaults, cell_at, no_cell}
 use Rattle.nofs_mirror.specs.declared.mirror.Opening.{Opening}
-use Rattle.nofs_mirror.specs.declared.past.Call.{Call}
+use Rattle.nofs_mirror.specs.declared.past.MirrorCall.{MirrorCall}
 use Rattle.nofs_mirror.specs.declared.past.Span.{Span}
 use Rattle.nofs_mirror.specs.Copying.{Copies, HasCopied}
-use Rattle.nofs_mirror.specs.Laws.{IsKept}
+use Rattle.nofs_mirror.specs.Laws.{MirrorKeeps}
 use Rattle.nofs_mirror.specs.Mirror.{IsSide}
 
 pub Copies-trans : (a b c x y z : DiskState) → Copies a b x y → Copies b c y z → Copies a c x z
@@ -33,9 +33,9 @@ copied_more a b y z k stays step has c lead_tells other_tells low =
     step k (λ d lead_t other_t inside. has d (sym tells ∙ lead_t) other_t inside ∙ sym (now d)) refl c (tells ∙ lead_tells) other_tells low ∙ now c
 
 -- a side at the opening
-pub side_begins : (n s : ℕ) (side : Call → Span) (opened : Span) (past : List Call) (disk : DiskState) → n ≤ disk.blocks → s ≡ 0 → past ≡ [] → opened.ended ≡ disk.moment → IsSide n s side opened past disk
+pub side_begins : (n s : ℕ) (side : MirrorCall → Span) (opened : Span) (past : List MirrorCall) (disk : DiskState) → n ≤ disk.blocks → s ≡ 0 → past ≡ [] → opened.ended ≡ disk.moment → IsSide n s side opened past disk
 side_begins n s side opened past disk fits none begins ends =
-    let F : List Call → Type 0 = λ l. IsSide n s side opened l disk in
+    let F : List MirrorCall → Type 0 = λ l. IsSide n s side opened l disk in
     subst F (sym begins) (record {
       fits = fits;
       room = omega arith;
@@ -84,10 +84,10 @@ copy_covers n lead other may is_lead lead_fits other_fits lead_tells other_tells
     subst F (sym is) (subst G (sym same) (is_lead.has_now b lead_tells (omega arith)))
 
 -- what is kept of a mirror that begins
-pub kept_begins : (lead other first : DiskState) (opening : Opening) (past : List Call) → IsDisk lead → IsDisk other → opening.blocks ≤ lead.blocks → opening.blocks ≤ other.blocks → StaysButFaults first lead → past ≡ []
-    → IsTrue opening.lead.is_in → (IsTrue opening.other.is_in → HasCopied lead other opening.blocks × IsSettled other) → ∥ IsKept lead other first opening past ∥₁
+pub kept_begins : (lead other first : DiskState) (opening : Opening) (past : List MirrorCall) → IsDisk lead → IsDisk other → opening.blocks ≤ lead.blocks → opening.blocks ≤ other.blocks → StaysButFaults first lead → past ≡ []
+    → IsTrue opening.lead.is_in → (IsTrue opening.other.is_in → HasCopied lead other opening.blocks × IsSettled other) → ∥ MirrorKeeps lead other first opening past ∥₁
 kept_begins lead other first opening past is_lead is_other lead_fits other_fits stays begins lead_in copied =
-    let F : List Call → Type 0 = λ l. ∥ IsKept lead other first opening l ∥₁ in
+    let F : List MirrorCall → Type 0 = λ l. ∥ MirrorKeeps lead other first opening l ∥₁ in
     subst F (sym begins) (∣ kept ∣₁)
   where
     n : ℕ
@@ -99,7 +99,7 @@ kept_begins lead other first opening past is_lead is_other lead_fits other_fits 
     now_is : take n lead.now ≡ take n (cond opening.lead.is_in lead.now other.now)
     now_is = let F : Bool → Type 0 = λ x. take n lead.now ≡ take n (cond x lead.now other.now) in subst F (sym lead_in) refl
 
-    kept : IsKept lead other first opening []
+    kept : MirrorKeeps lead other first opening []
     kept t =
         let parts = and_parts lead.tells other.tells t in
         record {

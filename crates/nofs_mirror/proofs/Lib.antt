@@ -8,3 +8,4 @@ pub mod MirrorFlushes
 pub mod FlushCalls
 pub mod MirrorReads
 pub mod Copied
+pub mod MirrorLeaves

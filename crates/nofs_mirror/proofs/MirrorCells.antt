@@ -10,13 +10,13 @@ use Rattle.nofs_disk.specs.declared.Failed.{Failed}
 use Rattle.nofs_disk.specs.Cells.{same_cell, same_cell-refl, same_cell-true}
 use Rattle.nofs_disk.specs.Disk.{DiskState, Flushes, IsDisk, IsSameDisk, KeepsPast, Picks, StaysButFaults, Writes, cell_at, no_cell}
 use Rattle.nofs_disk.specs.Moments.{AtEach, AtEach-flushes, AtEach-writes}
-use Rattle.nofs_mirror.specs.declared.asking.Answer.{Answer}
-use Rattle.nofs_mirror.specs.declared.asking.Answer.TheVariants.{Out, Done, Fault}
-use Rattle.nofs_mirror.specs.declared.past.Call.{Call}
+use Rattle.nofs_mirror.specs.declared.asking.SideAnswer.{SideAnswer}
+use Rattle.nofs_mirror.specs.declared.asking.SideAnswer.TheVariants.{Out, Done, Fault}
+use Rattle.nofs_mirror.specs.declared.past.MirrorCall.{MirrorCall}
 use Rattle.nofs_mirror.specs.declared.past.Span.{Span}
 use Rattle.nofs_mirror.specs.Asking.{SideFlushes, SideWrites, is_asked, lead_stays, other_stays}
 use Rattle.nofs_mirror.specs.Laws.{first_picks}
-use Rattle.nofs_mirror.specs.Mirror.{IsMirrored, IsSide, LeftBy, told}
+use Rattle.nofs_mirror.specs.Mirror.{IsMirrored, IsSide, LeftBy, if_told}
 use Rattle.nofs_mirror.proofs.SidePast.{marked_later, marked_more}
 
 -- facts that are known to have a proof
@@ -34,7 +34,7 @@ abbrev pub Covers : ℕ → (ℕ → List Cell) → (ℕ → List Cell) → Type
 Covers n may under = (b : ℕ) (c : Cell) → b < n → Contains (under b) c → Contains (may b) c
 
 -- what is told of cells that there are
-pub told_put : (t : Bool) (xs : List Cell) (c : Cell) → IsTrue t → Contains xs c → Contains (told t xs) c
+pub told_put : (t : Bool) (xs : List Cell) (c : Cell) → IsTrue t → Contains xs c → Contains (if_told t xs) c
 told_put true xs c e has = has
 told_put false xs c e has = cc
 
@@ -68,18 +68,18 @@ writes_goes old new b c w = record { disk = w.disk; past = w.past; later = (let 
 flushes_goes : (old new : DiskState) {result : Result (Unit {0}) Failed} → Flushes old new result → SideGoes old new
 flushes_goes old new f = record { disk = f.disk; past = f.past; later = (let e = f.moment in omega arith); spare = (let e = f.spare in omega arith) }
 
-pub write_goes : (x : Answer) (old new : DiskState) (b : ℕ) (c : Cell) → SideWrites old new b c x → SideGoes old new
+pub write_goes : (x : SideAnswer) (old new : DiskState) (b : ℕ) (c : Cell) → SideWrites old new b c x → SideGoes old new
 write_goes Out old new b c w = stays_goes old new w
 write_goes Done old new b c w = writes_goes old new b c w
 write_goes Fault old new b c w = writes_goes old new b c w.1
 
-pub flush_goes : (x : Answer) (old new : DiskState) → SideFlushes old new x → SideGoes old new
+pub flush_goes : (x : SideAnswer) (old new : DiskState) → SideFlushes old new x → SideGoes old new
 flush_goes Out old new f = stays_goes old new f
 flush_goes Done old new f = flushes_goes old new f
 flush_goes Fault old new f = flushes_goes old new f.1
 
 -- a side after a write or flush
-pub side_goes : (n s t : ℕ) (side : Call → Span) (opened : Span) (past : List Call) (call : Call) (old new : DiskState) → SideGoes old new → (side call).began ≡ old.moment → (side call).ended ≡ new.moment → t + 1 ≡ s
+pub side_goes : (n s t : ℕ) (side : MirrorCall → Span) (opened : Span) (past : List MirrorCall) (call : MirrorCall) (old new : DiskState) → SideGoes old new → (side call).began ≡ old.moment → (side call).ended ≡ new.moment → t + 1 ≡ s
     → IsSide n s side opened past old → IsSide n t side opened (call ∷ past) new
 side_goes n s t side opened past call old new g began ended room is =
     let later = g.later in
@@ -131,12 +131,12 @@ side_during n may old new is_in from to image begins ends leaves left =
     subst G (sym left.first) (leaves left.in_then left.at left.whole (omega arith) (omega arith) left.left)
 
 -- a side that stays in was called
-pub lead_stays-asked : (a o : Answer) → IsTrue (lead_stays a o) → IsTrue (is_asked a)
+pub lead_stays-asked : (a o : SideAnswer) → IsTrue (lead_stays a o) → IsTrue (is_asked a)
 lead_stays-asked Out o e = cc
 lead_stays-asked Done o e = refl
 lead_stays-asked Fault o e = refl
 
-pub other_stays-asked : (a o : Answer) → IsTrue (other_stays a o) → IsTrue (is_asked o)
+pub other_stays-asked : (a o : SideAnswer) → IsTrue (other_stays a o) → IsTrue (is_asked o)
 other_stays-asked Out o e = e
 other_stays-asked Done Out e = cc
 other_stays-asked Done Done e = refl
@@ -155,7 +155,7 @@ on_err (Ok u) P p = tt
 on_err (Err f) P p = p refl
 
 -- one side stays in
-pub some_stays : (a o : Answer) (x y : Bool) → is_asked a ≡ x → is_asked o ≡ y → IsTrue (x || y) → IsTrue (lead_stays a o || other_stays a o)
+pub some_stays : (a o : SideAnswer) (x y : Bool) → is_asked a ≡ x → is_asked o ≡ y → IsTrue (x || y) → IsTrue (lead_stays a o || other_stays a o)
 some_stays Done o x y p q some = refl
 some_stays Fault Done x y p q some = refl
 some_stays Fault Out x y p q some = refl

@@ -8,8 +8,8 @@ use Rattle.std.specs.declared.snapshot.Snapshot.{Snapshot}
 use Rattle.nofs_disk.specs.declared.Failed.{Failed}
 use Rattle.nofs_disk.specs.declared.tag.Cell.{Cell}
 use Rattle.nofs_disk.specs.Disk.{DiskState, IsDisk, IsSizedCell, Writes}
-use Rattle.nofs_mirror.specs.declared.asking.Answer.{Answer}
-use Rattle.nofs_mirror.specs.declared.asking.Answer.TheVariants.{Out, Done, Fault}
+use Rattle.nofs_mirror.specs.declared.asking.SideAnswer.{SideAnswer}
+use Rattle.nofs_mirror.specs.declared.asking.SideAnswer.TheVariants.{Out, Done, Fault}
 use Rattle.nofs_mirror.specs.declared.past.Effect.TheVariants.{Write}
 use Rattle.nofs_mirror.specs.Asking.{SideWrites, any_done, is_asked, lead_stays, other_stays}
 use Rattle.nofs_mirror.specs.Mirror.{IsMirrored, IsWithin, may_step, now_of}
@@ -71,12 +71,12 @@ writes_covers n x may old new b snap w covers k c low has = elim (cases_eq k b) 
   | inr other ↦ let F : List Cell → Type 0 = λ l. Contains l c in written_grows n x may b k snap c (covers k c low (subst F (w.others k other) has))
 ]
 
-side_covers : (a : Answer) (n : ℕ) (x : List Cell) (may : ℕ → List Cell) (old new : DiskState) (b : ℕ) (snap : Snapshot Cell) → IsTrue (is_asked a) → SideWrites old new b snap.value a → Covers n may old.may → Covers n (written n x may b snap) new.may
+side_covers : (a : SideAnswer) (n : ℕ) (x : List Cell) (may : ℕ → List Cell) (old new : DiskState) (b : ℕ) (snap : Snapshot Cell) → IsTrue (is_asked a) → SideWrites old new b snap.value a → Covers n may old.may → Covers n (written n x may b snap) new.may
 side_covers Out n x may old new b snap e w covers = cc
 side_covers Done n x may old new b snap e w covers = writes_covers n x may old new b snap w covers
 side_covers Fault n x may old new b snap e w covers = writes_covers n x may old new b snap w.1 covers
 
-pub side_leaves : (a : Answer) (n : ℕ) (x : List Cell) (may : ℕ → List Cell) (old new : DiskState) (b : ℕ) (snap : Snapshot Cell) → IsTrue (is_asked a) → IsDisk old → IsDisk new → n ≤ old.blocks → SideWrites old new b snap.value a → Covers n may old.may
+pub side_leaves : (a : SideAnswer) (n : ℕ) (x : List Cell) (may : ℕ → List Cell) (old new : DiskState) (b : ℕ) (snap : Snapshot Cell) → IsTrue (is_asked a) → IsDisk old → IsDisk new → n ≤ old.blocks → SideWrites old new b snap.value a → Covers n may old.may
     → LeavesFirst n (written n x may b snap) old new
 side_leaves Out n x may old new b snap e is_old is_new fits w covers = cc
 side_leaves Done n x may old new b snap e is_old is_new fits w covers = write_leaves n (written n x may b snap) old new b snap.value is_old is_new fits w (before_covers n x may old.may b snap covers) (writes_covers n x may old new b snap w covers)
@@ -88,7 +88,7 @@ set_now : (n b : ℕ) (c : Cell) (old new : DiskState) → b < n → Writes old 
 set_now n b c old new low w = ap (take n) w.ok ∙ take-set-lt n old.now b c low
 
 -- those of a mirror, where a side succeeded
-pub write_ok : (a o : Answer) (n b : ℕ) (c : Cell) (lead lead_new other other_new : DiskState) → b < n → SideWrites lead lead_new b c a → SideWrites other other_new b c o → (IsTrue (is_asked a) → IsTrue (is_asked o) → take n other.now ≡ take n lead.now)
+pub write_ok : (a o : SideAnswer) (n b : ℕ) (c : Cell) (lead lead_new other other_new : DiskState) → b < n → SideWrites lead lead_new b c a → SideWrites other other_new b c o → (IsTrue (is_asked a) → IsTrue (is_asked o) → take n other.now ≡ take n lead.now)
     → any_done a o ≡ true → now_of (lead_stays a o) n lead_new.now other_new.now ≡ set (now_of (is_asked a) n lead.now other.now) b c
 write_ok Done o n b c lead lead_new other other_new low w v same done = set_now n b c lead lead_new low w
 write_ok Fault Done n b c lead lead_new other other_new low w v same done = set_now n b c other other_new low v ∙ ap (λ l. set l b c) (same refl refl)
@@ -103,7 +103,7 @@ either_now : (n b : ℕ) (c : Cell) (old new : DiskState) {f : Failed} → b < n
 either_now n b c old new low w = elim w.err [ inl stays ↦ inl (ap (take n) stays) | inr put ↦ inr (ap (take n) put ∙ take-set-lt n old.now b c low) ]
 
 -- those of a mirror, where no side succeeded
-pub write_err : (a o : Answer) (n b : ℕ) (c : Cell) (lead lead_new other other_new : DiskState) → b < n → SideWrites lead lead_new b c a → SideWrites other other_new b c o → any_done a o ≡ false
+pub write_err : (a o : SideAnswer) (n b : ℕ) (c : Cell) (lead lead_new other other_new : DiskState) → b < n → SideWrites lead lead_new b c a → SideWrites other other_new b c o → any_done a o ≡ false
     → (now_of (lead_stays a o) n lead_new.now other_new.now ≡ now_of (is_asked a) n lead.now other.now) ⊎ (now_of (lead_stays a o) n lead_new.now other_new.now ≡ set (now_of (is_asked a) n lead.now other.now) b c)
 write_err Done o n b c lead lead_new other other_new low w v done = cc
 write_err Fault Done n b c lead lead_new other other_new low w v done = cc
@@ -119,7 +119,7 @@ lead_now true n x y e = refl
 lead_now false n x y e = cc
 
 -- and so has the other
-other_now : (a o : Answer) (n b : ℕ) (c : Cell) (lead lead_new other other_new : DiskState) → b < n → SideWrites lead lead_new b c a → SideWrites other other_new b c o → (IsTrue (is_asked a) → IsTrue (is_asked o) → take n other.now ≡ take n lead.now)
+other_now : (a o : SideAnswer) (n b : ℕ) (c : Cell) (lead lead_new other other_new : DiskState) → b < n → SideWrites lead lead_new b c a → SideWrites other other_new b c o → (IsTrue (is_asked a) → IsTrue (is_asked o) → take n other.now ≡ take n lead.now)
     → IsTrue (other_stays a o) → take n other_new.now ≡ now_of (lead_stays a o) n lead_new.now other_new.now
 other_now Out o n b c lead lead_new other other_new low w v same stays = refl
 other_now Done Out n b c lead lead_new other other_new low w v same stays = cc
@@ -139,7 +139,7 @@ write_within n x may b snap low size w = record {
 }
 
 -- what holds of the cells after a write
-pub write_mirrored : (a o : Answer) (n : ℕ) (x : List Cell) (may : ℕ → List Cell) (b : ℕ) (snap : Snapshot Cell) (lead lead_new other other_new : DiskState) → b < n → IsSizedCell snap.value
+pub write_mirrored : (a o : SideAnswer) (n : ℕ) (x : List Cell) (may : ℕ → List Cell) (b : ℕ) (snap : Snapshot Cell) (lead lead_new other other_new : DiskState) → b < n → IsSizedCell snap.value
     → SideWrites lead lead_new b snap.value a → SideWrites other other_new b snap.value o
     → IsMirrored n may (now_of (is_asked a) n lead.now other.now) (is_asked a) (is_asked o) lead other
     → IsMirrored n (written n x may b snap) (now_of (lead_stays a o) n lead_new.now other_new.now) (lead_stays a o) (other_stays a o) lead_new other_new

@@ -10,33 +10,33 @@ use Rattle.nofs_disk.specs.Cells.{Picks-known}
 use Rattle.nofs_disk.specs.Disk.{DiskState, IsSizedCell, Picks, Writes}
 use Rattle.nofs_mirror.specs.declared.asking.Asked.{Asked}
 use Rattle.nofs_mirror.specs.declared.mirror.Opening.{Opening}
-use Rattle.nofs_mirror.specs.declared.past.Call.{Call}
+use Rattle.nofs_mirror.specs.declared.past.MirrorCall.{MirrorCall}
 use Rattle.nofs_mirror.specs.declared.past.Effect.TheVariants.{Write}
 use Rattle.nofs_mirror.specs.Asking.{SideWrites, any_done, call_of, counted_if, is_asked, lead_stays}
-use Rattle.nofs_mirror.specs.Laws.{IsKept, told-Picks}
-use Rattle.nofs_mirror.specs.Mirror.{IsMirrored, SideLeft, both_tell, flushed_cells, last_span, may_after, mirror_state, now_of, told}
-use Rattle.nofs_mirror.proofs.MirrorCalls.{Called, asked_kept, asked_now, called_goes, may_same, mirror_cause, mirror_disk, told_either, told_goes, told_set}
+use Rattle.nofs_mirror.specs.Laws.{MirrorKeeps, told-Picks}
+use Rattle.nofs_mirror.specs.Mirror.{IsMirrored, SideLeft, both_tell, flushed_cells, last_span, may_after, mirror_state, now_of, if_told}
+use Rattle.nofs_mirror.proofs.MirrorCalls.{Called, asked_kept, asked_now, called_goes, may_same, mirror_cause, mirror_no_fault, mirror_disk, told_either, told_goes, told_set}
 use Rattle.nofs_mirror.proofs.MirrorCells.{on_err, on_ok, side_during}
 use Rattle.nofs_mirror.proofs.MirrorPast.{Goes, past_moves, tells_same, told_same}
 use Rattle.nofs_mirror.proofs.MirrorWrites.{side_leaves, write_err, write_mirrored, write_ok, written, written_cases, written_other}
 use Rattle.nofs_mirror.proofs.SidePast.{left_during}
 
 -- a write asks the sides
-pub record CalledWrite (lead lead_new other other_new first : DiskState) (opening : Opening) (past : List Call) (spare : ℕ) (a o : Asked) (b : ℕ) (snap : Snapshot Cell) : Type 0 where
+pub record CalledWrite (lead lead_new other other_new first : DiskState) (opening : Opening) (past : List MirrorCall) (spare : ℕ) (a o : Asked) (b : ℕ) (snap : Snapshot Cell) : Type 0 where
   pub called : Called lead lead_new other other_new first opening past spare a o
   pub inside : b < opening.blocks
   pub sized : IsSizedCell snap.value
   pub lead_writes : SideWrites lead lead_new b snap.value a.answer
   pub other_writes : SideWrites other other_new b snap.value o.answer
 
-pub write_kept : (lead lead_new other other_new first : DiskState) (opening : Opening) (past : List Call) (s : ℕ) (a o : Asked) (b : ℕ) (snap : Snapshot Cell) → CalledWrite lead lead_new other other_new first opening past s a o b snap
-    → ∥ IsKept lead_new other_new first opening (call_of (Write b snap) a o ∷ past) ∥₁
+pub write_kept : (lead lead_new other other_new first : DiskState) (opening : Opening) (past : List MirrorCall) (s : ℕ) (a o : Asked) (b : ℕ) (snap : Snapshot Cell) → CalledWrite lead lead_new other other_new first opening past s a o b snap
+    → ∥ MirrorKeeps lead_new other_new first opening (call_of (Write b snap) a o ∷ past) ∥₁
 write_kept lead lead_new other other_new first opening past s a o b snap w =
-    let call : Call = call_of (Write b snap) a o in
+    let call : MirrorCall = call_of (Write b snap) a o in
     ∥∥₁_elim (asked_kept lead lead_new other other_new first opening past s a o w.called) ∥∥₁_prop (λ k. ∣ (λ t.
     write_mirrored a.answer o.answer opening.blocks (flushed_cells lead_new.was other_new.was call) (may_after lead_new.was other_new.was opening.blocks first.may past) b snap lead lead_new other other_new w.inside w.sized w.lead_writes w.other_writes (k t)) ∣₁)
 
-pub mirror_writes : (lead lead_new other other_new first : DiskState) (opening : Opening) (past : List Call) (s t e f : ℕ) (a o : Asked) (b : ℕ) (snap : Snapshot Cell) (result : Result (Unit {0}) Failed)
+pub mirror_writes : (lead lead_new other other_new first : DiskState) (opening : Opening) (past : List MirrorCall) (s t e f : ℕ) (a o : Asked) (b : ℕ) (snap : Snapshot Cell) (result : Result (Unit {0}) Failed)
     → CalledWrite lead lead_new other other_new first opening past s a o b snap → t + 1 ≡ s → e < 2 ^ 64 → is_ok result ≡ any_done a.answer o.answer → f ≡ counted_if (any_done a.answer o.answer) e
     → Writes (mirror_state lead other first opening past s e) (mirror_state lead_new other_new first opening (call_of (Write b snap) a o ∷ past) t f) b snap.value result
 mirror_writes lead lead_new other other_new first opening past s t e f a o b snap result w room low is count = record {
@@ -44,18 +44,19 @@ mirror_writes lead lead_new other other_new first opening past s t e f a o b sna
   past = past_moves lead lead_new other other_new first opening past call s t e f g w.called.lead_began w.called.other_began;
   moment = omega arith;
   spare = room;
-  ok = on_ok result _ (λ done. told_set (both_tell lead other) (both_tell lead_new other_new) now now_new b snap.value tells (λ told. ok told (sym is ∙ done)));
+  ok = on_ok result _ (λ done. told_set (both_tell lead other) (both_tell lead_new other_new) now now_new b snap.value tells (λ if_told. ok if_told (sym is ∙ done)));
   err = on_err result _ (λ done. told_either (both_tell lead other) (both_tell lead_new other_new) now now_new b snap.value tells (err (sym is ∙ done)));
   may = λ c has. told_goes (both_tell lead other) (both_tell lead_new other_new) (may b) (written n x may_now b snap b) c (c ≡ snap.value) tells (may_goes c) has;
   others = λ k apart. told_same (both_tell lead other) (both_tell lead_new other_new) (may k) (written n x may_now b snap k) tells (written_other n x may_now b k snap apart ∙ may_same lead lead_new other other_new first opening past g k);
   during = λ image left. told-Picks (both_tell lead_new other_new) (written n x may_now b snap) n image left.0 (Picks-known (written n x may_now b snap) n image
       (∥∥₁_elim (asked_kept lead lead_new other other_new first opening past s a o w.called) ∥∥₁_prop (λ k. ∣ during (k left.0) image left.1 ∣₁)));
   cause = mirror_cause result (any_done a.answer o.answer) e f is count;
+  no_fault = mirror_no_fault result (any_done a.answer o.answer) e f is count;
   dirty = λ k apart. (λ has. has, λ has. has);
   held = λ holds. absurd (false≢true holds);
 }
   where
-    call : Call
+    call : MirrorCall
     call = call_of (Write b snap) a o
 
     n : ℕ
@@ -83,9 +84,9 @@ mirror_writes lead lead_new other other_new first opening past s t e f a o b sna
     now_new = now_of (lead_stays a.answer o.answer) n lead_new.now other_new.now
 
     ok : IsTrue (both_tell lead_new other_new) → any_done a.answer o.answer ≡ true → now_new ≡ set now b snap.value
-    ok told done =
+    ok if_told done =
         let F : Bool → Type 0 = λ y. now_new ≡ set (now_of y n lead.now other.now) b snap.value in
-        subst F w.called.lead_asked (write_ok a.answer o.answer n b snap.value lead lead_new other other_new w.inside w.lead_writes w.other_writes (asked_now lead lead_new other other_new first opening past s a o w.called told) done)
+        subst F w.called.lead_asked (write_ok a.answer o.answer n b snap.value lead lead_new other other_new w.inside w.lead_writes w.other_writes (asked_now lead lead_new other other_new first opening past s a o w.called if_told) done)
 
     err : any_done a.answer o.answer ≡ false → (now_new ≡ now) ⊎ (now_new ≡ set now b snap.value)
     err done =

@@ -9,28 +9,28 @@ use Rattle.nofs_disk.specs.Cells.{Contains-known, IsSizedCell-known, Picks-known
 use Rattle.nofs_disk.specs.Disk.{DiskState, IsDisk, Picks, cell_at, no_cell}
 use Rattle.nofs_mirror.specs.declared.log.Sides.{Sides}
 use Rattle.nofs_mirror.specs.declared.mirror.Opening.{Opening}
-use Rattle.nofs_mirror.specs.declared.past.Call.{Call}
+use Rattle.nofs_mirror.specs.declared.past.MirrorCall.{MirrorCall}
 use Rattle.nofs_mirror.specs.declared.past.Span.{Span}
-use Rattle.nofs_mirror.specs.Mirror.{IsMirrored, IsServed, IsSide, LeftBy, SideLeft, both_tell, last_span, may_after, mirror_state, now_of, told}
+use Rattle.nofs_mirror.specs.Mirror.{IsMirrored, IsServed, IsSide, LeftBy, SideLeft, both_tell, last_span, may_after, mirror_state, now_of, if_told}
 
 -- what is kept of a mirror over all its calls, where it tells
-abbrev pub IsKept : DiskState → DiskState → DiskState → Opening → List Call → Type 0
-IsKept lead other first opening past =
+abbrev pub MirrorKeeps : DiskState → DiskState → DiskState → Opening → List MirrorCall → Type 0
+MirrorKeeps lead other first opening past =
     IsTrue (both_tell lead other)
     → IsMirrored opening.blocks (may_after lead.was other.was opening.blocks first.may past) (now_of (last_span (λ c. c.lead) opening.lead past).is_in opening.blocks lead.now other.now)
     (last_span (λ c. c.lead) opening.lead past).is_in (last_span (λ c. c.other) opening.other past).is_in lead other
 
 -- what is told
-pub told-is : {A : Type 0} (t : Bool) (xs : List A) → IsTrue t → told t xs ≡ xs
+pub told-is : {A : Type 0} (t : Bool) (xs : List A) → IsTrue t → if_told t xs ≡ xs
 told-is true xs e = refl
 told-is false xs e = cc
 
 -- what is told of cells that there are
-pub told-has : (t : Bool) (xs : List Cell) (c : Cell) → Contains (told t xs) c → IsTrue t × Contains xs c
+pub told-has : (t : Bool) (xs : List Cell) (c : Cell) → Contains (if_told t xs) c → IsTrue t × Contains xs c
 told-has true xs c has = (refl, has)
 told-has false xs c (k, low, is) = absurd (omega arith)
 
-pub told-Picks : (t : Bool) (may : ℕ → List Cell) (n : ℕ) (image : List Cell) → IsTrue t → Picks may n image → Picks (λ b. told t (may b)) n image
+pub told-Picks : (t : Bool) (may : ℕ → List Cell) (n : ℕ) (image : List Cell) → IsTrue t → Picks may n image → Picks (λ b. if_told t (may b)) n image
 told-Picks true may n image e picks = record { len = picks.len; each = λ b low. picks.each b low }
 told-Picks false may n image e picks = cc
 
@@ -45,14 +45,14 @@ first_picks may n under blocks whole fits covers picks = record {
 }
 
 -- nothing may be left at a moment that is not there yet
-pub SideLeft-later : (side : Call → Span) (leaves : ℕ → List Cell → Type 0) (n : ℕ) (opened : Span) (past : List Call) (to m : ℕ) (image : List Cell) → 2 * length past < m → SideLeft side leaves n opened past to m image → ⊥
+pub SideLeft-later : (side : MirrorCall → Span) (leaves : ℕ → List Cell → Type 0) (n : ℕ) (opened : Span) (past : List MirrorCall) (to m : ℕ) (image : List Cell) → 2 * length past < m → SideLeft side leaves n opened past to m image → ⊥
 SideLeft-later side leaves n opened [] to m image later (at, left) = omega arith
 SideLeft-later side leaves n opened (call ∷ past) to m image later (inl (at, left)) = omega arith
 SideLeft-later side leaves n opened (call ∷ past) to m image later (inr (inl (at, left))) = omega arith
 SideLeft-later side leaves n opened (call ∷ past) to m image later (inr (inr left)) = SideLeft-later side leaves n opened past _ m image (omega arith) left
 
 -- what a side may leave at the present moment
-pub SideLeft-now : (side : Call → Span) (leaves : ℕ → List Cell → Type 0) (n : ℕ) (opened : Span) (past : List Call) (to : ℕ) (image : List Cell)
+pub SideLeft-now : (side : MirrorCall → Span) (leaves : ℕ → List Cell → Type 0) (n : ℕ) (opened : Span) (past : List MirrorCall) (to : ℕ) (image : List Cell)
     → SideLeft side leaves n opened past to (2 * length past) image → LeftBy leaves n (last_span side opened past).is_in (last_span side opened past).ended to image
 SideLeft-now side leaves n opened [] to image (at, left) = left
 SideLeft-now side leaves n opened (call ∷ past) to image (inl (at, left)) = left
@@ -83,10 +83,10 @@ now_len true n a b low_a low_b = length-take-le n a low_a
 now_len false n a b low_a low_b = length-take-le n b low_b
 
 -- a mirror keeps every law of a disk
-pub mirror_is : (lead other first : DiskState) (opening : Opening) (past : List Call) (spare faults : ℕ) {sides : Sides} {moment : ℕ} → IsDisk lead → IsDisk other
+pub mirror_is : (lead other first : DiskState) (opening : Opening) (past : List MirrorCall) (spare faults : ℕ) {sides : Sides} {moment : ℕ} → IsDisk lead → IsDisk other
     → IsSide opening.blocks spare (λ c. c.lead) opening.lead past lead → IsSide opening.blocks spare (λ c. c.other) opening.other past other
     → sides.lead_in ≡ (last_span (λ c. c.lead) opening.lead past).is_in → sides.other_in ≡ (last_span (λ c. c.other) opening.other past).is_in → IsTrue (sides.lead_in || sides.other_in)
-    → moment ≡ 2 * length past → 2 * spare + moment < 2 ^ 64 → faults < 2 ^ 64 → ∥ IsKept lead other first opening past ∥₁
+    → moment ≡ 2 * length past → 2 * spare + moment < 2 ^ 64 → faults < 2 ^ 64 → ∥ MirrorKeeps lead other first opening past ∥₁
     → IsDisk (mirror_state lead other first opening past spare faults)
 mirror_is lead other first opening past spare faults {sides} {moment} is_lead is_other side_lead side_other lead_in other_in some made room low kept = record {
   room = omega arith;
@@ -113,7 +113,7 @@ mirror_is lead other first opening past spare faults {sides} {moment} is_lead is
     now : List Cell
     now = now_of lead_is_in n lead.now other.now
 
-    whole : IsTrue tells → length (told tells now) ≡ n
+    whole : IsTrue tells → length (if_told tells now) ≡ n
     whole t =
         let parts = and_parts lead.tells other.tells t in
         let lead_len = is_lead.whole parts.0 in
@@ -130,11 +130,11 @@ mirror_is lead other first opening past spare faults {sides} {moment} is_lead is
           | inr e ↦ side_has may now n other is_other side_other.fits parts.1 (k.other (sym other_in ∙ e)) b inside
         ]
 
-    has_now : (b : ℕ) → IsTrue tells → b < n → Contains (told tells (may b)) (cell_at (told tells now) b)
+    has_now : (b : ℕ) → IsTrue tells → b < n → Contains (if_told tells (may b)) (cell_at (if_told tells now) b)
     has_now b t inside =
         let has : Contains (may b) (cell_at now b) = Contains-known (may b) (cell_at now b) (∥∥₁_elim kept ∥∥₁_prop (λ k. ∣ one_has t (k t) b inside ∣₁)) in
         let F : List Cell → Type 0 = λ l. Contains l (cell_at now b) in
-        let G : List Cell → Type 0 = λ l. Contains (told tells (may b)) (cell_at l b) in
+        let G : List Cell → Type 0 = λ l. Contains (if_told tells (may b)) (cell_at l b) in
         subst G (sym (told-is tells now t)) (subst F (sym (told-is tells (may b) t)) has)
 
     rests : IsMirrored n may now lead_is_in (last_span (λ c. c.other) opening.other past).is_in lead other

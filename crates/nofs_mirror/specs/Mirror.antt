@@ -7,14 +7,14 @@ use Rattle.nofs_mirror.specs.declared.log.Sides.{Sides}
 use Rattle.nofs_mirror.specs.declared.mirror.MirrorCause.{MirrorCause}
 use Rattle.nofs_mirror.specs.declared.mirror.MirrorCause.TheVariants.{TooSmall, ReadFault, OutOfMemory}
 use Rattle.nofs_mirror.specs.declared.mirror.Opening.{Opening}
-use Rattle.nofs_mirror.specs.declared.past.Call.{Call}
+use Rattle.nofs_mirror.specs.declared.past.MirrorCall.{MirrorCall}
 use Rattle.nofs_mirror.specs.declared.past.Effect.{Effect}
 use Rattle.nofs_mirror.specs.declared.past.Effect.TheVariants.{Write, Settle, Nothing}
 use Rattle.nofs_mirror.specs.declared.past.Span.{Span}
 use Rattle.nofs_mirror.specs.Asking.{counted}
 
 -- a side's part in the last call, or in the opening
-abbrev pub last_span : (Call → Span) → Span → List Call → Span
+abbrev pub last_span : (MirrorCall → Span) → Span → List MirrorCall → Span
 last_span side opened [] = opened
 last_span side opened (call ∷ past) = side call
 
@@ -29,7 +29,7 @@ pub record LeftBy (leaves : ℕ → List Cell → Type 0) (blocks : ℕ) (is_in 
   pub first : image ≡ take blocks whole
 
 -- what a side may leave at a moment of the mirror
-abbrev pub SideLeft : (Call → Span) → (ℕ → List Cell → Type 0) → ℕ → Span → List Call → ℕ → ℕ → List Cell → Type 0
+abbrev pub SideLeft : (MirrorCall → Span) → (ℕ → List Cell → Type 0) → ℕ → Span → List MirrorCall → ℕ → ℕ → List Cell → Type 0
 SideLeft side leaves blocks opened [] to m image = (m ≡ 0) × LeftBy leaves blocks opened.is_in opened.ended to image
 SideLeft side leaves blocks opened (call ∷ past) to m image =
     ((m ≡ 2 * length (call ∷ past)) × LeftBy leaves blocks (side call).is_in (side call).ended to image)
@@ -37,11 +37,11 @@ SideLeft side leaves blocks opened (call ∷ past) to m image =
     ⊎ SideLeft side leaves blocks opened past (side call).began m image)
 
 -- the cells at the end of a flush that succeeded on a side that is in after it
-abbrev pub flushed_cells : (ℕ → List Cell) → (ℕ → List Cell) → Call → List Cell
+abbrev pub flushed_cells : (ℕ → List Cell) → (ℕ → List Cell) → MirrorCall → List Cell
 flushed_cells lead other call = if call.lead.is_in then lead call.lead.ended else other call.other.ended
 
 -- what a read gave at a moment at which a flush ended
-abbrev pub was_after : (ℕ → List Cell) → (ℕ → List Cell) → ℕ → List Call → ℕ → List Cell
+abbrev pub was_after : (ℕ → List Cell) → (ℕ → List Cell) → ℕ → List MirrorCall → ℕ → List Cell
 was_after lead other blocks [] m = []
 was_after lead other blocks (call ∷ past) m = if m == 2 * length (call ∷ past) then take blocks (flushed_cells lead other call) else was_after lead other blocks past m
 
@@ -56,7 +56,7 @@ may_step blocks flushed may Settle b = only_below blocks flushed b
 may_step blocks flushed may Nothing b = may b
 
 -- for each block the cells that it may hold: those of the lead at first
-abbrev pub may_after : (ℕ → List Cell) → (ℕ → List Cell) → ℕ → (ℕ → List Cell) → List Call → ℕ → List Cell
+abbrev pub may_after : (ℕ → List Cell) → (ℕ → List Cell) → ℕ → (ℕ → List Cell) → List MirrorCall → ℕ → List Cell
 may_after lead other blocks first [] b = if nat_lt b blocks then first b else []
 may_after lead other blocks first (call ∷ past) b = may_step blocks (flushed_cells lead other call) (may_after lead other blocks first past) call.effect b
 
@@ -65,25 +65,25 @@ abbrev pub now_of : Bool → ℕ → List Cell → List Cell → List Cell
 now_of lead_in blocks lead other = take blocks (if lead_in then lead else other)
 
 -- these, where the mirror tells
-abbrev pub told : {A : Type 0} → Bool → List A → List A
-told true xs = xs
-told false xs = []
+abbrev pub if_told : {A : Type 0} → Bool → List A → List A
+if_told true xs = xs
+if_told false xs = []
 
 -- whether the mirror tells: where both sides do
 abbrev pub both_tell : DiskState → DiskState → Bool
 both_tell lead other = lead.tells && other.tells
 
 -- what contracts see of a mirror
-abbrev pub mirror_state : DiskState → DiskState → DiskState → Opening → List Call → ℕ → ℕ → DiskState
+abbrev pub mirror_state : DiskState → DiskState → DiskState → Opening → List MirrorCall → ℕ → ℕ → DiskState
 mirror_state lead other first opening past spare faults = record {
   blocks = opening.blocks;
   moment = 2 * length past;
   spare = spare;
   faults = faults;
   tells = both_tell lead other;
-  now = told (both_tell lead other) (now_of (last_span (λ c. c.lead) opening.lead past).is_in opening.blocks lead.now other.now);
-  may = λ b. told (both_tell lead other) (may_after lead.was other.was opening.blocks first.may past b);
-  was = λ m. told (both_tell lead other) (was_after lead.was other.was opening.blocks past m);
+  now = if_told (both_tell lead other) (now_of (last_span (λ c. c.lead) opening.lead past).is_in opening.blocks lead.now other.now);
+  may = λ b. if_told (both_tell lead other) (may_after lead.was other.was opening.blocks first.may past b);
+  was = λ m. if_told (both_tell lead other) (was_after lead.was other.was opening.blocks past m);
   left = λ m image. IsTrue (both_tell lead other)
       × (SideLeft (λ c. c.lead) lead.left opening.blocks opening.lead past lead.moment m image ⊎ SideLeft (λ c. c.other) other.left opening.blocks opening.other past other.moment m image);
   dirty = [];
@@ -109,20 +109,20 @@ pub record IsMirrored (blocks : ℕ) (may : ℕ → List Cell) (now : List Cell)
 abbrev pub no_span : Span
 no_span = record { began = 0; ended = 0; is_in = false }
 
-abbrev pub no_call : Call
+abbrev pub no_call : MirrorCall
 no_call = record { effect = Nothing; lead = no_span; other = no_span }
 
 -- each call began and ended up to this moment of a side
-pub record IsMarked (side : Call → Span) (opened : Span) (past : List Call) (moment : ℕ) : Type 0 where
+pub record IsMarkedBySide (side : MirrorCall → Span) (opened : Span) (past : List MirrorCall) (moment : ℕ) : Type 0 where
   pub start : opened.ended ≤ moment
   pub begins : (k : ℕ) → k < length past → (side (slice_index_or past k no_call)).began ≤ moment
   pub ends : (k : ℕ) → k < length past → (side (slice_index_or past k no_call)).ended ≤ moment
 
 -- what holds of one side, in or out
-pub record IsSide (blocks spare : ℕ) (side : Call → Span) (opened : Span) (past : List Call) (disk : DiskState) : Type 0 where
+pub record IsSide (blocks spare : ℕ) (side : MirrorCall → Span) (opened : Span) (past : List MirrorCall) (disk : DiskState) : Type 0 where
   pub fits : blocks ≤ disk.blocks
   pub room : spare ≤ disk.spare
-  pub marked : IsMarked side opened past disk.moment
+  pub marked : IsMarkedBySide side opened past disk.moment
   pub last : (last_span side opened past).ended ≡ disk.moment
 
 -- what a write or flush does to which sides are in: a side goes out only where its count rose, and none comes back
@@ -151,6 +151,11 @@ pub record SideServes (is_in : Bool) (mirror side : DiskState) : Type 0 where
   pub now : IsTrue is_in → IsTrue mirror.tells → take mirror.blocks side.now ≡ mirror.now
   pub left : IsTrue is_in → IsTrue mirror.tells → (image : List Cell) → side.left side.moment image → mirror.left mirror.moment (take mirror.blocks image)
 
+-- what a crash may leave of a side that was in, at each of its moments from one on, it may leave of the mirror at this moment, cut to the mirror's blocks
+pub record SideLeaves (was_in : Bool) (from : ℕ) (mirror side : DiskState) (m : ℕ) : Type 0 where
+  pub each : IsTrue was_in → IsTrue mirror.tells → (at : ℕ) (image : List Cell) → from ≤ at → at ≤ side.moment → side.left at image
+      → mirror.left m (take mirror.blocks image)
+
 -- a side that is out is not called
 pub record LeavesOut {A B : Type 0} (sides : Sides) (lead_old lead_new : A) (other_old other_new : B) : Type 0 where
   pub lead : IsFalse sides.lead_in → lead_new ≡ lead_old
@@ -168,7 +173,7 @@ pub record EitherReads (lead_old lead_new other_old other_new : DiskState) (side
   pub fails : ReadFails sides lead_old lead_new other_old other_new result
 
 -- the mirror's content is that of its lead, and the other is in where the copy succeeded
-pub record Opens (lead_old other_old lead_new other_new mirror : DiskState) (n : ℕ) (sides : Sides) : Type 0 where
+pub record OpensMirror (lead_old other_old lead_new other_new mirror : DiskState) (n : ℕ) (sides : Sides) : Type 0 where
   pub fits : (n ≤ lead_old.blocks) × (n ≤ other_old.blocks)
   pub blocks : mirror.blocks ≡ n
   pub moment : mirror.moment ≡ 0

@@ -8,7 +8,7 @@ use nofs_disk::{Cell, Disk};
 
 /// What a side answered.
 #[derive(Clone, Copy, Debug, PartialEq, Eq)]
-pub enum Answer {
+pub enum SideAnswer {
     /// The side is out, and wasn't called.
     Out,
     /// The call succeeded.
@@ -20,75 +20,75 @@ pub enum Answer {
 /// What a side answered, and its moments at the call's start and end.
 #[derive(Clone, Copy)]
 pub struct Asked {
-    pub answer: Answer,
+    pub answer: SideAnswer,
     pub began: u64,
     pub ended: u64,
 }
 
 /// Whether the call succeeded.
-pub fn is_done(answer: Answer) -> bool
+pub fn is_done(answer: SideAnswer) -> bool
     ensures { result ≡ is_done answer }
 {
     match answer {
-        Answer::Out => false,
-        Answer::Done => true,
-        Answer::Fault => false,
+        SideAnswer::Out => false,
+        SideAnswer::Done => true,
+        SideAnswer::Fault => false,
     }
 }
 
 /// Whether the call succeeded on some side.
-pub fn any_done(lead: Answer, other: Answer) -> bool
+pub fn any_done(lead: SideAnswer, other: SideAnswer) -> bool
     ensures { result ≡ any_done lead other }
 {
     is_done(lead) || is_done(other)
 }
 
 /// Whether the lead stays in: where it succeeded, and where it failed and the other did not succeed.
-pub fn lead_stays(lead: Answer, other: Answer) -> bool
+pub fn lead_stays(lead: SideAnswer, other: SideAnswer) -> bool
     ensures { result ≡ lead_stays lead other }
 {
     match lead {
-        Answer::Out => false,
-        Answer::Done => true,
-        Answer::Fault => !is_done(other),
+        SideAnswer::Out => false,
+        SideAnswer::Done => true,
+        SideAnswer::Fault => !is_done(other),
     }
 }
 
 /// Whether the other stays in: where it succeeded, and where it failed and the lead is out.
-pub fn other_stays(lead: Answer, other: Answer) -> bool
+pub fn other_stays(lead: SideAnswer, other: SideAnswer) -> bool
     ensures { result ≡ other_stays lead other }
 {
     match lead {
-        Answer::Out => is_asked(other),
-        Answer::Done => is_done(other),
-        Answer::Fault => is_done(other),
+        SideAnswer::Out => is_asked(other),
+        SideAnswer::Done => is_done(other),
+        SideAnswer::Fault => is_done(other),
     }
 }
 
 // Whether the side was called.
-fn is_asked(answer: Answer) -> bool
+fn is_asked(answer: SideAnswer) -> bool
     ensures { result ≡ is_asked answer }
 {
     match answer {
-        Answer::Out => false,
-        Answer::Done => true,
-        Answer::Fault => true,
+        SideAnswer::Out => false,
+        SideAnswer::Done => true,
+        SideAnswer::Fault => true,
     }
 }
 
 /// Reads from a side that is in.
-pub fn read_side<D: Disk>(disk: &mut D, is_in: bool, block: u64, into: &mut Cell) -> Answer
+pub fn read_side<D: Disk>(disk: &mut D, is_in: bool, block: u64, into: &mut Cell) -> SideAnswer
     requires { block < (D.state disk.old).blocks }
     ensures reads { SideReads (D.state disk.old) (D.state disk.new) block into.new result }
     ensures asked { is_asked result ≡ is_in }
     ensures untouched { IsFalse is_in → disk.new ≡ disk.old }
 {
     if !is_in {
-        return Answer::Out;
+        return SideAnswer::Out;
     }
     match disk.read(block, into) {
-        Ok(()) => Answer::Done,
-        Err(_) => Answer::Fault,
+        Ok(()) => SideAnswer::Done,
+        Err(_) => SideAnswer::Fault,
     }
 }
 
@@ -112,7 +112,7 @@ pub fn write_side<D: Disk>(disk: &mut D, is_in: bool, block: u64, cell: &Cell) -
     }
 }
 
-fn ask_write<D: Disk>(disk: &mut D, is_in: bool, block: u64, cell: &Cell) -> Answer
+fn ask_write<D: Disk>(disk: &mut D, is_in: bool, block: u64, cell: &Cell) -> SideAnswer
     requires block { block < (D.state disk.old).blocks }
     requires spare { 1 ≤ (D.state disk.old).spare }
     ensures writes { SideWrites (D.state disk.old) (D.state disk.new) block cell.now result }
@@ -120,11 +120,11 @@ fn ask_write<D: Disk>(disk: &mut D, is_in: bool, block: u64, cell: &Cell) -> Ans
     ensures untouched { IsFalse is_in → disk.new ≡ disk.old }
 {
     if !is_in {
-        return Answer::Out;
+        return SideAnswer::Out;
     }
     match disk.write(block, cell) {
-        Ok(()) => Answer::Done,
-        Err(_) => Answer::Fault,
+        Ok(()) => SideAnswer::Done,
+        Err(_) => SideAnswer::Fault,
     }
 }
 
@@ -147,17 +147,17 @@ pub fn flush_side<D: Disk>(disk: &mut D, is_in: bool) -> Asked
     }
 }
 
-fn ask_flush<D: Disk>(disk: &mut D, is_in: bool) -> Answer
+fn ask_flush<D: Disk>(disk: &mut D, is_in: bool) -> SideAnswer
     requires { 1 ≤ (D.state disk.old).spare }
     ensures flushes { SideFlushes (D.state disk.old) (D.state disk.new) result }
     ensures asked { is_asked result ≡ is_in }
     ensures untouched { IsFalse is_in → disk.new ≡ disk.old }
 {
     if !is_in {
-        return Answer::Out;
+        return SideAnswer::Out;
     }
     match disk.flush() {
-        Ok(()) => Answer::Done,
-        Err(_) => Answer::Fault,
+        Ok(()) => SideAnswer::Done,
+        Err(_) => SideAnswer::Fault,
     }
 }

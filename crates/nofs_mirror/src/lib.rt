@@ -1,7 +1,8 @@
 //! A mirror: a disk over two disks, of which one may fail for good.
 //!
-//! Promise: it is a disk like the two below. It fails only where each side that it asked failed, a
-//! side is put out only in a call in which that side failed, and one side always stays in.
+//! Promise: it is a disk like the two below. It fails only where the count of faults of each side
+//! that it asked rose, a side is put out only in a call in which its count rose, and one side always
+//! stays in.
 #![tactic(auto)]
 
 mod asking;

@@ -5,8 +5,8 @@ ghost use Rattle.std.specs.Prelude.{◌≡◌, ◌+◌, ◌*◌, ◌^◌, ◌<�
 ghost use Rattle.nofs_mirror.specs.Asking.{any_done, call_of, counted, counted_if, flush_effect, sides_after};
 ghost use Rattle.nofs_mirror.specs.Past.{past_calls};
 
-use crate::asking::{Answer, Asked, any_done, lead_stays, other_stays};
-use crate::past::{Call, Effect, Past, Span};
+use crate::asking::{Asked, SideAnswer, any_done, lead_stays, other_stays};
+use crate::past::{Effect, MirrorCall, Past, Span};
 use nofs_disk::Failed;
 use std::alloc::AllocError;
 use std::mem;
@@ -44,7 +44,7 @@ fn start() -> Snapshot<Past>
 }
 
 // The calls with one more.
-fn later(call: Call, past: Snapshot<Past>) -> Snapshot<Past>
+fn later(call: MirrorCall, past: Snapshot<Past>) -> Snapshot<Past>
     ensures { past_calls result.value ≡ call ∷ past_calls past.value }
 {
     let next = Past::Made(call, past);
@@ -52,7 +52,7 @@ fn later(call: Call, past: Snapshot<Past>) -> Snapshot<Past>
 }
 
 // Adds a call.
-fn add(call: Call, past: &mut Snapshot<Past>)
+fn add(call: MirrorCall, past: &mut Snapshot<Past>)
     ensures { past_calls past.new.value ≡ call ∷ past_calls past.old.value }
 {
     let earlier = mem::replace(past, Snapshot::of(&Past::Start));
@@ -82,12 +82,12 @@ fn answer(done: bool, faults: &mut u64) -> Result<(), Failed>
 }
 
 // The call with these answers.
-fn call_of(effect: Effect, lead: &Asked, other: &Asked) -> Call
+fn call_of(effect: Effect, lead: &Asked, other: &Asked) -> MirrorCall
     ensures { result ≡ call_of effect lead.now other.now }
 {
     let lead_in = lead_stays(lead.answer, other.answer);
     let other_in = other_stays(lead.answer, other.answer);
-    Call {
+    MirrorCall {
         effect,
         lead: Span {
             began: lead.began,
@@ -103,7 +103,7 @@ fn call_of(effect: Effect, lead: &Asked, other: &Asked) -> Call
 }
 
 /// What a flush with these answers does: where a side succeeded, its cells are settled.
-pub fn flush_effect(lead: Answer, other: Answer) -> Effect
+pub fn flush_effect(lead: SideAnswer, other: SideAnswer) -> Effect
     ensures { result ≡ flush_effect lead other }
 {
     if any_done(lead, other) {

@@ -3,14 +3,14 @@
 //! Promise: it keeps every promise of a disk, over any two disks below. It goes on as long as one
 //! of them does, and each side that is in holds its cells.
 ghost use Rattle.std.specs.Prelude.{◌≡◌, ◌+◌, ◌<◌, ◌≤◌, ◌⊎◌, ◌||◌, [], IfOk, IfErr, IsFalse, IsTrue, OnOk, OnErr};
-ghost use Rattle.nofs_disk.specs.Disk.{Flushes, IsSettled, Reads, Rose, StaysButFaults, Writes};
+ghost use Rattle.nofs_disk.specs.Disk.{Flushes, IsSettled, Reads, Rose, StaysButFaults, Writes, WritesOut};
 ghost use Rattle.nofs_mirror.specs.Asking.{Rests};
 ghost use Rattle.nofs_mirror.specs.Copying.{HasCopied};
-ghost use Rattle.nofs_mirror.specs.Laws.{IsKept};
-ghost use Rattle.nofs_mirror.specs.Mirror.{ChangesSides, Counts, EitherReads, IsFrom, IsReadFault, IsSide, LeadBack, LeavesOut, Opens, OtherBack, ReadFails, Refuses, SideServes, last_span};
+ghost use Rattle.nofs_mirror.specs.Laws.{MirrorKeeps};
+ghost use Rattle.nofs_mirror.specs.Mirror.{ChangesSides, Counts, EitherReads, IsFrom, IsReadFault, IsSide, LeadBack, LeavesOut, OpensMirror, OtherBack, ReadFails, Refuses, SideLeaves, SideServes, last_span};
 ghost use Rattle.nofs_mirror.specs.Past.{past_calls};
 
-use crate::asking::{Answer, flush_side, read_side, write_side};
+use crate::asking::{SideAnswer, flush_side, read_side, write_side};
 use crate::copying::{CopyFault, copy_and_flush};
 use crate::log::{Log, Sides, flush_effect};
 use crate::past::{Effect, Span};
@@ -41,7 +41,7 @@ pub struct Mirror<A: Disk + Drop, B: Disk + Drop> {
     ghost lead_in: { log.sides.lead_in ≡ (last_span (λ c. c.lead) opening.lead (past_calls log.past.value)).is_in },
     ghost other_in: { log.sides.other_in ≡ (last_span (λ c. c.other) opening.other (past_calls log.past.value)).is_in },
     ghost some_in: { IsTrue (log.sides.lead_in || log.sides.other_in) },
-    ghost kept: { ∥ IsKept (A.state lead) (B.state other) (A.state first.value) opening (past_calls log.past.value) ∥₁ },
+    ghost kept: { ∥ MirrorKeeps (A.state lead) (B.state other) (A.state first.value) opening (past_calls log.past.value) ∥₁ },
 }
 
 /// Why a mirror was not opened.
@@ -91,9 +91,9 @@ fn read_either<A: Disk, B: Disk>(
     ensures reads { EitherReads (A.state lead.old) (A.state lead.new) (B.state other.old) (B.state other.new) sides block into.new result }
 {
     match read_side(lead, sides.lead_in, block, into) {
-        Answer::Out => read_other(other, sides.other_in, block, into),
-        Answer::Done => Ok(()),
-        Answer::Fault => read_other(other, sides.other_in, block, into),
+        SideAnswer::Out => read_other(other, sides.other_in, block, into),
+        SideAnswer::Done => Ok(()),
+        SideAnswer::Fault => read_other(other, sides.other_in, block, into),
     }
 }
 
@@ -110,9 +110,9 @@ fn read_other<B: Disk>(
     ensures cause { OnErr result (IsTrue is_in → Rose (B.state other.old).faults (B.state other.new).faults) }
 {
     match read_side(other, is_in, block, into) {
-        Answer::Out => Err(Failed),
-        Answer::Done => Ok(()),
-        Answer::Fault => Err(Failed),
+        SideAnswer::Out => Err(Failed),
+        SideAnswer::Done => Ok(()),
+        SideAnswer::Fault => Err(Failed),
     }
 }
 
@@ -120,7 +120,7 @@ impl<A: Disk + Drop, B: Disk + Drop> Mirror<A, B> {
     /// A mirror of so many blocks over a lead and an other, onto which the lead's cells are copied.
     /// Where the other could not be written or flushed it starts out.
     pub fn open(lead: A, other: B, blocks: u64) -> Result<Mirror<A, B>, MirrorFault<A, B>>
-        ensures opens { IfOk result (λ m. Opens (A.state lead) (B.state other) (A.state m.lead) (B.state m.other) (⟦<Mirror<A, B> as Disk>⟧.state m) blocks m.log.sides) }
+        ensures opens { IfOk result (λ m. OpensMirror (A.state lead) (B.state other) (A.state m.lead) (B.state m.other) (⟦<Mirror<A, B> as Disk>⟧.state m) blocks m.log.sides) }
         ensures refuses { IfErr result (λ fault. Refuses fault.cause blocks (A.state lead) (B.state other) (A.state fault.lead) (B.state fault.other)) }
         ensures lead_back { IfErr result (λ fault. LeadBack fault.cause lead fault.lead) }
         ensures other_back { IfErr result (λ fault. OtherBack fault.cause other fault.other) }
@@ -150,7 +150,7 @@ impl<A: Disk + Drop, B: Disk + Drop> Mirror<A, B> {
         requires lead { blocks ≤ (A.state lead).blocks }
         requires other { blocks ≤ (B.state other).blocks }
         requires spare { blocks + 1 ≤ (B.state other).spare }
-        ensures opens { IfOk result (λ m. Opens (A.state lead) (B.state other) (A.state m.lead) (B.state m.other) (⟦<Mirror<A, B> as Disk>⟧.state m) blocks m.log.sides) }
+        ensures opens { IfOk result (λ m. OpensMirror (A.state lead) (B.state other) (A.state m.lead) (B.state m.other) (⟦<Mirror<A, B> as Disk>⟧.state m) blocks m.log.sides) }
         ensures refuses { IfErr result (λ fault. Refuses fault.cause blocks (A.state lead) (B.state other) (A.state fault.lead) (B.state fault.other)) }
         ensures cause { IfErr result (λ fault. IsReadFault fault.cause) }
     {
@@ -280,6 +280,8 @@ impl<A: Disk + Drop, B: Disk + Drop> Disk for Mirror<A, B> {
         }
     }
 
+    /// What a crash may leave meanwhile of a side that is in, it may leave of the mirror at its moment
+    /// during the call.
     fn write(&mut self, block: u64, cell: &Cell) -> Result<(), Failed>
         requires block { block < (⟦<Mirror<A, B> as Disk>⟧.state self.old).blocks }
         requires spare { 1 ≤ (⟦<Mirror<A, B> as Disk>⟧.state self.old).spare }
@@ -287,6 +289,8 @@ impl<A: Disk + Drop, B: Disk + Drop> Disk for Mirror<A, B> {
         ensures sides { ChangesSides self.old.log.sides self.new.log.sides (A.state self.old.lead) (A.state self.new.lead) (B.state self.old.other) (B.state self.new.other) result }
         ensures out { LeavesOut self.old.log.sides self.old.lead self.new.lead self.old.other self.new.other }
         ensures counts { Counts self.old.log.faults self.new.log.faults result }
+        ensures lead_left { SideLeaves self.old.log.sides.lead_in (A.state self.old.lead).moment (⟦<Mirror<A, B> as Disk>⟧.state self.new) (A.state self.new.lead) ((⟦<Mirror<A, B> as Disk>⟧.state self.old).moment + 1) }
+        ensures other_left { SideLeaves self.old.log.sides.other_in (B.state self.old.other).moment (⟦<Mirror<A, B> as Disk>⟧.state self.new) (B.state self.new.other) ((⟦<Mirror<A, B> as Disk>⟧.state self.old).moment + 1) }
     {
         cell.note_sizes();
         let sides = self.log.sides;
@@ -299,12 +303,16 @@ impl<A: Disk + Drop, B: Disk + Drop> Disk for Mirror<A, B> {
         self.log.note(effect, &lead, &other)
     }
 
+    /// What a crash may leave meanwhile of a side that is in, it may leave of the mirror at its moment
+    /// during the call.
     fn flush(&mut self) -> Result<(), Failed>
         requires { 1 ≤ (⟦<Mirror<A, B> as Disk>⟧.state self.old).spare }
         ensures does { Flushes (⟦<Mirror<A, B> as Disk>⟧.state self.old) (⟦<Mirror<A, B> as Disk>⟧.state self.new) result }
         ensures sides { ChangesSides self.old.log.sides self.new.log.sides (A.state self.old.lead) (A.state self.new.lead) (B.state self.old.other) (B.state self.new.other) result }
         ensures out { LeavesOut self.old.log.sides self.old.lead self.new.lead self.old.other self.new.other }
         ensures counts { Counts self.old.log.faults self.new.log.faults result }
+        ensures lead_left { SideLeaves self.old.log.sides.lead_in (A.state self.old.lead).moment (⟦<Mirror<A, B> as Disk>⟧.state self.new) (A.state self.new.lead) ((⟦<Mirror<A, B> as Disk>⟧.state self.old).moment + 1) }
+        ensures other_left { SideLeaves self.old.log.sides.other_in (B.state self.old.other).moment (⟦<Mirror<A, B> as Disk>⟧.state self.new) (B.state self.new.other) ((⟦<Mirror<A, B> as Disk>⟧.state self.old).moment + 1) }
     {
         let sides = self.log.sides;
         let lead = flush_side(&mut self.lead, sides.lead_in);
@@ -313,7 +321,14 @@ impl<A: Disk + Drop, B: Disk + Drop> Disk for Mirror<A, B> {
         self.log.note(effect, &lead, &other)
     }
 
-    fn write_out(&mut self) -> Result<Option<u64>, Failed> {
+    /// No write is kept back, and neither side is called.
+    fn write_out(&mut self) -> Result<Option<u64>, Failed>
+        requires { 1 ≤ (⟦<Mirror<A, B> as Disk>⟧.state self.old).spare }
+        ensures does { WritesOut (⟦<Mirror<A, B> as Disk>⟧.state self.old) (⟦<Mirror<A, B> as Disk>⟧.state self.new) result }
+        ensures lead { self.new.lead ≡ self.old.lead }
+        ensures other { self.new.other ≡ self.old.other }
+        ensures sides { self.new.log.sides ≡ self.old.log.sides }
+    {
         self.log.spare -= 1;
         Ok(None)
     }

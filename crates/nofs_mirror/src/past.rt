@@ -26,7 +26,7 @@ pub enum Effect {
 
 /// A write or flush.
 #[derive(Drop)]
-pub struct Call {
+pub struct MirrorCall {
     pub effect: Effect,
     pub lead: Span,
     pub other: Span,
@@ -36,5 +36,5 @@ pub struct Call {
 #[derive(Drop)]
 pub enum Past {
     Start,
-    Made(Call, Snapshot<Past>),
+    Made(MirrorCall, Snapshot<Past>),
 }

@@ -2,7 +2,7 @@
 use Rattle.std.proofs.Common.{◌≡◌, ◌≢◌, ℕ, ◌<◌, ◌≤◌, inl, inr, Bool, true, false, eqb, leb, ltb, refl, sym, ap, ◌∙◌, subst, eqb-true, leb-true, ltb-true, le-leb, lt-ltb}
 use Rattle.nofs_model.specs.Cells.{Pointer, null, is_null, pointer_at}
 use Rattle.nofs_model.specs.Image.{Image, cell_at, inode, first_data, is_data_block, super_at, Path, InRecord, Under, path_of, record_pointer, find, pointer, value, value_in}
-use Rattle.nofs_model.specs.Definitions.{Fits, Holds, IsEmpty, IsValue, hole, bytes, lost, LawSlots}
+use Rattle.nofs_model.specs.Definitions.{TagFits, Holds, IsEmpty, IsValue, hole, bytes, lost, LawSlots}
 use Rattle.nofs_model.specs.declared.path.PathAnswer.{PathAnswer}
 use Rattle.nofs_model.specs.declared.path.PathAnswer.TheVariants as answer
 use Rattle.nofs_model.specs.declared.value.Value.{Value}
@@ -33,10 +33,10 @@ null-not x e h = cc (null-is x h, e)
 area-is : (X : Image) (p : ℕ) → first_data X ≤ p → p < (super_at X).blocks → is_data_block X p ≡ true
 area-is X p low high = rw (le-leb (first_data X) p low, lt-ltb p (super_at X).blocks high) refl
 
-fits-agrees : (X : Image) (i : ℕ) (path : Path) (x : Pointer) → Fits X i path x → Agrees X i path x
+fits-agrees : (X : Image) (i : ℕ) (path : Path) (x : Pointer) → TagFits X i path x → Agrees X i path x
 fits-agrees X i path x f = record { live = f.live; area = area-is X x.block f.above f.below; tag = f.tag }
 
-agrees-fits : (X : Image) (i : ℕ) (path : Path) (x : Pointer) → HoldsAt X i path x → Fits X i path x
+agrees-fits : (X : Image) (i : ℕ) (path : Path) (x : Pointer) → HoldsAt X i path x → TagFits X i path x
 agrees-fits X i path x h =
     let a = and-both (leb (first_data X) x.block) (ltb x.block (super_at X).blocks) h.agrees.area in
     record { not_null = null-not x h.not_null; live = h.agrees.live; above = leb-true (first_data X) x.block a.0; below = ltb-true x.block (super_at X).blocks a.1; tag = h.agrees.tag }

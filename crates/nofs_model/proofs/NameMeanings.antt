@@ -1,9 +1,10 @@
 -- An entry, a pair and an agreed inode are what the computing words say.
 use Rattle.std.proofs.Common.{◌≡◌, ◌≢◌, ℕ, ◌/◌, ◌<◌, ◌⊎◌, inl, inr, Bool, true, false, cond, eqb, ltb, ◌&&◌, ◌||◌, not, List, Option, Some, None, is_some, refl, sym, ap, ◌∙◌, subst, Contains, eqb-true, eq-eqb, ne_eqb, ltb-true, lt-ltb}
+use Rattle.nofs_dirent.specs.Entries.{entry_limit}
 use Rattle.nofs_inode.specs.declared.inode.FileKind.TheVariants.{File, Directory as Folder}
 use Rattle.nofs_model.specs.Cells.{FileKind, BackLink, Entry, is_live}
 use Rattle.nofs_model.specs.Image.{Image, cell_at, inode, path_of, find, value, value_in, FileState, file_from, files_in, is_folder, entry_held, entry_in_file, names, is_a, pairs, is_pair, links_of, links_in_file, is_root, is_special, agreed, Agreed, root, linked}
-use Rattle.nofs_model.specs.Definitions.{bytes, IsEntry, IsPair, IsAgreed, the_root, the_label, named, LawNames}
+use Rattle.nofs_model.specs.Definitions.{bytes, IsEntry, IsPair, IsAgreed, the_root, the_label, named, LawPairs}
 use Rattle.nofs_model.specs.declared.path.PathAnswer.{PathAnswer}
 use Rattle.nofs_model.specs.declared.path.PathAnswer.TheVariants as answer
 use Rattle.nofs_model.specs.declared.value.Value.{Value}
@@ -19,25 +20,25 @@ file-is X i k e = ap (file_from X i) e
 entry-fact : (X : Image) (d e : ℕ) (it : Entry) → IsEntry X d e it → entry_in_file (files_in X d) e ≡ Some it
 entry-fact X d e it h =
     let v : value X d (e / 16) ≡ Bytes (cell_at X h.pointer.block).payload = fact-value X d (e / 16) (Bytes (cell_at X h.pointer.block).payload) (bytes h.pointer h.holds) in
-    let inside : entry_in_file (file_from X d (Some Folder)) e ≡ entry_held (value X d (e / 16)) e = rw (lt-ltb e 1152 h.range) refl in
+    let inside : entry_in_file (file_from X d (Some Folder)) e ≡ entry_held (value X d (e / 16)) e = rw (lt-ltb e entry_limit h.range) refl in
     ap (λ (o : Option FileState). entry_in_file o e) (file-is X d (Some Folder) h.directory) ∙ inside ∙ ap (λ (q : Value). entry_held q e) v ∙ h.spelled
 
 fact-entry : (X : Image) (d e : ℕ) (it : Entry) → entry_in_file (files_in X d) e ≡ Some it → IsEntry X d e it
 fact-entry X d e it h = by-kind (inode X d).kind refl h
   where
-    by-find : (inode X d).kind ≡ Some Folder → e < 1152 → (f : PathAnswer) → find X d (path_of (e / 16)) ≡ f → entry_held (value_in X f) e ≡ Some it → IsEntry X d e it
+    by-find : (inode X d).kind ≡ Some Folder → e < entry_limit → (f : PathAnswer) → find X d (path_of (e / 16)) ≡ f → entry_held (value_in X f) e ≡ Some it → IsEntry X d e it
     by-find k lt answer.Hole ef q = cc
     by-find k lt answer.Lost ef q = cc
     by-find k lt (answer.Holds x) ef q = record { directory = k; range = lt; pointer = x; holds = find-holds X d (path_of (e / 16)) x ef; spelled = q }
 
-    by-range : (inode X d).kind ≡ Some Folder → (b : Bool) → ltb e 1152 ≡ b → cond b (entry_held (value X d (e / 16)) e) None ≡ Some it → IsEntry X d e it
-    by-range k true eb q = by-find k (ltb-true e 1152 eb) (find X d (path_of (e / 16))) refl q
+    by-range : (inode X d).kind ≡ Some Folder → (b : Bool) → ltb e entry_limit ≡ b → cond b (entry_held (value X d (e / 16)) e) None ≡ Some it → IsEntry X d e it
+    by-range k true eb q = by-find k (ltb-true e entry_limit eb) (find X d (path_of (e / 16))) refl q
     by-range k false eb q = cc
 
     by-kind : (k : Option FileKind) → (inode X d).kind ≡ k → entry_in_file (file_from X d k) e ≡ Some it → IsEntry X d e it
     by-kind None ek q = cc
     by-kind (Some File) ek q = cc
-    by-kind (Some Folder) ek q = by-range ek (ltb e 1152) refl q
+    by-kind (Some Folder) ek q = by-range ek (ltb e entry_limit) refl q
 
 -- the rule for directories, as a test and as a fact
 older-test : (k : FileKind) (g h : ℕ) → (k ≡ Folder → g < h) → (not (is_folder k) || ltb g h) ≡ true
@@ -171,7 +172,7 @@ agreed-fact X i e = relation-agreed X i (agreed-holds (files_in X) i e)
 pub fact-agreed : (X : Image) (i : ℕ) → IsAgreed X i → agreed (files_in X) i ≡ true
 fact-agreed X i h = holds-agreed (files_in X) i (agreed-relation X i h)
 
-pub names-law : LawNames
+pub names-law : LawPairs
 names-law = record {
   equation = agreed-is;
   least = λ F i. (holds-agreed F i, agreed-holds F i);

@@ -3,6 +3,7 @@ use Rattle.std.proofs.Common.{◌≡◌, ℕ, ◌+◌, ◌-◌, ◌*◌, ◌^◌
 use Rattle.std.proofs.lemmas.Bool.{cases_lt, false≢true}
 use Rattle.std.proofs.lemmas.Bool.Decides.{nat_tests}
 pub use Rattle.nofs_ptrs.specs.PathLaws.{path-direct, path-leaf, path-far, path_of-slot_of, slot_of-path_of, slot_of-path_of-node, path_of-slot}
+use Rattle.nofs_ptrs.specs.Paths.{slot_limit}
 use Rattle.nofs_model.specs.Slots.{Path, InRecord, Under, child, path_of, slot_of, is_pointer_slot, IsSlot, is_slot, IsAbove, find}
 use Rattle.nofs_model.specs.Geometry.{Image}
 use Rattle.nofs_model.specs.declared.path.PathAnswer.TheVariants as answer
@@ -10,11 +11,11 @@ use Rattle.nofs_model.specs.declared.path.PathAnswer.TheVariants as answer
 lt-leb : (k : ℕ) → k < 8 → leb 8 k ≡ false
 lt-leb k h = grind (arith, nat_tests)
 
-slot-small : (k : ℕ) → k < 4168 → is_slot k ≡ true
-slot-small k h = rw (lt-ltb k 4168 h) refl
+slot-small : (k : ℕ) → k < slot_limit → is_slot k ≡ true
+slot-small k h = rw (lt-ltb k slot_limit h) refl
 
 slot-node : (k : ℕ) → 2 ^ 32 ≤ k → k < 2 ^ 32 + 66 → is_slot k ≡ true
-slot-node k l h = rw (le-ltb k 4168 (omega arith), le-leb (2 ^ 32) k l, lt-ltb k (2 ^ 32 + 66) h) refl
+slot-node k l h = rw (le-ltb k slot_limit (omega arith), le-leb (2 ^ 32) k l, lt-ltb k (2 ^ 32 + 66) h) refl
 
 pointer-record : (n : ℕ) → n < 10 → is_pointer_slot (InRecord n) ≡ true → (n ≡ 8) ⊎ (n ≡ 9)
 pointer-record n h e = let le : 8 ≤ n = leb-true 8 n e in grind arith
@@ -33,13 +34,13 @@ slot_of-slot (Under (InRecord n) j) h = let low = h.1 in elim (pointer-record n 
 slot_of-slot (Under (Under (InRecord n) j) q) h = let low = h.1 in let less = h.2.1 in slot-small (72 + 64 * j + q) (omega arith)
 slot_of-slot (Under (Under (Under a i) j) q) h = absurd (false≢true h.0)
 
-pub path-record : (k : ℕ) → 4168 ≤ k → k < 2 ^ 32 + 2 → path_of k ≡ InRecord (8 + (k - 2 ^ 32))
+pub path-record : (k : ℕ) → slot_limit ≤ k → k < 2 ^ 32 + 2 → path_of k ≡ InRecord (8 + (k - 2 ^ 32))
 unfolding path_of
-path-record k l h = rw (le-ltb k 8 (omega arith), le-ltb k 72 (omega arith), le-ltb k 4168 l, lt-ltb k (2 ^ 32 + 2) h)
+path-record k l h = rw (le-ltb k 8 (omega arith), le-ltb k 72 (omega arith), le-ltb k slot_limit l, lt-ltb k (2 ^ 32 + 2) h)
 
 pub path-child : (k : ℕ) → 2 ^ 32 + 2 ≤ k → path_of k ≡ child (k - (2 ^ 32 + 2))
 unfolding path_of
-path-child k l = rw (le-ltb k 8 (omega arith), le-ltb k 72 (omega arith), le-ltb k 4168 (omega arith), le-ltb k (2 ^ 32 + 2) l)
+path-child k l = rw (le-ltb k 8 (omega arith), le-ltb k 72 (omega arith), le-ltb k slot_limit (omega arith), le-ltb k (2 ^ 32 + 2) l)
 
 -- the place of a leaf, a top or a child
 path_of-node : (k : ℕ) → 2 ^ 32 ≤ k → k < 2 ^ 32 + 66 → IsSlot (path_of k)
@@ -57,14 +58,14 @@ node-range k e = go (leb (2 ^ 32) k) refl e
 
 -- a slot's number has a place, and it leads back to the number
 pub path_of-number : (k : ℕ) → is_slot k ≡ true → IsSlot (path_of k) × (slot_of (path_of k) ≡ k)
-path_of-number k e = elim (cases_lt k 4168) [
+path_of-number k e = elim (cases_lt k slot_limit) [
   | inl lt ↦ (path_of-slot k lt, slot_of-path_of k lt)
   | inr le ↦
-      let r = node-range k (rw (le-ltb k 4168 le) at e) in
+      let r = node-range k (rw (le-ltb k slot_limit le) at e) in
       (path_of-node k r.0 r.1, slot_of-path_of-node k r.0 r.1)
 ]
 
-pub path_of-content : (k : ℕ) → k < 4168 → is_pointer_slot (path_of k) ≡ false
+pub path_of-content : (k : ℕ) → k < slot_limit → is_pointer_slot (path_of k) ≡ false
 path_of-content k h = elim (cases_lt k 8) [
   | inl lt ↦ rw (path-direct k lt) (lt-leb k lt)
   | inr le ↦ elim (cases_lt k 72) [

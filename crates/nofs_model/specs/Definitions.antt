@@ -3,6 +3,7 @@
 -- The words that programs and proofs compute with stand in Geometry, Slots, Files, Owners. `law_slots`, `law_names` and
 -- `law_owners` say that each of them is the fact of this file. Mountable and sound images are defined in Geometry and Sound.
 use Rattle.std.specs.Prelude.{◌≡◌, ◌≢◌, ◌↔◌, ℕ, ◌+◌, ◌/◌, ◌%◌, ◌<◌, ◌≤◌, ◌⊎◌, true, ◌&&◌, ◌||◌, not, Some, Contains}
+use Rattle.nofs_dirent.specs.Entries.{entry_limit}
 use Rattle.nofs_model.specs.Cells.{Pointer, BackLink, Entry, tag_of, null, pointer_at, entry_in, is_live}
 use Rattle.nofs_inode.specs.declared.inode.FileKind.TheVariants as kind
 use Rattle.nofs_model.specs.Geometry.{Image, cell_at, inodes_of, blocks_of, inode}
@@ -17,7 +18,7 @@ use Rattle.nofs_model.specs.declared.value.Value.TheVariants.{Hole, Bytes, Lost}
 
 -- the pointer leads to a block of just this slot: it isn't null, the inode is live, the block lies in the data area, and the
 -- block's tag is spelled and has the slot's kind, inode, generation and number, and the pointer's stamp
-pub record Fits (X : Image) (i : ℕ) (path : Path) (x : Pointer) : Type 0 where
+pub record TagFits (X : Image) (i : ℕ) (path : Path) (x : Pointer) : Type 0 where
   pub not_null : x ≢ null
   pub live : is_live (inode X i) ≡ true
   pub above : 1 + inodes_of X / 4 ≤ x.block
@@ -26,8 +27,8 @@ pub record Fits (X : Image) (i : ℕ) (path : Path) (x : Pointer) : Type 0 where
 
 -- a slot holds with a pointer: its pointer, in the record or in the block of the slot above, which holds too, fits
 abbrev pub Holds : Image → ℕ → Path → Pointer → Type 0
-Holds X i (InRecord n) x = (x ≡ record_pointer (inode X i) n) × Fits X i (InRecord n) x
-Holds X i (Under above n) x = (y : Pointer) × Holds X i above y × (x ≡ pointer_at (cell_at X y.block).payload n) × Fits X i (Under above n) x
+Holds X i (InRecord n) x = (x ≡ record_pointer (inode X i) n) × TagFits X i (InRecord n) x
+Holds X i (Under above n) x = (y : Pointer) × Holds X i above y × (x ≡ pointer_at (cell_at X y.block).payload n) × TagFits X i (Under above n) x
 
 -- a slot is empty: its pointer is null, or the slot above is empty
 abbrev pub IsEmpty : Image → ℕ → Path → Type 0
@@ -45,7 +46,7 @@ pub data IsValue (X : Image) (i k : ℕ) : Value → Type 0 where
 -- entry e of the directory d: sixteen stand in a slot, and a directory has 1,152
 pub record IsEntry (X : Image) (d e : ℕ) (it : Entry) : Type 0 where
   pub directory : (inode X d).kind ≡ Some kind.Directory
-  pub range : e < 1152
+  pub range : e < entry_limit
   pub pointer : Pointer
   pub holds : Holds X d (path_of (e / 16)) pointer
   pub spelled : entry_in (cell_at X pointer.block).payload (e % 16) ≡ Some it
@@ -102,7 +103,7 @@ pub record LawSlots : Type 0 where
 
 -- pairs and agreed inodes; and of any files, those of an image or those that the machine has: agreed is what its equation
 -- says, and the least relation that has the roots and goes down by pairs
-pub record LawNames : Type 0 where
+pub record LawPairs : Type 0 where
   pub equation : (F : Files) (i : ℕ) → agreed F i ≡ (is_root F i || (not (is_special i) && has_agreed_link F i))
   pub least : (F : Files) (i : ℕ) → Agreed F i ↔ (agreed F i ≡ true)
   pub pairs : (X : Image) (i : ℕ) (link : BackLink) → IsPair X i link ↔ (is_pair (files_in X) i link ≡ true)

@@ -3,6 +3,7 @@
 -- What an image says of inodes is a function from inodes to files, without blocks and stamps: the machine has one, too.
 use Rattle.std.specs.Prelude.{◌≡◌, ℕ, zero, suc, ◌/◌, ◌%◌, ◌<◌, Bool, true, false, ◌&&◌, ◌||◌, not, List, [], Option, Some, None, if◌then◌else◌, nat_lt, ◌==◌, Contains}
 use Rattle.std.specs.List.{list_any}
+use Rattle.nofs_dirent.specs.Entries.{entry_limit}
 use Rattle.nofs_model.specs.Cells.{FileKind, BackLink, Record, Entry, entry_in}
 use Rattle.nofs_inode.specs.declared.inode.FileKind.TheVariants.{File, Directory as Folder}
 use Rattle.nofs_model.specs.Geometry.{Image, inode}
@@ -57,7 +58,7 @@ entry_held Lost e = None
 -- entry e of a directory's file: it stands in slot e / 16
 abbrev pub entry_in_file : Option FileState → ℕ → Option Entry
 entry_in_file None e = None
-entry_in_file (Some f) e = if is_folder f.kind && nat_lt e 1152 then entry_held (f.values (e / 16)) e else None
+entry_in_file (Some f) e = if is_folder f.kind && nat_lt e entry_limit then entry_held (f.values (e / 16)) e else None
 
 -- entry e of the directory d
 abbrev pub entry_at : Files → ℕ → ℕ → Option Entry

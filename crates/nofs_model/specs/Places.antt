@@ -10,10 +10,10 @@ use Rattle.nofs_model.specs.declared.path.PathAnswer.{PathAnswer}
 use Rattle.nofs_model.specs.declared.path.PathAnswer.TheVariants as answer
 
 -- the slot with this place
-abbrev pub path_in : Place → Path
-path_in (place.InRecord n) = InRecord n
-path_in (place.UnderRecord n j) = Under (InRecord n) j
-path_in (place.UnderChild j q) = Under (child j) q
+abbrev pub place_path : Place → Path
+place_path (place.InRecord n) = InRecord n
+place_path (place.UnderRecord n j) = Under (InRecord n) j
+place_path (place.UnderChild j q) = Under (child j) q
 
 -- a place that a slot can have
 abbrev pub IsPlace : Place → Type 0

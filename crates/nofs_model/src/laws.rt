@@ -1,5 +1,5 @@
 //! What the definitions say together, as laws.
-ghost use Rattle.nofs_model.specs.Definitions.{LawNames, LawOwners, LawSlots};
+ghost use Rattle.nofs_model.specs.Definitions.{LawPairs, LawOwners, LawSlots};
 ghost use Rattle.nofs_model.specs.Geometry.{LawMountable};
 ghost use Rattle.nofs_model.specs.Sound.{LawFormatted, LawSound};
 
@@ -15,7 +15,7 @@ pub fn law_slots()
 
 /// So for pairs and agreed inodes. Agreement is what its equation says, and the least such relation.
 pub fn law_names()
-    ensures { LawNames }
+    ensures { LawPairs }
 {}
 
 /// So for owners, used inodes and used blocks. A block has one owner at most.

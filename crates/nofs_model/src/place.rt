@@ -3,7 +3,7 @@
 //! Promise: a slot has one place, and its place leads back to its number.
 ghost use Rattle.std.specs.Prelude.{◌≡◌, ◌<◌, ◌+◌, ◌^◌, IsTrue};
 ghost use Rattle.nofs_model.specs.Slots.{is_pointer_slot, is_slot, path_of, slot_of};
-ghost use Rattle.nofs_model.specs.Places.{IsPlace, path_in};
+ghost use Rattle.nofs_model.specs.Places.{IsPlace, place_path};
 
 /// Where the pointer of a slot stands.
 #[derive(Clone, Copy, Debug, PartialEq, Eq)]
@@ -20,7 +20,7 @@ pub enum Place {
 #[tactic(auto, unfolding(nofs_ptrs::specs::Paths::path_of))]
 pub fn place_of(slot: u64) -> Place
     requires { IsTrue (is_slot slot) }
-    ensures path { path_in result ≡ path_of slot }
+    ensures path { place_path result ≡ path_of slot }
     ensures is { IsPlace result }
 {
     if slot < 8 {
@@ -49,7 +49,7 @@ pub fn place_of(slot: u64) -> Place
 #[tactic(auto, unfolding(nofs_ptrs::specs::Paths::slot_of))]
 pub fn slot_number(place: Place) -> u64
     requires { IsPlace place }
-    ensures { result ≡ slot_of (path_in place) }
+    ensures { result ≡ slot_of (place_path place) }
 {
     match place {
         Place::InRecord(at) => { if at < 8 { at } else { (1 << 32) + (at - 8) } }
@@ -66,7 +66,7 @@ pub fn slot_number(place: Place) -> u64
 
 /// Whether a block in this place holds pointers: it is a leaf, a top or a child.
 pub fn has_pointers(place: Place) -> bool
-    ensures { result ≡ is_pointer_slot (path_in place) }
+    ensures { result ≡ is_pointer_slot (place_path place) }
 {
     match place {
         Place::InRecord(at) => at >= 8,

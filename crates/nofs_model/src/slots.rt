@@ -1,7 +1,8 @@
 //! What stands in the slots of an image.
 ghost use Rattle.std.specs.Prelude.{◌≡◌, ◌<◌, ◌≤◌, ◌+◌, ◌/◌, length, IfOk, IsTrue};
+ghost use Rattle.nofs_ptrs.specs.Paths.{slot_limit};
 ghost use Rattle.nofs_model.specs.Geometry.{IsMountable};
-ghost use Rattle.nofs_model.specs.Places.{InArea, IsPlace, IsRead, IsRecord, path_in};
+ghost use Rattle.nofs_model.specs.Places.{InArea, IsPlace, IsRead, IsRecord, place_path};
 ghost use Rattle.nofs_model.specs.Slots as slots;
 
 use crate::image::{cell_at, numbers_of, read_inode};
@@ -20,7 +21,7 @@ use std::alloc::{AllocError, Global};
 /// 4,168. The error is want of memory alone.
 pub fn value_of(alloc: Global, cells: &[Cell], inode: u32, slot: u64) -> Result<Value, AllocError>
     requires image { IsMountable cells.now }
-    requires slot { slot < 4168 }
+    requires slot { slot < slot_limit }
     ensures { IfOk result (λ value. value ≡ slots.value cells.now inode slot) }
 {
     let at = numbers_of(cells);
@@ -49,7 +50,7 @@ pub(crate) fn find_number(cells: &[Cell], at: &SuperBlock, inode: u32, slot: u64
 fn find_slot(cells: &[Cell], at: &SuperBlock, inode: u32, it: &Record, place: Place) -> PathAnswer
     requires known { IsRecord cells.now at.now inode it.now }
     requires place { IsPlace place }
-    ensures found { result ≡ slots.find cells.now inode (path_in place) }
+    ensures found { result ≡ slots.find cells.now inode (place_path place) }
     ensures area { InArea at.now result }
 {
     match place {
@@ -148,7 +149,7 @@ fn judge(
 ) -> PathAnswer
     requires known { IsRecord cells.now at.now inode it.now }
     requires place { IsPlace place }
-    ensures found { result ≡ slots.judged cells.now inode (path_in place) pointer }
+    ensures found { result ≡ slots.judged cells.now inode (place_path place) pointer }
     ensures area { InArea at.now result }
 {
     if pointer.block == 0 && pointer.stamp == 0 {

@@ -2,7 +2,7 @@
 ghost use Rattle.std.specs.Prelude.{◌≡◌, ◌<◌};
 ghost use Rattle.nofs_disk.specs.Tag.{tag_of};
 ghost use Rattle.nofs_model.specs.Cells as cells;
-ghost use Rattle.nofs_model.specs.Places.{path_in};
+ghost use Rattle.nofs_model.specs.Places.{place_path};
 ghost use Rattle.nofs_model.specs.Slots as slots;
 
 use crate::place::{Place, has_pointers};
@@ -23,7 +23,7 @@ pub fn record_pointer(it: &Record, place: u64) -> Pointer
 
 /// The kind of a block in this place of an inode with this record.
 pub fn kind_in(it: &Record, place: Place) -> Kind
-    ensures { result ≡ slots.kind_in it.now (path_in place) }
+    ensures { result ≡ slots.kind_in it.now (place_path place) }
 {
     if has_pointers(place) {
         Kind::Leaf

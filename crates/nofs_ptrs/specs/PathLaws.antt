@@ -1,7 +1,7 @@
 -- A slot has one place, and a place one slot.
 use Rattle.std.proofs.Common.{◌≡◌, ℕ, ◌+◌, ◌-◌, ◌*◌, ◌/◌, ◌%◌, ◌^◌, ◌<◌, ◌≤◌, ◌⊎◌, inl, inr, true, refl, ap, ap₂, ◌∙◌, arith, eqb-true, leb-true, lt-ltb, le-ltb}
 use Rattle.std.proofs.lemmas.Bool.{cases_lt, false≢true}
-use Rattle.nofs_ptrs.specs.Paths.{Path, InRecord, Under, leaf, child, path_of, slot_of, is_pointer_slot, IsSlot}
+use Rattle.nofs_ptrs.specs.Paths.{Path, InRecord, Under, leaf, child, path_of, slot_of, is_pointer_slot, IsSlot, slot_limit}
 
 pub path-direct : (k : ℕ) → k < 8 → path_of k ≡ InRecord k
 unfolding path_of
@@ -11,17 +11,17 @@ pub path-leaf : (k : ℕ) → 8 ≤ k → k < 72 → path_of k ≡ Under leaf (k
 unfolding path_of
 path-leaf k l h = rw (le-ltb k 8 l, lt-ltb k 72 h)
 
-pub path-far : (k : ℕ) → 72 ≤ k → k < 4168 → path_of k ≡ Under (child ((k - 72) / 64)) ((k - 72) % 64)
+pub path-far : (k : ℕ) → 72 ≤ k → k < slot_limit → path_of k ≡ Under (child ((k - 72) / 64)) ((k - 72) % 64)
 unfolding path_of
-path-far k l h = rw (le-ltb k 8 (omega arith), le-ltb k 72 l, lt-ltb k 4168 h)
+path-far k l h = rw (le-ltb k 8 (omega arith), le-ltb k 72 l, lt-ltb k slot_limit h)
 
-path-record : (k : ℕ) → 4168 ≤ k → k < 2 ^ 32 + 2 → path_of k ≡ InRecord (8 + (k - 2 ^ 32))
+path-record : (k : ℕ) → slot_limit ≤ k → k < 2 ^ 32 + 2 → path_of k ≡ InRecord (8 + (k - 2 ^ 32))
 unfolding path_of
-path-record k l h = rw (le-ltb k 8 (omega arith), le-ltb k 72 (omega arith), le-ltb k 4168 l, lt-ltb k (2 ^ 32 + 2) h)
+path-record k l h = rw (le-ltb k 8 (omega arith), le-ltb k 72 (omega arith), le-ltb k slot_limit l, lt-ltb k (2 ^ 32 + 2) h)
 
 path-child : (k : ℕ) → 2 ^ 32 + 2 ≤ k → path_of k ≡ child (k - (2 ^ 32 + 2))
 unfolding path_of
-path-child k l = rw (le-ltb k 8 (omega arith), le-ltb k 72 (omega arith), le-ltb k 4168 (omega arith), le-ltb k (2 ^ 32 + 2) l)
+path-child k l = rw (le-ltb k 8 (omega arith), le-ltb k 72 (omega arith), le-ltb k slot_limit (omega arith), le-ltb k (2 ^ 32 + 2) l)
 
 record-slot : (n : ℕ) → n < 10 → path_of (slot_of (InRecord n)) ≡ InRecord n
 unfolding slot_of
@@ -56,7 +56,7 @@ path_of-slot_of (Under (Under (InRecord n) j) q) h = far-slot (InRecord n) j q (
 path_of-slot_of (Under (Under (Under a i) j) q) h = absurd (false≢true h.0)
 
 -- the place of a slot of content leads back to its number
-pub slot_of-path_of : (k : ℕ) → k < 4168 → slot_of (path_of k) ≡ k
+pub slot_of-path_of : (k : ℕ) → k < slot_limit → slot_of (path_of k) ≡ k
 unfolding slot_of
 slot_of-path_of k h = elim (cases_lt k 8) [
   | inl lt ↦ rw (path-direct k lt, lt-ltb k 8 lt)
@@ -75,7 +75,7 @@ slot_of-path_of-node k l h = elim (cases_lt k (2 ^ 32 + 2)) [
 ]
 
 -- the place of a slot of content
-pub path_of-slot : (k : ℕ) → k < 4168 → IsSlot (path_of k)
+pub path_of-slot : (k : ℕ) → k < slot_limit → IsSlot (path_of k)
 path_of-slot k h = elim (cases_lt k 8) [
   | inl lt ↦ rw (path-direct k lt) (omega arith)
   | inr le ↦ elim (cases_lt k 72) [

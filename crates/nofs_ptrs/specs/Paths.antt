@@ -18,12 +18,16 @@ top = InRecord 9
 abbrev pub child : ℕ → Path
 child j = Under top j
 
+-- how many slots of content a file has at most: 8 in the record, 64 below the leaf, 64 times 64 below the top
+abbrev pub slot_limit : ℕ
+slot_limit = 4168
+
 -- the place of the slot with this number. It is asked of numbers that are slots alone (`is_slot`)
 unfoldable pub path_of : ℕ → Path
 path_of k =
     if nat_lt k 8 then InRecord k else
     (if nat_lt k 72 then Under leaf (k - 8) else
-    (if nat_lt k 4168 then Under (child ((k - 72) / 64)) ((k - 72) % 64) else
+    (if nat_lt k slot_limit then Under (child ((k - 72) / 64)) ((k - 72) % 64) else
     (if nat_lt k (2 ^ 32 + 2) then InRecord (8 + (k - 2 ^ 32)) else child (k - (2 ^ 32 + 2)))))
 
 -- the number of the slot with this place
@@ -45,7 +49,7 @@ IsSlot (Under above n) = (is_pointer_slot above ≡ true) × (n < 64) × IsSlot 
 
 -- this number is a slot's
 abbrev pub is_slot : ℕ → Bool
-is_slot k = nat_lt k 4168 || nat_le (2 ^ 32) k && nat_lt k (2 ^ 32 + 66)
+is_slot k = nat_lt k slot_limit || nat_le (2 ^ 32) k && nat_lt k (2 ^ 32 + 66)
 
 -- the place that a slot path tells
 abbrev pub place_of : SlotPath → Path

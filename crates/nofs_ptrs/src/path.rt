@@ -2,7 +2,7 @@
 //!
 //! Promise: each slot of content has one place, and no other number has one.
 ghost use Rattle.std.specs.Prelude.{◌≡◌, ◌≤◌, ◌↔◌, IfSome, IsNone};
-ghost use Rattle.nofs_ptrs.specs.Paths.{IsSlot, path_of, place_of};
+ghost use Rattle.nofs_ptrs.specs.Paths.{IsSlot, path_of, place_of, slot_limit};
 
 /// The place of the pointer of a slot of content. Pointers are counted from 0.
 #[derive(Clone, Copy, Debug, PartialEq, Eq)]
@@ -20,7 +20,7 @@ pub enum SlotPath {
 pub fn path_of(slot: u64) -> Option<SlotPath>
     ensures place { IfSome result (λ path. place_of path ≡ path_of slot) }
     ensures slot { IfSome result (λ path. IsSlot (place_of path)) }
-    ensures none { IsNone result ↔ 4168 ≤ slot }
+    ensures none { IsNone result ↔ slot_limit ≤ slot }
 {
     match slot {
         0..8 => Some(SlotPath::Direct(slot as u32)),

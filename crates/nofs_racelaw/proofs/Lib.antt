@@ -1,2 +1,4 @@
 pub mod Verdicts
 pub mod Stale
+pub mod Accepted
+pub mod OneRun

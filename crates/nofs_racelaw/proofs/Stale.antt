@@ -1,8 +1,8 @@
 -- A verdict taken in one world of a run holds in every later one in which its element isn't known.
 use Rattle.std.proofs.Common.{◌≡◌, ℕ, ◌/◌, ◌<◌, Bool, leb, ◌||◌, [], ◌∷◌, is_some, refl, sym, ap, ◌∙◌, subst}
 use Rattle.nofs_model.specs.Image.{Image, is_special, is_used_inode, is_used_block}
-use Rattle.nofs_history.specs.World.{World, uses_inode, uses_block}
-use Rattle.nofs_statelaw.proofs.Homes.{uses-inode}
+use Rattle.nofs_machine.specs.World.{World, uses_inode, uses_block}
+use Rattle.nofs_law_maps.proofs.Homes.{uses-inode}
 use Rattle.nofs_racelaw.specs.Laws.{LawPasses, Shows, LawStale}
 use Rattle.nofs_racelaw.proofs.Verdicts.{run-unchanged}
 
@@ -17,7 +17,7 @@ inode-verdict : (W : World) (X : Image) → Shows W X → (i : ℕ) → uses_ino
 inode-verdict W X s i = ap (λ (b : Bool). is_special i || b) (uses-inode W.files X s.good.files i)
 
 block-verdict : (W : World) (X : Image) → Shows W X → (p : ℕ) → p < W.blocks → uses_block W p ≡ is_used_block X p
-block-verdict W X s p lt = λ j. leb p (s.inodes j / 4) || is_some (s.good.homes p lt j)
+block-verdict W X s p lt = λ j. leb p (s.good.numbers.inodes j / 4) || is_some (s.good.homes p lt j)
 
 pub law-stale : LawStale
 law-stale es moment U V X Y run blocks x y =

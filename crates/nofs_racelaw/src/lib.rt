@@ -3,7 +3,7 @@
 //! Promise: over each run of the machine, an element that isn't known has one verdict.
 #![tactic(auto)]
 
-ghost use Rattle.nofs_racelaw.specs.Laws.{LawPasses, LawStale, LawUnchanged};
+ghost use Rattle.nofs_racelaw.specs.Laws.{LawLate, LawOneRun, LawPasses, LawStale, LawUnchanged};
 
 /// What is not known at the end of a run has one verdict in each of its worlds.
 pub fn law_unchanged()
@@ -15,4 +15,11 @@ pub fn law_unchanged()
 pub fn law_stale()
     ensures passes { LawPasses }
     ensures stale { LawStale }
+{}
+
+/// The history decides files and homes, whatever its run learns; so a verdict that was right after
+/// a part of a history is right at its end, where its element isn't known there.
+pub fn law_late()
+    ensures one { LawOneRun }
+    ensures late { LawLate }
 {}

@@ -3,12 +3,12 @@ use Rattle.std.proofs.Common.{◌≡◌, ℕ, List, [], ◌∷◌, take, Option,
 use Rattle.nofs_script.specs.declared.commands.Verb.{Verb}
 use Rattle.nofs_script.specs.declared.commands.Verb.TheVariants as verb
 use Rattle.nofs_script.specs.declared.session.Reading.{Reading}
-use Rattle.nofs_script.specs.Grammar.{command_of, put_of, get_of, size_of, link_of, rename_of, move_of, one_path, one_new_path, verb_in}
+use Rattle.nofs_script.specs.Grammar.{command_of, put_command, get_command, size_command, link_command, rename_command, move_command, one_path, one_new_path, verb_in}
 use Rattle.nofs_script.specs.Sessions.{read_verb, read_words, user_of}
 
 -- a verb with more than three words after it has a wrong number of words, whatever they are
 many : (r : Reading) (v : Option Verb) (a b c d : List ℕ) (rest : List (List ℕ)) → read_verb r v (a ∷ b ∷ c ∷ d ∷ []) ≡ read_verb r v (a ∷ b ∷ c ∷ d ∷ rest)
-unfolding command_of size_of link_of rename_of move_of
+unfolding command_of size_command link_command rename_command move_command
 many r None a b c d rest = refl
 many r (Some verb.Make) a b c d rest = refl
 many r (Some verb.MakeDirectory) a b c d rest = refl

@@ -15,9 +15,9 @@ use Rattle.nofs_script.specs.declared.faults.ScriptKind.{ScriptKind}
 use Rattle.nofs_script.specs.declared.faults.ScriptKind.TheVariants.{BadPath, BadHex, TooManyUsers, TooMuchAsked, TooManyCommands}
 use Rattle.nofs_script.specs.declared.faults.ScriptFault.{ScriptFault}
 use Rattle.nofs_script.specs.declared.session.Reading.{Reading}
-use Rattle.nofs_script.specs.Grammar.{◌>>=◌, has_name, path_word, new_path_word, number_word, hex_word, hex_digits, one_path, one_new_path, put_by, put_of, get_by, get_of, size_of, link_of, rename_of, move_of, command_of, verb_in}
-use Rattle.nofs_script.specs.Sessions.{with_command, asked_by, user_of, read_verb, read_words, read_line, line_in, at_line, read_from, empty_reading, is_skipped, IsSession}
-use Rattle.nofs_script.specs.Words.{words_of, lines_of}
+use Rattle.nofs_script.specs.Grammar.{◌>>=◌, has_last_name, path_word, new_path_word, number_word, hex_word, hex_digits, one_path, one_new_path, put_by, put_command, get_by, get_command, size_command, link_command, rename_command, move_command, command_of, verb_in}
+use Rattle.nofs_script.specs.Sessions.{with_command, asked_by, user_of, read_verb, read_words, read_line, line_to_break, at_line, read_from, empty_reading, is_skipped, IsSession}
+use Rattle.nofs_script.specs.Words.{words_of, text_lines}
 
 -- what holds of a reading holds of the next one
 bind : {A B E : Type 0} (P : A → Type 0) (Q : B → Type 0) (r : Result A E) (f : A → Result B E) → IfOk r P → ((x : A) → P x → IfOk (f x) Q) → IfOk (r >>= f) Q
@@ -29,15 +29,15 @@ any : {A E : Type 0} (r : Result A E) → IfOk r (λ _. Unit {0})
 any (Ok x) = tt
 any (Err e) = tt
 
-named : (path : Path) → has_name path ≡ true → HasName path
+named : (path : Path) → has_last_name path ≡ true → HasName path
 named Label e = cc
 named (Names []) e = cc
 named (Names (name ∷ names)) e = omega arith
 
 new_path : (word : List ℕ) → IfOk (new_path_word word) HasName
 unfolding new_path_word
-new_path word = bind (λ _. Unit {0}) HasName (path_word word) _ (any (path_word word)) (λ path _. go path (has_name path) refl) where
-  go : (path : Path) (b : Bool) → has_name path ≡ b → IfOk {E = ScriptKind} (if b then Ok path else Err BadPath) HasName
+new_path word = bind (λ _. Unit {0}) HasName (path_word word) _ (any (path_word word)) (λ path _. go path (has_last_name path) refl) where
+  go : (path : Path) (b : Bool) → has_last_name path ≡ b → IfOk {E = ScriptKind} (if b then Ok path else Err BadPath) HasName
   go path true e = named path e
   go path false e = tt
 
@@ -69,7 +69,7 @@ some_hex word = go (length word == 0) refl where
 free : (r : Result Path ScriptKind) (make : Path → Command) → ((path : Path) → IsWellFormed (make path)) → IfOk (r >>= λ path. Ok (make path)) IsWellFormed
 free r make formed = bind (λ _. Unit {0}) IsWellFormed r _ (any r) (λ path _. formed path)
 
-put : (args : List (List ℕ)) → IfOk (put_of args) IsWellFormed
+put : (args : List (List ℕ)) → IfOk (put_command args) IsWellFormed
 unfolding put_by
 put (a ∷ b ∷ c ∷ []) =
     bind (λ _. Unit {0}) IsWellFormed (path_word a) _ (any (path_word a)) (λ path _.
@@ -80,7 +80,7 @@ put (a ∷ []) = tt
 put (a ∷ b ∷ []) = tt
 put (a ∷ b ∷ c ∷ d ∷ rest) = tt
 
-get : (args : List (List ℕ)) → IfOk (get_of args) IsWellFormed
+get : (args : List (List ℕ)) → IfOk (get_command args) IsWellFormed
 unfolding get_by
 get (a ∷ b ∷ c ∷ []) =
     bind (λ _. Unit {0}) IsWellFormed (path_word a) _ (any (path_word a)) (λ path _.
@@ -91,8 +91,8 @@ get (a ∷ []) = tt
 get (a ∷ b ∷ []) = tt
 get (a ∷ b ∷ c ∷ d ∷ rest) = tt
 
-size : (args : List (List ℕ)) → IfOk (size_of args) IsWellFormed
-unfolding size_of
+size : (args : List (List ℕ)) → IfOk (size_command args) IsWellFormed
+unfolding size_command
 size (a ∷ b ∷ []) =
     bind (λ _. Unit {0}) IsWellFormed (path_word a) _ (any (path_word a)) (λ path _.
     bind (λ _. Unit {0}) IsWellFormed (number_word b) _ (any (number_word b)) (λ n _. tt))
@@ -100,8 +100,8 @@ size [] = tt
 size (a ∷ []) = tt
 size (a ∷ b ∷ c ∷ rest) = tt
 
-link : (args : List (List ℕ)) → IfOk (link_of args) IsWellFormed
-unfolding link_of
+link : (args : List (List ℕ)) → IfOk (link_command args) IsWellFormed
+unfolding link_command
 link (a ∷ b ∷ []) =
     bind (λ _. Unit {0}) IsWellFormed (path_word a) _ (any (path_word a)) (λ path _.
     bind HasName IsWellFormed (new_path_word b) _ (new_path b) (λ to has. has))
@@ -109,15 +109,15 @@ link [] = tt
 link (a ∷ []) = tt
 link (a ∷ b ∷ c ∷ rest) = tt
 
-rename : (args : List (List ℕ)) → IfOk (rename_of args) IsWellFormed
-unfolding rename_of
+rename : (args : List (List ℕ)) → IfOk (rename_command args) IsWellFormed
+unfolding rename_command
 rename (a ∷ b ∷ []) = bind HasName IsWellFormed (new_path_word a) _ (new_path a) (λ path has. has)
 rename [] = tt
 rename (a ∷ []) = tt
 rename (a ∷ b ∷ c ∷ rest) = tt
 
-move : (args : List (List ℕ)) → IfOk (move_of args) IsWellFormed
-unfolding move_of
+move : (args : List (List ℕ)) → IfOk (move_command args) IsWellFormed
+unfolding move_command
 move (a ∷ b ∷ []) =
     bind HasName IsWellFormed (new_path_word a) _ (new_path a) (λ from has.
     bind HasName IsWellFormed (new_path_word b) _ (new_path b) (λ to has_too. (has, has_too)))
@@ -205,13 +205,13 @@ all_lines : (n : ℕ) (r : Reading) (lines : List (List ℕ)) → Reads r → If
 unfolding read_from
 all_lines n r [] reads = reads
 all_lines n r (line ∷ rest) reads =
-    bind Reads Reads (at_line n (read_line r (line_in line rest))) (λ next. read_from (n + 1) next rest) (placed n (read_line r (line_in line rest)) (one_line r (line_in line rest) reads))
+    bind Reads Reads (at_line n (read_line r (line_to_break line rest))) (λ next. read_from (n + 1) next rest) (placed n (read_line r (line_to_break line rest)) (one_line r (line_to_break line rest) reads))
     (λ next reads_on. all_lines (n + 1) next rest reads_on)
 
-pub is_session : (text : List ℕ) (r : Reading) → read_from 1 empty_reading (lines_of text) ≡ Ok r → IsSession (r.done ++ r.current ∷ [])
+pub is_session : (text : List ℕ) (r : Reading) → read_from 1 empty_reading (text_lines text) ≡ Ok r → IsSession (r.done ++ r.current ∷ [])
 is_session text r read =
     let first : Reads empty_reading = record { done = tt; current = tt; few = omega arith } in
-    let reads : Reads r = subst (λ x. IfOk x Reads) read (all_lines 1 empty_reading (lines_of text) first) in
+    let reads : Reads r = subst (λ x. IfOk x Reads) read (all_lines 1 empty_reading (text_lines text) first) in
     record {
       some = omega (arith, length-append r.done (r.current ∷ []));
       few = omega (arith, length-append r.done (r.current ∷ []), reads.few);

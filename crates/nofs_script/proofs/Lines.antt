@@ -10,9 +10,9 @@ use Rattle.nofs_script.specs.declared.session.Reading.{Reading}
 use Rattle.nofs_script.specs.declared.faults.ScriptFault.{ScriptFault}
 use Rattle.nofs_script.specs.declared.faults.ParseFault.{ParseFault}
 use Rattle.nofs_script.specs.declared.faults.ParseFault.TheVariants as parse
-use Rattle.nofs_script.specs.Words.{lines_of}
+use Rattle.nofs_script.specs.Words.{text_lines}
 use Rattle.nofs_script.specs.Grammar.{◌>>=◌}
-use Rattle.nofs_script.specs.Sessions.{FailsText, GivesText, at_line, line_in, read_line, read_from}
+use Rattle.nofs_script.specs.Sessions.{FailsText, GivesText, at_line, line_to_break, read_line, read_from}
 
 -- no byte is a line feed
 abbrev pub HasNoFeed : List ℕ → Type 0
@@ -26,47 +26,47 @@ abbrev pub after : ℕ → List ℕ → List ℕ
 after end text = drop (end + 1) text
 
 -- a text without a line feed is one line
-one_line : (text : List ℕ) → HasNoFeed text → lines_of text ≡ text ∷ []
+one_line : (text : List ℕ) → HasNoFeed text → text_lines text ≡ text ∷ []
 one_line text none = slice_split_none (λ byte. byte == 10) text (no_feed text none)
 
 -- the first line ends at the first line feed
-first_line : (text : List ℕ) (end : ℕ) → slice_get text end ≡ Some 10 → HasNoFeed (take end text) → lines_of text ≡ take end text ∷ lines_of (after end text)
+first_line : (text : List ℕ) (end : ℕ) → slice_get text end ≡ Some 10 → HasNoFeed (take end text) → text_lines text ≡ take end text ∷ text_lines (after end text)
 first_line text end feed none =
     let within = slice_get_within text end 10 feed in
     let cut : drop end text ≡ 10 ∷ after end text = drop-cons text end 0 within ∙ ap (λ b. b ∷ drop (suc end) text) (get_or_from_slice_get text end 10 0 feed) ∙ ap (λ n. 10 ∷ drop n text) (sym (add-one end)) in
     let whole : take end text ++ (10 ∷ after end text) ≡ text = ap (λ l. take end text ++ l) (sym cut) ∙ take-append-drop end text in
-    ap lines_of (sym whole) ∙ slice_split_at (λ byte. byte == 10) (take end text) 10 (after end text) (no_feed (take end text) none) refl
+    ap text_lines (sym whole) ∙ slice_split_at (λ byte. byte == 10) (take end text) 10 (after end text) (no_feed (take end text) none) refl
 
 -- a line with lines after it may end in a carriage return
-ended : (line : List ℕ) (rest : List (List ℕ)) → 0 < length rest → line_in line rest ≡ strip_carriage_return line
+ended : (line : List ℕ) (rest : List (List ℕ)) → 0 < length rest → line_to_break line rest ≡ strip_carriage_return line
 ended line [] some = absurd (omega arith)
 ended line (x ∷ xs) some = refl
 
 -- one line is read
 step : (n : ℕ) (r : Reading) (text : List ℕ) (end : ℕ) → slice_get text end ≡ Some 10 → HasNoFeed (take end text)
-    → read_from n r (lines_of text) ≡ (at_line n (read_line r (strip_carriage_return (take end text))) >>= λ next. read_from (n + 1) next (lines_of (after end text)))
+    → read_from n r (text_lines text) ≡ (at_line n (read_line r (strip_carriage_return (take end text))) >>= λ next. read_from (n + 1) next (text_lines (after end text)))
 unfolding read_from
 step n r text end feed none =
-    let some : 0 < length (lines_of (after end text)) = omega (arith, length-slice_split (λ byte. byte == 10) (after end text)) in
+    let some : 0 < length (text_lines (after end text)) = omega (arith, length-slice_split (λ byte. byte == 10) (after end text)) in
     ap (read_from n r) (first_line text end feed none)
-    ∙ ap (λ line. at_line n (read_line r line) >>= λ next. read_from (n + 1) next (lines_of (after end text))) (ended (take end text) (lines_of (after end text)) some)
+    ∙ ap (λ line. at_line n (read_line r line) >>= λ next. read_from (n + 1) next (text_lines (after end text))) (ended (take end text) (text_lines (after end text)) some)
 
 module _ (n : ℕ) (r : Reading) (text line rest : List ℕ) (end : ℕ) (total : Result Reading ScriptFault)
-    (feed : slice_get text end ≡ Some 10) (none : HasNoFeed (take end text)) (is_line : line ≡ strip_carriage_return (take end text)) (so_far : read_from n r (lines_of text) ≡ total) where
+    (feed : slice_get text end ≡ Some 10) (none : HasNoFeed (take end text)) (is_line : line ≡ strip_carriage_return (take end text)) (so_far : read_from n r (text_lines text) ≡ total) where
   read : at_line n (read_line r (strip_carriage_return (take end text))) ≡ at_line n (read_line r line)
   read = ap (λ l. at_line n (read_line r l)) (sym is_line)
 
   -- where the line is read, the lines after it follow
-  pub goes_on : (next : Reading) → rest ≡ after end text → at_line n (read_line r line) ≡ Ok next → read_from (n + 1) next (lines_of rest) ≡ total
+  pub goes_on : (next : Reading) → rest ≡ after end text → at_line n (read_line r line) ≡ Ok next → read_from (n + 1) next (text_lines rest) ≡ total
   goes_on next is_rest good =
-      ap (λ t. read_from (n + 1) next (lines_of t)) is_rest
-      ∙ sym (step n r text end feed none ∙ ap (λ x. x >>= λ next. read_from (n + 1) next (lines_of (after end text))) (read ∙ good)) ∙ so_far
+      ap (λ t. read_from (n + 1) next (text_lines t)) is_rest
+      ∙ sym (step n r text end feed none ∙ ap (λ x. x >>= λ next. read_from (n + 1) next (text_lines (after end text))) (read ∙ good)) ∙ so_far
 
   -- where it is bad, so is the text
   pub ends : (e : ParseFault) → FailsText e (at_line n (read_line r line)) → FailsText e total
   ends parse.OutOfMemory bad = tt
   ends (parse.Script fault) bad =
-      sym so_far ∙ step n r text end feed none ∙ ap (λ x. x >>= λ next. read_from (n + 1) next (lines_of (after end text))) (read ∙ bad)
+      sym so_far ∙ step n r text end feed none ∙ ap (λ x. x >>= λ next. read_from (n + 1) next (text_lines (after end text))) (read ∙ bad)
 
 -- the last line is all that is left
 last : (x : Result Reading ScriptFault) (n : ℕ) → (x >>= λ next. read_from n next []) ≡ x
@@ -74,11 +74,11 @@ unfolding read_from
 last (Ok r) n = refl
 last (Err e) n = refl
 
-all_read : (n : ℕ) (r : Reading) (text : List ℕ) → HasNoFeed text → read_from n r (lines_of text) ≡ at_line n (read_line r text)
+all_read : (n : ℕ) (r : Reading) (text : List ℕ) → HasNoFeed text → read_from n r (text_lines text) ≡ at_line n (read_line r text)
 unfolding read_from
 all_read n r text none = ap (read_from n r) (one_line text none) ∙ last (at_line n (read_line r text)) (n + 1)
 
 pub gives_last : (result : Result Reading ParseFault) (n : ℕ) (r : Reading) (text : List ℕ) (total : Result Reading ScriptFault) → HasNoFeed text
-    → GivesText (λ r. r) result (at_line n (read_line r text)) → read_from n r (lines_of text) ≡ total → GivesText (λ r. r) result total
+    → GivesText (λ r. r) result (at_line n (read_line r text)) → read_from n r (text_lines text) ≡ total → GivesText (λ r. r) result total
 gives_last result n r text total none gives so_far =
     subst (GivesText (λ r. r) result) (sym (all_read n r text none) ∙ so_far) gives

@@ -38,30 +38,30 @@ or_fault e None = Err e
 or_fault e (Some x) = Ok x
 
 -- the path of the parts between slashes: nothing stands before the first slash, and no name is empty
-abbrev pub names_in : List (List ℕ) → Option Path
-names_in [] = None
-names_in (front ∷ names) = if length front == 0 && list_all is_word names then Some (Names names) else None
+abbrev pub path_of_parts : List (List ℕ) → Option Path
+path_of_parts [] = None
+path_of_parts (front ∷ names) = if length front == 0 && list_all is_word names then Some (Names names) else None
 
 -- a path is `@`, `/`, or names with a slash before each
-unfoldable pub path_in : List ℕ → Option Path
-path_in word =
+unfoldable pub spelled_path : List ℕ → Option Path
+spelled_path word =
     if bytes_eq word (codes "@") then Some Label
     else if bytes_eq word (codes "/") then Some (Names [])
-    else names_in (slice_split (λ byte. byte == 47) word)
+    else path_of_parts (slice_split (λ byte. byte == 47) word)
 
 unfoldable pub path_word : List ℕ → Result Path ScriptKind
-path_word word = or_fault BadPath (path_in word)
+path_word word = or_fault BadPath (spelled_path word)
 
 -- the path has a last name
-abbrev pub has_name : Path → Bool
-has_name Label = false
-has_name (Names names) = not (length names == 0)
+abbrev pub has_last_name : Path → Bool
+has_last_name Label = false
+has_last_name (Names names) = not (length names == 0)
 
 -- a path with at least one name
 unfoldable pub new_path_word : List ℕ → Result Path ScriptKind
 new_path_word word = do
   path ← path_word word
-  if has_name path then Ok path else Err BadPath
+  if has_last_name path then Ok path else Err BadPath
 
 unfoldable pub number_word : List ℕ → Result ℕ ScriptKind
 number_word word = or_fault BadNumber (number_of word)
@@ -110,9 +110,9 @@ put_by a b c = do
   Ok (command.Put path offset bytes)
 
 -- PATH OFFSET HEX
-abbrev pub put_of : List (List ℕ) → Result Command ScriptKind
-put_of (a ∷ b ∷ c ∷ []) = put_by a b c
-put_of _ = Err WordCount
+abbrev pub put_command : List (List ℕ) → Result Command ScriptKind
+put_command (a ∷ b ∷ c ∷ []) = put_by a b c
+put_command _ = Err WordCount
 
 unfoldable pub get_by : List ℕ → List ℕ → List ℕ → Result Command ScriptKind
 get_by a b c = do
@@ -122,53 +122,53 @@ get_by a b c = do
   Ok (command.Get path offset len)
 
 -- PATH OFFSET LENGTH
-abbrev pub get_of : List (List ℕ) → Result Command ScriptKind
-get_of (a ∷ b ∷ c ∷ []) = get_by a b c
-get_of _ = Err WordCount
+abbrev pub get_command : List (List ℕ) → Result Command ScriptKind
+get_command (a ∷ b ∷ c ∷ []) = get_by a b c
+get_command _ = Err WordCount
 
 -- PATH SIZE
-unfoldable pub size_of : List (List ℕ) → Result Command ScriptKind
-size_of (a ∷ b ∷ []) = do
+unfoldable pub size_command : List (List ℕ) → Result Command ScriptKind
+size_command (a ∷ b ∷ []) = do
   path ← path_word a
   size ← number_word b
   Ok (command.Size path size)
-size_of _ = Err WordCount
+size_command _ = Err WordCount
 
 -- PATH NEWPATH
-unfoldable pub link_of : List (List ℕ) → Result Command ScriptKind
-link_of (a ∷ b ∷ []) = do
+unfoldable pub link_command : List (List ℕ) → Result Command ScriptKind
+link_command (a ∷ b ∷ []) = do
   path ← path_word a
   new_path ← new_path_word b
   Ok (command.Link path new_path)
-link_of _ = Err WordCount
+link_command _ = Err WordCount
 
 -- NEWPATH NAME
-unfoldable pub rename_of : List (List ℕ) → Result Command ScriptKind
-rename_of (a ∷ b ∷ []) = do
+unfoldable pub rename_command : List (List ℕ) → Result Command ScriptKind
+rename_command (a ∷ b ∷ []) = do
   path ← new_path_word a
   Ok (command.Rename path b)
-rename_of _ = Err WordCount
+rename_command _ = Err WordCount
 
 -- NEWPATH NEWPATH
-unfoldable pub move_of : List (List ℕ) → Result Command ScriptKind
-move_of (a ∷ b ∷ []) = do
+unfoldable pub move_command : List (List ℕ) → Result Command ScriptKind
+move_command (a ∷ b ∷ []) = do
   from ← new_path_word a
   to ← new_path_word b
   Ok (command.Move from to)
-move_of _ = Err WordCount
+move_command _ = Err WordCount
 
 -- the command of a verb with the words after it
 unfoldable pub command_of : Verb → List (List ℕ) → Result Command ScriptKind
 command_of verb.Make args = one_new_path args >>= λ path. Ok (command.Make path)
 command_of verb.MakeDirectory args = one_new_path args >>= λ path. Ok (command.MakeDirectory path)
-command_of verb.Put args = put_of args
-command_of verb.Get args = get_of args
-command_of verb.Size args = size_of args
+command_of verb.Put args = put_command args
+command_of verb.Get args = get_command args
+command_of verb.Size args = size_command args
 command_of verb.Stat args = one_path args >>= λ path. Ok (command.Stat path)
 command_of verb.List args = one_path args >>= λ path. Ok (command.List path)
-command_of verb.Link args = link_of args
+command_of verb.Link args = link_command args
 command_of verb.Drop args = one_new_path args >>= λ path. Ok (command.Drop path)
-command_of verb.Rename args = rename_of args
+command_of verb.Rename args = rename_command args
 command_of verb.Fsync args = one_path args >>= λ path. Ok (command.Fsync path)
-command_of verb.Move args = move_of args
+command_of verb.Move args = move_command args
 command_of verb.User args = Err UnknownCommand

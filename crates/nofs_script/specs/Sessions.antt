@@ -14,7 +14,7 @@ use Rattle.nofs_script.specs.declared.faults.ScriptFault.{ScriptFault}
 use Rattle.nofs_script.specs.declared.faults.ParseFault.{ParseFault}
 use Rattle.nofs_script.specs.declared.faults.ParseFault.TheVariants as parse
 use Rattle.nofs_script.specs.declared.session.Reading.{Reading}
-use Rattle.nofs_script.specs.Words.{words_of, lines_of}
+use Rattle.nofs_script.specs.Words.{words_of, text_lines}
 use Rattle.nofs_script.specs.Grammar.{◌>>=◌, command_of, verb_in}
 
 -- a fault of a text is the one that its reading has, unless memory ran out
@@ -65,9 +65,9 @@ unfoldable pub read_line : Reading → List ℕ → Result Reading ScriptKind
 read_line r line = if is_skipped line then Ok r else read_words r (words_of line)
 
 -- a line, with the lines after it: only before a line feed it loses a carriage return
-abbrev pub line_in : List ℕ → List (List ℕ) → List ℕ
-line_in line [] = line
-line_in line (_ ∷ _) = strip_carriage_return line
+abbrev pub line_to_break : List ℕ → List (List ℕ) → List ℕ
+line_to_break line [] = line
+line_to_break line (_ ∷ _) = strip_carriage_return line
 
 -- a fault of a line is named with its number
 abbrev pub at_line : ℕ → Result Reading ScriptKind → Result Reading ScriptFault
@@ -77,14 +77,14 @@ at_line n (Err kind) = Err (record { line = n; kind = kind })
 -- the lines from line n on
 unfoldable pub read_from : ℕ → Reading → List (List ℕ) → Result Reading ScriptFault
 read_from n r [] = Ok r
-read_from n r (line ∷ rest) = at_line n (read_line r (line_in line rest)) >>= λ next. read_from (n + 1) next rest
+read_from n r (line ∷ rest) = at_line n (read_line r (line_to_break line rest)) >>= λ next. read_from (n + 1) next rest
 
 abbrev pub empty_reading : Reading
 empty_reading = record { done = []; current = []; count = 0; asked = 0 }
 
 -- the scripts of a text, or the first bad line
 unfoldable pub session_of : List ℕ → Result (List (List Command)) ScriptFault
-session_of text = read_from 1 empty_reading (lines_of text) >>= λ r. Ok (r.done ++ r.current ∷ [])
+session_of text = read_from 1 empty_reading (text_lines text) >>= λ r. Ok (r.done ++ r.current ∷ [])
 
 -- a session has 1 to 8 scripts of well-formed commands
 pub record IsSession (scripts : List (List Command)) : Type 0 where

@@ -10,8 +10,8 @@ abbrev pub piece_of : Bor (List ℕ) → List ℕ
 piece_of p = p.now
 
 -- the lines of a text, which stand between line feeds
-abbrev pub lines_of : List ℕ → List (List ℕ)
-lines_of text = slice_split (λ b. b == 10) text
+abbrev pub text_lines : List ℕ → List (List ℕ)
+text_lines text = slice_split (λ b. b == 10) text
 
 abbrev pub is_word : List ℕ → Bool
 is_word word = not (length word == 0)
@@ -21,8 +21,8 @@ abbrev pub words_of : List ℕ → List (List ℕ)
 words_of line = filter is_word (slice_split (λ b. b == 32) line)
 
 -- the value of decimal digits
-abbrev pub value_of : List ℕ → ℕ
-value_of digits = fold (λ n b. n * 10 + (b - 48)) 0 digits
+abbrev pub digits_value : List ℕ → ℕ
+digits_value digits = fold (λ n b. n * 10 + (b - 48)) 0 digits
 
 -- 1 to 20 digits without a leading zero, but 0 itself
 abbrev pub is_number : List ℕ → Bool
@@ -30,4 +30,4 @@ is_number word = not (length word == 0) && nat_le (length word) 20 && (length wo
 
 -- the number that a word spells
 abbrev pub number_of : List ℕ → Option ℕ
-number_of word = if is_number word && nat_lt (value_of word) (2 ^ 64) then Some (value_of word) else None
+number_of word = if is_number word && nat_lt (digits_value word) (2 ^ 64) then Some (digits_value word) else None

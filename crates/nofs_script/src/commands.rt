@@ -3,7 +3,7 @@
 ghost use Rattle.std.specs.Prelude.{◌≡◌, ◌∷◌, ◌==◌, map, IfOk};
 ghost use Rattle.std.specs.List.{list_all, slice_split};
 ghost use Rattle.nofs_script.specs.Words.{piece_of, is_word};
-ghost use Rattle.nofs_script.specs.Grammar.{GivesLine, path_word, new_path_word, number_word, hex_word, verb_in, one_path as one_path_in, one_new_path as one_new_path_in, put_by as put_by_words, put_of, get_by as get_by_words, get_of, size_of, link_of, rename_of, move_of, command_of, path_in, names_in, has_name as has_name_in};
+ghost use Rattle.nofs_script.specs.Grammar.{GivesLine, path_word, new_path_word, number_word, hex_word, verb_in, one_path as one_path_in, one_new_path as one_new_path_in, put_by as put_by_words, put_command, get_by as get_by_words, get_command, size_command, link_command, rename_command, move_command, command_of, spelled_path, path_of_parts, has_last_name as has_name_in};
 
 use crate::faults::{LineFault, ScriptKind};
 use crate::words::number_of;
@@ -90,7 +90,7 @@ fn all_words(parts: &[&[u8]]) -> bool
 
 #[tactic(auto, using(crate::proofs::Pieces::list_all_pieces))]
 fn names_behind(alloc: Global, front: &[u8], rest: &[&[u8]]) -> Result<Option<Path>, AllocError>
-    ensures { IfOk result (λ path. path ≡ names_in (front.now ∷ map piece_of rest.now)) }
+    ensures { IfOk result (λ path. path ≡ path_of_parts (front.now ∷ map piece_of rest.now)) }
 {
     if front.is_empty() && all_words(rest) {
         Ok(Some(Path::Names(names(alloc, rest)?)))
@@ -100,7 +100,7 @@ fn names_behind(alloc: Global, front: &[u8], rest: &[&[u8]]) -> Result<Option<Pa
 }
 
 fn names_after(alloc: Global, parts: &[&[u8]]) -> Result<Option<Path>, AllocError>
-    ensures { IfOk result (λ path. path ≡ names_in (map piece_of parts.now)) }
+    ensures { IfOk result (λ path. path ≡ path_of_parts (map piece_of parts.now)) }
 {
     match parts {
         [] => Ok(None),
@@ -108,9 +108,9 @@ fn names_after(alloc: Global, parts: &[&[u8]]) -> Result<Option<Path>, AllocErro
     }
 }
 
-#[tactic(auto, unfolding(crate::specs::Grammar::path_in))]
+#[tactic(auto, unfolding(crate::specs::Grammar::spelled_path))]
 fn path_of(alloc: Global, word: &[u8]) -> Result<Option<Path>, AllocError>
-    ensures { IfOk result (λ path. path ≡ path_in word.now) }
+    ensures { IfOk result (λ path. path ≡ spelled_path word.now) }
 {
     if word == b"@".as_slice() {
         Ok(Some(Path::Label))
@@ -209,7 +209,7 @@ fn put_by(alloc: Global, a: &[u8], b: &[u8], c: &[u8]) -> Result<Command, LineFa
 }
 
 fn put(alloc: Global, args: &[&[u8]]) -> Result<Command, LineFault>
-    ensures { GivesLine (λ command. command) result (put_of (map piece_of args.now)) }
+    ensures { GivesLine (λ command. command) result (put_command (map piece_of args.now)) }
 {
     match args {
         [a, b, c] => put_by(alloc, a, b, c),
@@ -232,7 +232,7 @@ fn get_by(alloc: Global, a: &[u8], b: &[u8], c: &[u8]) -> Result<Command, LineFa
 }
 
 fn get(alloc: Global, args: &[&[u8]]) -> Result<Command, LineFault>
-    ensures { GivesLine (λ command. command) result (get_of (map piece_of args.now)) }
+    ensures { GivesLine (λ command. command) result (get_command (map piece_of args.now)) }
 {
     match args {
         [a, b, c] => get_by(alloc, a, b, c),
@@ -240,9 +240,9 @@ fn get(alloc: Global, args: &[&[u8]]) -> Result<Command, LineFault>
     }
 }
 
-#[tactic(auto, unfolding(crate::specs::Grammar::size_of))]
+#[tactic(auto, unfolding(crate::specs::Grammar::size_command))]
 fn size(alloc: Global, args: &[&[u8]]) -> Result<Command, LineFault>
-    ensures { GivesLine (λ command. command) result (size_of (map piece_of args.now)) }
+    ensures { GivesLine (λ command. command) result (size_command (map piece_of args.now)) }
 {
     match args {
         [a, b] => {
@@ -254,9 +254,9 @@ fn size(alloc: Global, args: &[&[u8]]) -> Result<Command, LineFault>
     }
 }
 
-#[tactic(auto, unfolding(crate::specs::Grammar::link_of))]
+#[tactic(auto, unfolding(crate::specs::Grammar::link_command))]
 fn link(alloc: Global, args: &[&[u8]]) -> Result<Command, LineFault>
-    ensures { GivesLine (λ command. command) result (link_of (map piece_of args.now)) }
+    ensures { GivesLine (λ command. command) result (link_command (map piece_of args.now)) }
 {
     match args {
         [a, b] => {
@@ -268,9 +268,9 @@ fn link(alloc: Global, args: &[&[u8]]) -> Result<Command, LineFault>
     }
 }
 
-#[tactic(auto, unfolding(crate::specs::Grammar::rename_of))]
+#[tactic(auto, unfolding(crate::specs::Grammar::rename_command))]
 fn rename(alloc: Global, args: &[&[u8]]) -> Result<Command, LineFault>
-    ensures { GivesLine (λ command. command) result (rename_of (map piece_of args.now)) }
+    ensures { GivesLine (λ command. command) result (rename_command (map piece_of args.now)) }
 {
     match args {
         [a, b] => {
@@ -282,9 +282,9 @@ fn rename(alloc: Global, args: &[&[u8]]) -> Result<Command, LineFault>
     }
 }
 
-#[tactic(auto, unfolding(crate::specs::Grammar::move_of))]
+#[tactic(auto, unfolding(crate::specs::Grammar::move_command))]
 fn moved(alloc: Global, args: &[&[u8]]) -> Result<Command, LineFault>
-    ensures { GivesLine (λ command. command) result (move_of (map piece_of args.now)) }
+    ensures { GivesLine (λ command. command) result (move_command (map piece_of args.now)) }
 {
     match args {
         [a, b] => {

@@ -2,7 +2,7 @@
 
 ghost use Rattle.std.specs.Prelude.{◌≡◌, ◌≢◌, ◌+◌, ◌<◌, All, Some, [], map, length, MatchOption, IfOk, IfSome, slice_get, take, drop};
 ghost use Rattle.std.specs.Str.Lines.{strip_carriage_return};
-ghost use Rattle.nofs_script.specs.Words.{piece_of, lines_of};
+ghost use Rattle.nofs_script.specs.Words.{piece_of, text_lines};
 ghost use Rattle.nofs_script.specs.Grammar.{GivesLine};
 ghost use Rattle.nofs_script.specs.Sessions.{GivesText, IsSession, asked_by as asked_in, with_command as command_added, user_of, read_verb as verb_read, read_words as words_read, read_line as line_read, at_line, is_skipped as is_skipped_in, read_from, empty_reading, session_of};
 
@@ -192,7 +192,7 @@ fn read_at(alloc: Global, number: u64, reading: Reading, line: &[u8]) -> Result<
 
 // Reads line after line, each in its turn: nothing is kept of a text but its commands.
 fn read_lines(alloc: Global, text: &[u8]) -> Result<Reading, ParseFault>
-    ensures { GivesText (λ r. r) result (read_from 1 empty_reading (lines_of text.now)) }
+    ensures { GivesText (λ r. r) result (read_from 1 empty_reading (text_lines text.now)) }
 {
     let mut reading = Reading {
         done: Session::new(alloc),

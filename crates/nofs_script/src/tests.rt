@@ -1,7 +1,7 @@
 use crate::{ParseFault, line_text, parse};
 use nofs_client::{GotPart, GotParts, Line, ListPart, ListParts};
-use nofs_history::{FileKind, NameLine, Refusal, Stat};
 use nofs_lists::{Content, Name};
+use nofs_machine::{FileKind, NameLine, Refusal, Stat};
 use std::alloc::{AllocError, Global};
 use std::test::Fail;
 

@@ -5,7 +5,7 @@ ghost use Rattle.std.specs.Fmt.{decimal};
 ghost use Rattle.nofs_script.specs.Text.{got_text, name_text, listed_text, refusal_words as words_of_refusal, refusal_rest as rest_of_refusal, refused_text, stat_text, words_text, text_of};
 
 use nofs_client::{GotPart, GotParts, Line, ListPart, ListParts};
-use nofs_history::{FileKind, NameLine, Refusal, Stat};
+use nofs_machine::{FileKind, NameLine, Refusal, Stat};
 use std::alloc::{AllocError, Global};
 
 fn push_words(text: &mut Vec<u8>, words: &str) -> Result<(), AllocError>

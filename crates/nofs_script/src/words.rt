@@ -4,7 +4,7 @@ ghost use Rattle.std.specs.Prelude.{◌≡◌, ◌+◌, ◌<◌, ◌≤◌, ◌*
 ghost use Rattle.std.specs.List.{list_all};
 ghost use Rattle.std.specs.Char.{is_ascii_digit};
 ghost use Rattle.std.specs.Option.{SomeIff};
-ghost use Rattle.nofs_script.specs.Words.{words_of, number_of as number_in, piece_of, is_number as is_number_word, value_of as value_in};
+ghost use Rattle.nofs_script.specs.Words.{words_of, number_of as number_in, piece_of, is_number as is_number_word, digits_value as value_in};
 
 use std::alloc::{AllocError, Global};
 

@@ -8,7 +8,7 @@ use Rattle.nofs_disk.specs.declared.tag.Cell.{Cell}
 use Rattle.nofs_disk.specs.Adds.{Adds, Adds-flushes, Adds-readies, Adds-trans, Adds-writes}
 use Rattle.nofs_disk.specs.Chains.{StaysButFaults-refl}
 use Rattle.nofs_disk.specs.Disk.{DiskState, Flushes, IsDisk, MakesReady, Writes, cell_at, no_cell}
-use Rattle.nofs_super.specs.Format.{FormatEnds, IsFresh, cell_at-formatted, first_formatted, formatted, formatted_cell, length-first_formatted}
+use Rattle.nofs_super.specs.Format.{FormatEnds, IsFreshCell, cell_at-formatted, first_formatted, formatted, formatted_cell, length-first_formatted}
 use Rattle.nofs_super.specs.Geometry.{bad_inodes, format_fault, least_blocks, most_blocks}
 use Rattle.nofs_super.specs.declared.geometry.FormatFault.{FormatFault}
 use Rattle.nofs_super.specs.declared.geometry.FormatFault.TheVariants.{TooSmall, TooLarge, NotMultiple, WriteFault, OutOfMemory}
@@ -44,7 +44,7 @@ ends-refused blocks inodes d OutOfMemory e = absurd ((named d.blocks blocks inod
 
 -- the device after the first n writes
 pub record HasWritten (blocks inodes n : ℕ) (old new : DiskState) : Type 0 where
-  pub adds : Adds (IsFresh blocks inodes) old new
+  pub adds : Adds (IsFreshCell blocks inodes) old new
   pub room : blocks + 1 ≤ new.spare + n
   pub now : IsTrue old.tells → new.now ≡ first_formatted blocks inodes n ++ drop n old.now
   pub moment : new.moment ≡ old.moment + 2 * n
@@ -71,7 +71,7 @@ pub written-none : {E : Type 0} (blocks inodes : ℕ) (old new : DiskState) (res
     → HasWritten blocks inodes 0 old new
 unfolding first_formatted
 written-none blocks inodes old new result ok ready = record {
-  adds = Adds-readies (IsFresh blocks inodes) old new (blocks + 1) ready;
+  adds = Adds-readies (IsFreshCell blocks inodes) old new (blocks + 1) ready;
   room = (let e = ok_part result ok ready.room in omega arith);
   now = λ tells. ready.cells.now;
   moment = (let e = ready.cells.moment in omega arith);
@@ -79,9 +79,9 @@ written-none blocks inodes old new result ok ready = record {
 
 -- the images of one write more
 pub adds-more : (blocks inodes n : ℕ) (old mid new : DiskState) (cell : Cell) {result : Result (Unit {0}) Failed} → IsDisk new → n < blocks → HasWritten blocks inodes n old mid
-    → cell ≡ formatted_cell blocks inodes n → Writes mid new n cell result → Adds (IsFresh blocks inodes) old new
+    → cell ≡ formatted_cell blocks inodes n → Writes mid new n cell result → Adds (IsFreshCell blocks inodes) old new
 adds-more blocks inodes n old mid new cell is low has same w =
-    let ok = IsFresh blocks inodes in
+    let ok = IsFreshCell blocks inodes in
     Adds-trans ok old mid new has.adds (Adds-writes ok mid new n cell is w (record { low = low; is = same }))
 
 pub written-more : (blocks inodes n : ℕ) (old mid new : DiskState) (cell : Cell) (result : Result (Unit {0}) Failed) → is_err result ≡ false → IsDisk old → IsDisk new → n < blocks → blocks ≤ old.blocks
@@ -95,9 +95,9 @@ written-more blocks inodes n old mid new cell result ok was is low fits has same
 
 -- The flush
 
-pub adds-flush : (blocks inodes n : ℕ) (old mid new : DiskState) {result : Result (Unit {0}) Failed} → IsDisk new → HasWritten blocks inodes n old mid → Flushes mid new result → Adds (IsFresh blocks inodes) old new
+pub adds-flush : (blocks inodes n : ℕ) (old mid new : DiskState) {result : Result (Unit {0}) Failed} → IsDisk new → HasWritten blocks inodes n old mid → Flushes mid new result → Adds (IsFreshCell blocks inodes) old new
 adds-flush blocks inodes n old mid new is has f =
-    let ok = IsFresh blocks inodes in
+    let ok = IsFreshCell blocks inodes in
     Adds-trans ok old mid new has.adds (Adds-flushes ok mid new is f)
 
 -- cell by cell

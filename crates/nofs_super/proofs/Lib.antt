@@ -1,2 +1,3 @@
 pub mod FormatRun
 pub mod RaiseRun
+pub mod Rows

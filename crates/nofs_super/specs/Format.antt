@@ -81,7 +81,7 @@ pub record IsShort (blocks inodes : ℕ) (old new : DiskState) : Type 0 where
   pub spare : old.spare ≤ new.spare
 
 -- a format that was refused for this reason: no call was made
-pub record IsRefused (blocks inodes : ℕ) (fault : FormatFault) (old new : DiskState) : Type 0 where
+pub record IsFormatRefused (blocks inodes : ℕ) (fault : FormatFault) (old new : DiskState) : Type 0 where
   pub why : format_fault old.blocks blocks inodes ≡ Some fault
   pub stays : StaysButFaults old new
   pub faults : new.faults ≡ old.faults
@@ -91,11 +91,11 @@ abbrev pub FormatEnds : ℕ → ℕ → DiskState → DiskState → Result (Unit
 FormatEnds blocks inodes old new (Ok _) = IsFormatted blocks inodes old new
 FormatEnds blocks inodes old new (Err WriteFault) = IsFaulted blocks inodes old new
 FormatEnds blocks inodes old new (Err OutOfMemory) = IsShort blocks inodes old new
-FormatEnds blocks inodes old new (Err (TooSmall least)) = IsRefused blocks inodes (TooSmall least) old new
-FormatEnds blocks inodes old new (Err (TooLarge most)) = IsRefused blocks inodes (TooLarge most) old new
-FormatEnds blocks inodes old new (Err (NotMultiple bad)) = IsRefused blocks inodes (NotMultiple bad) old new
+FormatEnds blocks inodes old new (Err (TooSmall least)) = IsFormatRefused blocks inodes (TooSmall least) old new
+FormatEnds blocks inodes old new (Err (TooLarge most)) = IsFormatRefused blocks inodes (TooLarge most) old new
+FormatEnds blocks inodes old new (Err (NotMultiple bad)) = IsFormatRefused blocks inodes (NotMultiple bad) old new
 
 -- a cell that a format writes
-pub record IsFresh (blocks inodes block : ℕ) (c : Cell) : Type 0 where
+pub record IsFreshCell (blocks inodes block : ℕ) (c : Cell) : Type 0 where
   pub low : block < blocks
   pub is : c ≡ formatted_cell blocks inodes block

@@ -3,7 +3,7 @@ ghost use Rattle.std.specs.Prelude.{◌≡◌, ◌<◌, IsTrue, OnOk, Some, ℕ}
 ghost use Rattle.nofs_disk.specs.Adds.{Adds};
 ghost use Rattle.nofs_disk.specs.Disk.{cell_at};
 ghost use Rattle.nofs_disk.specs.Tag.{zero_cell};
-ghost use Rattle.nofs_super.specs.Format.{FormatEnds, IsFresh, first_records, formatted_cell, table_cell};
+ghost use Rattle.nofs_super.specs.Format.{FormatEnds, IsFreshCell, first_records, formatted_cell, table_cell};
 ghost use Rattle.nofs_super.specs.Geometry.{format_fault};
 ghost use Rattle.nofs_super.specs.declared.geometry.FormatFault.{FormatFault};
 
@@ -24,7 +24,7 @@ pub fn format<D: Disk>(disk: &mut D, blocks: u64, inodes: u64) -> Result<(), For
     ensures ends { FormatEnds blocks inodes (D.state disk.old) (D.state disk.new) result }
     ensures cells { OnOk result (IsTrue (D.state disk.old).tells → (b : ℕ) → b < blocks → cell_at (D.state disk.new).now b ≡ formatted_cell blocks inodes b) }
     ensures refused { (fault : FormatFault) → format_fault (D.state disk.old).blocks blocks inodes ≡ Some fault → result ≡ Err fault }
-    ensures adds { Adds (IsFresh blocks inodes) (D.state disk.old) (D.state disk.new) }
+    ensures adds { Adds (IsFreshCell blocks inodes) (D.state disk.old) (D.state disk.new) }
 {
     match refusal(disk.blocks(), blocks, inodes) {
         Some(fault) => return Err(fault),

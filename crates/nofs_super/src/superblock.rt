@@ -64,6 +64,8 @@ pub fn read_super<D: Disk>(disk: &mut D) -> Result<SuperBlock, MountFault>
     ensures spelled { IfOk result (λ it. IsTrue (D.state disk.old).tells → super_of (cell_at (D.state disk.old).now 0).payload ≡ Some it) }
     ensures mountable { IfOk result (CanMount (D.state disk.old).blocks) }
     ensures cause { result ≡ Err MountFault.ReadFault → Rose (D.state disk.old).faults (D.state disk.new).faults }
+    ensures no_write { result ≢ Err MountFault.WriteFault }
+    ensures no_memory { result ≢ Err MountFault.OutOfMemory }
 {
     let device = disk.blocks();
     if device == 0 {

@@ -9,7 +9,7 @@ use Rattle.atomic_table.proofs.Lists.{at_snoc, at_longer, set_else}
 use Rattle.nofs_turn.specs.declared.view.View.{View}
 use Rattle.nofs_turn.specs.Lists.{times, once, numbered}
 use Rattle.nofs_turn.specs.Views.{spent, maker, dealt, newcomer, united, Deals}
-use Rattle.nofs_turn.specs.Rules.{Fits, Sits, TurnHolds}
+use Rattle.nofs_turn.specs.Rules.{SeatFits, Sits, TurnHolds}
 use Rattle.nofs_turn.specs.Passes.{Closes}
 use Rattle.nofs_turn.proofs.Words.{prefix_self, total_set, total_snoc, two_parts}
 use Rattle.nofs_turn.proofs.Merging.{once_le, times_merge, rises_merge, stands_merge, total_alone, all_numbered}
@@ -117,7 +117,7 @@ module _ {T E F : Type 0} (entries : T → List E) (fixed : T → F) (f : F) (st
       let same = x.same_seats in
       let both = two_parts (λ (u : V). u.stands + u.splits) s.views j id u v e at apart in
       let sum = r.passes in
-      ⊎_elim (λ (p : u ≡ spent). p) (λ (y : Fits f start seats r.log r.taken r.holder j u). let some_pass = y.stands in absurd (omega arith)) (r.each j u e)
+      ⊎_elim (λ (p : u ≡ spent). p) (λ (y : SeatFits f start seats r.log r.taken r.holder j u). let some_pass = y.stands in absurd (omega arith)) (r.each j u e)
 
   pub ends : (id : ℕ) (v : V) (ws : List ℕ) (xs : List (Option T)) → 0 < v.stands → v.stands ≡ v.seats → v.has ≡ false → Final (Seen Rule id v) ws xs → Found entries fixed v xs
   ends id v ws xs live all rests z =

@@ -11,7 +11,7 @@ use Rattle.atomic_table.proofs.Lists.{at_set, set_here, set_else}
 use Rattle.nofs_turn.specs.declared.view.View.{View}
 use Rattle.nofs_turn.specs.Lists.{times, total, longer, Rises, rises, Stands, numbered}
 use Rattle.nofs_turn.specs.Views.{spent, looked, took, gave, settled}
-use Rattle.nofs_turn.specs.Rules.{Fits, Sits, TurnHolds, Looks, Takes, Gives, Settles}
+use Rattle.nofs_turn.specs.Rules.{SeatFits, Sits, TurnHolds, Looks, Takes, Gives, Settles}
 use Rattle.nofs_turn.proofs.Words.{prefix_self, prefix_trans, prefix_length, total_set, part_le, two_parts, or_one}
 use Rattle.nofs_turn.proofs.Merging.{longer_begins, longer_both, places_more, rises_wider, rises_append, rises_test, stands_more, stands_given}
 
@@ -51,11 +51,11 @@ module _ {T E F : Type 0} (entries : T → List E) (fixed : T → F) (f : F) (st
   word_is s r = ap (λ ws. slice_index ws 0) r.words
 
   -- what is known of a seat that has the turn
-  pub holder_of : (s : St) (r : Rule s) (id : ℕ) (v : V) → get_elem? s.views id ≡ some v → v.has ≡ true → Fits f start seats r.log r.taken r.holder id v
-  holder_of s r id v at has = ⊎_elim (λ (e : v ≡ spent). absurd (off (sym (ap (λ (u : V). u.has) e) ∙ has))) (λ (x : Fits f start seats r.log r.taken r.holder id v). x) (r.each id v at)
+  pub holder_of : (s : St) (r : Rule s) (id : ℕ) (v : V) → get_elem? s.views id ≡ some v → v.has ≡ true → SeatFits f start seats r.log r.taken r.holder id v
+  holder_of s r id v at has = ⊎_elim (λ (e : v ≡ spent). absurd (off (sym (ap (λ (u : V). u.has) e) ∙ has))) (λ (x : SeatFits f start seats r.log r.taken r.holder id v). x) (r.each id v at)
 
-  pub live_of : (s : St) (r : Rule s) (id : ℕ) (v : V) → get_elem? s.views id ≡ some v → 0 < v.stands → Fits f start seats r.log r.taken r.holder id v
-  live_of s r id v at some_pass = ⊎_elim (λ (e : v ≡ spent). let z : v.stands ≡ 0 = ap (λ (u : V). u.stands) e in absurd (omega arith)) (λ (x : Fits f start seats r.log r.taken r.holder id v). x) (r.each id v at)
+  pub live_of : (s : St) (r : Rule s) (id : ℕ) (v : V) → get_elem? s.views id ≡ some v → 0 < v.stands → SeatFits f start seats r.log r.taken r.holder id v
+  live_of s r id v at some_pass = ⊎_elim (λ (e : v ≡ spent). let z : v.stands ≡ 0 = ap (λ (u : V). u.stands) e in absurd (omega arith)) (λ (x : SeatFits f start seats r.log r.taken r.holder id v). x) (r.each id v at)
 
   pub seats_stay : (P : ℕ → V → Type 0) (vs : List V) (id : ℕ) (w : V) → P id w → ((j : ℕ) (u : V) → j ≢ id → get_elem? vs j ≡ some u → P j u) → (j : ℕ) (u : V) → get_elem? (set vs id w) j ≡ some u → P j u
   seats_stay P vs id w mine others j u e = ⊎_elim
@@ -82,7 +82,7 @@ module _ {T E F : Type 0} (entries : T → List E) (fixed : T → F) (f : F) (st
       (w, ap (get_elem? (set vs id w)) here ∙ set_here vs id w (at_below vs id v at), same ∙ (ap (λ (u : V). u.has) is ∙ h.2)))
       (λ other. (h.0, set_else vs id k w other ∙ h.1, h.2))
 
-  fits_looked : (log : List E) (taken holder id n : ℕ) (v : V) → Fits f start seats log taken holder id v → Fits f start seats log taken holder id (looked v n)
+  fits_looked : (log : List E) (taken holder id n : ℕ) (v : V) → SeatFits f start seats log taken holder id v → SeatFits f start seats log taken holder id (looked v n)
   fits_looked log taken holder id n v x = record { same_fixed = x.same_fixed; same_start = x.same_start; same_seats = x.same_seats; seen = x.seen; heard = x.heard; rising = x.rising; mine = x.mine; stands = x.stands; turn = x.turn }
 
   -- a step that changes one view in nothing but its looks
@@ -132,7 +132,7 @@ module _ {T E F : Type 0} (entries : T → List E) (fixed : T → F) (f : F) (st
     where
       waits : (j : ℕ) (u : V) → Sits f start seats r.log r.taken r.holder j u → Sits f start seats r.log 1 id j u
       waits j u = ⊎_elim (λ (e : u ≡ spent). inl e)
-          (λ (y : Fits f start seats r.log r.taken r.holder j u). inr record { same_fixed = y.same_fixed; same_start = y.same_start; same_seats = y.same_seats; seen = y.seen; heard = y.heard; rising = y.rising; mine = y.mine; stands = y.stands; turn = λ h. let t = (y.turn h).0 in absurd (omega arith) })
+          (λ (y : SeatFits f start seats r.log r.taken r.holder j u). inr record { same_fixed = y.same_fixed; same_start = y.same_start; same_seats = y.same_seats; seen = y.seen; heard = y.heard; rising = y.rising; mine = y.mine; stands = y.stands; turn = λ h. let t = (y.turn h).0 in absurd (omega arith) })
 
   -- where the turn is taken, the seat that takes it in vain does not stand for all
   pub not_all : (s : St) (r : Rule s) (id : ℕ) (v : V) → get_elem? s.views id ≡ some v → 0 < v.stands → v.has ≡ false → r.taken ≡ 1 → v.stands < v.seats
@@ -242,7 +242,7 @@ module _ {T E F : Type 0} (entries : T → List E) (fixed : T → F) (f : F) (st
     where
       waits : (ℕ → IsPrefix r.log (entries y)) → id ≡ r.holder → (j : ℕ) (u : V) → j ≢ id → Sits f start seats r.log r.taken r.holder j u → Sits f start seats (entries y) 0 id j u
       waits pre' here j u apart = ⊎_elim (λ (e : u ≡ spent). inl e)
-          (λ (z : Fits f start seats r.log r.taken r.holder j u). inr record {
+          (λ (z : SeatFits f start seats r.log r.taken r.holder j u). inr record {
             same_fixed = z.same_fixed;
             same_start = z.same_start;
             same_seats = z.same_seats;

@@ -10,7 +10,7 @@ use Rattle.nofs_turn.specs.Lists.{times, total, once, Rises, rises, Stands}
 use Rattle.nofs_turn.specs.Views.{spent, looked, took, gave, settled}
 
 -- what the rule says of the view of a seat that is not spent
-pub record Fits {E F : Type 0} (f : F) (start seats : ℕ) (log : List E) (taken holder j : ℕ) (v : View E F) : Type 0 where
+pub record SeatFits {E F : Type 0} (f : F) (start seats : ℕ) (log : List E) (taken holder j : ℕ) (v : View E F) : Type 0 where
   pub same_fixed : v.fixed ≡ Some f
   pub same_start : v.start ≡ start
   pub same_seats : v.seats ≡ seats
@@ -22,7 +22,7 @@ pub record Fits {E F : Type 0} (f : F) (start seats : ℕ) (log : List E) (taken
   pub turn : v.has ≡ true → (taken ≡ 1) × (j ≡ holder) × (v.seen ≡ log)
 
 abbrev pub Sits : {E F : Type 0} → F → ℕ → ℕ → List E → ℕ → ℕ → ℕ → View E F → Type 0
-Sits f start seats log taken holder j v = (v ≡ spent) ⊎ Fits f start seats log taken holder j v
+Sits f start seats log taken holder j v = (v ≡ spent) ⊎ SeatFits f start seats log taken holder j v
 
 pub record TurnHolds {T E F : Type 0} (entries : T → List E) (fixed : T → F) (f : F) (start seats : ℕ) (s : State (Option T) (View E F)) : Type 0 where
   pub log : List E

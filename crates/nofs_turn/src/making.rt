@@ -14,14 +14,14 @@ use std::sync::atomic::AtomicU64;
 
 impl<V: Kept> Turn<V> {
     ghost use Rattle.nofs_turn.specs.Views.{maker, fresh, newcomer, Deals};
-    ghost use Rattle.nofs_turn.specs.Turns.{view_of, IsPassOf, IsFresh, made_over};
+    ghost use Rattle.nofs_turn.specs.Turns.{view_of, IsPassOf, IsFreshPass, made_over};
 
     /// A turn over the value, and as many passes as there are seats, 1 to 64. Each pass has seen the value's
     /// list, has no entries of its own, and stands for itself alone. Refused for want of memory alone; the value
     /// then comes back unchanged.
     pub fn new(alloc: Global, value: V, seats: u32) -> Result<(Turn<V>, Vec<Pass<V>>), TurnFault<V>>
         requires { (0 < seats) × (seats ≤ 64) }
-        ensures passes { IfOk result (λ t. (vec_len t.1 ≡ seats) × All (IsFresh V.entries V.fixed t.0 value seats) t.1.items) }
+        ensures passes { IfOk result (λ t. (vec_len t.1 ≡ seats) × All (IsFreshPass V.entries V.fixed t.0 value seats) t.1.items) }
         ensures made { IfOk result (λ t. (made_over t.0 ≡ value) × (t.0.seats ≡ seats)) }
         ensures err { IfErr result (λ e. e.value ≡ value) }
     {

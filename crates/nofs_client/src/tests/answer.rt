@@ -1,7 +1,7 @@
 //! The replies of the tables.
 
-use nofs_history::{FileKind, Found, NameLine, NameList, Refusal, Reply, Stat};
 use nofs_lists::{Content, Name};
+use nofs_machine::{FileKind, Found, NameLine, NameList, Refusal, Reply, Stat};
 use std::alloc::{AllocError, Global};
 
 /// A reply of a table.

@@ -1,7 +1,7 @@
 //! Steps and lines as short texts.
 
 use crate::{GotPart, Line, ListPart};
-use nofs_history::{FileKind, NameLine, Step};
+use nofs_machine::{FileKind, NameLine, Step};
 use std::alloc::{AllocError, Global};
 
 fn number(alloc: Global, text: &mut String, number: u64) -> Result<(), AllocError> {

@@ -1,11 +1,11 @@
 //! A stand-in for a mount: it replies as it was told, and notes the steps as text.
 ghost use Rattle.std.specs.Prelude.{◌≡◌, ◌≤◌, ◌<◌, ◌^◌, ◌↔◌, IsTrue, IfOk, All, length, not};
 ghost use Rattle.nofs_dirent.specs.Names.{is_name};
-ghost use Rattle.nofs_history.specs.Steps.{Fits, InRange, is_out_of_memory};
+ghost use Rattle.nofs_machine.specs.Steps.{Fits, InRange, is_out_of_memory};
 
 use crate::tests::text::note_step;
 use nofs_dirent::name_ok;
-use nofs_history::{NameList, Refusal, Reply, Step, Steps};
+use nofs_machine::{NameList, Refusal, Reply, Step, Steps};
 use std::alloc::Global;
 use std::mem;
 use std::snapshot::Snapshot;
@@ -92,7 +92,7 @@ fn found_memory(reply: &Reply) -> bool
 
 impl Steps for Told {
     ghost use Rattle.std.specs.Prelude.{List, [], ◌∷◌, ◌++◌};
-    ghost use Rattle.nofs_history.specs.Steps.{Made};
+    ghost use Rattle.nofs_machine.specs.Steps.{Made};
     ghost use Rattle.nofs_client.specs.declared.tests.told.Past.TheOpen.{Past-F};
     ghost use Rattle.nofs_client.specs.declared.tests.told.Past.TheFolds.{fold-Past};
 

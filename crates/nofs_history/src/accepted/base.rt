@@ -2,15 +2,16 @@
 //!
 //! Promise: they are the files of its agreed inodes, and of no other.
 ghost use Rattle.std.specs.Prelude.{◌≡◌, ◌<◌, ◌≤◌, ℕ, IfOk, IsTrue, Some, length};
+ghost use Rattle.nofs_ptrs.specs.Paths.{slot_limit};
 ghost use Rattle.nofs_disk.specs.Number.{number_at};
-ghost use Rattle.nofs_history.specs.History.{agreed_files};
+ghost use Rattle.nofs_machine.specs.History.{agreed_files};
 ghost use Rattle.nofs_inode.specs.InodeRecords.{record_at};
 ghost use Rattle.nofs_model.specs.Files.{file_from};
 ghost use Rattle.nofs_model.specs.Geometry as image;
 ghost use Rattle.nofs_model.specs.Slots as slots;
 ghost use Rattle.nofs_model.specs.declared.value.Value.TheVariants as value;
 ghost use Rattle.nofs_history.specs.BaseFiles.{AreFiles, AreValues};
-ghost use Rattle.nofs_history.specs.Kept.{file_at, file_of, files_of, value_in, kept_file, kept_files};
+ghost use Rattle.nofs_history.specs.Kept.{file_at, file_of, kept_files_of, kept_value, kept_file, kept_files};
 
 use crate::accepted::files::{FileNow, FilesNow, Kept};
 use nofs_disk::{Cell, read_u64_at};
@@ -23,7 +24,7 @@ use std::alloc::{AllocError, Global};
 /// alone.
 pub(crate) fn files_at(alloc: Global, base: &[Cell]) -> Result<FilesNow, AllocError>
     requires { image.IsMountable base.now }
-    ensures { IfOk result (λ files. kept_files (files_of files) ≡ kept_files (agreed_files base.now)) }
+    ensures { IfOk result (λ files. kept_files (kept_files_of files) ≡ kept_files (agreed_files base.now)) }
 {
     note_sizes(base);
     let files = read_files(alloc, base, inodes_of(base))?;
@@ -134,8 +135,8 @@ fn live_file(
 // How many slots to read: those behind them are holes, since no block of pointers leads to them.
 // A directory has no top.
 fn slot_count(it: &Record) -> u64
-    ensures within { result ≤ 4168 }
-    ensures holes { (X : image.Image) (i k : ℕ) → image.inode X i ≡ it.now → result ≤ k → k < 4168 → slots.value X i k ≡ value.Hole }
+    ensures within { result ≤ slot_limit }
+    ensures holes { (X : image.Image) (i k : ℕ) → image.inode X i ≡ it.now → result ≤ k → k < slot_limit → slots.value X i k ≡ value.Hole }
 {
     if !it.top.is_null() {
         4168
@@ -155,7 +156,7 @@ fn read_values(
 ) -> Result<Vec<Kept>, AllocError>
     requires image { image.IsMountable base.now }
     requires sized { image.IsSized base.now }
-    requires count { count ≤ 4168 }
+    requires count { count ≤ slot_limit }
     ensures { IfOk result (λ values. AreValues base.now inode count values.items) }
 {
     let mut values = Vec::new(alloc);
@@ -169,8 +170,8 @@ fn read_values(
 fn read_value(alloc: Global, base: &[Cell], inode: u32, slot: u64) -> Result<Kept, AllocError>
     requires image { image.IsMountable base.now }
     requires sized { image.IsSized base.now }
-    requires slot { slot < 4168 }
-    ensures { IfOk result (λ kept. value_in kept ≡ slots.value base.now inode slot) }
+    requires slot { slot < slot_limit }
+    ensures { IfOk result (λ kept. kept_value kept ≡ slots.value base.now inode slot) }
 {
     match value_of(alloc, base, inode, slot)? {
         Value::Hole => Ok(Kept::Hole),

@@ -1,9 +1,10 @@
 //! The content of cells, as entries of a history change it.
 ghost use Rattle.std.specs.Prelude.{◌≡◌, ◌<◌, ◌≤◌, ◌+◌, ◌*◌, ◌/◌, ◌%◌, IfOk, length};
+ghost use Rattle.nofs_ptrs.specs.Paths.{slot_limit};
 ghost use Rattle.nofs_dirent.specs.Entries.{spelled_entry};
-ghost use Rattle.nofs_history.specs.Machine as machine;
+ghost use Rattle.nofs_machine.specs.Machine as machine;
 ghost use Rattle.nofs_model.specs.declared.value.Value.TheVariants as value;
-ghost use Rattle.nofs_history.specs.Kept.{value_in, file_of, files_of};
+ghost use Rattle.nofs_history.specs.Kept.{kept_value, file_of, kept_files_of};
 
 use crate::accepted::files::{FileNow, FilesNow, Kept};
 use nofs_disk::{clear, write_bytes_at, write_u32_at, write_u64_at};
@@ -28,7 +29,7 @@ fn copied(alloc: Global, bytes: &[u8; 1024]) -> Result<Box<[u8; 1024]>, AllocErr
 
 /// The bytes of a value, zeros where it has none.
 fn bytes_in(alloc: Global, kept: &Kept) -> Result<Box<[u8; 1024]>, AllocError>
-    ensures { IfOk result (λ cell. cell.value ≡ machine.bytes_in (value_in kept.now)) }
+    ensures { IfOk result (λ cell. cell.value ≡ machine.bytes_in (kept_value kept.now)) }
 {
     match kept {
         Kept::Bytes(bytes) => copied(alloc, bytes),
@@ -51,7 +52,7 @@ fn spell(inode: u32, generation: u64, name: &[u8], into: &mut [u8; 64])
 }
 
 /// Makes the bytes of a cell from a place on zeros.
-#[tactic(auto, unfolding(nofs_disk::specs::Number::zeros, crate::specs::Machine::trimmed))]
+#[tactic(auto, unfolding(nofs_disk::specs::Number::zeros, nofs_machine::specs::Machine::trimmed))]
 pub(crate) fn trim(cell: &mut [u8; 1024], cut: usize)
     requires { cut ≤ 1024 }
     ensures { cell.new ≡ machine.trimmed cut cell.old }
@@ -79,7 +80,7 @@ impl FilesNow {
         inode: u32,
         slot: u64,
     ) -> Result<Box<[u8; 1024]>, AllocError>
-        ensures { IfOk result (λ cell. cell.value ≡ machine.bytes_in (machine.value_of (files_of self.now) inode slot)) }
+        ensures { IfOk result (λ cell. cell.value ≡ machine.bytes_in (machine.value_of (kept_files_of self.now) inode slot)) }
     {
         match self.file(inode) {
             None => zero_cell(alloc),
@@ -89,7 +90,7 @@ impl FilesNow {
 
     /// The size of a file in bytes, 0 where there is none.
     pub fn size(&self, inode: u32) -> u64
-        ensures { result ≡ machine.size_of (files_of self.now) inode }
+        ensures { result ≡ machine.size_of (kept_files_of self.now) inode }
     {
         match self.file(inode) {
             None => 0,
@@ -98,7 +99,7 @@ impl FilesNow {
     }
 
     /// The content of a slot with these bytes in it: zeros past the size.
-    #[tactic(auto, unfolding(crate::specs::Machine::put_content))]
+    #[tactic(auto, unfolding(nofs_machine::specs::Machine::put_content))]
     pub fn put_content(
         &self,
         alloc: Global,
@@ -107,9 +108,9 @@ impl FilesNow {
         at: u32,
         bytes: &[u8],
     ) -> Result<Box<[u8; 1024]>, AllocError>
-        requires slot { slot < 4168 }
+        requires slot { slot < slot_limit }
         requires range { at + length bytes.now ≤ 1024 }
-        ensures { IfOk result (λ cell. cell.value ≡ machine.put_content (machine.value_of (files_of self.now) inode slot) (machine.size_of (files_of self.now) inode) slot at bytes.now) }
+        ensures { IfOk result (λ cell. cell.value ≡ machine.put_content (machine.value_of (kept_files_of self.now) inode slot) (machine.size_of (kept_files_of self.now) inode) slot at bytes.now) }
     {
         let mut cell = self.bytes_in(alloc, inode, slot)?;
         let cut = self.size(inode).saturating_sub(1024 * slot).min(1024);
@@ -127,7 +128,7 @@ impl FilesNow {
         bytes: &[u8],
     ) -> Result<Box<[u8; 1024]>, AllocError>
         requires { length bytes.now ≡ 64 }
-        ensures { IfOk result (λ cell. value.Bytes cell.value ≡ machine.with_entry (machine.value_of (files_of self.now) directory (entry / 16)) entry bytes.now) }
+        ensures { IfOk result (λ cell. value.Bytes cell.value ≡ machine.with_entry (machine.value_of (kept_files_of self.now) directory (entry / 16)) entry bytes.now) }
     {
         let mut cell = self.bytes_in(alloc, directory, u64::from(entry / 16))?;
         write_bytes_at(&mut *cell, 64 * (entry as usize % 16), bytes);
@@ -145,7 +146,7 @@ impl FilesNow {
         name: &[u8],
     ) -> Result<Box<[u8; 1024]>, AllocError>
         requires { length name.now ≤ 48 }
-        ensures { IfOk result (λ cell. value.Bytes cell.value ≡ machine.with_entry (machine.value_of (files_of self.now) directory (entry / 16)) entry (spelled_entry inode generation name.now)) }
+        ensures { IfOk result (λ cell. value.Bytes cell.value ≡ machine.with_entry (machine.value_of (kept_files_of self.now) directory (entry / 16)) entry (spelled_entry inode generation name.now)) }
     {
         let mut bytes = [0; 64];
         spell(inode, generation, name, &mut bytes);
@@ -159,7 +160,7 @@ impl FilesNow {
         directory: u32,
         entry: u32,
     ) -> Result<Box<[u8; 1024]>, AllocError>
-        ensures { IfOk result (λ cell. value.Bytes cell.value ≡ machine.with_entry (machine.value_of (files_of self.now) directory (entry / 16)) entry (machine.zeros 64)) }
+        ensures { IfOk result (λ cell. value.Bytes cell.value ≡ machine.with_entry (machine.value_of (kept_files_of self.now) directory (entry / 16)) entry (machine.zeros 64)) }
     {
         let mut bytes = [0; 64];
         clear(&mut bytes);

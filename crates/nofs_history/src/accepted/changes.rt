@@ -1,8 +1,9 @@
 //! How one inode's file changes.
 ghost use Rattle.std.specs.Prelude.{◌≡◌, ◌<◌, ◌≤◌, ℕ, max, IfOk, IfSome, IsNone, OnOk, Some, None, false, option_map};
+ghost use Rattle.nofs_ptrs.specs.Paths.{slot_limit};
 ghost use Rattle.nofs_model.specs.declared.value.Value.TheVariants as value;
-ghost use Rattle.nofs_history.specs.Machine as machine;
-ghost use Rattle.nofs_history.specs.Kept.{value_in, file_of, files_of, with_file, with_value, has_generation};
+ghost use Rattle.nofs_machine.specs.Machine as machine;
+ghost use Rattle.nofs_history.specs.Kept.{kept_value, file_of, kept_files_of, with_file, with_value, has_generation};
 
 use crate::accepted::files::{FileNow, FilesNow, Kept};
 use crate::accepted::growing::{grow_files, grow_values};
@@ -12,8 +13,8 @@ use std::alloc::{AllocError, Global};
 impl FileNow {
     /// The file with a value in a slot.
     pub fn with_value(self, slot: u64, kept: Kept) -> Result<FileNow, AllocError>
-        requires { slot < 4168 }
-        ensures { IfOk result (λ file. file_of file ≡ with_value (file_of self) slot (value_in kept)) }
+        requires { slot < slot_limit }
+        ensures { IfOk result (λ file. file_of file ≡ with_value (file_of self) slot (kept_value kept)) }
     {
         let mut file = self;
         grow_values(&mut file.values, slot as usize + 1)?;
@@ -23,7 +24,7 @@ impl FileNow {
 
     /// The file with this cell in a slot, which reaches to this end at least.
     pub fn with_put(self, slot: u64, cell: Box<[u8; 1024]>, end: u64) -> Result<FileNow, AllocError>
-        requires { slot < 4168 }
+        requires { slot < slot_limit }
         ensures { IfOk result (λ file. file_of file ≡ record (with_value (file_of self) slot (value.Bytes cell.value)) { size = max (file_of self).size end }) }
     {
         let size = self.size.max(end);
@@ -52,7 +53,7 @@ impl FileNow {
 
 impl FilesNow {
     fn has_generation(&self, inode: u32, generation: u64) -> bool
-        ensures { result ≡ has_generation (files_of self.now) inode generation }
+        ensures { result ≡ has_generation (kept_files_of self.now) inode generation }
     {
         match self.file(inode) {
             None => false,
@@ -62,12 +63,12 @@ impl FilesNow {
 
     /// Takes the file of an inode out, where it has this generation.
     pub fn take(&mut self, inode: u32, generation: u64) -> Option<FileNow>
-        ensures taken { IfSome result (λ file. files_of self.old inode ≡ Some (file_of file)) }
+        ensures taken { IfSome result (λ file. kept_files_of self.old inode ≡ Some (file_of file)) }
         ensures same { IfSome result (λ file. file.generation ≡ generation) }
-        ensures left { IfSome result (λ file. files_of self.new ≡ with_file (files_of self.old) inode None) }
+        ensures left { IfSome result (λ file. kept_files_of self.new ≡ with_file (kept_files_of self.old) inode None) }
         ensures inode { IfSome result (λ file. 0 < inode) }
-        ensures none { IsNone result → files_of self.new ≡ files_of self.old }
-        ensures missing { IsNone result → has_generation (files_of self.old) inode generation ≡ false }
+        ensures none { IsNone result → kept_files_of self.new ≡ kept_files_of self.old }
+        ensures missing { IsNone result → has_generation (kept_files_of self.old) inode generation ≡ false }
     {
         if !self.has_generation(inode, generation) {
             return None;
@@ -77,8 +78,8 @@ impl FilesNow {
 
     fn take_out(&mut self, inode: u32) -> Option<FileNow>
         requires { 0 < inode }
-        ensures taken { files_of self.old inode ≡ option_map file_of result }
-        ensures left { files_of self.new ≡ with_file (files_of self.old) inode None }
+        ensures taken { kept_files_of self.old inode ≡ option_map file_of result }
+        ensures left { kept_files_of self.new ≡ with_file (kept_files_of self.old) inode None }
     {
         let at = inode as usize - 1;
         if at < self.files.len() {
@@ -91,7 +92,7 @@ impl FilesNow {
     /// Gives an inode a file.
     pub fn put(&mut self, inode: u32, file: FileNow) -> Result<(), AllocError>
         requires { 0 < inode }
-        ensures { OnOk result (files_of self.new ≡ with_file (files_of self.old) inode (Some (file_of file))) }
+        ensures { OnOk result (kept_files_of self.new ≡ with_file (kept_files_of self.old) inode (Some (file_of file))) }
     {
         grow_files(&mut self.files, inode as usize)?;
         self.files[inode as usize - 1] = Some(file);

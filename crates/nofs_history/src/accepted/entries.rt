@@ -1,13 +1,12 @@
 //! What one entry of a history does to files, and gives to one slot.
 ghost use Rattle.std.specs.Prelude.{◌≡◌, ◌<◌, ◌+◌, ◌&&◌, nat_lt, nat_le, true, IfOk, OnOk};
-ghost use Rattle.nofs_history.specs.Machine as machine;
-ghost use Rattle.nofs_history.specs.Kept.{files_of, kept_files, is_fit};
+ghost use Rattle.nofs_ptrs.specs.Paths.{slot_limit};
+ghost use Rattle.nofs_machine.specs.Machine as machine;
+ghost use Rattle.nofs_history.specs.Kept.{kept_files_of, kept_files, is_fit};
 
 use crate::accepted::files::FilesNow;
 use crate::accepted::gifts::Wanted;
-use crate::history::{Claims, Entry1};
-use crate::replies::{Refusal, Reply};
-use crate::steps::Step;
+use nofs_machine::{Claims, Entry1, Refusal, Reply, Step};
 use nofs_model::Value;
 use std::alloc::{AllocError, Global};
 
@@ -37,7 +36,7 @@ fn is_fit(step: &Step, claims: &Claims) -> bool
 }
 
 fn fits_cell(slot: u64, at: u32, count: u64) -> bool
-    ensures { result ≡ (nat_lt slot 4168 && nat_le (at + count) 1024) }
+    ensures { result ≡ (nat_lt slot slot_limit && nat_le (at + count) 1024) }
 {
     slot < 4168 && at <= 1024 && count <= 1024 - u64::from(at)
 }
@@ -56,10 +55,10 @@ fn is_refused(reply: &Reply) -> bool
 
 impl FilesNow {
     /// Does an accepted step.
-    #[tactic(auto, unfolding(crate::specs::Machine::gives))]
+    #[tactic(auto, unfolding(nofs_machine::specs::Machine::gives))]
     fn go_on(&mut self, alloc: Global, step: &Step, claims: &Claims) -> Result<(), AllocError>
         requires { is_fit step.now claims.now ≡ true }
-        ensures { OnOk result (kept_files (files_of self.new) ≡ kept_files (machine.files_after (files_of self.old) (machine.gives (files_of self.old) step.now claims.now))) }
+        ensures { OnOk result (kept_files (kept_files_of self.new) ≡ kept_files (machine.files_after (kept_files_of self.old) (machine.gives (kept_files_of self.old) step.now claims.now))) }
     {
         match step {
             Step::Put {
@@ -122,7 +121,7 @@ impl FilesNow {
     }
 
     /// The value that an accepted step gives to a slot.
-    #[tactic(auto, unfolding(crate::specs::Machine::gives))]
+    #[tactic(auto, unfolding(nofs_machine::specs::Machine::gives))]
     fn gift(
         &self,
         alloc: Global,
@@ -130,9 +129,9 @@ impl FilesNow {
         step: &Step,
         claims: &Claims,
     ) -> Result<Option<Value>, AllocError>
-        requires slot { wanted.now.slot < 4168 }
+        requires slot { wanted.now.slot < slot_limit }
         requires fit { is_fit step.now claims.now ≡ true }
-        ensures { IfOk result (λ it. it ≡ (machine.gives (files_of self.now) step.now claims.now).slots wanted.now.inode wanted.now.generation wanted.now.slot) }
+        ensures { IfOk result (λ it. it ≡ (machine.gives (kept_files_of self.now) step.now claims.now).slots wanted.now.inode wanted.now.generation wanted.now.slot) }
     {
         match step {
             Step::Put {
@@ -219,8 +218,8 @@ impl FilesNow {
         wanted: &Wanted,
         entry: &Entry1,
     ) -> Result<Option<Value>, AllocError>
-        requires { wanted.now.slot < 4168 }
-        ensures { IfOk result (λ it. (machine.may_give entry.now.reply ≡ true → is_fit entry.now.step entry.now.claims ≡ true) → it ≡ (machine.given_by (files_of self.now) entry.now).slots wanted.now.inode wanted.now.generation wanted.now.slot) }
+        requires { wanted.now.slot < slot_limit }
+        ensures { IfOk result (λ it. (machine.may_give entry.now.reply ≡ true → is_fit entry.now.step entry.now.claims ≡ true) → it ≡ (machine.given_by (kept_files_of self.now) entry.now).slots wanted.now.inode wanted.now.generation wanted.now.slot) }
     {
         let may_give = !is_refused(&entry.reply) || is_write_fault(&entry.reply);
         if may_give && is_fit(&entry.step, &entry.claims) {
@@ -232,7 +231,7 @@ impl FilesNow {
 
     /// Does an entry's step, where it was accepted.
     pub fn do_entry(&mut self, alloc: Global, entry: &Entry1) -> Result<(), AllocError>
-        ensures { OnOk result ((machine.may_give entry.now.reply ≡ true → is_fit entry.now.step entry.now.claims ≡ true) → kept_files (files_of self.new) ≡ kept_files (machine.files_by (files_of self.old) entry.now)) }
+        ensures { OnOk result ((machine.may_give entry.now.reply ≡ true → is_fit entry.now.step entry.now.claims ≡ true) → kept_files (kept_files_of self.new) ≡ kept_files (machine.files_by (kept_files_of self.old) entry.now)) }
     {
         if !is_refused(&entry.reply) && is_fit(&entry.step, &entry.claims) {
             self.go_on(alloc, &entry.step, &entry.claims)

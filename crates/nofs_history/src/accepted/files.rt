@@ -1,9 +1,9 @@
 //! The files of the machine, kept whole, and what they say of names.
 ghost use Rattle.std.specs.Prelude.{◌≡◌, ◌<◌, ◌≤◌, ◌/◌, ℕ, IfOk, IfSome, IsNone, length, Some, None};
 ghost use Rattle.std.specs.Option.{option_copied as copied};
-ghost use Rattle.nofs_history.specs.Machine as machine;
+ghost use Rattle.nofs_machine.specs.Machine as machine;
 ghost use Rattle.nofs_model.specs.Files as files;
-ghost use Rattle.nofs_history.specs.Kept.{value_in, file_of, files_of};
+ghost use Rattle.nofs_history.specs.Kept.{kept_value, file_of, kept_files_of};
 
 use nofs_dirent::{Entry, read_entry};
 use nofs_inode::inode::{BackLink, FileKind};
@@ -34,7 +34,7 @@ pub(crate) struct FilesNow {
 }
 
 fn entry_in(alloc: Global, kept: &Kept, entry: u32) -> Result<Option<Entry>, AllocError>
-    ensures { IfOk result (λ found. found ≡ files.entry_held (value_in kept.now) entry) }
+    ensures { IfOk result (λ found. found ≡ files.entry_held (kept_value kept.now) entry) }
 {
     match kept {
         Kept::Bytes(bytes) => read_entry(alloc, bytes, entry % 16),
@@ -61,8 +61,8 @@ impl FileNow {
 impl FilesNow {
     /// The file of an inode.
     pub fn file(&self, inode: u32) -> Option<&FileNow>
-        ensures some { IfSome result (λ file. files_of self.now inode ≡ Some (file_of file.now)) }
-        ensures none { IsNone result → files_of self.now inode ≡ None }
+        ensures some { IfSome result (λ file. kept_files_of self.now inode ≡ Some (file_of file.now)) }
+        ensures none { IsNone result → kept_files_of self.now inode ≡ None }
     {
         if inode == 0 {
             return None;
@@ -81,7 +81,7 @@ impl FilesNow {
         directory: u32,
         entry: u32,
     ) -> Result<Option<Entry>, AllocError>
-        ensures { IfOk result (λ found. found ≡ files.entry_at (files_of self.now) directory entry) }
+        ensures { IfOk result (λ found. found ≡ files.entry_at (kept_files_of self.now) directory entry) }
     {
         match self.file(directory) {
             None => Ok(None),

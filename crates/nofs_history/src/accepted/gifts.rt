@@ -1,17 +1,18 @@
 //! The value that an accepted step gives to one slot.
 ghost use Rattle.std.specs.Prelude.{◌≡◌, ◌<◌, ◌≤◌, ◌+◌, ◌/◌, ◌&&◌, ◌==◌, ℕ, IfOk, length, Some, None, if◌then◌else◌};
+ghost use Rattle.nofs_ptrs.specs.Paths.{slot_limit};
 ghost use Rattle.nofs_dirent.specs.Entries.{spelled_entry};
 ghost use Rattle.nofs_model.specs.declared.value.Value.TheVariants as value;
-ghost use Rattle.nofs_history.specs.Machine as machine;
-ghost use Rattle.nofs_history.specs.Meta as meta;
-ghost use Rattle.nofs_history.specs.Kept.{files_of};
+ghost use Rattle.nofs_machine.specs.Machine as machine;
+ghost use Rattle.nofs_machine.specs.Meta as meta;
+ghost use Rattle.nofs_history.specs.Kept.{kept_files_of};
 
 use crate::accepted::cells::trim;
 use crate::accepted::files::FilesNow;
 use crate::accepted::resizing::slots_in;
-use crate::history::Claims;
 use nofs_inode::inode::FileKind;
 use nofs_lists::Content;
+use nofs_machine::Claims;
 use nofs_model::Value;
 use std::alloc::{AllocError, Global};
 
@@ -55,9 +56,9 @@ impl FilesNow {
         at: u32,
         bytes: &[u8],
     ) -> Result<Option<Value>, AllocError>
-        requires slot { slot < 4168 }
+        requires slot { slot < slot_limit }
         requires range { at + length bytes.now ≤ 1024 }
-        ensures { IfOk result (λ it. it ≡ (machine.put_given (files_of self.now) inode generation slot at bytes.now).slots wanted.now.inode wanted.now.generation wanted.now.slot) }
+        ensures { IfOk result (λ it. it ≡ (machine.put_given (kept_files_of self.now) inode generation slot at bytes.now).slots wanted.now.inode wanted.now.generation wanted.now.slot) }
     {
         if !wanted.is(inode, generation, slot) {
             return Ok(None);
@@ -75,7 +76,7 @@ impl FilesNow {
         cut: u64,
     ) -> Result<Option<Value>, AllocError>
         requires { cut < 1024 }
-        ensures { IfOk result (λ it. it ≡ (if meta.is_bytes (machine.value_of (files_of self.now) inode slot) then Some (value.Bytes (machine.trimmed cut (machine.bytes_in (machine.value_of (files_of self.now) inode slot)))) else None)) }
+        ensures { IfOk result (λ it. it ≡ (if meta.is_bytes (machine.value_of (kept_files_of self.now) inode slot) then Some (value.Bytes (machine.trimmed cut (machine.bytes_in (machine.value_of (kept_files_of self.now) inode slot)))) else None)) }
     {
         if !self.has_bytes(inode, slot) {
             return Ok(None);
@@ -92,8 +93,8 @@ impl FilesNow {
         size: u64,
         slot: u64,
     ) -> Result<Option<Value>, AllocError>
-        requires { slot < 4168 }
-        ensures { IfOk result (λ it. it ≡ machine.resize_slot (files_of self.now) inode size slot) }
+        requires { slot < slot_limit }
+        ensures { IfOk result (λ it. it ≡ machine.resize_slot (kept_files_of self.now) inode size slot) }
     {
         let old = self.size(inode);
         let slots = slots_in(old).min(slots_in(size));
@@ -115,8 +116,8 @@ impl FilesNow {
         generation: u64,
         size: u64,
     ) -> Result<Option<Value>, AllocError>
-        requires { wanted.now.slot < 4168 }
-        ensures { IfOk result (λ it. it ≡ (machine.resize_given (files_of self.now) inode generation size).slots wanted.now.inode wanted.now.generation wanted.now.slot) }
+        requires { wanted.now.slot < slot_limit }
+        ensures { IfOk result (λ it. it ≡ (machine.resize_given (kept_files_of self.now) inode generation size).slots wanted.now.inode wanted.now.generation wanted.now.slot) }
     {
         if !wanted.is_in(inode, generation) {
             return Ok(None);
@@ -136,7 +137,7 @@ impl FilesNow {
         name: &[u8],
     ) -> Result<Option<Value>, AllocError>
         requires { length name.now ≤ 48 }
-        ensures { IfOk result (λ it. it ≡ (machine.entry_given (files_of self.now) directory generation entry (spelled_entry inode of name.now) machine.no_meta).slots wanted.now.inode wanted.now.generation wanted.now.slot) }
+        ensures { IfOk result (λ it. it ≡ (machine.entry_given (kept_files_of self.now) directory generation entry (spelled_entry inode of name.now) machine.no_meta).slots wanted.now.inode wanted.now.generation wanted.now.slot) }
     {
         if !wanted.is(directory, generation, u64::from(entry / 16)) {
             return Ok(None);
@@ -153,7 +154,7 @@ impl FilesNow {
         generation: u64,
         entry: u32,
     ) -> Result<Option<Value>, AllocError>
-        ensures { IfOk result (λ it. it ≡ (machine.entry_given (files_of self.now) directory generation entry (machine.zeros 64) machine.no_meta).slots wanted.now.inode wanted.now.generation wanted.now.slot) }
+        ensures { IfOk result (λ it. it ≡ (machine.entry_given (kept_files_of self.now) directory generation entry (machine.zeros 64) machine.no_meta).slots wanted.now.inode wanted.now.generation wanted.now.slot) }
     {
         if !wanted.is(directory, generation, u64::from(entry / 16)) {
             return Ok(None);
@@ -174,7 +175,7 @@ impl FilesNow {
         entry: u32,
     ) -> Result<Option<Value>, AllocError>
         requires { length name.now ≤ 48 }
-        ensures { IfOk result (λ it. it ≡ (machine.make_given (files_of self.now) directory generation name.now kind claims.now entry).slots wanted.now.inode wanted.now.generation wanted.now.slot) }
+        ensures { IfOk result (λ it. it ≡ (machine.make_given (kept_files_of self.now) directory generation name.now kind claims.now entry).slots wanted.now.inode wanted.now.generation wanted.now.slot) }
     {
         if wanted.is_in(claims.inode, claims.generation) {
             return Ok(Some(Value::Hole));
@@ -203,7 +204,7 @@ impl FilesNow {
         claims: &Claims,
     ) -> Result<Option<Value>, AllocError>
         requires { length name.now ≤ 48 }
-        ensures { IfOk result (λ it. it ≡ (machine.at_place (machine.place_for (files_of self.now) directory name.now) (λ e. machine.make_given (files_of self.now) directory generation name.now kind claims.now e)).slots wanted.now.inode wanted.now.generation wanted.now.slot) }
+        ensures { IfOk result (λ it. it ≡ (machine.at_place (machine.place_for (kept_files_of self.now) directory name.now) (λ e. machine.make_given (kept_files_of self.now) directory generation name.now kind claims.now e)).slots wanted.now.inode wanted.now.generation wanted.now.slot) }
     {
         match self.place_for(alloc, directory, name)? {
             None => Ok(None),
@@ -225,7 +226,7 @@ impl FilesNow {
         entry: u32,
     ) -> Result<Option<Value>, AllocError>
         requires { length name.now ≤ 48 }
-        ensures { IfOk result (λ it. it ≡ (machine.at_place (machine.link_place (files_of self.now) inode) (λ b. machine.link_given (files_of self.now) directory generation name.now inode of entry b)).slots wanted.now.inode wanted.now.generation wanted.now.slot) }
+        ensures { IfOk result (λ it. it ≡ (machine.at_place (machine.link_place (kept_files_of self.now) inode) (λ b. machine.link_given (kept_files_of self.now) directory generation name.now inode of entry b)).slots wanted.now.inode wanted.now.generation wanted.now.slot) }
     {
         match self.link_place(alloc, inode)? {
             None => Ok(None),
@@ -247,7 +248,7 @@ impl FilesNow {
         of: u64,
     ) -> Result<Option<Value>, AllocError>
         requires { length name.now ≤ 48 }
-        ensures { IfOk result (λ it. it ≡ (machine.at_place (machine.place_for (files_of self.now) directory name.now) (λ e. machine.at_place (machine.link_place (files_of self.now) inode) (λ b. machine.link_given (files_of self.now) directory generation name.now inode of e b))).slots wanted.now.inode wanted.now.generation wanted.now.slot) }
+        ensures { IfOk result (λ it. it ≡ (machine.at_place (machine.place_for (kept_files_of self.now) directory name.now) (λ e. machine.at_place (machine.link_place (kept_files_of self.now) inode) (λ b. machine.link_given (kept_files_of self.now) directory generation name.now inode of e b))).slots wanted.now.inode wanted.now.generation wanted.now.slot) }
     {
         match self.place_for(alloc, directory, name)? {
             None => Ok(None),
@@ -265,7 +266,7 @@ impl FilesNow {
         generation: u64,
         entry: u32,
     ) -> Result<Option<Value>, AllocError>
-        ensures { IfOk result (λ it. it ≡ (machine.drop_given (files_of self.now) directory generation entry).slots wanted.now.inode wanted.now.generation wanted.now.slot) }
+        ensures { IfOk result (λ it. it ≡ (machine.drop_given (kept_files_of self.now) directory generation entry).slots wanted.now.inode wanted.now.generation wanted.now.slot) }
     {
         match self.entry_at(alloc, directory, entry)? {
             None => Ok(None),
@@ -282,7 +283,7 @@ impl FilesNow {
         generation: u64,
         name: &[u8],
     ) -> Result<Option<Value>, AllocError>
-        ensures { IfOk result (λ it. it ≡ (machine.at_place (machine.found (files_of self.now) directory name.now) (λ e. machine.drop_given (files_of self.now) directory generation e)).slots wanted.now.inode wanted.now.generation wanted.now.slot) }
+        ensures { IfOk result (λ it. it ≡ (machine.at_place (machine.found (kept_files_of self.now) directory name.now) (λ e. machine.drop_given (kept_files_of self.now) directory generation e)).slots wanted.now.inode wanted.now.generation wanted.now.slot) }
     {
         match self.found(alloc, directory, name)? {
             None => Ok(None),
@@ -300,7 +301,7 @@ impl FilesNow {
         entry: u32,
     ) -> Result<Option<Value>, AllocError>
         requires { length name.now ≤ 48 }
-        ensures { IfOk result (λ it. it ≡ (machine.rename_given (files_of self.now) directory generation name.now entry).slots wanted.now.inode wanted.now.generation wanted.now.slot) }
+        ensures { IfOk result (λ it. it ≡ (machine.rename_given (kept_files_of self.now) directory generation name.now entry).slots wanted.now.inode wanted.now.generation wanted.now.slot) }
     {
         match self.entry_at(alloc, directory, entry)? {
             None => Ok(None),
@@ -328,7 +329,7 @@ impl FilesNow {
         new: &[u8],
     ) -> Result<Option<Value>, AllocError>
         requires { length new.now ≤ 48 }
-        ensures { IfOk result (λ it. it ≡ (machine.at_place (machine.found (files_of self.now) directory old.now) (λ e. machine.rename_given (files_of self.now) directory generation new.now e)).slots wanted.now.inode wanted.now.generation wanted.now.slot) }
+        ensures { IfOk result (λ it. it ≡ (machine.at_place (machine.found (kept_files_of self.now) directory old.now) (λ e. machine.rename_given (kept_files_of self.now) directory generation new.now e)).slots wanted.now.inode wanted.now.generation wanted.now.slot) }
     {
         match self.found(alloc, directory, old)? {
             None => Ok(None),

@@ -1,11 +1,11 @@
 //! How the back links of a file change.
 ghost use Rattle.std.specs.Prelude.{◌≡◌, ◌<◌, ◌≤◌, ◌&&◌, not, ℕ, IfOk, IfSome, None, Some, drop, ◌∷◌, [], if◌then◌else◌};
 ghost use Rattle.std.specs.List.{list_any};
-ghost use Rattle.nofs_history.specs.Machine as machine;
+ghost use Rattle.nofs_machine.specs.Machine as machine;
 ghost use Rattle.nofs_inode.specs.InodeRecords.{is_empty_link};
-ghost use Rattle.nofs_history.specs.Search.{first_of};
+ghost use Rattle.nofs_machine.specs.Search.{first_of};
 ghost use Rattle.nofs_model.specs.Files as files;
-ghost use Rattle.nofs_history.specs.Kept.{file_of, files_of};
+ghost use Rattle.nofs_history.specs.Kept.{file_of, kept_files_of};
 
 use crate::accepted::files::{FileNow, FilesNow};
 use crate::accepted::names::same_link;
@@ -67,7 +67,7 @@ impl FileNow {
 /// The first empty place of these links, from a place on.
 #[tactic(auto, using(crate::proofs::LinkLists::place_none, crate::proofs::LinkLists::place_here, crate::proofs::LinkLists::place_next))]
 fn empty_from(links: &[BackLink; 4], at: usize) -> Option<usize>
-    ensures place { result ≡ machine.place_in is_empty_link (drop at links.now) at }
+    ensures place { result ≡ machine.place_for_link is_empty_link (drop at links.now) at }
     ensures range { IfSome result (λ b. b < 4) }
 {
     if at >= 4 {
@@ -89,7 +89,7 @@ impl FilesNow {
         links: &[BackLink; 4],
         at: usize,
     ) -> Result<bool, AllocError>
-        ensures { IfOk result (λ is. is ≡ list_any (λ l. files.is_pair (files_of self.now) inode l) (drop at links.now)) }
+        ensures { IfOk result (λ is. is ≡ list_any (λ l. files.is_pair (kept_files_of self.now) inode l) (drop at links.now)) }
     {
         if at >= 4 {
             return Ok(false);
@@ -110,7 +110,7 @@ impl FilesNow {
         at: usize,
     ) -> Result<Option<usize>, AllocError>
         ensures range { IfOk result (λ place. IfSome place (λ b. b < 4)) }
-        ensures place { IfOk result (λ place. place ≡ machine.place_in (λ link. not (files.is_pair (files_of self.now) inode link)) (drop at links.now) at) }
+        ensures place { IfOk result (λ place. place ≡ machine.place_for_link (λ link. not (files.is_pair (kept_files_of self.now) inode link)) (drop at links.now) at) }
     {
         if at >= 4 {
             return Ok(None);
@@ -128,7 +128,7 @@ impl FilesNow {
         file: &FileNow,
     ) -> Result<Option<usize>, AllocError>
         ensures range { IfOk result (λ place. IfSome place (λ b. b < 4)) }
-        ensures place { IfOk result (λ place. place ≡ first_of (machine.place_in is_empty_link (file_of file.now).links 0 ∷ machine.place_in (λ link. not (files.is_pair (files_of self.now) inode link)) (file_of file.now).links 0 ∷ [])) }
+        ensures place { IfOk result (λ place. place ≡ first_of (machine.place_for_link is_empty_link (file_of file.now).links 0 ∷ machine.place_for_link (λ link. not (files.is_pair (kept_files_of self.now) inode link)) (file_of file.now).links 0 ∷ [])) }
     {
         match empty_from(&file.links, 0) {
             Some(place) => Ok(Some(place)),
@@ -137,10 +137,10 @@ impl FilesNow {
     }
 
     /// Where a new back link of an inode goes; `None` where it has no room.
-    #[tactic(auto, unfolding(crate::specs::Machine::link_place))]
+    #[tactic(auto, unfolding(nofs_machine::specs::Machine::link_place))]
     pub fn link_place(&self, alloc: Global, inode: u32) -> Result<Option<usize>, AllocError>
         ensures range { IfOk result (λ place. IfSome place (λ b. b < 4)) }
-        ensures place { IfOk result (λ place. place ≡ machine.link_place (files_of self.now) inode) }
+        ensures place { IfOk result (λ place. place ≡ machine.link_place (kept_files_of self.now) inode) }
     {
         if inode == 2 {
             return Ok(None);
@@ -153,7 +153,7 @@ impl FilesNow {
 
     /// Whether a file is gone once this back link is cleared.
     pub fn is_last(&self, alloc: Global, inode: u32, link: &BackLink) -> Result<bool, AllocError>
-        ensures { IfOk result (λ is. is ≡ (not (files.is_special inode) && not (list_any (λ l. files.is_pair (files_of self.now) inode l) (machine.without_link link.now (files.links_of (files_of self.now) inode))))) }
+        ensures { IfOk result (λ is. is ≡ (not (files.is_special inode) && not (list_any (λ l. files.is_pair (kept_files_of self.now) inode l) (machine.without_link link.now (files.links_of (kept_files_of self.now) inode))))) }
     {
         if inode == 1 || inode == 2 {
             return Ok(false);

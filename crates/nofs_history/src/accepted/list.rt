@@ -1,18 +1,19 @@
 //! The list of values that were accepted for one slot.
-ghost use Rattle.std.specs.Prelude.{◌≡◌, ◌<◌, ◌++◌, ◌∷◌, [], ◌+◌, length, drop, IfOk, OnOk, option_to_list, true, if◌then◌else◌};
+ghost use Rattle.std.specs.Prelude.{◌≡◌, ℕ, ◌<◌, ◌++◌, ◌∷◌, [], ◌+◌, length, drop, IfOk, OnOk, option_to_list, true, if◌then◌else◌};
+ghost use Rattle.nofs_ptrs.specs.Paths.{slot_limit};
 ghost use Rattle.nofs_model.specs.Geometry as image;
 ghost use Rattle.nofs_model.specs.Slots as slots;
-ghost use Rattle.nofs_history.specs.Machine as machine;
-ghost use Rattle.nofs_history.specs.History.{accepted_of, is_generation, values_given};
-ghost use Rattle.nofs_history.specs.Next.{IsAfter};
-ghost use Rattle.nofs_history.specs.World.{World};
-ghost use Rattle.nofs_history.specs.Kept.{files_of, kept_files, is_fit, AreFit};
+ghost use Rattle.nofs_machine.specs.Machine as machine;
+ghost use Rattle.nofs_machine.specs.History.{accepted_of, is_generation, values_given};
+ghost use Rattle.nofs_machine.specs.Next.{IsAfter};
+ghost use Rattle.nofs_machine.specs.World.{World};
+ghost use Rattle.nofs_history.specs.Kept.{kept_files_of, kept_files, is_fit, AreFit};
 
 use crate::accepted::base::{files_at, inodes_of, note_sizes, read_inode};
 use crate::accepted::files::FilesNow;
 use crate::accepted::gifts::Wanted;
-use crate::history::{Entry1, History};
 use nofs_disk::Cell;
+use nofs_machine::{Entry1, History};
 use nofs_model::{Value, is_mountable, value_of};
 use std::alloc::{AllocError, Global};
 
@@ -27,7 +28,7 @@ pub fn accepted_of(
     generation: u64,
     slot: u64,
 ) -> Result<Vec<Value>, AllocError>
-    ensures { IfOk result (λ values. image.IsMountable base.now → slot < 4168 → (V : World) → IsAfter base.now history.now V → values.items ≡ accepted_of base.now history.now.entries inode generation slot) }
+    ensures { IfOk result (λ values. image.IsMountable base.now → slot < slot_limit → (first : ℕ) (V : World) → IsAfter base.now first history.now V → values.items ≡ accepted_of base.now history.now.entries inode generation slot) }
 {
     if slot >= 4168 || !is_mountable(base) {
         return Ok(Vec::new(alloc));
@@ -66,7 +67,7 @@ fn note_base(
     values: &mut Vec<Value>,
 ) -> Result<(), AllocError>
     requires image { image.IsMountable base.now }
-    requires slot { wanted.now.slot < 4168 }
+    requires slot { wanted.now.slot < slot_limit }
     ensures { OnOk result (values.new.items ≡ values.old.items ++ (if is_generation base.now wanted.now.inode wanted.now.generation then slots.value base.now wanted.now.inode wanted.now.slot ∷ [] else [])) }
 {
     note_sizes(base);
@@ -84,9 +85,9 @@ fn note_entry(
     wanted: &Wanted,
     values: &mut Vec<Value>,
 ) -> Result<(), AllocError>
-    requires { wanted.now.slot < 4168 }
-    ensures values { OnOk result ((machine.may_give entry.now.reply ≡ true → is_fit entry.now.step entry.now.claims ≡ true) → values.new.items ≡ values.old.items ++ option_to_list ((machine.given_by (files_of files.old) entry.now).slots wanted.now.inode wanted.now.generation wanted.now.slot)) }
-    ensures files { OnOk result ((machine.may_give entry.now.reply ≡ true → is_fit entry.now.step entry.now.claims ≡ true) → kept_files (files_of files.new) ≡ kept_files (machine.files_by (files_of files.old) entry.now)) }
+    requires { wanted.now.slot < slot_limit }
+    ensures values { OnOk result ((machine.may_give entry.now.reply ≡ true → is_fit entry.now.step entry.now.claims ≡ true) → values.new.items ≡ values.old.items ++ option_to_list ((machine.given_by (kept_files_of files.old) entry.now).slots wanted.now.inode wanted.now.generation wanted.now.slot)) }
+    ensures files { OnOk result ((machine.may_give entry.now.reply ≡ true → is_fit entry.now.step entry.now.claims ≡ true) → kept_files (kept_files_of files.new) ≡ kept_files (machine.files_by (kept_files_of files.old) entry.now)) }
 {
     if let Some(value) = files.entry_gift(alloc, wanted, entry)? {
         values.push(value)?;
@@ -103,9 +104,9 @@ fn note_at(
     wanted: &Wanted,
     values: &mut Vec<Value>,
 ) -> Result<(), AllocError>
-    requires slot { wanted.now.slot < 4168 }
+    requires slot { wanted.now.slot < slot_limit }
     requires place { at < length history.now.entries }
-    ensures { OnOk result (AreFit history.now.entries → values.new.items ++ values_given (files_of files.new) (drop (at + 1) history.now.entries) wanted.now.inode wanted.now.generation wanted.now.slot ≡ values.old.items ++ values_given (files_of files.old) (drop at history.now.entries) wanted.now.inode wanted.now.generation wanted.now.slot) }
+    ensures { OnOk result (AreFit history.now.entries → values.new.items ++ values_given (kept_files_of files.new) (drop (at + 1) history.now.entries) wanted.now.inode wanted.now.generation wanted.now.slot ≡ values.old.items ++ values_given (kept_files_of files.old) (drop at history.now.entries) wanted.now.inode wanted.now.generation wanted.now.slot) }
 {
     match history.entry(at) {
         Some(entry) => {
@@ -124,8 +125,8 @@ fn note_entries(
     wanted: &Wanted,
     values: &mut Vec<Value>,
 ) -> Result<(), AllocError>
-    requires { wanted.now.slot < 4168 }
-    ensures { OnOk result (AreFit history.now.entries → values.new.items ≡ values.old.items ++ values_given (files_of files) history.now.entries wanted.now.inode wanted.now.generation wanted.now.slot) }
+    requires { wanted.now.slot < slot_limit }
+    ensures { OnOk result (AreFit history.now.entries → values.new.items ≡ values.old.items ++ values_given (kept_files_of files) history.now.entries wanted.now.inode wanted.now.generation wanted.now.slot) }
 {
     let mut files = files;
     for at in 0..history.len() {

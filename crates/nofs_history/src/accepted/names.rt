@@ -1,11 +1,12 @@
 //! Which names of a directory lead to files, and where a new one goes.
 ghost use Rattle.std.specs.Prelude.{◌≡◌, ◌<◌, ◌≤◌, ◌+◌, ◌/◌, ◌&&◌, not, ℕ, IfOk, IfSome, IsNone, Some, None, bytes_eq};
 ghost use Rattle.std.specs.List.{list_any};
+ghost use Rattle.nofs_dirent.specs.Entries.{entry_limit};
 ghost use Rattle.nofs_inode.specs.declared.inode.FileKind.TheVariants as kind;
-ghost use Rattle.nofs_history.specs.Machine as machine;
-ghost use Rattle.nofs_history.specs.Search.{least_from};
+ghost use Rattle.nofs_machine.specs.Machine as machine;
+ghost use Rattle.nofs_machine.specs.Search.{least_from};
 ghost use Rattle.nofs_model.specs.Files as files;
-ghost use Rattle.nofs_history.specs.Kept.{file_of, files_of};
+ghost use Rattle.nofs_history.specs.Kept.{file_of, kept_files_of};
 
 use crate::accepted::files::{FileNow, FilesNow, names};
 use nofs_inode::inode::{BackLink, FileKind};
@@ -25,7 +26,7 @@ fn has_link(file: &FileNow, wanted: &BackLink) -> bool
 
 impl FilesNow {
     pub fn is_directory(&self, directory: u32, generation: u64) -> bool
-        ensures { result ≡ files.is_a kind.Directory generation (files_of self.now directory) }
+        ensures { result ≡ files.is_a kind.Directory generation (kept_files_of self.now directory) }
     {
         match self.file(directory) {
             None => false,
@@ -35,7 +36,7 @@ impl FilesNow {
 
     /// The generation of a file, 0 where there is none.
     pub fn generation(&self, inode: u32) -> u64
-        ensures { result ≡ machine.generation_of (files_of self.now) inode }
+        ensures { result ≡ machine.generation_of (kept_files_of self.now) inode }
     {
         match self.file(inode) {
             None => 0,
@@ -45,7 +46,7 @@ impl FilesNow {
 
     /// Whether a back link of an inode is a pair.
     pub fn is_pair(&self, alloc: Global, inode: u32, link: &BackLink) -> Result<bool, AllocError>
-        ensures { IfOk result (λ is. is ≡ files.is_pair (files_of self.now) inode link.now) }
+        ensures { IfOk result (λ is. is ≡ files.is_pair (kept_files_of self.now) inode link.now) }
     {
         match self.file(inode) {
             None => Ok(false),
@@ -60,7 +61,7 @@ impl FilesNow {
         file: &FileNow,
         link: &BackLink,
     ) -> Result<bool, AllocError>
-        ensures { IfOk result (λ is. is ≡ files.pairs (Some (file_of file.now)) (files_of self.now link.now.directory) inode link.now) }
+        ensures { IfOk result (λ is. is ≡ files.pairs (Some (file_of file.now)) (kept_files_of self.now link.now.directory) inode link.now) }
     {
         if !self.is_directory(link.directory, link.generation) {
             return Ok(false);
@@ -74,7 +75,7 @@ impl FilesNow {
 
     /// Whether the inode has this back link, as a pair.
     fn is_linked(&self, alloc: Global, inode: u32, link: &BackLink) -> Result<bool, AllocError>
-        ensures { IfOk result (λ is. is ≡ list_any (λ l. machine.same_link l link.now && files.is_pair (files_of self.now) inode l) (files.links_of (files_of self.now) inode)) }
+        ensures { IfOk result (λ is. is ≡ list_any (λ l. machine.same_link l link.now && files.is_pair (kept_files_of self.now) inode l) (files.links_of (kept_files_of self.now) inode)) }
     {
         match self.file(inode) {
             None => Ok(false),
@@ -89,7 +90,7 @@ impl FilesNow {
         file: &FileNow,
         link: &BackLink,
     ) -> Result<bool, AllocError>
-        ensures { IfOk result (λ is. is ≡ list_any (λ l. machine.same_link l link.now && files.is_pair (files_of self.now) inode l) file.now.links) }
+        ensures { IfOk result (λ is. is ≡ list_any (λ l. machine.same_link l link.now && files.is_pair (kept_files_of self.now) inode l) file.now.links) }
     {
         self.has_pair(alloc, inode, file, link)
     }
@@ -101,7 +102,7 @@ impl FilesNow {
         file: &FileNow,
         link: &BackLink,
     ) -> Result<bool, AllocError>
-        ensures { IfOk result (λ is. is ≡ (list_any (λ l. machine.same_link l link.now) file.now.links && files.is_pair (files_of self.now) inode link.now)) }
+        ensures { IfOk result (λ is. is ≡ (list_any (λ l. machine.same_link l link.now) file.now.links && files.is_pair (kept_files_of self.now) inode link.now)) }
     {
         if !has_link(file, link) {
             return Ok(false);
@@ -111,7 +112,7 @@ impl FilesNow {
 
     /// Whether an entry of a directory is the other half of a back link.
     pub fn is_paired(&self, alloc: Global, directory: u32, entry: u32) -> Result<bool, AllocError>
-        ensures { IfOk result (λ is. is ≡ machine.is_paired (files_of self.now) directory entry) }
+        ensures { IfOk result (λ is. is ≡ machine.is_paired (kept_files_of self.now) directory entry) }
     {
         match self.entry_at(alloc, directory, entry)? {
             None => Ok(false),
@@ -134,7 +135,7 @@ impl FilesNow {
         name: &[u8],
         entry: u32,
     ) -> Result<bool, AllocError>
-        ensures { IfOk result (λ has. has ≡ machine.has_name (files_of self.now) directory name.now entry) }
+        ensures { IfOk result (λ has. has ≡ machine.entry_has_name (kept_files_of self.now) directory name.now entry) }
     {
         match self.entry_at(alloc, directory, entry)? {
             None => Ok(false),
@@ -150,7 +151,7 @@ impl FilesNow {
         name: &[u8],
         entry: u32,
     ) -> Result<bool, AllocError>
-        ensures { IfOk result (λ is. is ≡ (machine.has_name (files_of self.now) directory name.now entry && machine.is_paired (files_of self.now) directory entry)) }
+        ensures { IfOk result (λ is. is ≡ (machine.entry_has_name (kept_files_of self.now) directory name.now entry && machine.is_paired (kept_files_of self.now) directory entry)) }
     {
         if !self.has_name(alloc, directory, name, entry)? {
             return Ok(false);
@@ -158,7 +159,7 @@ impl FilesNow {
         self.is_paired(alloc, directory, entry)
     }
 
-    #[tactic(auto, using(crate::proofs::Links::least_none, crate::proofs::Links::least_here, crate::proofs::Links::least_further))]
+    #[tactic(auto, using(nofs_machine::proofs::Links::least_none, nofs_machine::proofs::Links::least_here, nofs_machine::proofs::Links::least_further))]
     fn found_from(
         &self,
         alloc: Global,
@@ -167,8 +168,8 @@ impl FilesNow {
         at: u32,
         count: u32,
     ) -> Result<Option<u32>, AllocError>
-        requires { at + count ≤ 1152 }
-        ensures { IfOk result (λ found. found ≡ least_from (λ e. machine.has_name (files_of self.now) directory name.now e && machine.is_paired (files_of self.now) directory e) at count) }
+        requires { at + count ≤ entry_limit }
+        ensures { IfOk result (λ found. found ≡ least_from (λ e. machine.entry_has_name (kept_files_of self.now) directory name.now e && machine.is_paired (kept_files_of self.now) directory e) at count) }
     {
         if count == 0 {
             return Ok(None);
@@ -180,14 +181,14 @@ impl FilesNow {
     }
 
     /// The least entry by which a name leads to a file.
-    #[tactic(auto, unfolding(crate::specs::Machine::found))]
+    #[tactic(auto, unfolding(nofs_machine::specs::Machine::found))]
     pub fn found(
         &self,
         alloc: Global,
         directory: u32,
         name: &[u8],
     ) -> Result<Option<u32>, AllocError>
-        ensures { IfOk result (λ found. found ≡ machine.found (files_of self.now) directory name.now) }
+        ensures { IfOk result (λ found. found ≡ machine.found (kept_files_of self.now) directory name.now) }
     {
         self.found_from(alloc, directory, name, 0, 1152)
     }
@@ -200,7 +201,7 @@ impl FilesNow {
         name: &[u8],
         entry: u32,
     ) -> Result<bool, AllocError>
-        ensures { IfOk result (λ is. is ≡ (machine.has_name (files_of self.now) directory name.now entry && not (machine.is_paired (files_of self.now) directory entry))) }
+        ensures { IfOk result (λ is. is ≡ (machine.entry_has_name (kept_files_of self.now) directory name.now entry && not (machine.is_paired (kept_files_of self.now) directory entry))) }
     {
         if !self.has_name(alloc, directory, name, entry)? {
             return Ok(false);
@@ -208,7 +209,7 @@ impl FilesNow {
         Ok(!self.is_paired(alloc, directory, entry)?)
     }
 
-    #[tactic(auto, using(crate::proofs::Links::least_none, crate::proofs::Links::least_here, crate::proofs::Links::least_further))]
+    #[tactic(auto, using(nofs_machine::proofs::Links::least_none, nofs_machine::proofs::Links::least_here, nofs_machine::proofs::Links::least_further))]
     fn dead_from(
         &self,
         alloc: Global,
@@ -217,8 +218,8 @@ impl FilesNow {
         at: u32,
         count: u32,
     ) -> Result<Option<u32>, AllocError>
-        requires { at + count ≤ 1152 }
-        ensures { IfOk result (λ found. found ≡ least_from (λ e. machine.has_name (files_of self.now) directory name.now e && not (machine.is_paired (files_of self.now) directory e)) at count) }
+        requires { at + count ≤ entry_limit }
+        ensures { IfOk result (λ found. found ≡ least_from (λ e. machine.entry_has_name (kept_files_of self.now) directory name.now e && not (machine.is_paired (kept_files_of self.now) directory e)) at count) }
     {
         if count == 0 {
             return Ok(None);
@@ -230,14 +231,14 @@ impl FilesNow {
     }
 
     /// The least entry of a name that leads to no file.
-    #[tactic(auto, unfolding(crate::specs::Machine::first_dead))]
+    #[tactic(auto, unfolding(nofs_machine::specs::Machine::first_dead))]
     pub fn first_dead(
         &self,
         alloc: Global,
         directory: u32,
         name: &[u8],
     ) -> Result<Option<u32>, AllocError>
-        ensures { IfOk result (λ found. found ≡ machine.first_dead (files_of self.now) directory name.now) }
+        ensures { IfOk result (λ found. found ≡ machine.first_dead (kept_files_of self.now) directory name.now) }
     {
         self.dead_from(alloc, directory, name, 0, 1152)
     }

@@ -1,12 +1,12 @@
 //! What an accepted step on a name does to files.
 ghost use Rattle.std.specs.Prelude.{◌≡◌, ◌<◌, ◌≤◌, ◌/◌, ℕ, OnOk, length};
-ghost use Rattle.nofs_dirent.specs.Entries.{spelled_entry};
-ghost use Rattle.nofs_history.specs.Machine as machine;
-ghost use Rattle.nofs_history.specs.Kept.{file_of, files_of, made_file, kept_files};
+ghost use Rattle.nofs_dirent.specs.Entries.{spelled_entry, entry_limit};
+ghost use Rattle.nofs_machine.specs.Machine as machine;
+ghost use Rattle.nofs_history.specs.Kept.{file_of, kept_files_of, made_file, kept_files};
 
 use crate::accepted::files::{FileNow, FilesNow};
-use crate::history::Claims;
 use nofs_inode::inode::{BackLink, FileKind};
+use nofs_machine::Claims;
 use std::alloc::{AllocError, Global};
 
 /// A file without content, with one back link.
@@ -34,9 +34,9 @@ impl FilesNow {
         entry: u32,
     ) -> Result<(), AllocError>
         requires name { length name.now ≤ 48 }
-        requires entry { entry < 1152 }
+        requires entry { entry < entry_limit }
         requires inode { 0 < claims.now.inode }
-        ensures { OnOk result (kept_files (files_of self.new) ≡ kept_files (machine.files_after (files_of self.old) (machine.make_given (files_of self.old) directory generation name.now kind claims.now entry))) }
+        ensures { OnOk result (kept_files (kept_files_of self.new) ≡ kept_files (machine.files_after (kept_files_of self.old) (machine.make_given (kept_files_of self.old) directory generation name.now kind claims.now entry))) }
     {
         let cell = self.named_cell(
             alloc,
@@ -68,9 +68,9 @@ impl FilesNow {
         place: usize,
     ) -> Result<(), AllocError>
         requires name { length name.now ≤ 48 }
-        requires entry { entry < 1152 }
+        requires entry { entry < entry_limit }
         requires place { place < 4 }
-        ensures { OnOk result (kept_files (files_of self.new) ≡ kept_files (machine.files_after (files_of self.old) (machine.link_given (files_of self.old) directory generation name.now inode of entry place))) }
+        ensures { OnOk result (kept_files (kept_files_of self.new) ≡ kept_files (machine.files_after (kept_files_of self.old) (machine.link_given (kept_files_of self.old) directory generation name.now inode of entry place))) }
     {
         let cell = self.named_cell(alloc, directory, entry, inode, of, name)?;
         let link = BackLink {
@@ -92,8 +92,8 @@ impl FilesNow {
         inode: u32,
         of: u64,
     ) -> Result<(), AllocError>
-        requires { entry < 1152 }
-        ensures { OnOk result (kept_files (files_of self.new) ≡ kept_files (machine.files_after (files_of self.old) (machine.entry_given (files_of self.old) directory generation entry (machine.zeros 64) (machine.meta_given inode of (machine.drop_meta (files_of self.old) inode (machine.link_to directory entry generation)))))) }
+        requires { entry < entry_limit }
+        ensures { OnOk result (kept_files (kept_files_of self.new) ≡ kept_files (machine.files_after (kept_files_of self.old) (machine.entry_given (kept_files_of self.old) directory generation entry (machine.zeros 64) (machine.meta_given inode of (machine.drop_meta (kept_files_of self.old) inode (machine.link_to directory entry generation)))))) }
     {
         let cell = self.cleared_cell(alloc, directory, entry)?;
         let link = BackLink {
@@ -113,8 +113,8 @@ impl FilesNow {
         generation: u64,
         entry: u32,
     ) -> Result<(), AllocError>
-        requires { entry < 1152 }
-        ensures { OnOk result (kept_files (files_of self.new) ≡ kept_files (machine.files_after (files_of self.old) (machine.drop_given (files_of self.old) directory generation entry))) }
+        requires { entry < entry_limit }
+        ensures { OnOk result (kept_files (kept_files_of self.new) ≡ kept_files (machine.files_after (kept_files_of self.old) (machine.drop_given (kept_files_of self.old) directory generation entry))) }
     {
         match self.entry_at(alloc, directory, entry)? {
             None => Ok(()),
@@ -140,8 +140,8 @@ impl FilesNow {
         of: u64,
     ) -> Result<(), AllocError>
         requires name { length name.now ≤ 48 }
-        requires entry { entry < 1152 }
-        ensures { OnOk result (kept_files (files_of self.new) ≡ kept_files (machine.files_after (files_of self.old) (machine.entry_given (files_of self.old) directory generation entry (spelled_entry inode of name.now) machine.no_meta))) }
+        requires entry { entry < entry_limit }
+        ensures { OnOk result (kept_files (kept_files_of self.new) ≡ kept_files (machine.files_after (kept_files_of self.old) (machine.entry_given (kept_files_of self.old) directory generation entry (spelled_entry inode of name.now) machine.no_meta))) }
     {
         let cell = self.named_cell(alloc, directory, entry, inode, of, name)?;
         self.set_cell(directory, generation, u64::from(entry / 16), cell)?;
@@ -157,8 +157,8 @@ impl FilesNow {
         entry: u32,
     ) -> Result<(), AllocError>
         requires name { length name.now ≤ 48 }
-        requires entry { entry < 1152 }
-        ensures { OnOk result (kept_files (files_of self.new) ≡ kept_files (machine.files_after (files_of self.old) (machine.rename_given (files_of self.old) directory generation name.now entry))) }
+        requires entry { entry < entry_limit }
+        ensures { OnOk result (kept_files (kept_files_of self.new) ≡ kept_files (machine.files_after (kept_files_of self.old) (machine.rename_given (kept_files_of self.old) directory generation name.now entry))) }
     {
         match self.entry_at(alloc, directory, entry)? {
             None => Ok(()),
@@ -186,7 +186,7 @@ impl FilesNow {
     ) -> Result<(), AllocError>
         requires name { length name.now ≤ 48 }
         requires inode { 0 < claims.now.inode }
-        ensures { OnOk result (kept_files (files_of self.new) ≡ kept_files (machine.files_after (files_of self.old) (machine.at_place (machine.place_for (files_of self.old) directory name.now) (λ e. machine.make_given (files_of self.old) directory generation name.now kind claims.now e)))) }
+        ensures { OnOk result (kept_files (kept_files_of self.new) ≡ kept_files (machine.files_after (kept_files_of self.old) (machine.at_place (machine.place_for (kept_files_of self.old) directory name.now) (λ e. machine.make_given (kept_files_of self.old) directory generation name.now kind claims.now e)))) }
     {
         match self.place_for(alloc, directory, name)? {
             None => Ok(()),
@@ -205,8 +205,8 @@ impl FilesNow {
         entry: u32,
     ) -> Result<(), AllocError>
         requires name { length name.now ≤ 48 }
-        requires entry { entry < 1152 }
-        ensures { OnOk result (kept_files (files_of self.new) ≡ kept_files (machine.files_after (files_of self.old) (machine.at_place (machine.link_place (files_of self.old) inode) (λ b. machine.link_given (files_of self.old) directory generation name.now inode of entry b)))) }
+        requires entry { entry < entry_limit }
+        ensures { OnOk result (kept_files (kept_files_of self.new) ≡ kept_files (machine.files_after (kept_files_of self.old) (machine.at_place (machine.link_place (kept_files_of self.old) inode) (λ b. machine.link_given (kept_files_of self.old) directory generation name.now inode of entry b)))) }
     {
         match self.link_place(alloc, inode)? {
             None => Ok(()),
@@ -227,7 +227,7 @@ impl FilesNow {
         of: u64,
     ) -> Result<(), AllocError>
         requires { length name.now ≤ 48 }
-        ensures { OnOk result (kept_files (files_of self.new) ≡ kept_files (machine.files_after (files_of self.old) (machine.at_place (machine.place_for (files_of self.old) directory name.now) (λ e. machine.at_place (machine.link_place (files_of self.old) inode) (λ b. machine.link_given (files_of self.old) directory generation name.now inode of e b))))) }
+        ensures { OnOk result (kept_files (kept_files_of self.new) ≡ kept_files (machine.files_after (kept_files_of self.old) (machine.at_place (machine.place_for (kept_files_of self.old) directory name.now) (λ e. machine.at_place (machine.link_place (kept_files_of self.old) inode) (λ b. machine.link_given (kept_files_of self.old) directory generation name.now inode of e b))))) }
     {
         match self.place_for(alloc, directory, name)? {
             None => Ok(()),
@@ -243,7 +243,7 @@ impl FilesNow {
         generation: u64,
         name: &[u8],
     ) -> Result<(), AllocError>
-        ensures { OnOk result (kept_files (files_of self.new) ≡ kept_files (machine.files_after (files_of self.old) (machine.at_place (machine.found (files_of self.old) directory name.now) (λ e. machine.drop_given (files_of self.old) directory generation e)))) }
+        ensures { OnOk result (kept_files (kept_files_of self.new) ≡ kept_files (machine.files_after (kept_files_of self.old) (machine.at_place (machine.found (kept_files_of self.old) directory name.now) (λ e. machine.drop_given (kept_files_of self.old) directory generation e)))) }
     {
         match self.found(alloc, directory, name)? {
             None => Ok(()),
@@ -261,7 +261,7 @@ impl FilesNow {
         new: &[u8],
     ) -> Result<(), AllocError>
         requires { length new.now ≤ 48 }
-        ensures { OnOk result (kept_files (files_of self.new) ≡ kept_files (machine.files_after (files_of self.old) (machine.at_place (machine.found (files_of self.old) directory old.now) (λ e. machine.rename_given (files_of self.old) directory generation new.now e)))) }
+        ensures { OnOk result (kept_files (kept_files_of self.new) ≡ kept_files (machine.files_after (kept_files_of self.old) (machine.at_place (machine.found (kept_files_of self.old) directory old.now) (λ e. machine.rename_given (kept_files_of self.old) directory generation new.now e)))) }
     {
         match self.found(alloc, directory, old)? {
             None => Ok(()),

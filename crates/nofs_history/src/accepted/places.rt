@@ -1,16 +1,17 @@
 //! Where a new entry goes.
 ghost use Rattle.std.specs.Prelude.{◌≡◌, ◌<◌, ◌≤◌, ◌+◌, ◌*◌, ◌/◌, ◌&&◌, ◌∷◌, [], not, ℕ, IfOk, IfSome, Some, None, is_some, option_map};
-ghost use Rattle.nofs_history.specs.Machine as machine;
-ghost use Rattle.nofs_history.specs.Meta as meta;
-ghost use Rattle.nofs_history.specs.Search.{first_of, least_from};
+ghost use Rattle.nofs_dirent.specs.Entries.{entry_limit};
+ghost use Rattle.nofs_machine.specs.Machine as machine;
+ghost use Rattle.nofs_machine.specs.Meta as meta;
+ghost use Rattle.nofs_machine.specs.Search.{first_of, least_from};
 ghost use Rattle.nofs_model.specs.Files as files;
-ghost use Rattle.nofs_history.specs.Kept.{value_in, file_of, files_of};
+ghost use Rattle.nofs_history.specs.Kept.{kept_value, file_of, kept_files_of};
 
 use crate::accepted::files::{FileNow, FilesNow, Kept};
 use std::alloc::{AllocError, Global};
 
 fn has_bytes(kept: &Kept) -> bool
-    ensures { result ≡ meta.is_bytes (value_in kept.now) }
+    ensures { result ≡ meta.is_bytes (kept_value kept.now) }
 {
     match kept {
         Kept::Bytes(_) => true,
@@ -20,7 +21,7 @@ fn has_bytes(kept: &Kept) -> bool
 }
 
 fn is_hole(kept: &Kept) -> bool
-    ensures { result ≡ machine.is_hole (value_in kept.now) }
+    ensures { result ≡ machine.is_hole (kept_value kept.now) }
 {
     match kept {
         Kept::Hole => true,
@@ -52,7 +53,7 @@ impl FileNow {
 impl FilesNow {
     /// Whether a slot has bytes.
     pub fn has_bytes(&self, inode: u32, slot: u64) -> bool
-        ensures { result ≡ meta.is_bytes (machine.value_of (files_of self.now) inode slot) }
+        ensures { result ≡ meta.is_bytes (machine.value_of (kept_files_of self.now) inode slot) }
     {
         match self.file(inode) {
             None => false,
@@ -61,7 +62,7 @@ impl FilesNow {
     }
 
     fn is_hole(&self, inode: u32, slot: u64) -> bool
-        ensures { result ≡ machine.is_hole (machine.value_of (files_of self.now) inode slot) }
+        ensures { result ≡ machine.is_hole (machine.value_of (kept_files_of self.now) inode slot) }
     {
         match self.file(inode) {
             None => true,
@@ -71,7 +72,7 @@ impl FilesNow {
 
     /// Whether an entry's place is empty, in a slot with bytes.
     fn is_empty(&self, alloc: Global, directory: u32, entry: u32) -> Result<bool, AllocError>
-        ensures { IfOk result (λ is. is ≡ (meta.is_bytes (machine.value_of (files_of self.now) directory (entry / 16)) && not (is_some (files.entry_at (files_of self.now) directory entry)))) }
+        ensures { IfOk result (λ is. is ≡ (meta.is_bytes (machine.value_of (kept_files_of self.now) directory (entry / 16)) && not (is_some (files.entry_at (kept_files_of self.now) directory entry)))) }
     {
         if !self.has_bytes(directory, u64::from(entry / 16)) {
             return Ok(false);
@@ -79,7 +80,7 @@ impl FilesNow {
         Ok(self.entry_at(alloc, directory, entry)?.is_none())
     }
 
-    #[tactic(auto, using(crate::proofs::Links::least_none, crate::proofs::Links::least_here, crate::proofs::Links::least_further))]
+    #[tactic(auto, using(nofs_machine::proofs::Links::least_none, nofs_machine::proofs::Links::least_here, nofs_machine::proofs::Links::least_further))]
     fn empty_from(
         &self,
         alloc: Global,
@@ -87,8 +88,8 @@ impl FilesNow {
         at: u32,
         count: u32,
     ) -> Result<Option<u32>, AllocError>
-        requires { at + count ≤ 1152 }
-        ensures { IfOk result (λ found. found ≡ least_from (λ e. meta.is_bytes (machine.value_of (files_of self.now) directory (e / 16)) && not (is_some (files.entry_at (files_of self.now) directory e))) at count) }
+        requires { at + count ≤ entry_limit }
+        ensures { IfOk result (λ found. found ≡ least_from (λ e. meta.is_bytes (machine.value_of (kept_files_of self.now) directory (e / 16)) && not (is_some (files.entry_at (kept_files_of self.now) directory e))) at count) }
     {
         if count == 0 {
             return Ok(None);
@@ -99,10 +100,10 @@ impl FilesNow {
         self.empty_from(alloc, directory, at + 1, count - 1)
     }
 
-    #[tactic(auto, using(crate::proofs::Links::least_none, crate::proofs::Links::least_here, crate::proofs::Links::least_further))]
+    #[tactic(auto, using(nofs_machine::proofs::Links::least_none, nofs_machine::proofs::Links::least_here, nofs_machine::proofs::Links::least_further))]
     fn hole_from(&self, directory: u32, at: u32, count: u32) -> Option<u32>
         requires { at + count ≤ 72 }
-        ensures found { result ≡ least_from (λ k. machine.is_hole (machine.value_of (files_of self.now) directory k)) at count }
+        ensures found { result ≡ least_from (λ k. machine.is_hole (machine.value_of (kept_files_of self.now) directory k)) at count }
         ensures range { IfSome result (λ k. k < 72) }
     {
         if count == 0 {
@@ -115,7 +116,7 @@ impl FilesNow {
     }
 
     fn hole_place(&self, directory: u32) -> Option<u32>
-        ensures { result ≡ option_map (λ k. 16 * k) (least_from (λ k. machine.is_hole (machine.value_of (files_of self.now) directory k)) 0 72) }
+        ensures { result ≡ option_map (λ k. 16 * k) (least_from (λ k. machine.is_hole (machine.value_of (kept_files_of self.now) directory k)) 0 72) }
     {
         match self.hole_from(directory, 0, 72) {
             None => None,
@@ -125,8 +126,8 @@ impl FilesNow {
 
     fn fresh_place(&self, alloc: Global, directory: u32) -> Result<Option<u32>, AllocError>
         ensures { IfOk result (λ place. place ≡ first_of (
-            least_from (λ e. meta.is_bytes (machine.value_of (files_of self.now) directory (e / 16)) && not (is_some (files.entry_at (files_of self.now) directory e))) 0 1152
-            ∷ option_map (λ k. 16 * k) (least_from (λ k. machine.is_hole (machine.value_of (files_of self.now) directory k)) 0 72)
+            least_from (λ e. meta.is_bytes (machine.value_of (kept_files_of self.now) directory (e / 16)) && not (is_some (files.entry_at (kept_files_of self.now) directory e))) 0 entry_limit
+            ∷ option_map (λ k. 16 * k) (least_from (λ k. machine.is_hole (machine.value_of (kept_files_of self.now) directory k)) 0 72)
             ∷ [])) }
     {
         match self.empty_from(alloc, directory, 0, 1152)? {
@@ -136,14 +137,14 @@ impl FilesNow {
     }
 
     /// Where a new entry of a name goes; `None` where the directory is full.
-    #[tactic(auto, unfolding(crate::specs::Machine::place_for))]
+    #[tactic(auto, unfolding(nofs_machine::specs::Machine::place_for))]
     pub fn place_for(
         &self,
         alloc: Global,
         directory: u32,
         name: &[u8],
     ) -> Result<Option<u32>, AllocError>
-        ensures { IfOk result (λ place. place ≡ machine.place_for (files_of self.now) directory name.now) }
+        ensures { IfOk result (λ place. place ≡ machine.place_for (kept_files_of self.now) directory name.now) }
     {
         match self.first_dead(alloc, directory, name)? {
             Some(entry) => Ok(Some(entry)),

@@ -1,7 +1,7 @@
 //! How a file changes with its size.
 ghost use Rattle.std.specs.Prelude.{◌≡◌, ◌<◌, ◌≤◌, ◌+◌, ◌/◌, ◌==◌, ℕ, Some, if◌then◌else◌, slice_get};
-ghost use Rattle.nofs_history.specs.Machine as machine;
-ghost use Rattle.nofs_history.specs.Kept.{value_in, value_at, file_of, kept_file, trimmed_value, end_value, resized_file};
+ghost use Rattle.nofs_machine.specs.Machine as machine;
+ghost use Rattle.nofs_history.specs.Kept.{kept_value, value_at, file_of, kept_file, trimmed_value, end_value, resized_file};
 
 use crate::accepted::cells::trim;
 use crate::accepted::files::{FileNow, Kept};
@@ -15,7 +15,7 @@ pub(crate) fn slots_in(size: u64) -> u64
 
 fn trimmed(kept: Kept, cut: usize) -> Kept
     requires { cut ≤ 1024 }
-    ensures { value_in result ≡ trimmed_value cut (value_in kept) }
+    ensures { kept_value result ≡ trimmed_value cut (kept_value kept) }
 {
     match kept {
         Kept::Bytes(bytes) => {

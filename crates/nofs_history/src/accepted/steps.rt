@@ -1,13 +1,14 @@
 //! What an accepted step does to files.
 ghost use Rattle.std.specs.Prelude.{◌≡◌, ◌<◌, ◌≤◌, ◌+◌, ◌*◌, ◌/◌, ℕ, OnOk, Some, length, max};
+ghost use Rattle.nofs_ptrs.specs.Paths.{slot_limit};
 ghost use Rattle.nofs_model.specs.declared.value.Value.TheVariants as value;
-ghost use Rattle.nofs_history.specs.Meta.{Is};
-ghost use Rattle.nofs_history.specs.Machine as machine;
-ghost use Rattle.nofs_history.specs.Kept.{files_of, kept_files, metas_alone};
+ghost use Rattle.nofs_machine.specs.Meta.{Is};
+ghost use Rattle.nofs_machine.specs.Machine as machine;
+ghost use Rattle.nofs_history.specs.Kept.{kept_files_of, kept_files, metas_alone};
 
 use crate::accepted::files::{FileNow, FilesNow, Kept};
-use crate::history::Claims;
 use nofs_inode::inode::{BackLink, FileKind};
+use nofs_machine::Claims;
 use std::alloc::{AllocError, Global};
 
 impl FilesNow {
@@ -19,8 +20,8 @@ impl FilesNow {
         slot: u64,
         cell: Box<[u8; 1024]>,
     ) -> Result<(), AllocError>
-        requires { slot < 4168 }
-        ensures { OnOk result (kept_files (files_of self.new) ≡ kept_files (machine.files_after (files_of self.old) (machine.cell_given inode generation slot (value.Bytes cell.value) machine.no_meta))) }
+        requires { slot < slot_limit }
+        ensures { OnOk result (kept_files (kept_files_of self.new) ≡ kept_files (machine.files_after (kept_files_of self.old) (machine.cell_given inode generation slot (value.Bytes cell.value) machine.no_meta))) }
     {
         match self.take(inode, generation) {
             None => Ok(()),
@@ -42,9 +43,9 @@ impl FilesNow {
         at: u32,
         bytes: &[u8],
     ) -> Result<(), AllocError>
-        requires slot { slot < 4168 }
+        requires slot { slot < slot_limit }
         requires range { at + length bytes.now ≤ 1024 }
-        ensures { OnOk result (kept_files (files_of self.new) ≡ kept_files (machine.files_after (files_of self.old) (machine.put_given (files_of self.old) inode generation slot at bytes.now))) }
+        ensures { OnOk result (kept_files (kept_files_of self.new) ≡ kept_files (machine.files_after (kept_files_of self.old) (machine.put_given (kept_files_of self.old) inode generation slot at bytes.now))) }
     {
         let cell = self.put_content(alloc, inode, slot, at, bytes)?;
         let end = 1024 * slot + u64::from(at) + bytes.len() as u64;
@@ -60,7 +61,7 @@ impl FilesNow {
 
     /// Gives a file another size.
     pub fn resize(&mut self, inode: u32, generation: u64, size: u64) -> Result<(), AllocError>
-        ensures { OnOk result (kept_files (files_of self.new) ≡ kept_files (machine.files_after (files_of self.old) (machine.resize_given (files_of self.old) inode generation size))) }
+        ensures { OnOk result (kept_files (kept_files_of self.new) ≡ kept_files (machine.files_after (kept_files_of self.old) (machine.resize_given (kept_files_of self.old) inode generation size))) }
     {
         match self.take(inode, generation) {
             None => Ok(()),
@@ -80,7 +81,7 @@ impl FilesNow {
         link: BackLink,
     ) -> Result<(), AllocError>
         requires { place < 4 }
-        ensures { OnOk result (kept_files (files_of self.new) ≡ kept_files (machine.files_after (files_of self.old) (metas_alone (machine.meta_given inode generation (machine.meta_with (files_of self.old) inode (λ f. Is f.kind f.size (machine.set_link f.links place link))))))) }
+        ensures { OnOk result (kept_files (kept_files_of self.new) ≡ kept_files (machine.files_after (kept_files_of self.old) (metas_alone (machine.meta_given inode generation (machine.meta_with (kept_files_of self.old) inode (λ f. Is f.kind f.size (machine.set_link f.links place link))))))) }
     {
         match self.take(inode, generation) {
             None => Ok(()),
@@ -99,7 +100,7 @@ impl FilesNow {
         generation: u64,
         link: &BackLink,
     ) -> Result<(), AllocError>
-        ensures { OnOk result (kept_files (files_of self.new) ≡ kept_files (machine.files_after (files_of self.old) (metas_alone (machine.meta_given inode generation (machine.drop_meta (files_of self.old) inode link.now))))) }
+        ensures { OnOk result (kept_files (kept_files_of self.new) ≡ kept_files (machine.files_after (kept_files_of self.old) (metas_alone (machine.meta_given inode generation (machine.drop_meta (kept_files_of self.old) inode link.now))))) }
     {
         let last = self.is_last(alloc, inode, link)?;
         match self.take(inode, generation) {

@@ -14,4 +14,4 @@ loop-preserved g c =
     let room_ok = c.in-Ok.ensures.spare_ok in
     let more = before.4 in
     let more_room = c.write_back.ensures.room in
-    (WrittenBack-trans _ _ _ _ _ _ before.0 c.write_back.ensures.writes_back, omega arith, omega arith, c.write_back.ensures.blocks ∙ before.3, omega arith)
+    (WrittenBack-trans _ _ _ _ _ _ before.0 c.write_back.ensures.writes_back, omega arith, omega arith, c.write_back.ensures.blocks ∙ before.3, omega arith, c.in-Ok.ensures.no_fault ∙ before.5)

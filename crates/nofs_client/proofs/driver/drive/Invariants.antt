@@ -1,10 +1,10 @@
 use Rattle.std.proofs.Common.{◌≡◌, take, drop}
-use Rattle.nofs_client.specs.Task.{Stands}
+use Rattle.nofs_client.specs.Task.{TaskStands}
 use Rattle.nofs_client.specs.Drive.{AllAnswer, progress}
 use Rattle.nofs_client.proofs.driver.drive.Given as goal
 
 abbrev pub invariant-loop-reply : goal.invariant-loop-reply
 invariant-loop-reply l =
     (l.progress ≡ progress l.command (take l.reply-index l.replies))
-    × Stands l.command l.progress.task
+    × TaskStands l.command l.progress.task
     × AllAnswer l.command l.progress (drop l.reply-index l.replies)

@@ -1,7 +1,8 @@
-use Rattle.std.proofs.Common.{ap}
+use Rattle.std.proofs.Common.{ap, refl}
 use Rattle.nofs_disk.specs.declared.tag.Cell.{Cell}
 use Rattle.nofs_disk.specs.Disk.{cell_at}
 use Rattle.nofs_super.specs.Spelling.{if-mountable, if-spelled}
+use Rattle.nofs_super.proofs.Rows.{not-a-row}
 use Rattle.nofs_super.proofs.superblock.read_super.Goals as goal
 
 pub returns-in-Ok-clause-spelled : goal.returns-in-Ok-clause-spelled
@@ -13,3 +14,9 @@ pub returns-in-Ok-clause-mountable : goal.returns-in-Ok-clause-mountable
 returns-in-Ok-clause-mountable g c =
     let old = g.D.Disk.state c.args.disk.now in
     if-mountable old.blocks c.read.new.into.payload c.check.result (rw (← c.blocks-device.ensures, c.check.ensures.value))
+
+pub returns-in-Ok-clause-no_write : goal.returns-in-Ok-clause-no_write
+returns-in-Ok-clause-no_write g c = not-a-row _ _ c.check.result _ c.check.ensures.value refl
+
+pub returns-in-Ok-clause-no_memory : goal.returns-in-Ok-clause-no_memory
+returns-in-Ok-clause-no_memory g c = not-a-row _ _ c.check.result _ c.check.ensures.value refl

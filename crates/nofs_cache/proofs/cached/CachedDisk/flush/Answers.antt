@@ -1,10 +1,10 @@
 use Rattle.std.proofs.Common.{List, Bool, ◌+◌, ◌*◌, ◌-◌, ◌∷◌, sym, ap, subst, arith, ◌∙◌, length}
 use Rattle.nofs_disk.specs.Disk.{Flushes}
-use Rattle.nofs_cache.specs.declared.past.Call.{Call}
-use Rattle.nofs_cache.specs.declared.past.Call.TheVariants.{Flush}
+use Rattle.nofs_cache.specs.declared.past.CacheCall.{CacheCall}
+use Rattle.nofs_cache.specs.declared.past.CacheCall.TheVariants.{Flush}
 use Rattle.nofs_cache.specs.Cache.{IsMarked, LeavesAll, cache_state}
 use Rattle.nofs_cache.specs.DirtyBlocks.{entries_of}
-use Rattle.nofs_cache.specs.Laws.{IsKept}
+use Rattle.nofs_cache.specs.Laws.{CacheKeeps}
 use Rattle.nofs_cache.specs.Past.{past_calls}
 use Rattle.nofs_cache.proofs.CacheCalls.{marked_later, marked_more}
 use Rattle.nofs_cache.proofs.CacheFlushes.{cache_flushes, kept_flush}
@@ -26,9 +26,9 @@ invariant_of-self g c =
     let ends = c.moment-ended.ensures in
     let len = ap length past in
     let later = s.writes_back.later in
-    let F : List Call → Type 0 = λ l. IsMarked (g.D.Disk.state old.first.value).moment l (g.D.Disk.state c.write_back_and_flush-result.new.under).moment in
-    let G : List Call → Type 0 = λ l. ∥ IsKept (g.D.Disk.state c.write_back_and_flush-result.new.under) (g.D.Disk.state old.first.value) l (entries_of c.write_back_and_flush-result.new.dirty) ∥₁ in
-    let H : Bool → Type 0 = λ t. ∥ IsKept (g.D.Disk.state c.write_back_and_flush-result.new.under) (g.D.Disk.state old.first.value) (Flush t c.moment-began.result c.moment-ended.result ∷ past_calls old.past.value) (entries_of c.write_back_and_flush-result.new.dirty) ∥₁ in
+    let F : List CacheCall → Type 0 = λ l. IsMarked (g.D.Disk.state old.first.value).moment l (g.D.Disk.state c.write_back_and_flush-result.new.under).moment in
+    let G : List CacheCall → Type 0 = λ l. ∥ CacheKeeps (g.D.Disk.state c.write_back_and_flush-result.new.under) (g.D.Disk.state old.first.value) l (entries_of c.write_back_and_flush-result.new.dirty) ∥₁ in
+    let H : Bool → Type 0 = λ t. ∥ CacheKeeps (g.D.Disk.state c.write_back_and_flush-result.new.under) (g.D.Disk.state old.first.value) (Flush t c.moment-began.result c.moment-ended.result ∷ past_calls old.past.value) (entries_of c.write_back_and_flush-result.new.dirty) ∥₁ in
     record {
       blocks = old.blocks ∙ sym s.writes_back.disk.blocks;
       tells = old.tells ∙ sym s.writes_back.disk.tells;
@@ -52,7 +52,7 @@ returns-clause-flushes g c =
     let A = entries_of c.write_back_and_flush-result.new.dirty in
     let s = c.write_back_and_flush-result.ensures.settles in
     let before = cache_state (g.D.Disk.state old.under) (g.D.Disk.state old.first.value) (past_calls old.past.value) (entries_of old.dirty) old.spare in
-    let G : List Call → Type 0 = λ l. Flushes before (cache_state (g.D.Disk.state c.write_back_and_flush-result.new.under) (g.D.Disk.state old.first.value) l (entries_of c.write_back_and_flush-result.new.dirty) (old.spare - 1)) c.write_back_and_flush-result.result in
+    let G : List CacheCall → Type 0 = λ l. Flushes before (cache_state (g.D.Disk.state c.write_back_and_flush-result.new.under) (g.D.Disk.state old.first.value) l (entries_of c.write_back_and_flush-result.new.dirty) (old.spare - 1)) c.write_back_and_flush-result.result in
     let H : Bool → Type 0 = λ t. Flushes before (cache_state (g.D.Disk.state c.write_back_and_flush-result.new.under) (g.D.Disk.state old.first.value) (Flush t c.moment-began.result c.moment-ended.result ∷ past_calls old.past.value) (entries_of c.write_back_and_flush-result.new.dirty) (old.spare - 1)) c.write_back_and_flush-result.result in
     subst G (sym c.add.ensures) (subst H (sym c.is_ok.ensures.value)
     (cache_flushes U N D0 P E A old.spare (old.spare - 1) c.moment-began.result c.moment-ended.result c.write_back_and_flush-result.result c.moment-began.ensures c.moment-ended.ensures s old.kept old.marked (omega arith)))
@@ -65,6 +65,6 @@ returns-clause-left g c =
     let P = past_calls old.past.value in
     let N = g.D.Disk.state c.write_back_and_flush-result.new.under in
     let A = entries_of c.write_back_and_flush-result.new.dirty in
-    let F : List Call → Type 0 = λ l. LeavesAll (g.D.Disk.state old.under).moment (g.D.Disk.state c.write_back_and_flush-result.new.under)
+    let F : List CacheCall → Type 0 = λ l. LeavesAll (g.D.Disk.state old.under).moment (g.D.Disk.state c.write_back_and_flush-result.new.under)
     (cache_state (g.D.Disk.state c.write_back_and_flush-result.new.under) (g.D.Disk.state old.first.value) l (entries_of c.write_back_and_flush-result.new.dirty) (old.spare - 1)) (2 * length (past_calls old.past.value) + 1) in
     subst F (sym c.add.ensures) (leaves_during U N D0 P (Flush c.is_ok.result c.moment-began.result c.moment-ended.result) A (old.spare - 1) c.moment-began.ensures c.moment-ended.ensures)

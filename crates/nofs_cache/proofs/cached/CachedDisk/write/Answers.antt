@@ -1,12 +1,12 @@
 use Rattle.std.proofs.Common.{List, Ok, ◌-◌, ◌+◌, ◌*◌, ◌∷◌, sym, ap, subst, arith, ◌∙◌, length}
 use Rattle.nofs_disk.specs.declared.tag.Cell.{Cell}
 use Rattle.nofs_disk.specs.Disk.{IsSizedCell, Writes}
-use Rattle.nofs_cache.specs.declared.past.Call.{Call}
-use Rattle.nofs_cache.specs.declared.past.Call.TheVariants.{Write}
+use Rattle.nofs_cache.specs.declared.past.CacheCall.{CacheCall}
+use Rattle.nofs_cache.specs.declared.past.CacheCall.TheVariants.{Write}
 use Rattle.nofs_cache.specs.Cache.{IsMarked, LeavesAll, cache_state}
 use Rattle.nofs_cache.specs.DirtyBlocks.{entries_of}
 use Rattle.nofs_cache.specs.DirtyEntries.{PutsDirtyEntry}
-use Rattle.nofs_cache.specs.Laws.{IsKept}
+use Rattle.nofs_cache.specs.Laws.{CacheKeeps}
 use Rattle.nofs_cache.specs.Past.{past_calls}
 use Rattle.nofs_cache.proofs.CacheCalls.{marked_more}
 use Rattle.nofs_cache.proofs.CacheLeaves.{leaves_during}
@@ -25,8 +25,8 @@ invariant_of-self g c =
     let begins = c.moment-at.ensures in
     let more = put_len _ _ _ _ c.put.ensures.entries in
     let len = ap length past in
-    let F : List Call → Type 0 = λ l. IsMarked (g.D.Disk.state old.first.value).moment l (g.D.Disk.state old.under).moment in
-    let G : List Call → Type 0 = λ l. ∥ IsKept (g.D.Disk.state old.under) (g.D.Disk.state old.first.value) l (entries_of c.put.new.self) ∥₁ in
+    let F : List CacheCall → Type 0 = λ l. IsMarked (g.D.Disk.state old.first.value).moment l (g.D.Disk.state old.under).moment in
+    let G : List CacheCall → Type 0 = λ l. ∥ CacheKeeps (g.D.Disk.state old.under) (g.D.Disk.state old.first.value) l (entries_of c.put.new.self) ∥₁ in
     let S : Cell → Type 0 = λ x. IsSizedCell x in
     let H : Cell → Type 0 = λ x. PutsDirtyEntry (entries_of old.dirty) (entries_of c.put.new.self) c.args.block x in
     record {
@@ -53,7 +53,7 @@ returns-clause-writes g c =
     let begins = c.moment-at.ensures in
     let S : Cell → Type 0 = λ x. IsSizedCell x in
     let H : Cell → Type 0 = λ x. PutsDirtyEntry (entries_of old.dirty) (entries_of c.put.new.self) c.args.block x in
-    let F : List Call → Type 0 = λ l. Writes (cache_state (g.D.Disk.state old.under) (g.D.Disk.state old.first.value) (past_calls old.past.value) (entries_of old.dirty) old.spare)
+    let F : List CacheCall → Type 0 = λ l. Writes (cache_state (g.D.Disk.state old.under) (g.D.Disk.state old.first.value) (past_calls old.past.value) (entries_of old.dirty) old.spare)
     (cache_state (g.D.Disk.state old.under) (g.D.Disk.state old.first.value) l (entries_of c.put.new.self) (old.spare - 1)) c.args.block c.args.cell.now (Ok tt) in
     let G : Cell → Type 0 = λ x. Writes (cache_state (g.D.Disk.state old.under) (g.D.Disk.state old.first.value) (past_calls old.past.value) (entries_of old.dirty) old.spare)
     (cache_state (g.D.Disk.state old.under) (g.D.Disk.state old.first.value) (Write c.args.block c.of.result c.moment-at.result ∷ past_calls old.past.value) (entries_of c.put.new.self) (old.spare - 1)) c.args.block x (Ok tt) in
@@ -67,6 +67,6 @@ returns-clause-left g c =
     let D0 = g.D.Disk.state old.first.value in
     let P = past_calls old.past.value in
     let begins = c.moment-at.ensures in
-    let F : List Call → Type 0 = λ l. LeavesAll (g.D.Disk.state old.under).moment (g.D.Disk.state old.under)
+    let F : List CacheCall → Type 0 = λ l. LeavesAll (g.D.Disk.state old.under).moment (g.D.Disk.state old.under)
     (cache_state (g.D.Disk.state old.under) (g.D.Disk.state old.first.value) l (entries_of c.put.new.self) (old.spare - 1)) (2 * length (past_calls old.past.value) + 1) in
     subst F (sym c.add.ensures) (leaves_during U U D0 P (Write c.args.block c.of.result c.moment-at.result) (entries_of c.put.new.self) (old.spare - 1) begins begins)

@@ -35,7 +35,7 @@ returns-clause-writes_out g c =
     let P = past_calls old.past.value in
     let E = entries_of old.dirty in
     let N = g.D.Disk.state c.write_back.new.under in
-    cache_writes_out U N F P E (entries_of c.write_back.new.dirty) old.spare (old.spare - 1) c.write_back.result c.write_back.ensures.writes_back c.write_back.ensures.out c.write_back.ensures.cause old.marked (omega arith)
+    cache_writes_out U N F P E (entries_of c.write_back.new.dirty) old.spare (old.spare - 1) c.write_back.result c.write_back.ensures.writes_back c.write_back.ensures.out c.write_back.ensures.cause c.write_back.ensures.no_fault old.marked (omega arith)
 
 pub returns-clause-left : goal.returns-clause-left
 returns-clause-left g c =

@@ -1,7 +1,7 @@
 use Rattle.std.proofs.Common.{arith, ◌≡◌, ◌∙◌, sym, ap, false, ◌++◌, ◌∷◌, []}
-use Rattle.nofs_history.specs.Steps.{is_out_of_memory}
+use Rattle.nofs_machine.specs.Steps.{is_out_of_memory}
 use Rattle.nofs_client.specs.declared.driver.Next.TheVariants.{Do}
-use Rattle.nofs_client.specs.Drive.{asks, after, drive_of, start_of, Answers}
+use Rattle.nofs_client.specs.Drive.{asks, progress_after, drive_of, start_of, Answers}
 use Rattle.nofs_client.proofs.Rank.{rank-falls}
 use Rattle.nofs_client.proofs.Runs.{Asked-more, made-more, progress-more}
 use Rattle.nofs_client.proofs.client.Client.run.Goals as goal
@@ -30,7 +30,7 @@ loop-progress-preserved g c =
       made ++ (c.in-Some.step, c.step-reply.result) ∷ [],
       made-more _ _ _ made c.in-Some.step c.step-reply.result more room c.step-reply.ensures.made,
       Asked-more c.args.command.now (start_of c.args.command.now) made c.in-Some.step c.step-reply.result asked (ap (asks c.args.command.now) (sym is) ∙ asks-it),
-      c.in_ok-progress.ensures.is ∙ ap (λ p. after c.args.command.now p c.step-reply.result) is ∙ sym (progress-more _ made c.in-Some.step c.step-reply.result),
+      c.in_ok-progress.ensures.is ∙ ap (λ p. progress_after c.args.command.now p c.step-reply.result) is ∙ sym (progress-more _ made c.in-Some.step c.step-reply.result),
       c.in_ok-progress.ensures.stands,
       g.met.S.Steps.goes_on _ _ _ goes c.step-reply.ensures.goes,
     )

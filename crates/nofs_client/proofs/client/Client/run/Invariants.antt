@@ -1,16 +1,16 @@
 use Rattle.std.proofs.Common.{◌≡◌, ◌++◌, List, map}
-use Rattle.nofs_history.specs.Steps.{Made}
-use Rattle.nofs_client.specs.Task.{Stands}
+use Rattle.nofs_machine.specs.Steps.{Made}
+use Rattle.nofs_client.specs.Task.{TaskStands}
 use Rattle.nofs_client.specs.Drive.{progress, start_of}
-use Rattle.nofs_client.specs.Runs.{Asked, reply_of}
+use Rattle.nofs_client.specs.Runs.{Asked, made_reply}
 use Rattle.nofs_client.proofs.Rank.{rank}
 use Rattle.nofs_client.proofs.client.Client.run.Given as goal
 
 abbrev pub invariant-loop-progress : goal.invariant-loop-progress
 invariant-loop-progress g l =
     (made : List Made) × (g.S.Steps.made l.self.steps ≡ g.S.Steps.made l.initial.self.steps ++ made) × Asked l.command (start_of l.command) made
-    × (l.progress ≡ progress l.command (map reply_of made))
-    × Stands l.command l.progress.task
+    × (l.progress ≡ progress l.command (map made_reply made))
+    × TaskStands l.command l.progress.task
     × g.S.Steps.goes l.initial.self.steps l.self.steps
 
 abbrev pub decreases-loop-progress : goal.decreases-loop-progress

@@ -4,7 +4,7 @@ use Rattle.nofs_disk.specs.declared.tag.Cell.{Cell}
 use Rattle.nofs_disk.specs.Disk.{IsSizedCell, cell_at}
 use Rattle.nofs_disk.specs.Number.{zeros}
 use Rattle.nofs_disk.specs.Tag.{zero_cell}
-use Rattle.nofs_memdisk.specs.Parts.{fresh, parts_of}
+use Rattle.nofs_memdisk.specs.Parts.{fresh_parts, parts_of}
 use Rattle.nofs_memdisk.proofs.Sized.{sized_base, sized_zeros}
 use Rattle.nofs_memdisk.proofs.memory.MemDisk.new.Goals as goal
 
@@ -19,4 +19,4 @@ pub returns-clause-parts : goal.returns-clause-parts
 unfolding zero_cell zeros
 returns-clause-parts c =
     let base = c.in_ok-base.ensures.items_if_clones_equal (λ y h. h) in
-    subst (λ (l : List Cell). IfOk c.of.result (λ disk. parts_of disk ≡ fresh l)) base c.of.ensures.parts
+    subst (λ (l : List Cell). IfOk c.of.result (λ disk. parts_of disk ≡ fresh_parts l)) base c.of.ensures.parts

@@ -1,7 +1,7 @@
 use Rattle.std.proofs.Common.{refl, sym, subst, ◌≡◌, true, List}
 use Rattle.std.proofs.lemmas.Bool.{or_left}
 use Rattle.nofs_mirror.specs.declared.mirror.Opening.{Opening}
-use Rattle.nofs_mirror.specs.declared.past.Call.{Call}
+use Rattle.nofs_mirror.specs.declared.past.MirrorCall.{MirrorCall}
 use Rattle.nofs_mirror.specs.Mirror.{last_span}
 use Rattle.nofs_mirror.specs.Past.{past_calls}
 use Rattle.nofs_mirror.proofs.Copied.{kept_begins, side_begins}
@@ -16,8 +16,8 @@ invariant_of-result g c =
     } in
     let log = c.new.result in
     let past = c.new.ensures.past in
-    let F : List Call → Type 0 = λ l. c.new.result.sides.lead_in ≡ (last_span (λ x. x.lead) opening.lead l).is_in in
-    let G : List Call → Type 0 = λ l. c.new.result.sides.other_in ≡ (last_span (λ x. x.other) opening.other l).is_in in
+    let F : List MirrorCall → Type 0 = λ l. c.new.result.sides.lead_in ≡ (last_span (λ x. x.lead) opening.lead l).is_in in
+    let G : List MirrorCall → Type 0 = λ l. c.new.result.sides.other_in ≡ (last_span (λ x. x.other) opening.other l).is_in in
     record {
       lead_side = side_begins c.args.blocks log.spare (λ x. x.lead) opening.lead (past_calls log.past.value) (g.A.Disk.state c.args.lead) c.requires.lead c.new.ensures.spare past c.moment-lead_at.ensures;
       other_side = side_begins c.args.blocks log.spare (λ x. x.other) opening.other (past_calls log.past.value) (g.B.Disk.state c.args.other) c.requires.other c.new.ensures.spare past c.moment-other_at.ensures;

@@ -1,13 +1,14 @@
 use Rattle.std.specs.Prelude.{IsTrue, ◌||◌}
 use Rattle.nofs_mirror.specs.declared.log.Sides.{Sides}
-use Rattle.std.proofs.Common.{List, ◌∷◌, sym, ap, subst, ◌∙◌, ◌≡◌}
+use Rattle.std.proofs.Common.{List, ◌+◌, ◌*◌, ◌∷◌, length, sym, ap, subst, ◌∙◌, ◌≡◌}
 use Rattle.nofs_disk.specs.Disk.{Flushes}
-use Rattle.nofs_mirror.specs.declared.past.Call.{Call}
+use Rattle.nofs_mirror.specs.declared.past.MirrorCall.{MirrorCall}
 use Rattle.nofs_mirror.specs.Asking.{call_of, flush_effect}
-use Rattle.nofs_mirror.specs.Laws.{IsKept}
-use Rattle.nofs_mirror.specs.Mirror.{IsSide, last_span, mirror_state}
+use Rattle.nofs_mirror.specs.Laws.{MirrorKeeps}
+use Rattle.nofs_mirror.specs.Mirror.{IsSide, SideLeaves, last_span, mirror_state}
 use Rattle.nofs_mirror.specs.Past.{past_calls}
 use Rattle.nofs_mirror.proofs.MirrorCells.{side_goes, some_stays, flush_goes}
+use Rattle.nofs_mirror.proofs.MirrorLeaves.{lead_leaves, other_leaves}
 use Rattle.nofs_mirror.proofs.FlushCalls.{CalledFlush, mirror_flushes, flush_kept}
 use Rattle.nofs_mirror.proofs.mirror.MirrorDisk.flush.Goals as goal
 
@@ -22,7 +23,7 @@ invariant_of-self g c =
     let P = past_calls old.log.past.value in
     let a = c.flush_side-lead.result in
     let o = c.flush_side-other.result in
-    let call : Call = call_of (flush_effect a.answer o.answer) a o in
+    let call : MirrorCall = call_of (flush_effect a.answer o.answer) a o in
     let lead_goes = flush_goes a.answer L M c.flush_side-lead.ensures.flushes in
     let other_goes = flush_goes o.answer O N c.flush_side-other.ensures.flushes in
     let w : CalledFlush L M O N F old.opening P old.log.spare a o = record {
@@ -50,11 +51,11 @@ invariant_of-self g c =
     let other_side = side_goes old.opening.blocks old.log.spare c.note.new.self.spare (λ x. x.other) old.opening.other P call O N other_goes c.flush_side-other.ensures.began c.flush_side-other.ensures.ended c.note.ensures.spare old.other_side in
     let past = sym (c.note.ensures.past ∙ ap (λ x. call_of x a o ∷ P) c.flush_effect-effect.ensures) in
     let sides = c.note.ensures.sides in
-    let A : List Call → Type 0 = λ l. IsSide old.opening.blocks c.note.new.self.spare (λ x. x.lead) old.opening.lead l (g.A.Disk.state c.flush_side-lead.new.disk) in
-    let B : List Call → Type 0 = λ l. IsSide old.opening.blocks c.note.new.self.spare (λ x. x.other) old.opening.other l (g.B.Disk.state c.flush_side-other.new.disk) in
-    let C : List Call → Type 0 = λ l. c.note.new.self.sides.lead_in ≡ (last_span (λ x. x.lead) old.opening.lead l).is_in in
-    let D : List Call → Type 0 = λ l. c.note.new.self.sides.other_in ≡ (last_span (λ x. x.other) old.opening.other l).is_in in
-    let E : List Call → Type 0 = λ l. ∥ IsKept (g.A.Disk.state c.flush_side-lead.new.disk) (g.B.Disk.state c.flush_side-other.new.disk) (g.A.Disk.state old.first.value) old.opening l ∥₁ in
+    let A : List MirrorCall → Type 0 = λ l. IsSide old.opening.blocks c.note.new.self.spare (λ x. x.lead) old.opening.lead l (g.A.Disk.state c.flush_side-lead.new.disk) in
+    let B : List MirrorCall → Type 0 = λ l. IsSide old.opening.blocks c.note.new.self.spare (λ x. x.other) old.opening.other l (g.B.Disk.state c.flush_side-other.new.disk) in
+    let C : List MirrorCall → Type 0 = λ l. c.note.new.self.sides.lead_in ≡ (last_span (λ x. x.lead) old.opening.lead l).is_in in
+    let D : List MirrorCall → Type 0 = λ l. c.note.new.self.sides.other_in ≡ (last_span (λ x. x.other) old.opening.other l).is_in in
+    let E : List MirrorCall → Type 0 = λ l. ∥ MirrorKeeps (g.A.Disk.state c.flush_side-lead.new.disk) (g.B.Disk.state c.flush_side-other.new.disk) (g.A.Disk.state old.first.value) old.opening l ∥₁ in
     let G : Sides → Type 0 = λ x. IsTrue (x.lead_in || x.other_in) in
     record {
       lead_side = subst A past lead_side;
@@ -76,7 +77,7 @@ returns-clause-does g c =
     let P = past_calls old.log.past.value in
     let a = c.flush_side-lead.result in
     let o = c.flush_side-other.result in
-    let call : Call = call_of (flush_effect a.answer o.answer) a o in
+    let call : MirrorCall = call_of (flush_effect a.answer o.answer) a o in
     let lead_goes = flush_goes a.answer L M c.flush_side-lead.ensures.flushes in
     let other_goes = flush_goes o.answer O N c.flush_side-other.ensures.flushes in
     let w : CalledFlush L M O N F old.opening P old.log.spare a o = record {
@@ -101,6 +102,44 @@ returns-clause-does g c =
       other_flushes = c.flush_side-other.ensures.flushes;
     } in
     let before = mirror_state (g.A.Disk.state old.lead) (g.B.Disk.state old.other) (g.A.Disk.state old.first.value) old.opening (past_calls old.log.past.value) old.log.spare old.log.faults in
-    let A : List Call → Type 0 = λ l. Flushes before (mirror_state (g.A.Disk.state c.flush_side-lead.new.disk) (g.B.Disk.state c.flush_side-other.new.disk) (g.A.Disk.state old.first.value) old.opening l c.note.new.self.spare c.note.new.self.faults) c.note.result in
+    let A : List MirrorCall → Type 0 = λ l. Flushes before (mirror_state (g.A.Disk.state c.flush_side-lead.new.disk) (g.B.Disk.state c.flush_side-other.new.disk) (g.A.Disk.state old.first.value) old.opening l c.note.new.self.spare c.note.new.self.faults) c.note.result in
     subst A (sym (c.note.ensures.past ∙ ap (λ x. call_of x a o ∷ P) c.flush_effect-effect.ensures))
     (mirror_flushes L M O N F old.opening P old.log.spare c.note.new.self.spare old.log.faults c.note.new.self.faults a o c.note.result w c.note.ensures.spare old.log.counted c.note.ensures.result c.note.ensures.faults)
+
+pub returns-clause-lead_left : goal.returns-clause-lead_left
+returns-clause-lead_left g c =
+    let old = c.args.self.now in
+    let L = g.A.Disk.state old.lead in
+    let M = g.A.Disk.state c.flush_side-lead.new.disk in
+    let O = g.B.Disk.state old.other in
+    let N = g.B.Disk.state c.flush_side-other.new.disk in
+    let F = g.A.Disk.state old.first.value in
+    let P = past_calls old.log.past.value in
+    let call : MirrorCall =
+    call_of (flush_effect c.flush_side-lead.result.answer c.flush_side-other.result.answer) c.flush_side-lead.result c.flush_side-other.result in
+    let A : List MirrorCall → Type 0 = λ l. SideLeaves old.log.sides.lead_in (g.A.Disk.state old.lead).moment
+    (mirror_state (g.A.Disk.state c.flush_side-lead.new.disk) (g.B.Disk.state c.flush_side-other.new.disk)
+    (g.A.Disk.state old.first.value) old.opening l c.note.new.self.spare c.note.new.self.faults)
+    (g.A.Disk.state c.flush_side-lead.new.disk) (2 * length (past_calls old.log.past.value) + 1) in
+    subst A (sym (c.note.ensures.past ∙ ap (λ x. call_of x c.flush_side-lead.result c.flush_side-other.result ∷ P) c.flush_effect-effect.ensures))
+    (lead_leaves L M N F old.opening P call c.note.new.self.spare c.note.new.self.faults
+    old.log.sides.lead_in old.lead_in c.flush_side-lead.ensures.began c.flush_side-lead.ensures.ended)
+
+pub returns-clause-other_left : goal.returns-clause-other_left
+returns-clause-other_left g c =
+    let old = c.args.self.now in
+    let L = g.A.Disk.state old.lead in
+    let M = g.A.Disk.state c.flush_side-lead.new.disk in
+    let O = g.B.Disk.state old.other in
+    let N = g.B.Disk.state c.flush_side-other.new.disk in
+    let F = g.A.Disk.state old.first.value in
+    let P = past_calls old.log.past.value in
+    let call : MirrorCall =
+    call_of (flush_effect c.flush_side-lead.result.answer c.flush_side-other.result.answer) c.flush_side-lead.result c.flush_side-other.result in
+    let A : List MirrorCall → Type 0 = λ l. SideLeaves old.log.sides.other_in (g.B.Disk.state old.other).moment
+    (mirror_state (g.A.Disk.state c.flush_side-lead.new.disk) (g.B.Disk.state c.flush_side-other.new.disk)
+    (g.A.Disk.state old.first.value) old.opening l c.note.new.self.spare c.note.new.self.faults)
+    (g.B.Disk.state c.flush_side-other.new.disk) (2 * length (past_calls old.log.past.value) + 1) in
+    subst A (sym (c.note.ensures.past ∙ ap (λ x. call_of x c.flush_side-lead.result c.flush_side-other.result ∷ P) c.flush_effect-effect.ensures))
+    (other_leaves M O N F old.opening P call c.note.new.self.spare c.note.new.self.faults
+    old.log.sides.other_in old.other_in c.flush_side-other.ensures.began c.flush_side-other.ensures.ended)

@@ -1,16 +1,16 @@
 -- The file's back link goes, and then the directory's entry.
 use Rattle.std.proofs.Common.{◌≡◌, ◌/◌, subst, ℕ}
 use Rattle.nofs_model.specs.declared.value.Value.TheVariants as value
-use Rattle.nofs_history.specs.Machine as machine
-use Rattle.nofs_history.specs.Kept.{files_of, kept_files}
+use Rattle.nofs_machine.specs.Machine as machine
+use Rattle.nofs_history.specs.Kept.{kept_files_of, kept_files}
 use Rattle.nofs_history.proofs.Naming.{meta_and_cell}
 use Rattle.nofs_history.proofs.accepted.files.FilesNow.drop_found.Goals as goal
 
 pub returns : goal.returns
 returns c =
-    let cell : kept_files (files_of c.set_cell.new.self) ≡ kept_files (machine.files_after (files_of c.unlink.new.self) (machine.cell_given c.args.directory c.args.generation (c.args.entry / 16) (value.Bytes c.in_ok-cell.cell.value) machine.no_meta)) =
-    subst (λ (k : ℕ). kept_files (files_of c.set_cell.new.self) ≡ kept_files (machine.files_after (files_of c.unlink.new.self) (machine.cell_given c.args.directory c.args.generation k (value.Bytes c.in_ok-cell.cell.value) machine.no_meta))) c.from.ensures c.in_ok-set_cell.ensures in
-    meta_and_cell (files_of c.args.self.now) (files_of c.unlink.new.self) (files_of c.set_cell.new.self) c.args.directory c.args.generation (c.args.entry / 16) (value.Bytes c.in_ok-cell.cell.value)
-    (machine.with_entry (machine.value_of (files_of c.args.self.now) c.args.directory (c.args.entry / 16)) c.args.entry (machine.zeros 64))
-    (machine.meta_given c.args.inode c.args.of (machine.drop_meta (files_of c.args.self.now) c.args.inode (machine.link_to c.args.directory c.args.entry c.args.generation)))
+    let cell : kept_files (kept_files_of c.set_cell.new.self) ≡ kept_files (machine.files_after (kept_files_of c.unlink.new.self) (machine.cell_given c.args.directory c.args.generation (c.args.entry / 16) (value.Bytes c.in_ok-cell.cell.value) machine.no_meta)) =
+    subst (λ (k : ℕ). kept_files (kept_files_of c.set_cell.new.self) ≡ kept_files (machine.files_after (kept_files_of c.unlink.new.self) (machine.cell_given c.args.directory c.args.generation k (value.Bytes c.in_ok-cell.cell.value) machine.no_meta))) c.from.ensures c.in_ok-set_cell.ensures in
+    meta_and_cell (kept_files_of c.args.self.now) (kept_files_of c.unlink.new.self) (kept_files_of c.set_cell.new.self) c.args.directory c.args.generation (c.args.entry / 16) (value.Bytes c.in_ok-cell.cell.value)
+    (machine.with_entry (machine.value_of (kept_files_of c.args.self.now) c.args.directory (c.args.entry / 16)) c.args.entry (machine.zeros 64))
+    (machine.meta_given c.args.inode c.args.of (machine.drop_meta (kept_files_of c.args.self.now) c.args.inode (machine.link_to c.args.directory c.args.entry c.args.generation)))
     c.in_ok-unlink.ensures cell c.in_ok-cell.ensures

@@ -1,0 +1,50 @@
+-- What a run ends with, by how it went.
+use Rattle.std.proofs.Common.{◌≡◌, ◌⊎◌, inl, inr, ℕ, ◌≤◌, true, false, Some, sym, subst, arith}
+use Rattle.std.specs.declared.option.Option.{Option}
+use Rattle.nofs_disk.specs.Disk.{DiskState, Rose}
+use Rattle.nofs_io.specs.Calls.{SinkState}
+use Rattle.nofs_machine.specs.HistoryState.{HistoryState}
+use Rattle.nofs_shared.specs.Ends.{Ends}
+use Rattle.nofs.specs.Entries.{has_fault}
+use Rattle.nofs.specs.Tool.{MountEnds, SessionEnds}
+use Rattle.nofs.proofs.Failing.{faults-rose}
+
+-- a mount that served, and whose text was written
+pub written-ends : (found new : DiskState) (sink_old sink_new : SinkState) (first status : ℕ) (ran : HistoryState) (h : Option HistoryState)
+    → h ≡ Some ran
+    → ∥ Ends found new first ran ∥₁
+    → (status ≡ 0) ⊎ (status ≡ 3) ⊎ (status ≡ 5) ⊎ (status ≡ 7)
+    → (status ≡ 3 → has_fault ran.entries ≡ true)
+    → (status ≡ 5 → Rose sink_old.faults sink_new.faults × (has_fault ran.entries ≡ false))
+    → MountEnds found new sink_old sink_new status h
+written-ends found new sink_old sink_new first status ran h stood ends named device sink =
+    subst (λ x. MountEnds found new sink_old sink_new status x) (sym stood) (record {
+      named = named;
+      device = λ e. (device e, faults-rose found new first ran ends (device e));
+      sink = sink;
+      stood = λ e. cc e;
+    })
+
+-- one kind more
+widened : {A B C D E : Type 0} → A ⊎ B ⊎ C ⊎ D → A ⊎ B ⊎ E ⊎ C ⊎ D
+widened (inl a) = inl a
+widened (inr (inl b)) = inr (inl b)
+widened (inr (inr (inl c))) = inr (inr (inr (inl c)))
+widened (inr (inr (inr d))) = inr (inr (inr (inr d)))
+
+-- a mount that served refused nothing
+not-refused : (status : ℕ) → (status ≡ 0) ⊎ (status ≡ 3) ⊎ (status ≡ 5) ⊎ (status ≡ 7) → status ≡ 4 → ⊥
+not-refused status (inl a) e = omega (arith, a, e)
+not-refused status (inr (inl a)) e = omega (arith, a, e)
+not-refused status (inr (inr (inl a))) e = omega (arith, a, e)
+not-refused status (inr (inr (inr a))) e = omega (arith, a, e)
+
+-- a mount on a device whose faults were counted before
+pub mounted-ends : {Refused : Type 0} (old found new : DiskState) (sink_old sink_new : SinkState) (status : ℕ) (h : Option HistoryState)
+    → old.faults ≤ found.faults → MountEnds found new sink_old sink_new status h → SessionEnds Refused old new sink_old sink_new status h
+mounted-ends old found new sink_old sink_new status h later m = record {
+  named = widened m.named;
+  device = λ e. ((m.device e).0, (let r = (m.device e).1 in omega (arith, later, r)));
+  sink = m.sink;
+  refused = λ e. absurd (not-refused status m.named e);
+}

@@ -1,0 +1,20 @@
+-- What a session leaves in the history of a mount.
+use Rattle.std.specs.Prelude.{◌≡◌, ℕ, Bool, false, List}
+use Rattle.nofs_machine.specs.Steps.{is_out_of_memory}
+use Rattle.nofs_machine.specs.declared.history.Entry1.{Entry1}
+use Rattle.nofs_machine.specs.declared.steps.Step.TheVariants as step
+use Rattle.nofs_machine.specs.declared.replies.Reply.{Reply}
+use Rattle.nofs_client.specs.declared.commands.Command.{Command}
+use Rattle.nofs_client.specs.declared.lines.Line.{Line}
+use Rattle.nofs_shared.specs.Added.{AddsStep}
+use Rattle.nofs_shared.specs.Owned.{steps_by}
+use Rattle.nofs_serve.specs.Served.{TeamMade}
+
+-- Each user is a caller of its own and made just the steps that its commands ask for, in order; each element was examined once;
+-- and then caller 0 made all durable. Where memory was wanting, each may have ended early
+pub record IsRun (scripts : List (List Command)) (inodes blocks : ℕ) (short : Bool) (lines : List (List Line)) (H : List Entry1) : Type 0 where
+  pub served : List Entry1
+  pub flush : Reply
+  pub closes : AddsStep 0 (step.Flush 0 0) flush served H
+  pub closed : short ≡ false → is_out_of_memory flush ≡ false
+  pub team : TeamMade scripts inodes blocks short lines (λ c. steps_by c served)

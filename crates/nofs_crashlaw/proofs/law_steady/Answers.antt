@@ -1,0 +1,5 @@
+use Rattle.nofs_crashlaw.proofs.Histories.{law-steady}
+use Rattle.nofs_crashlaw.proofs.law_steady.Goals as goal
+
+pub returns : goal.returns
+returns g c = λ disk. law-steady (g.D.Disk.state disk)

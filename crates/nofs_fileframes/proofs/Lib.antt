@@ -1,6 +1,0 @@
-pub mod OneFile
-pub mod PutFile
-pub mod PutLies
-pub mod PutHeld
-pub mod Resizes
-pub mod Writes

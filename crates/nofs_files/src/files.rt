@@ -1,0 +1,77 @@
+//! The file that a step names, and its slots.
+ghost use Rattle.std.specs.Prelude.{◌≡◌, ◌<◌, length, not, IfOk, IfErr, IsTrue};
+ghost use Rattle.nofs_ptrs.specs.Paths.{slot_limit};
+ghost use Rattle.nofs_model.specs.Slots as slots;
+ghost use Rattle.nofs_model.specs.Files.{is_folder};
+ghost use Rattle.nofs_agree.specs.Reading.{IsAt, IsLast, KnowsInode};
+ghost use Rattle.nofs_agree.specs.Finding.{FindsSlot};
+ghost use Rattle.nofs_files.specs.Answers.{OpensFile, slots_of};
+
+use nofs_agree::{LastRead, PathAnswer, find_slot};
+use nofs_disk::{Disk, Failed};
+use nofs_inode::{FileKind, Record};
+use nofs_machine::Refusal;
+use nofs_model::place_of;
+use nofs_state::{Books, open_inode};
+use nofs_super::SuperBlock;
+
+/// How many slots a file can have.
+pub(crate) fn slots_of(at: &SuperBlock) -> u64
+    ensures { result ≡ slots_of at.now }
+{
+    if at.version == 1 { 72 } else { 4168 }
+}
+
+fn is_folder(kind: FileKind) -> bool
+    ensures { result ≡ is_folder kind }
+{
+    match kind {
+        FileKind::Directory => true,
+        FileKind::File => false,
+    }
+}
+
+/// The record of the file of this number and generation.
+///
+/// # Errors
+///
+/// `Stale` where there is none, `IsDirectory` where it is a directory, and `ReadFault` where a read
+/// failed.
+pub(crate) fn open_file<D: Disk>(
+    disk: &mut D,
+    books: &Books,
+    inode: u32,
+    generation: u64,
+    last: &mut LastRead,
+) -> Result<Record, Refusal>
+    requires numbers { IsAt (D.state disk.old) books.now.at }
+    requires agreed { length books.now.agreed_inodes ≡ books.now.at.inodes }
+    requires last { IsLast (D.state disk.old) last.old }
+    ensures { OpensFile (D.state disk.old) (D.state disk.new) books.now inode generation last.new result }
+{
+    let it = match open_inode(disk, books, inode, generation, last) {
+        Ok(it) => it,
+        Err(why) => return Err(why),
+    };
+    if is_folder(it.kind) {
+        return Err(Refusal::IsDirectory);
+    }
+    Ok(it.found)
+}
+
+/// What stands in a slot of content. Where it holds, its block is the one that was read last.
+pub(crate) fn find_content<D: Disk>(
+    disk: &mut D,
+    at: &SuperBlock,
+    inode: u32,
+    it: &Record,
+    slot: u64,
+    last: &mut LastRead,
+) -> Result<PathAnswer, Failed>
+    requires known { KnowsInode (D.state disk.old) at.now inode it.now }
+    requires slot { slot < slot_limit }
+    requires last { IsLast (D.state disk.old) last.old }
+    ensures { FindsSlot (D.state disk.old) (D.state disk.new) at.now (λ X. slots.find X inode (slots.path_of slot)) last.new result }
+{
+    find_slot(disk, at, inode, it, place_of(slot), last)
+}

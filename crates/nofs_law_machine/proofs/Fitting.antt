@@ -1,0 +1,258 @@
+-- What the machine answers fits the step.
+use Rattle.std.proofs.Common.{◌≡◌, ℕ, zero, suc, ◌+◌, ◌-◌, ◌*◌, ◌/◌, ◌^◌, ◌<◌, ◌≤◌, ◌⊎◌, inl, inr, Bool, true, false, cond, ltb, leb, ◌&&◌, not, List, [], ◌∷◌, length, Option, Some, None, is_some, option_map, unwrap_or, refl, sym, subst, arith, All, IsTrue, min, length-append}
+use Rattle.std.proofs.lemmas.List.Elements.{All-nil, All-cons, All-append}
+use Rattle.nofs_disk.specs.Number.{number_at}
+use Rattle.nofs_dirent.specs.Entries.{entry_of, entry_fields, has_zeros_after, entry_limit}
+use Rattle.nofs_dirent.specs.Names.{is_name}
+use Rattle.nofs_model.specs.Cells.{BackLink, Entry}
+use Rattle.nofs_model.specs.Image.{Files, FileState, InRecord, Under, entry_at, entry_in_file, entry_held, is_folder}
+use Rattle.nofs_model.specs.declared.value.Value.{Value}
+use Rattle.nofs_model.specs.declared.value.Value.TheVariants.{Hole, Bytes, Lost}
+use Rattle.nofs_machine.specs.Search.{count_below, least_from, first_of}
+use Rattle.nofs_machine.specs.Machine.{link_to, generation_of, value_of, is_lost, is_hole, found, first_dead, first_lost_slot, size_of, slots_in, node_of}
+use Rattle.nofs_machine.specs.Steps.{InRange, Fits}
+use Rattle.nofs_machine.specs.World.{World, unverified_inodes, unverified_blocks, next_inode}
+use Rattle.nofs_machine.specs.Refusals.{row, missing, not_empty_at, is_damaged, lost_resize, rows}
+use Rattle.nofs_machine.specs.Answers.{line_of, lines_from, lines_in_slot, listed_reply, got_reply, found_file, found_entry, found_reply, dropped_entry, dropped_reply, stat_file, reply_of}
+use Rattle.nofs_machine.specs.Next.{Next, AfterFault, ByRow, Done, ByRead, ByWrite}
+use Rattle.nofs_machine.specs.declared.history.Entry1.{Entry1}
+use Rattle.nofs_machine.specs.declared.history.Claims.{Claims}
+use Rattle.nofs_machine.specs.declared.steps.Step.{Step}
+use Rattle.nofs_machine.specs.declared.steps.Step.TheVariants as step
+use Rattle.nofs_machine.specs.declared.replies.NameLine.{NameLine}
+use Rattle.nofs_machine.specs.declared.replies.Reply.{Reply}
+use Rattle.nofs_machine.specs.declared.replies.Reply.TheVariants as reply
+use Rattle.nofs_machine.specs.declared.replies.Refusal.{Refusal}
+use Rattle.nofs_machine.specs.declared.replies.Refusal.TheVariants as refusal
+use Rattle.nofs_law_machine.specs.Laws.{IsSizedWorld, LawFits}
+
+-- Numbers below a bound
+
+count-most : (test : ℕ → Bool) (n : ℕ) → count_below test n ≤ n
+unfolding count_below
+count-most test zero = omega arith
+count-most test (suc n) = go (test n) (count-most test n)
+  where
+    go : (b : Bool) → count_below test n ≤ n → cond b (1 + count_below test n) (count_below test n) ≤ suc n
+    go true le = omega (arith, le)
+    go false le = omega (arith, le)
+
+least-below : (test : ℕ → Bool) (at n k : ℕ) → least_from test at n ≡ Some k → k < at + n
+unfolding least_from
+least-below test at zero k e = absurd (cc e)
+least-below test at (suc n) k e = go (test at) (least-below test (suc at) n k) e
+  where
+    go : (b : Bool) → (least_from test (suc at) n ≡ Some k → k < suc at + n) → cond b (Some at) (least_from test (suc at) n) ≡ Some k → k < at + suc n
+    go true ih e = let same : at ≡ k = cc e in omega (arith, same)
+    go false ih e = let lt = ih e in omega (arith, lt)
+
+next-most : (W : World) → next_inode W ≤ W.inodes
+next-most W = go (least_from (λ i. not (W.known_inodes i)) 1 W.inodes) refl
+  where
+    go : (o : Option ℕ) → least_from (λ i. not (W.known_inodes i)) 1 W.inodes ≡ o → unwrap_or o 0 ≤ W.inodes
+    go None e = omega arith
+    go (Some k) e = let lt = least-below (λ i. not (W.known_inodes i)) 1 W.inodes k e in omega (arith, lt)
+
+-- The numbers of a refusal
+
+abbrev Ranged : Option Refusal → Type 0
+Ranged None = Unit {0}
+Ranged (Some why) = InRange why
+
+abbrev AllRanged : List (Option Refusal) → Type 0
+AllRanged [] = Unit {0}
+AllRanged (o ∷ os) = Ranged o × AllRanged os
+
+first-ranged : (os : List (Option Refusal)) → AllRanged os → Ranged (first_of os)
+first-ranged [] a = tt
+first-ranged (None ∷ os) a = first-ranged os a.1
+first-ranged (Some why ∷ os) a = a.0
+
+tested : (t : Bool) (why : Refusal) → InRange why → Ranged (row t why)
+tested true why r = r
+tested false why r = tt
+
+missing-ranged : (W : World) (d : ℕ) (name : List ℕ) → Ranged (missing W d name)
+missing-ranged W d name = go (is_some (found W.files d name)) (first_dead W.files d name) (first_lost_slot W.files d)
+  where
+    go : (b : Bool) (o p : Option ℕ) → Ranged (cond b None (first_of (option_map refusal.LostEntry o ∷ option_map refusal.LostSlot p ∷ Some refusal.Missing ∷ [])))
+    go true o p = tt
+    go false (Some e) p = tt
+    go false None (Some k) = tt
+    go false None None = tt
+
+empty-ranged : (W : World) (d : ℕ) (o : Option ℕ) → Ranged (not_empty_at W d o)
+empty-ranged W d None = tt
+empty-ranged W d (Some e) = tested _ refusal.NotEmpty tt
+
+stale-ranged : (b t : Bool) → Ranged (cond b None (row t refusal.Stale))
+stale-ranged true t = tt
+stale-ranged false t = tested t refusal.Stale tt
+
+lost-ranged : (a b c : Bool) (x y z : ℕ) → Ranged (first_of (row a (refusal.LostSlot x) ∷ row b (refusal.LostSlot y) ∷ row c (refusal.LostSlot z) ∷ []))
+lost-ranged true b c x y z = tt
+lost-ranged false true c x y z = tt
+lost-ranged false false true x y z = tt
+lost-ranged false false false x y z = tt
+
+resize-ranged : (W : World) (i size : ℕ) → Ranged (lost_resize W i size)
+resize-ranged W i size =
+    let m : ℕ = min (slots_in (size_of W.files i)) (slots_in size) in
+    let j : ℕ = (m - 73) / 64 in
+    lost-ranged (ltb 8 m && is_damaged (node_of W.files i (InRecord 8))) (ltb 72 m && is_damaged (node_of W.files i (InRecord 9))) (ltb 72 m && is_damaged (node_of W.files i (Under (InRecord 9) j))) 8 72 (72 + 64 * j)
+
+module _ (W V : World) (blocks : V.blocks ≤ 1048576) (inodes : V.inodes ≤ 65536) where
+  few-blocks : unverified_blocks V < 2 ^ 64
+  few-blocks = let c = count-most (λ p. not (V.known_blocks p)) V.blocks in omega (arith, c, blocks)
+
+  few-inodes : (unverified_inodes V < 2 ^ 64) × (next_inode V < 2 ^ 32)
+  few-inodes = let c = count-most (λ n. not (V.known_inodes (suc n))) V.inodes in let n = next-most V in (omega (arith, c, inodes), omega (arith, n, inodes))
+
+  rows-ranged : (s : Step) → AllRanged (rows W V s)
+  rows-ranged (step.Look d g name) = (tested _ _ tt, (tested _ _ tt, (tested _ _ tt, (missing-ranged W d name, tt))))
+  rows-ranged (step.Make d g name kind) = (tested _ _ tt, (tested _ _ tt, (tested _ _ tt, (tested _ _ tt, (tested _ _ tt, (tested _ _ few-inodes, (tested _ _ few-blocks, (tested _ _ tt, tt))))))))
+  rows-ranged (step.Link d g name i of) = (tested _ _ tt, (tested _ _ tt, (tested _ _ tt, (tested _ _ tt, (tested _ _ tt, (tested _ _ tt, (tested _ _ tt, (tested _ _ tt, (tested _ _ few-blocks, (tested _ _ tt, tt))))))))))
+  rows-ranged (step.Drop d g name) = (tested _ _ tt, (tested _ _ tt, (tested _ _ tt, (missing-ranged W d name, (empty-ranged W d (found W.files d name), tt)))))
+  rows-ranged (step.Rename d g old new) = (tested _ _ tt, (tested _ _ tt, (tested _ _ tt, (tested _ _ tt, (missing-ranged W d old, (tested _ _ tt, tt))))))
+  rows-ranged (step.List d g k) = (tested _ _ tt, (tested _ _ tt, tt))
+  rows-ranged (step.Get i g k) = (tested _ _ tt, (tested _ _ tt, (tested _ _ tt, tt)))
+  rows-ranged (step.Put i g k at bytes) = (tested _ _ tt, (tested _ _ tt, (tested _ _ tt, (tested _ _ tt, (tested _ _ tt, (tested _ _ tt, (tested _ _ few-blocks, (tested _ _ tt, tt))))))))
+  rows-ranged (step.Resize i g size) = (tested _ _ tt, (tested _ _ tt, (tested _ _ tt, (resize-ranged W i size, tt))))
+  rows-ranged (step.Stat i g) = (tested _ _ tt, tt)
+  rows-ranged (step.Flush i g) = (stale-ranged _ _, tt)
+  rows-ranged (step.SeeInode i) = (tested _ _ tt, tt)
+  rows-ranged (step.SeeBlock p) = (tested _ _ tt, tt)
+
+-- The lines of a directory's slot
+
+at-least : (test : ℕ → Bool) (at n k : ℕ) → least_from test at n ≡ Some k → at ≤ k
+unfolding least_from
+at-least test at zero k e = absurd (cc e)
+at-least test at (suc n) k e = go (test at) (at-least test (suc at) n k) e
+  where
+    go : (b : Bool) → (least_from test (suc at) n ≡ Some k → suc at ≤ k) → cond b (Some at) (least_from test (suc at) n) ≡ Some k → at ≤ k
+    go true ih e = let same : at ≡ k = cc e in omega (arith, same)
+    go false ih e = let le = ih e in omega (arith, le)
+
+-- an entry that bytes spell has a good name
+spelled-name : (bytes : List ℕ) (entry : Entry) → entry_of bytes ≡ Some entry → is_name entry.name ≡ true
+unfolding entry_of
+spelled-name bytes entry e = go (has_zeros_after bytes (number_at 4 4 bytes)) (leb 1 (entry_fields bytes).inode) (leb 1 (entry_fields bytes).generation) (is_name (entry_fields bytes).name) refl e
+  where
+    go : (a b c d : Bool) → is_name (entry_fields bytes).name ≡ d → cond (a && (b && (c && d))) (Some (entry_fields bytes)) None ≡ Some entry → is_name entry.name ≡ true
+    go true true true true is e = let same : entry_fields bytes ≡ entry = cc e in subst (λ (x : Entry). is_name x.name ≡ true) same is
+    go true true true false is e = absurd (cc e)
+    go true true false d is e = absurd (cc e)
+    go true false c d is e = absurd (cc e)
+    go false b c d is e = absurd (cc e)
+
+held-name : (v : Value) (e : ℕ) (entry : Entry) → entry_held v e ≡ Some entry → is_name entry.name ≡ true
+held-name Hole e entry h = absurd (cc h)
+held-name (Bytes content) e entry h = spelled-name _ entry h
+held-name Lost e entry h = absurd (cc h)
+
+file-name : (o : Option FileState) (e : ℕ) (entry : Entry) → entry_in_file o e ≡ Some entry → is_name entry.name ≡ true
+file-name None e entry h = absurd (cc h)
+file-name (Some f) e entry h = go (is_folder f.kind && ltb e entry_limit) h
+  where
+    go : (b : Bool) → cond b (entry_held (f.values (e / 16)) e) None ≡ Some entry → is_name entry.name ≡ true
+    go true h = held-name (f.values (e / 16)) e entry h
+    go false h = absurd (cc h)
+
+abbrev Named : NameLine → Type 0
+Named line = IsTrue (is_name line.name)
+
+line-named : (F : Files) (d e : ℕ) (o : Option Entry) → entry_at F d e ≡ o → All Named (line_of F d e o) × (length (line_of F d e o) ≤ 1)
+line-named F d e None h = (All-nil Named, omega arith)
+line-named F d e (Some entry) h = (All-cons Named _ [] (file-name (F d) e entry h) (All-nil Named), omega arith)
+
+lines-named : (F : Files) (d e n : ℕ) → All Named (lines_from F d e n) × (length (lines_from F d e n) ≤ n)
+lines-named F d e zero = (All-nil Named, omega arith)
+lines-named F d e (suc n) =
+    let one = line-named F d e (entry_at F d e) refl in
+    let rest = lines-named F d (suc e) n in
+    let l = one.1 in
+    let m = rest.1 in
+    let both = length-append (line_of F d e (entry_at F d e)) (lines_from F d (suc e) n) in
+    (All-append Named (line_of F d e (entry_at F d e)) (lines_from F d (suc e) n) one.0 rest.0, omega (arith, l, m, both))
+
+listed-fits : (F : Files) (d g k : ℕ) (o : Option ℕ) → ((l : ℕ) → o ≡ Some l → l < 72) → Fits (step.List d g k) (listed_reply F d o)
+unfolding lines_in_slot
+listed-fits F d g k None range = tt
+listed-fits F d g k (Some l) range = go (is_lost (value_of F d l))
+  where
+    go : (b : Bool) → Fits (step.List d g k) (cond b (reply.LostNames l) (reply.Names l (lines_from F d (16 * l) 16)))
+    go true = range l refl
+    go false = let n = lines-named F d (16 * l) 16 in (range l refl, (n.1, n.0))
+
+-- The answers
+
+module _ (W : World) (sized : IsSizedWorld W) where
+  found-fits : (d g : ℕ) (name : List ℕ) (o : Option ℕ) → Fits (step.Look d g name) (found_reply W.files d o)
+  found-fits d g name None = tt
+  found-fits d g name (Some e) = entry (entry_at W.files d e)
+    where
+      file : (i : ℕ) (o : Option FileState) → Fits (step.Look d g name) (found_file i o)
+      file i None = tt
+      file i (Some f) = tt
+
+      entry : (o : Option Entry) → Fits (step.Look d g name) (found_entry W.files o)
+      entry None = tt
+      entry (Some x) = file x.inode (W.files x.inode)
+
+  dropped-fits : (d g : ℕ) (name : List ℕ) (o : Option ℕ) → Fits (step.Drop d g name) (dropped_reply W.files d o)
+  dropped-fits d g name None = tt
+  dropped-fits d g name (Some e) = entry (link_to d e (generation_of W.files d)) (entry_at W.files d e)
+    where
+      entry : (link : BackLink) (o : Option Entry) → Fits (step.Drop d g name) (dropped_entry W.files link o)
+      entry link None = tt
+      entry link (Some x) = tt
+
+  got-fits : (i g k : ℕ) (v : Value) → value_of W.files i k ≡ v → Fits (step.Get i g k) (got_reply v)
+  got-fits i g k Hole e = tt
+  got-fits i g k (Bytes content) e = sized.values i k content e
+  got-fits i g k Lost e = tt
+
+  stat-fits : (i g : ℕ) (o : Option FileState) → Fits (step.Stat i g) (stat_file W.files i o)
+  stat-fits i g None = tt
+  stat-fits i g (Some f) = tt
+
+  answer-fits : (s : Step) (c : Claims) → Fits s (reply_of W s c)
+  answer-fits (step.Look d g name) c = found-fits d g name (found W.files d name)
+  answer-fits (step.Make d g name kind) c = tt
+  answer-fits (step.Link d g name i of) c = tt
+  answer-fits (step.Drop d g name) c = dropped-fits d g name (found W.files d name)
+  answer-fits (step.Rename d g old new) c = tt
+  answer-fits (step.List d g k) c =
+      let test : ℕ → Bool = λ l. not (is_hole (value_of W.files d l)) in
+      listed-fits W.files d g k (least_from test k (72 - k)) (λ l e. let lt = least-below test k (72 - k) l e in let le = at-least test k (72 - k) l e in omega (arith, lt, le))
+  answer-fits (step.Get i g k) c = got-fits i g k (value_of W.files i k) refl
+  answer-fits (step.Put i g k at bytes) c = tt
+  answer-fits (step.Resize i g size) c = tt
+  answer-fits (step.Stat i g) c = stat-fits i g (W.files i)
+  answer-fits (step.Flush i g) c = tt
+  answer-fits (step.SeeInode i) c = tt
+  answer-fits (step.SeeBlock p) c = tt
+
+  refused-fits : (s : Step) (why : Refusal) → InRange why → Fits s (reply.Refused why)
+  refused-fits s why r = r
+
+  by-row : (V : World) (s : Step) (r : Reply) (why : Refusal) → V.blocks ≡ W.blocks → V.inodes ≡ W.inodes → first_of (rows W V s) ≡ Some why
+      → (r ≡ reply.Refused why) ⊎ (r ≡ reply.Refused refusal.ReadFault) → Fits s r
+  by-row V s r why eb ei comes (inr e) = subst (λ (q : Reply). Fits s q) (sym e) (refused-fits s refusal.ReadFault tt)
+  by-row V s r why eb ei comes (inl e) =
+      let b = sized.blocks in
+      let i = sized.inodes in
+      let ranged : InRange why = subst Ranged comes (first-ranged (rows W V s) (rows-ranged W V (omega (arith, b, eb)) (omega (arith, i, ei)) s)) in
+      subst (λ (q : Reply). Fits s q) (sym e) (refused-fits s why ranged)
+
+  next-fits : (e : Entry1) (V : World) → Next W e V → Fits e.step e.reply
+  next-fits e V (AfterFault s r c v) = subst (λ (q : Reply). Fits e.step q) (sym r) (refused-fits e.step refusal.Stopped tt)
+  next-fits e V (ByRow why s row (inl r) c k t l) = by-row V e.step e.reply why k.blocks k.inodes row (inl r)
+  next-fits e V (ByRow why s row (inr r) c k t l) = by-row V e.step e.reply why k.blocks k.inodes row (inr r.0)
+  next-fits e V (Done s row r c fs hs se vs l) = subst (λ (q : Reply). Fits e.step q) (sym r) (answer-fits e.step e.claims)
+  next-fits e V (ByRead s row r c k t l) = subst (λ (q : Reply). Fits e.step q) (sym r) (refused-fits e.step refusal.ReadFault tt)
+  next-fits e V (ByWrite s row m r c k t l) = subst (λ (q : Reply). Fits e.step q) (sym r) (refused-fits e.step refusal.WriteFault tt)
+
+pub law-fits : LawFits
+law-fits W e V sized next = next-fits W sized e V next

@@ -1,0 +1,16 @@
+pub mod Steps
+pub mod HistoryState
+pub mod Meta
+pub mod Search
+pub mod Machine
+pub mod Since
+pub mod Marks
+pub mod History
+pub mod Allowed
+pub mod Steady
+pub mod World
+pub mod Refusals
+pub mod Answers
+pub mod Claims
+pub mod Next
+pub mod Good

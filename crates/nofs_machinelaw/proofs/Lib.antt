@@ -1,6 +1,0 @@
-mod Choosing
-pub mod Faultless
-mod Total
-mod Function
-mod Shown
-mod Fitting

@@ -1,5 +1,0 @@
-use Rattle.nofs_nameframes.proofs.NameLaws.{law-rename}
-use Rattle.nofs_nameframes.proofs.law_rename.Goals as goal
-
-pub returns : goal.returns
-returns c = law-rename

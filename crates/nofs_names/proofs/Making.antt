@@ -1,0 +1,517 @@
+-- Make: a new entry and the record of a claimed inode are written, in a slot that holds or in a hole.
+use Rattle.std.proofs.Common.{◌≡◌, ◌≢◌, ℕ, ◌+◌, ◌-◌, ◌*◌, ◌/◌, ◌%◌, ◌<◌, ◌≤◌, ◌⊎◌, inl, inr, Bool, true, false, cond, eqb, eqb-true, eq-eqb, ne_eqb, leb}
+use Rattle.std.proofs.Common.{leb-true, ltb, ◌&&◌, ◌||◌, not, List, [], ◌∷◌, ◌++◌, length, Option, Some, None, is_some, unwrap_or, IsTrue, Ok, refl, sym, ap}
+use Rattle.std.proofs.Common.{◌∙◌, subst, subst₂, arith, Contains}
+use Rattle.std.proofs.lemmas.Bool.{cases_eq}
+use Rattle.std.proofs.lemmas.Bool.Decides.{nat_tests}
+use Rattle.nofs_dirent.specs.Entries.{entry_limit}
+use Rattle.nofs_ptrs.specs.Paths.{slot_limit}
+use Rattle.nofs_disk.specs.Disk.{DiskState, IsDisk, Picks, cell_at}
+use Rattle.nofs_disk.specs.Adds.{Adds}
+use Rattle.nofs_dirent.specs.EntryLaws.{Spells}
+use Rattle.nofs_super.specs.Geometry.{IsGeometry}
+use Rattle.nofs_inode.specs.declared.inode.FileKind.TheVariants.{Directory as Folder}
+use Rattle.nofs_model.specs.Cells.{Cell, FileKind, Pointer, Record, SuperBlock, tag_of, is_live, record_at, spelled_entry}
+use Rattle.nofs_model.specs.Image.{Image, super_at, is_data_block, is_inode, inode, leaf, Path, path_of, find, files_in, agreed, is_folder, is_special}
+use Rattle.nofs_model.specs.Image.{FileState, Files, Home, home_at, NodeState, Present, IsBelow}
+use Rattle.nofs_model.specs.declared.path.PathAnswer.TheVariants as answer
+use Rattle.nofs_model.specs.declared.value.Value.{Value}
+use Rattle.nofs_model.specs.declared.value.Value.TheVariants.{Hole}
+use Rattle.nofs_model.proofs.Find.{and-both, find-held}
+use Rattle.nofs_model.proofs.Sound.{mountable-law, supers}
+use Rattle.nofs_law_images.specs.Proper.{Proper}
+use Rattle.nofs_law_images.specs.Reasons.{ReadsSince}
+use Rattle.nofs_law_images.specs.Moments.{during, Survives}
+use Rattle.nofs_law_images.proofs.Moments.{law-images}
+use Rattle.nofs_crashlaw.proofs.Histories.{now-picks}
+use Rattle.nofs_machine.specs.Marks.{Mark}
+use Rattle.nofs_machine.specs.Meta.{Meta, is_bytes}
+use Rattle.nofs_machine.specs.Search.{first_of}
+use Rattle.nofs_machine.specs.Machine.{Given, gives, given_by, make_given, born_file, file_after, after_meta, filled, is_at, lies_above, files_after, value_of}
+use Rattle.nofs_machine.specs.Machine.{with_entry, place_for}
+use Rattle.nofs_machine.specs.World.{World, blocks_needed}
+use Rattle.nofs_machine.specs.Claims.{cell_slot, has_block, is_present, next_stamp, IsClaim}
+use Rattle.nofs_machine.specs.Refusals.{rows}
+use Rattle.nofs_machine.specs.History.{FilesMatch, agreed_files, files_along, mark_at}
+use Rattle.nofs_machine.specs.Steady.{SteadyRest}
+use Rattle.nofs_machine.specs.declared.history.Claims.{Claims}
+use Rattle.nofs_machine.specs.declared.history.Entry1.{Entry1}
+use Rattle.nofs_machine.specs.declared.steps.Step.TheVariants as step
+use Rattle.nofs_machine.specs.declared.replies.Reply.TheVariants as reply
+use Rattle.nofs_law_untouched.specs.Frames.{OldPointers}
+use Rattle.nofs_law_untouched.proofs.Matching.{Matched, matched-agreed, matched-file}
+use Rattle.nofs_law_maps.specs.Homes.{HomesMove}
+use Rattle.nofs_law_maps.specs.Fresh.{Numbered, CellNumbers}
+use Rattle.nofs_law_maps.proofs.Fresh.{law-old, old-record}
+use Rattle.nofs_crashlaw.specs.Stage.{AddsProper}
+use Rattle.nofs_crashlaw.proofs.Marks.{stands-none}
+use Rattle.nofs_crashlaw.proofs.Resting.{law-rest}
+use Rattle.nofs_crashlaw.proofs.Staging.{all-begun}
+use Rattle.nofs_law_old_names.specs.Names.{NameWrites}
+use Rattle.nofs_law_old_names.proofs.NameFiles.{file-of, touches-of}
+use Rattle.nofs_law_old_names.proofs.NameInPlace.{in-place-writes}
+use Rattle.nofs_law_old_names.proofs.NameLinks.{record-in}
+use Rattle.nofs_law_new_names.specs.Holes.{IsNewRecord, first_links, MakeLies, EntryInPlace, EntryInHole, HoleClaimed, Direct, UnderLeaf, WithLeaf}
+use Rattle.nofs_law_new_names.proofs.NameGives.{make-birth, make-nothing}
+use Rattle.nofs_law_new_names.proofs.NameHoles.{hole-cell, hole-leaf-proper, hole-writes}
+use Rattle.nofs_law_new_names.proofs.NameNew.{birth-is}
+use Rattle.nofs_law_new_names.proofs.NameRows.{make-given-is}
+use Rattle.nofs_law_new_names.proofs.NewLaws.{law-make-in-place, law-make-in-hole}
+use Rattle.nofs_law_homes.specs.Homes.{EntryClaims}
+use Rattle.nofs_law_homes.proofs.EntryPlace.{law-entry-place}
+use Rattle.nofs_law_homes.proofs.NewHomes.{law-make-in-place-homes, law-make-in-hole-homes}
+use Rattle.nofs_law_numbers.specs.Cells.{OldNumbers, RecordWritten, table_tag}
+use Rattle.nofs_law_numbers.proofs.NewNumbers.{law-make-in-place-numbers, law-make-in-hole-numbers}
+use Rattle.nofs_law_numbers.proofs.WrittenTables.{law-table-moment, law-table-numbers}
+use Rattle.nofs_state.specs.Standing.{IsOpen, Past}
+use Rattle.nofs_state.specs.Writing.{OneOf, image_after, WritesAll}
+use Rattle.nofs_state.specs.declared.books.Books.{Books}
+use Rattle.nofs_state.proofs.Done.{IsDone, Adds-map, after_world}
+use Rattle.nofs_state.proofs.Sounded.{AddsNumbered}
+use Rattle.nofs_state.proofs.Replies.{open-files}
+use Rattle.nofs_state.proofs.Machine.{agreed-live}
+use Rattle.nofs_state.proofs.Tables.{table_block}
+use Rattle.nofs_names.proofs.Quiet.{block_in}
+use Rattle.nofs_names.proofs.Claiming.{InodeWas, inode-was, claim-was, IsTaking, Taken, taking-learns, taking-says}
+
+entry-bytes : (v : Value) (e : ℕ) (bytes : List ℕ) → is_bytes (with_entry v e bytes) ≡ true
+unfolding with_entry
+entry-bytes v e bytes = refl
+
+not-leb : (a b : ℕ) → b < a → leb a b ≡ false
+not-leb a b h = grind (arith, nat_tests)
+
+-- A file to which no birth and no meta is given stays, and keeps its blocks where bytes and blocks of pointers are given
+
+file-stays : (F : Files) (G : Given) (j : ℕ) → G.born j ≡ None → ((h : ℕ) → G.metas j h ≡ None) → is_some (files_after F G j) ≡ is_some (F j)
+file-stays F G j born metas = ap (λ (o : Option ℕ). is_some (file_after G j (born_file o (F j)))) born ∙ go (F j)
+  where
+    go : (o : Option FileState) → is_some (file_after G j o) ≡ is_some o
+    go None = refl
+    go (Some f) = ap (λ (m : Option Meta). is_some (after_meta m (filled G j f))) (metas f.generation)
+
+abbrev KeepsValue : Option Value → Type 0
+KeepsValue None = Unit {0}
+KeepsValue (Some v) = is_bytes v ≡ true
+
+abbrev KeepsNode : Option NodeState → Type 0
+KeepsNode None = Unit {0}
+KeepsNode (Some n) = is_present n ≡ true
+
+kept-value : (o : Option Value) (v : Value) → KeepsValue o → is_bytes v ≡ true → is_bytes (unwrap_or o v) ≡ true
+kept-value None v h e = e
+kept-value (Some u) v h e = h
+
+kept-node : (o : Option NodeState) (n : NodeState) → KeepsNode o → is_present n ≡ true → is_present (unwrap_or o n) ≡ true
+kept-node None n h e = e
+kept-node (Some u) n h e = h
+
+block-stays : (F : Files) (G : Given) (j slot : ℕ) → G.born j ≡ None → ((h : ℕ) → G.metas j h ≡ None) → ((h k : ℕ) → KeepsValue (G.slots j h k))
+    → ((h : ℕ) (path : Path) → KeepsNode (G.nodes j h path))
+    → block_in (F j) slot ≡ true → block_in (files_after F G j) slot ≡ true
+block-stays F G j slot born metas values nodes h = subst (λ (o : Option ℕ). block_in (file_after G j (born_file o (F j))) slot ≡ true) (sym born) (go (F j) h)
+  where
+    inside : (f : FileState) (b : Bool) → cond b (is_bytes (f.values slot)) (is_present (f.nodes (path_of slot))) ≡ true
+        → cond b (is_bytes ((filled G j f).values slot)) (is_present ((filled G j f).nodes (path_of slot))) ≡ true
+    inside f true e = kept-value (G.slots j f.generation slot) (f.values slot) (values f.generation slot) e
+    inside f false e = kept-node (G.nodes j f.generation (path_of slot)) (f.nodes (path_of slot)) (nodes f.generation (path_of slot)) e
+
+    go : (o : Option FileState) → block_in o slot ≡ true → block_in (file_after G j o) slot ≡ true
+    go None e = e
+    go (Some f) e = subst (λ (m : Option Meta). block_in (after_meta m (filled G j f)) slot ≡ true) (sym (metas f.generation)) (inside f (ltb slot slot_limit) e)
+
+-- what a Make stands on: its directory, the place of the entry, what was claimed, and the new record
+pub record Makes (X Y : Image) (W : World) (d g : ℕ) (name : List ℕ) (kind : FileKind) (e : ℕ) (c : Claims) : Type 0 where
+  pub folder : (inode X d).kind ≡ Some Folder
+  pub generation : (inode X d).generation ≡ g
+  pub agrees : agreed (files_in X) d ≡ true
+  pub place : place_for W.files d name ≡ Some e
+  pub claim : IsClaim W (step.Make d g name kind) c
+  pub spells : Spells (spelled_entry c.inode c.generation name) (record { inode = c.inode; generation = c.generation; name = name })
+  pub made : IsNewRecord Y c.inode c.generation kind (first_links d e g)
+
+-- its writes where the entry's slot holds the block x
+pub record WritesInPlace (X Y : Image) (d e : ℕ) (c : Claims) (name : List ℕ) (x : Pointer) (ws : List (ℕ × Cell)) : Type 0 where
+  pub entry : EntryInPlace X Y d e c.inode (spelled_entry c.inode c.generation name) x
+  pub tag : tag_of (cell_at Y (table_block c.inode)).tag ≡ Some (table_tag (table_block c.inode))
+  pub each : (b : ℕ) (cell : Cell) → OneOf ws b cell → (cell ≡ cell_at Y b) × ((b ≡ x.block) ⊎ (b ≡ table_block c.inode))
+
+-- a cell that is written where it is a hole, with the leaf y above it: the entry's, the leaf, or one of the table with records of before or after
+pub data IsHoleWrite (X Y : Image) (e : ℕ) (c : Claims) (y : Pointer) (b : ℕ) (cell : Cell) : Type 0 where
+  OfEntry : b ≡ c.cell.block → cell ≡ cell_at Y c.cell.block → IsHoleWrite X Y e c y b cell
+  OfLeaf : 8 ≤ e / 16 → b ≡ y.block → cell ≡ cell_at Y y.block → IsHoleWrite X Y e c y b cell
+  OfTable : 0 < b → b ≤ (super_at X).inodes / 4 → tag_of cell.tag ≡ Some (table_tag b)
+      → ((j : ℕ) → is_inode X j ≡ true → 1 + (j - 1) / 4 ≡ b → (record_at cell.payload ((j - 1) % 4) ≡ inode X j) ⊎
+      (record_at cell.payload ((j - 1) % 4) ≡ inode Y j)) → IsHoleWrite X Y e c y b cell
+
+-- and its writes there
+pub record WritesInHole (s : ℕ) (X Y : Image) (F : Files) (d e : ℕ) (c : Claims) (name : List ℕ) (y : Pointer) (stamps : ℕ)
+    (ws : List (ℕ × Cell)) : Type 0 where
+  pub entry : EntryInHole s X Y d e c.inode (spelled_entry c.inode c.generation name) c.cell y
+  pub claims : EntryClaims F c d e name c.cell y
+  pub newer : stamps ≤ c.cell.stamp
+  pub leaf_newer : stamps ≤ y.stamp ⊎ ((z : Pointer) × (find X d leaf ≡ answer.Holds z))
+  pub each : (b : ℕ) (cell : Cell) → OneOf ws b cell → IsHoleWrite X Y e c y b cell
+
+module _ (old new : DiskState) (k : Books) (H : List Entry1) (p : Past) (d g : ℕ) (name : List ℕ) (kind : FileKind) (e : ℕ) (c : Claims) (ws : List (ℕ × Cell))
+    (is_old : IsDisk old) (tells : IsTrue old.tells) (o : IsOpen old k H p)
+    (it : Makes old.now (image_after ws old.now) p.world d g name kind e c) where
+  abbrev W : World
+  W = p.world
+
+  abbrev X : Image
+  X = old.now
+
+  abbrev Y : Image
+  Y = image_after ws old.now
+
+  geometry : IsGeometry (length X) (super_at X).blocks (super_at X).inodes
+  geometry = let m = (mountable-law X).1 o.mountable in m.fits
+
+  match : FilesMatch W.files X
+  match = open-files old k H p o
+
+  own : Matched W.files X d
+  own = matched-agreed W.files X d match (agreed-live X d it.agrees) it.agrees
+
+  own-kind : own.file.kind ≡ Folder
+  own-kind = let e : Some own.file.kind ≡ Some Folder = sym (file-of W.files X d own.file match own.is).0 ∙ it.folder in cc e
+
+  generation : own.file.generation ≡ g
+  generation = own.generation ∙ it.generation
+
+  all-below : IsBelow (next_stamp W) X
+  all-below b lt = o.stage.ready.fresh b (cell_at X b) lt (is_old.has_now b tells
+      (let w = is_old.whole tells in let h = geometry.fits in omega (arith, lt, w, h)))
+
+  old-numbers : OldNumbers W X
+  old-numbers = record { positive = o.stage.ready.positive; mountable = o.mountable; below = all-below }
+
+  old-pointers : (j : ℕ) → is_live (inode X j) ≡ true → OldPointers (next_stamp W) X j
+  old-pointers j live = law-old (next_stamp W) X j o.stage.ready.positive o.mountable all-below live
+
+  at : (e < entry_limit) × (Rattle.nofs_machine.specs.Machine.is_paired W.files d e ≡ false) ×
+      (((x : Pointer) × (find X d (path_of (e / 16)) ≡ answer.Holds x)) ⊎ (find X d (path_of (e / 16)) ≡ answer.Hole))
+  at = law-entry-place W.files X d e name own.file match own.is it.place
+
+  was : InodeWas W c
+  was = inode-was W (step.Make d g name kind) c it.claim refl
+
+  -- the claimed inode is no file, and no special one
+  free : (is_special c.inode ≡ false) × (W.files c.inode ≡ None)
+  free = go (W.files c.inode) refl (W.known_inodes c.inode) (is_special c.inode) was.free
+    where
+      go : (f : Option FileState) → W.files c.inode ≡ f → (a b : Bool) → (a && not (b || is_some f)) ≡ true → (b ≡ false) × (W.files c.inode ≡ None)
+      go None ef true false h = (refl, ef)
+      go None ef true true h = cc h
+      go None ef false b h = cc h
+      go (Some f) ef true false h = cc h
+      go (Some f) ef true true h = cc h
+      go (Some f) ef false b h = cc h
+
+  lies : MakeLies W.files X Y d g e (next_stamp W) name kind c own.file
+  lies = record {
+    files = match;
+    is = own.is;
+    generation = generation;
+    folder = ap is_folder own-kind;
+    range = at.0;
+    unpaired = at.1;
+    none = free.1;
+    plain = free.0;
+    young = (let a = own.generation in let b = (old-record (next_stamp W) X d o.mountable all-below own.live).generation in let q = was.generation in omega
+        (arith, a, b, q));
+    spells = it.spells;
+    made = it.made;
+    old = λ j some. old-pointers j (matched-file W.files X j match some).live;
+  }
+
+  apart : c.inode ≢ d
+  apart t = let z : W.files d ≡ None = subst (λ (q : ℕ). W.files q ≡ None) t free.1 in let s = own.is in cc (z, s)
+
+  -- What the step gives
+
+  abbrev G : Given
+  G = make_given W.files d g name kind c e
+
+  given-is : gives (files_along (agreed_files p.base) H) (step.Make d g name kind) c ≡ make_given W.files d g name kind c e
+  given-is = ap (λ (F : Files). gives F (step.Make d g name kind) c) (sym o.files) ∙ make-given-is W.files d g name kind c e it.place
+
+  no-birth : (j : ℕ) → j ≢ c.inode → (make_given W.files d g name kind c e).born j ≡ None
+  no-birth j ne = let w = ne_eqb j c.inode ne in rw w refl
+
+  no-meta : (j : ℕ) → j ≢ c.inode → (h : ℕ) → (make_given W.files d g name kind c e).metas j h ≡ None
+  no-meta j ne h = let w = ne_eqb j c.inode ne in rw w refl
+
+  abbrev v : Value
+  v = with_entry (value_of W.files d (e / 16)) e (spelled_entry c.inode c.generation name)
+
+  values-stay : (j : ℕ) → j ≢ c.inode → (h l : ℕ) → KeepsValue ((make_given W.files d g name kind c e).slots j h l)
+  values-stay j ne h l = let y = ne_eqb c.inode j (λ t. ne (sym t)) in rw y (go (is_at d g j h && eqb (e / 16) l))
+    where
+      go : (b : Bool) → KeepsValue (cond b (Some (with_entry (value_of W.files d (e / 16)) e (spelled_entry c.inode c.generation name))) None)
+      go true = entry-bytes (value_of W.files d (e / 16)) e (spelled_entry c.inode c.generation name)
+      go false = tt
+
+  nodes-stay : (j h : ℕ) (path : Path) → KeepsNode ((make_given W.files d g name kind c e).nodes j h path)
+  nodes-stay j h path = go (is_at d g j h && lies_above path (path_of (e / 16)))
+    where
+      go : (b : Bool) → KeepsNode (cond b (Some Present) None)
+      go true = refl
+      go false = tt
+
+  made-file : is_some (files_after W.files (make_given W.files d g name kind c e) c.inode) ≡ true
+  made-file = ap is_some (birth-is W.files (make_given W.files d g name kind c e) c.inode c.generation kind (first_links d e g)
+      (make-birth W.files d g e name kind c apart))
+
+  used : (j : ℕ) → j ≢ c.inode → is_some (files_after W.files (make_given W.files d g name kind c e) j) ≡ is_some (W.files j)
+  used j ne = file-stays W.files (make_given W.files d g name kind c e) j (no-birth j ne) (no-meta j ne)
+
+  blocks : (home : Home) → has_block W.files home ≡ true → has_block (files_after W.files (make_given W.files d g name kind c e)) home ≡ true
+  blocks home h = elim (cases_eq home.inode c.inode) [
+    | inl here ↦ absurd (nothing (ltb home.slot slot_limit) (subst (λ (f : Option FileState). block_in f home.slot ≡ true) (ap W.files here ∙ free.1) h))
+    | inr ne ↦ block-stays W.files (make_given W.files d g name kind c e) home.inode home.slot (no-birth home.inode ne) (no-meta home.inode ne)
+        (values-stay home.inode ne) (nodes-stay home.inode) h
+  ]
+    where
+      nothing : (b : Bool) → cond b false false ≡ true → ⊥
+      nothing true t = cc t
+      nothing false t = cc t
+
+  taking : IsTaking W (step.Make d g name kind) c (files_after W.files (make_given W.files d g name kind c e)) (home_at d (e / 16))
+  taking = record {
+    slot = let s = it.place in rw s refl;
+    one = refl;
+    claim = it.claim;
+    files = ap (files_after W.files) (make-given-is W.files d g name kind c e it.place);
+    made = made-file;
+    used = used;
+    blocks = blocks;
+    sees_no_inode = λ j. refl;
+    sees_no_block = λ q. refl;
+  }
+
+  -- The mark
+
+  abbrev M : Mark
+  M = mark_at p.base H (old.moment + 1) p.mark p.stamps
+
+  pick : Picks old.may (length p.mark) X
+  pick = now-picks old p.mark is_old tells o.stage.ready.survives.size
+
+  survives : Survives (mark_at p.base H (old.moment + 1) p.mark p.stamps) X
+  survives = law-images (mark_at p.base H (old.moment + 1) p.mark p.stamps) old.may X o.stage.ready.survives.mark o.stage.ready.survives.explained pick
+
+  mark-super : super_at p.mark ≡ super_at X
+  mark-super = supers X p.mark (sym survives.reads.super)
+
+  mark-area : (b : ℕ) → is_data_block X b ≡ true → is_data_block p.mark b ≡ true
+  mark-area b = subst (λ (z : SuperBlock). (leb (1 + z.inodes / 4) b && ltb b z.blocks) ≡ true) (sym mark-super)
+
+  mark-table : (b : ℕ) → b ≤ (super_at X).inodes / 4 → is_data_block p.mark b ≡ false
+  mark-table b low = ap (λ (z : SuperBlock). leb (1 + z.inodes / 4) b && ltb b z.blocks) mark-super
+      ∙ (let t : leb (1 + (super_at X).inodes / 4) b ≡ false = not-leb (1 + (super_at X).inodes / 4) b (omega (arith, low)) in rw t refl)
+
+  -- nothing stands there for the claimed inode, and its generation is newer
+  none-stands : (q : ℕ) → (mark_at p.base H (old.moment + 1) p.mark p.stamps).stands c.inode q ≡ false
+  none-stands = stands-none p.base H (old.moment + 1) c.inode (all-begun H old.moment (old.moment + 1) (omega arith) o.stage.lasts.by)
+      (ap (λ (F : Files). F c.inode) (sym o.files) ∙ free.1)
+
+  newer : p.stamps ≤ c.generation
+  newer = let a = o.older in let q = was.generation in omega (arith, a, q)
+
+  table-low : table_block c.inode ≤ (super_at X).inodes / 4
+  table-low =
+      let low = was.low in
+      let high = was.high in
+      let n : W.inodes ≡ (super_at X).inodes = o.says.inodes ∙ ap (λ (q : SuperBlock). q.inodes) (sym o.at) in
+      let q = geometry.multiple in
+      omega (arith, low, high, n, q)
+
+  -- what both ways owe
+  pub record EndsWell : Type 0 where
+    pub proper : (b : ℕ) (cell : Cell) → OneOf ws b cell → Proper (during (mark_at p.base H (old.moment + 1) p.mark p.stamps)
+        (make_given W.files d g name kind c e)) X b cell
+    pub numbers : (b : ℕ) (cell : Cell) → OneOf ws b cell → CellNumbers (Numbered W c) X b cell
+    pub files : FilesMatch (files_after W.files (make_given W.files d g name kind c e)) Y
+    pub move : HomesMove W.files (step.Make d g name kind) c X Y
+    pub writes : NameWrites (next_stamp W) d c.inode X Y
+
+  module _ (w : EndsWell) where
+    proper-one : (G' : Given) → G' ≡ make_given W.files d g name kind c e → (b : ℕ) (cell : Cell) → OneOf ws b cell
+        → Proper (during (mark_at p.base H (old.moment + 1) p.mark p.stamps) G') X b cell
+    proper-one G' ge b cell one = subst (λ (z : Given). Proper (during (mark_at p.base H (old.moment + 1) p.mark p.stamps) z) X b cell) (sym ge)
+        (w.proper b cell one)
+
+    or-false : (a b : Bool) → (a || b) ≡ false → (a ≡ false) × (b ≡ false)
+    or-false true b e = cc
+    or-false false true e = cc
+    or-false false false e = (refl, refl)
+
+    not-eq : (j n : ℕ) → eqb j n ≡ false → j ≢ n
+    not-eq j n t e = let b = eq-eqb j n e in cc (t, b)
+
+    rest : (e' : Entry1) → given_by (files_along (agreed_files p.base) H) e' ≡ make_given W.files d g name kind c e → SteadyRest p.base (H ++ e' ∷ []) Y
+    rest e' ge = law-rest p.base H e' (next_stamp W) (λ j. eqb j d || eqb j c.inode) X Y (files_after W.files (make_given W.files d g name kind c e)) o.rest
+        (record {
+          before = o.stage.ready.files;
+          after = w.files;
+          touches = touches-of (next_stamp W) d c.inode X Y w.writes;
+          old = old-pointers;
+          owned = λ j t live. owned-case j (eqb j c.inode) refl t;
+          stays = λ j t some. let a = or-false (eqb j d) (eqb j c.inode) t in used j (not-eq j c.inode a.1) ∙ ap (λ (F : Files). is_some (F j)) o.files ∙ some;
+          no_value = λ j h l t some. let a = or-false (eqb j d) (eqb j c.inode) t in (λ z. (ge z).slots j h l)
+              ∙ (make-nothing W.files d g e name kind c apart j (not-eq j d a.0) (not-eq j c.inode a.1)).slots h l;
+          no_meta = λ j h t some. let a = or-false (eqb j d) (eqb j c.inode) t in (λ z. (ge z).metas j h)
+              ∙ (make-nothing W.files d g e name kind c apart j (not-eq j d a.0) (not-eq j c.inode a.1)).metas h;
+        })
+      where
+        only : (a b : Bool) → b ≡ false → (a || b) ≡ true → a ≡ true
+        only true b eb h = refl
+        only false b eb h = cc (eb, h)
+
+        owned-case : (j : ℕ) (b : Bool) → eqb j c.inode ≡ b → (eqb j d || eqb j c.inode) ≡ true
+            → is_some (files_after W.files (make_given W.files d g name kind c e) j) ≡ true
+        owned-case j true eb t = subst (λ (n : ℕ). is_some (files_after W.files (make_given W.files d g name kind c e) n) ≡ true)
+            (sym (eqb-true j c.inode eb)) made-file
+        owned-case j false eb t = used j (not-eq j c.inode eb) ∙ subst (λ (n : ℕ). is_some (W.files n) ≡ true)
+            (sym (eqb-true j d (only (eqb j d) (eqb j c.inode) eb t))) (ap is_some own.is)
+
+    pub make-numbered : Adds (OneOf ws) old new → AddsNumbered W c old new
+    make-numbered = Adds-map (OneOf ws) (λ n cell. CellNumbers (Numbered W c) X n cell) old new w.numbers
+
+    pub make-proper : (e' : Entry1) → given_by (files_along (agreed_files p.base) H) e' ≡ gives (files_along (agreed_files p.base) H)
+        (step.Make d g name kind) c → Adds (OneOf ws) old new → AddsProper p.base H e' p.mark p.stamps old new
+    make-proper e' ge adds = Adds-map (OneOf ws) (Proper (during (mark_at p.base H (old.moment + 1) p.mark p.stamps)
+        (given_by (files_along (agreed_files p.base) H) e')) old.now) old new
+        (λ b cell one. proper-one (given_by (files_along (agreed_files p.base) H) e') (ge ∙ given-is) b cell one) adds
+
+    -- the step is done, with these maps after it
+    pub make-done : (l : Books) (m : ℕ) → Taken k l c m → blocks_needed W.files (step.Make d g name kind) ≡ m → WritesAll old new ws (Ok tt)
+        → ((U : World) → first_of (rows W U (step.Make d g name kind)) ≡ None)
+        → IsDone old new k l H p (step.Make d g name kind) c (reply.Made c.inode c.generation) ws
+    make-done l m taken needs writes none = record {
+      adds = writes.adds;
+      later = writes.later;
+      proper = λ e' es ec ge b cell one. proper-one (given_by (files_along (agreed_files p.base) H) e') (ge ∙ given-is) b cell one;
+      numbers = w.numbers;
+      super = ap (λ (Z : Image). cell_at Z 0) writes.now ∙ w.writes.super;
+      size = writes.adds.disk.blocks;
+      none = none (after_world W (step.Make d g name kind) c l);
+      answer = refl;
+      accepted = refl;
+      no_flush = refl;
+      claim = it.claim;
+      learns = taking-learns X k l W (step.Make d g name kind) c m (files_after W.files (make_given W.files d g name kind c e))
+          (home_at d (e / 16)) o.says match o.homes o.homes_past taking taken needs;
+      files = subst₂ (λ (F : Files) (Z : Image). FilesMatch F Z) (sym taking.files) (sym writes.now) w.files;
+      move = subst (λ (Z : Image). HomesMove W.files (step.Make d g name kind) c X Z) (sym writes.now) w.move;
+      rest = λ e' es ec ge. subst (λ (Z : Image). SteadyRest p.base (H ++ e' ∷ []) Z) (sym writes.now) (rest e' (ge ∙ given-is));
+      says = taking-says X k l W (step.Make d g name kind) c m (files_after W.files (make_given W.files d g name kind c e))
+          (home_at d (e / 16)) o.says match o.homes o.homes_past taking taken needs;
+      books_at = ap (λ (b : Books). b.at) taken.same;
+      history = ap (λ (b : Books). b.history) taken.same;
+      going = ap (λ (b : Books). b.stopped) taken.same ∙ o.going;
+    }
+
+  -- the record of an inode in its cell of the table after the step
+  table-numbers : ((j : ℕ) → RecordWritten W c X j (inode Y j)) → cell_at Y 0 ≡ cell_at X 0 → (b : ℕ) (cell : Cell) → cell ≡ cell_at Y b
+      → tag_of cell.tag ≡ Some (table_tag b) → CellNumbers (Numbered W c) X b cell
+  table-numbers each super b cell is tag = law-table-numbers W c X b cell old-numbers tag (λ j range same.
+      subst (λ (q : Record). RecordWritten W c X j q) (sym (ap (λ (z : Cell). record_at z.payload ((j - 1) % 4)) (is ∙ ap (cell_at Y) (sym same))
+      ∙ record-in Y j (ap (λ (q : SuperBlock). leb 1 j && leb j q.inodes) (supers X Y super) ∙ range))) (each j))
+
+  -- The entry's slot holds
+
+  pub in-place-ends : (x : Pointer) → WritesInPlace X Y d e c name x ws → EndsWell
+  in-place-ends x h = record {
+    proper = λ b cell one. let q = h.each b cell one in subst (λ (z : Cell). Proper
+        (during (mark_at p.base H (old.moment + 1) p.mark p.stamps) (make_given W.files d g name kind c e)) X b z) (sym q.0) (proper-at b q.1);
+    numbers = λ b cell one. let q = h.each b cell one in subst (λ (z : Cell). CellNumbers (Numbered W c) X b z) (sym q.0) (numbers-at b q.1);
+    files = law.2;
+    move = law-make-in-place-homes W X Y d g e (next_stamp W) name kind c own.file x lies h.entry it.place it.claim;
+    writes = in-place-writes (next_stamp W) d c.inode (e / 16) X Y x h.entry.held h.entry.writes;
+  }
+    where
+      law : ((m : Mark) → is_data_block m.image x.block ≡ true → Proper (during m (make_given W.files d g name kind c e)) X x.block (cell_at Y x.block))
+          × ((m : Mark) → super_at m.image ≡ super_at Y → is_data_block m.image (1 + (c.inode - 1) / 4) ≡ false → m.stamps ≤ c.generation
+          → ((q : ℕ) → m.stands c.inode q ≡ false)
+          → Proper (during m (make_given W.files d g name kind c e)) X (1 + (c.inode - 1) / 4) (cell_at Y (1 + (c.inode - 1) / 4)))
+          × FilesMatch (files_after W.files (make_given W.files d g name kind c e)) Y
+      law = law-make-in-place W.files X Y d g e (next_stamp W) name kind c own.file x lies h.entry
+
+      proper-at : (b : ℕ) → (b ≡ x.block) ⊎ (b ≡ table_block c.inode) → Proper
+          (during (mark_at p.base H (old.moment + 1) p.mark p.stamps) (make_given W.files d g name kind c e)) X b (cell_at Y b)
+      proper-at b (inl eb) = subst (λ (n : ℕ). Proper (during (mark_at p.base H (old.moment + 1) p.mark p.stamps) (make_given W.files d g name kind c e)) X n
+          (cell_at Y n)) (sym eb)
+          (law.0 (mark_at p.base H (old.moment + 1) p.mark p.stamps) (mark-area x.block (find-held X d (path_of (e / 16)) x h.entry.held).agrees.area))
+      proper-at b (inr eb) = subst (λ (n : ℕ). Proper (during (mark_at p.base H (old.moment + 1) p.mark p.stamps) (make_given W.files d g name kind c e)) X n
+          (cell_at Y n)) (sym eb)
+          (law.1 (mark_at p.base H (old.moment + 1) p.mark p.stamps) (mark-super ∙ sym (supers X Y h.entry.writes.super))
+          (mark-table (table_block c.inode) table-low) newer none-stands)
+
+      numbered : CellNumbers (Numbered W c) X x.block (cell_at Y x.block) × ((j : ℕ) → RecordWritten W c X j (inode Y j))
+      numbered = law-make-in-place-numbers W X Y d g e (next_stamp W) name kind c own.file x old-numbers lies h.entry it.claim
+
+      numbers-at : (b : ℕ) → (b ≡ x.block) ⊎ (b ≡ table_block c.inode) → CellNumbers (Numbered W c) X b (cell_at Y b)
+      numbers-at b (inl eb) = subst (λ (n : ℕ). CellNumbers (Numbered W c) X n (cell_at Y n)) (sym eb) numbered.0
+      numbers-at b (inr eb) = subst (λ (n : ℕ). CellNumbers (Numbered W c) X n (cell_at Y n)) (sym eb)
+          (table-numbers numbered.1 h.entry.writes.super (table_block c.inode) (cell_at Y (table_block c.inode)) refl h.tag)
+
+  -- It is a hole
+
+  hole-area : (y : Pointer) → HoleClaimed (next_stamp W) X Y d c.inode (e / 16) c.cell y → 8 ≤ e / 16 → is_data_block X y.block ≡ true
+  hole-area y (Direct lt h) far = absurd (omega (arith, far, lt))
+  hole-area y (UnderLeaf le lt h) far = (find-held X d leaf y h.held).agrees.area
+  hole-area y (WithLeaf le lt h) far = h.above.area
+
+  hole-generation : (y : Pointer) → HoleClaimed (next_stamp W) X Y d c.inode (e / 16) c.cell y → (inode Y d).generation ≡ (inode X d).generation
+  hole-generation y (Direct lt h) = h.meta.generation
+  hole-generation y (UnderLeaf le lt h) = ap (λ (q : Record). q.generation) (h.records d (λ t. apart (sym t)))
+  hole-generation y (WithLeaf le lt h) = h.meta.generation
+
+  pub in-hole-ends : (y : Pointer) → WritesInHole (next_stamp W) X Y W.files d e c name y p.stamps ws → EndsWell
+  in-hole-ends y h = record {
+    proper = λ b cell one. proper-at b cell (h.each b cell one);
+    numbers = λ b cell one. numbers-at b cell (h.each b cell one);
+    files = law.2;
+    move = law-make-in-hole-homes W X Y d g e (next_stamp W) name kind c own.file y lies h.entry h.claims it.claim;
+    writes = writes;
+  }
+    where
+      writes : NameWrites (next_stamp W) d c.inode X Y
+      writes = hole-writes (next_stamp W) X Y d c.inode (e / 16) c.cell y h.entry.claimed
+
+      law : ((m : Mark) → is_data_block m.image c.cell.block ≡ true → (inode Y d).generation ≡ own.file.generation
+          → Proper (during m (make_given W.files d g name kind c e)) X c.cell.block (cell_at Y c.cell.block))
+          × ((m : Mark) (t : ℕ) (z : Cell) → 0 < t → is_data_block m.image t ≡ false
+          → ((j : ℕ) → is_inode m.image j ≡ true → 1 + (j - 1) / 4 ≡ t → (record_at z.payload ((j - 1) % 4) ≡ inode X j) ⊎
+          (record_at z.payload ((j - 1) % 4) ≡ inode Y j))
+          → Contains (m.metas d (inode X d).generation) (Rattle.nofs_machine.specs.Meta.meta_of (inode X d)) → m.stamps ≤ c.cell.stamp
+          → m.stamps ≤ y.stamp ⊎ ((q : Pointer) × (find X d leaf ≡ answer.Holds q))
+          → m.stamps ≤ c.generation → ((q : ℕ) → m.stands c.inode q ≡ false) → Proper (during m (make_given W.files d g name kind c e)) X t z)
+          × FilesMatch (files_after W.files (make_given W.files d g name kind c e)) Y
+      law = law-make-in-hole W.files X Y d g e (next_stamp W) name kind c own.file y lies h.entry
+
+      proper-at : (b : ℕ) (cell : Cell) → IsHoleWrite X Y e c y b cell → Proper
+          (during (mark_at p.base H (old.moment + 1) p.mark p.stamps) (make_given W.files d g name kind c e)) X b cell
+      proper-at b cell (OfEntry eb ec) = subst₂ (λ (n : ℕ) (z : Cell). Proper
+          (during (mark_at p.base H (old.moment + 1) p.mark p.stamps) (make_given W.files d g name kind c e)) X n z) (sym eb) (sym ec)
+          (law.0 (mark_at p.base H (old.moment + 1) p.mark p.stamps) (mark-area c.cell.block
+          (hole-cell (next_stamp W) X Y d c.inode (e / 16) c.cell y h.entry.claimed).area) (hole-generation y h.entry.claimed ∙ sym own.generation))
+      proper-at b cell (OfLeaf far eb ec) = subst₂ (λ (n : ℕ) (z : Cell). Proper
+          (during (mark_at p.base H (old.moment + 1) p.mark p.stamps) (make_given W.files d g name kind c e)) X n z) (sym eb) (sym ec)
+          (hole-leaf-proper (next_stamp W) (mark_at p.base H (old.moment + 1) p.mark p.stamps) (make_given W.files d g name kind c e) X Y d c.inode
+          (e / 16) c.cell y survives.reads own.live h.entry.empty (mark-area y.block (hole-area y h.entry.claimed far)) h.newer far h.entry.claimed)
+      proper-at b cell (OfTable pos low tag each) = law.1 (mark_at p.base H (old.moment + 1) p.mark p.stamps) b cell pos (mark-table b low)
+          (λ j range same. each j (ap (λ (q : SuperBlock). leb 1 j && leb j q.inodes) (sym mark-super) ∙ range) same)
+          (survives.reads.metas d own.live) h.newer h.leaf_newer newer none-stands
+
+      numbered : CellNumbers (Numbered W c) X c.cell.block (cell_at Y c.cell.block) × (8 ≤ e / 16 → CellNumbers (Numbered W c) X y.block (cell_at Y y.block)) ×
+          ((j : ℕ) → RecordWritten W c X j (inode Y j))
+      numbered = law-make-in-hole-numbers W X Y d g e (next_stamp W) name kind c own.file y old-numbers lies h.entry h.claims it.claim
+
+      numbers-at : (b : ℕ) (cell : Cell) → IsHoleWrite X Y e c y b cell → CellNumbers (Numbered W c) X b cell
+      numbers-at b cell (OfEntry eb ec) = subst₂ (λ (n : ℕ) (z : Cell). CellNumbers (Numbered W c) X n z) (sym eb) (sym ec) numbered.0
+      numbers-at b cell (OfLeaf far eb ec) = subst₂ (λ (n : ℕ) (z : Cell). CellNumbers (Numbered W c) X n z) (sym eb) (sym ec) (numbered.1 far)
+      numbers-at b cell (OfTable pos low tag each) = law-table-moment W c X Y b cell old-numbers tag each numbered.2

@@ -1,0 +1,81 @@
+-- What was found of a disk stands after more reads.
+use Rattle.std.proofs.Common.{◌≡◌, ℕ, ◌/◌, ◌*◌, ◌%◌, Bool, List, length, IsTrue, sym, subst}
+use Rattle.nofs_disk.specs.Disk.{DiskState, StaysButFaults, cell_at}
+use Rattle.nofs_disk.specs.Number.{put_bytes, zeros}
+use Rattle.nofs_model.specs.Cells.{Cell, Pointer, Record, SuperBlock}
+use Rattle.nofs_model.specs.Image.{Image, Files, path_of, find}
+use Rattle.nofs_model.specs.declared.path.PathAnswer.TheVariants as answer
+use Rattle.nofs_machine.specs.History.{FilesMatch}
+use Rattle.nofs_machine.specs.declared.steps.Step.{Step}
+use Rattle.nofs_machine.specs.declared.steps.Step.TheVariants as step
+use Rattle.nofs_machine.specs.Machine.{drop_meta, link_to}
+use Rattle.nofs_machine.specs.Meta.{is_gone}
+use Rattle.nofs_agree.specs.Reading.{KnowsDirectory}
+use Rattle.nofs_agree.proofs.Climbs.{KnowsInode-on}
+use Rattle.nofs_state.specs.declared.books.Books.{Books}
+use Rattle.nofs_state.proofs.Keeping.{open-back, reads-keep}
+use Rattle.nofs_names.specs.Searching.{IsFoundEntry, KnowsPaired}
+use Rattle.nofs_names.specs.Refusing.{IsThere, KnownAgreed}
+use Rattle.nofs_names.specs.Renames.{FoundIn, RowsPass}
+use Rattle.nofs_names.specs.Drops.{HasNoNames}
+use Rattle.nofs_names.specs.Dropping.{ClearsEntry, MayDrop}
+use Rattle.nofs_names.specs.declared.searching.Paired.{Paired}
+
+module _ (old new : DiskState) (stays : StaysButFaults old new) where
+  back : IsTrue new.tells → IsTrue old.tells
+  back t = subst (λ (b : Bool). IsTrue b) stays.disk.tells t
+
+  now : old.now ≡ new.now
+  now = sym stays.cells.now
+
+  pub directory-on : (at : SuperBlock) (i g : ℕ) (r : Record) → KnowsDirectory old at i g r → KnowsDirectory new at i g r
+  directory-on at i g r k = record { known = KnowsInode-on old new at i r stays k.known; kind = k.kind; generation = k.generation }
+
+  pub there-on : (k : Books) (d : ℕ) → (IsTrue old.tells → KnownAgreed k old.now → IsThere d old.now) → IsTrue new.tells → KnownAgreed k new.now
+      → IsThere d new.now
+  there-on k d there t = subst (λ (X : Image). KnownAgreed k X → IsThere d X) now (there (back t))
+
+  pub paired-on : (at : SuperBlock) (q : Paired) → KnowsPaired old at q → KnowsPaired new at q
+  paired-on at q k = (KnowsInode-on old new at q.inode q.record stays k.0, k.1, k.2, k.3, k.4)
+
+  pub found-on : (d : ℕ) (name : List ℕ) (q : Paired) → FoundIn old d name q → FoundIn new d name q
+  found-on d name q found t = subst (λ (X : Image). IsThere d X → (F : Files) → FilesMatch F X → IsFoundEntry F X d name q) now (found (back t))
+
+  pub no-names-on : (i : ℕ) → HasNoNames old i → HasNoNames new i
+  no-names-on i none t F m = none (back t) F (subst (λ (X : Image). FilesMatch F X) stays.cells.now m)
+
+  pub gone-on : (k : Books) (d g : ℕ) (q : Paired) (b : Bool)
+      → (IsTrue old.tells → KnownAgreed k old.now → (F : Files) → FilesMatch F old.now → is_gone (drop_meta F q.inode (link_to d q.entry g)) ≡ b)
+      → IsTrue new.tells → KnownAgreed k new.now → (F : Files) → FilesMatch F new.now → is_gone (drop_meta F q.inode (link_to d q.entry g)) ≡ b
+  gone-on k d g q b gone t all F m = gone (back t) (subst (λ (X : Image). KnownAgreed k X) stays.cells.now all) F
+      (subst (λ (X : Image). FilesMatch F X) stays.cells.now m)
+
+  pub rows-on : (k : Books) (s : Step) → RowsPass old k s → RowsPass new k s
+  rows-on k s pass t H p o V = pass (back t) H p (open-back old new (reads-keep old new stays) k H p o) V
+
+  pub may-on : (k : Books) (d g : ℕ) (name : List ℕ) (r : Record) (q : Paired) → MayDrop old k d g name r q → MayDrop new k d g name r q
+  may-on k d g name r q m = record {
+    directory = directory-on k.at d r.generation r m.directory;
+    generation = m.generation;
+    there = there-on k d m.there;
+    known = paired-on k.at q m.known;
+    found = found-on d name q m.found;
+    no_names = no-names-on q.inode m.no_names;
+    rows = rows-on k (step.Drop d g name) m.rows;
+  }
+
+  pub held-on : (d slot : ℕ) (x : Pointer) → (IsTrue old.tells → find old.now d (path_of slot) ≡ answer.Holds x) → IsTrue new.tells
+      → find new.now d (path_of slot) ≡ answer.Holds x
+  held-on d slot x held t = subst (λ (X : Image). find X d (path_of slot) ≡ answer.Holds x) now (held (back t))
+
+  pub clears-on : (k : Books) (d : ℕ) (q : Paired) (x : Pointer) (c : Cell) → ClearsEntry old k d q x c → ClearsEntry new k d q x c
+  clears-on k d q x c s = record {
+    area = s.area;
+    held = held-on d (q.entry / 16) x s.held;
+    cleared = record {
+      whole = λ t. subst (λ (X : Image). length (cell_at X x.block).payload ≡ 1024) now (s.cleared.whole (back t));
+      payload = λ t. subst (λ (X : Image). c.payload ≡ put_bytes (64 * (q.entry % 16)) (zeros 64) (cell_at X x.block).payload) now
+          (s.cleared.payload (back t));
+      tag = λ t. subst (λ (X : Image). c.tag ≡ (cell_at X x.block).tag) now (s.cleared.tag (back t));
+    };
+  }

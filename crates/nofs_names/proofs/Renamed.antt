@@ -1,0 +1,130 @@
+-- The contract of Rename, from its parts.
+use Rattle.std.proofs.Common.{◌≡◌, ℕ, ◌*◌, ◌/◌, ◌%◌, ◌<◌, inl, inr, Bool, true, false, List, [], ◌∷◌, length, Some, IsTrue, Result, Ok, Err, IfErr, refl, sym, ap, ◌∙◌, subst, subst₂, arith}
+use Rattle.nofs_disk.specs.Disk.{DiskState, IsDisk, StaysButFaults, cell_at}
+use Rattle.nofs_disk.specs.Number.{put_bytes}
+use Rattle.nofs_dirent.specs.EntryLaws.{Spells}
+use Rattle.nofs_model.specs.Cells.{Cell, Pointer, Record, spelled_entry}
+use Rattle.nofs_model.specs.Image.{Image, path_of, find, files_in, agreed, Files, entry_held, value_in}
+use Rattle.nofs_model.specs.Places.{InArea}
+use Rattle.nofs_model.specs.declared.path.PathAnswer.{PathAnswer}
+use Rattle.nofs_model.specs.declared.path.PathAnswer.TheVariants as answer
+use Rattle.nofs_machine.specs.Claims.{no_claims}
+use Rattle.nofs_machine.specs.History.{FilesMatch}
+use Rattle.nofs_machine.specs.declared.history.Entry1.{Entry1}
+use Rattle.nofs_machine.specs.declared.steps.Step.TheVariants as step
+use Rattle.nofs_machine.specs.declared.replies.Reply.TheVariants as reply
+use Rattle.nofs_machine.specs.declared.replies.Refusal.{Refusal}
+use Rattle.nofs_machine.specs.declared.replies.Refusal.TheVariants as refusal
+use Rattle.nofs_law_old_names.proofs.NameRename.{entry-parts}
+use Rattle.nofs_law_untouched.proofs.Matching.{matched-agreed}
+use Rattle.nofs_agree.specs.Reading.{KnowsDirectory}
+use Rattle.nofs_agree.specs.declared.reads.LastRead.{LastRead}
+use Rattle.nofs_agree.proofs.Climbs.{KnowsInode-on}
+use Rattle.nofs_state.specs.Books.{IsSafe}
+use Rattle.nofs_state.specs.Standing.{IsOpen, Past}
+use Rattle.nofs_state.specs.Steps.{Goes, entry}
+use Rattle.nofs_state.specs.Writing.{IsApart, Stores, Stored, NotStored}
+use Rattle.nofs_state.specs.declared.books.Books.{Books}
+use Rattle.nofs_state.proofs.Done.{goes-done}
+use Rattle.nofs_state.proofs.Faults.{goes-fault, stopped_books, stopped_world}
+use Rattle.nofs_state.proofs.TwoWrites.{safe-writes}
+use Rattle.nofs_state.proofs.Keeping.{goes-after, open-back, reads-keep, safe-keeps}
+use Rattle.nofs_state.proofs.Replies.{goes-row, goes-read, open-files}
+use Rattle.nofs_state.proofs.Machine.{agreed-live, are-agreed}
+use Rattle.nofs_names.specs.Searching.{IsFoundEntry}
+use Rattle.nofs_names.specs.Refusing.{IsThere, KnownAgreed}
+use Rattle.nofs_names.specs.Renames.{FoundIn, HoldFails, HoldsSlot, RowsPass, done_answer}
+use Rattle.nofs_names.specs.declared.searching.Paired.{Paired}
+use Rattle.nofs_names.proofs.Renaming.{claim, rename-done, rename-proper, rename-numbered}
+
+-- the entry that was found stands in a slot that holds
+pub slot-holds : (F : Files) (X : Image) (d : ℕ) (name : List ℕ) (q : Paired) → FilesMatch F X → agreed (files_in X) d ≡ true → IsFoundEntry F X d name q → (x : Pointer) × (find X d (path_of (q.entry / 16)) ≡ answer.Holds x)
+slot-holds F X d name q match a f =
+    let m = matched-agreed F X d match (agreed-live X d a) a in
+    let parts = entry-parts (F d) m.file q.entry f.pair.entry m.is f.pair.at in
+    let range = f.pair.range in
+    let v : m.file.values (q.entry / 16) ≡ value_in X (find X d (path_of (q.entry / 16))) = m.values (q.entry / 16) (omega (arith, range)) in
+    go (find X d (path_of (q.entry / 16))) refl (sym (ap (λ (w : _). entry_held w q.entry) v) ∙ parts.2)
+  where
+    go : (b : PathAnswer) → find X d (path_of (q.entry / 16)) ≡ b → entry_held (value_in X b) q.entry ≡ Some f.pair.entry → (x : Pointer) × (find X d (path_of (q.entry / 16)) ≡ answer.Holds x)
+    go answer.Hole e h = cc h
+    go answer.Lost e h = cc h
+    go (answer.Holds x) e h = (x, e)
+
+-- from the state before the write
+
+pub renamed-goes : (b new : DiskState) (k l : Books) (d g : ℕ) (name other : List ℕ) (r : Record) (x : Pointer) (c : Cell) (q : Paired) (result : Result (Unit {0}) Refusal) → IsDisk b → IsDisk new → IsSafe b k → k.stopped ≡ false
+    → KnowsDirectory b k.at d r.generation r → r.generation ≡ g → (IsTrue b.tells → KnownAgreed k b.now → IsThere d b.now) → FoundIn b d name q → 0 < x.block → (IsTrue b.tells → find b.now d (path_of (q.entry / 16)) ≡ answer.Holds x)
+    → (IsTrue b.tells → length (cell_at b.now x.block).payload ≡ 1024) → Spells (spelled_entry q.inode q.record.generation other) (record { inode = q.inode; generation = q.record.generation; name = other })
+    → (IsTrue b.tells → c.payload ≡ put_bytes (64 * (q.entry % 16)) (spelled_entry q.inode q.record.generation other) (cell_at b.now x.block).payload) → (IsTrue b.tells → c.tag ≡ (cell_at b.now x.block).tag)
+    → RowsPass b k (step.Rename d g name other) → Stores b k new l ((x.block, c) ∷ []) result → Goes b k new l (step.Rename d g name other) no_claims (done_answer reply.Renamed result)
+renamed-goes b new k l d g name other r x c q result is_b is_new safe going directory gen there found-in positive held whole spells payload tag pass stores = go stores
+  where
+    apart : IsApart ((x.block, c) ∷ []) 0
+    apart = ((λ e. omega (arith, e, positive)), tt)
+
+    agrees : (H : List Entry1) (p : Past) → IsTrue b.tells → IsOpen b k H p → agreed (files_in b.now) d ≡ true
+    agrees H p tells o = there tells (are-agreed b k H p safe o)
+
+    pair : (H : List Entry1) (p : Past) → IsTrue b.tells → IsOpen b k H p → IsFoundEntry p.world.files b.now d name q
+    pair H p tells o = found-in tells (agrees H p tells o) p.world.files (open-files b k H p o)
+
+    go : Stores b k new l ((x.block, c) ∷ []) result → Goes b k new l (step.Rename d g name other) no_claims (done_answer reply.Renamed result)
+    go (Stored writes same e) = subst₂ (λ (m : Books) (z : Result (Unit {0}) Refusal). Goes b k new m (step.Rename d g name other) no_claims (done_answer reply.Renamed z)) (sym same) (sym e)
+        (goes-done b new k k (step.Rename d g name other) no_claims reply.Renamed ((x.block, c) ∷ []) is_b is_new going refl refl going
+        (safe-writes b new k ((x.block, c) ∷ []) (Ok tt) k.stopped writes apart safe) refl writes.adds.disk writes.adds.past writes.later safe
+        (λ tells H p o. rename-done b new k H p d g name other r x c q is_b tells o (directory.known.same tells) directory.kind gen (agrees H p tells o) (pair H p tells o) (held tells) (whole tells) spells (payload tells) (tag tells) writes (pass tells H p o)))
+    go (NotStored f writes same e) = subst₂ (λ (m : Books) (z : Result (Unit {0}) Refusal). Goes b k new m (step.Rename d g name other) no_claims (done_answer reply.Renamed z)) (sym same) (sym e)
+        (goes-fault b new k (stopped_books k) (step.Rename d g name other) no_claims is_b going refl refl refl writes.adds.disk writes.adds.past writes.cause writes.later safe
+        (safe-writes b new k ((x.block, c) ∷ []) (Err f) true writes apart safe)
+        (λ tells H p o. rename-numbered b new k H p d g name other r x c q is_b tells o (directory.known.same tells) directory.kind gen (agrees H p tells o) (pair H p tells o) (held tells) (whole tells) spells (payload tells) (tag tells) writes.adds)
+        (λ tells caller H p o. (
+          rename-proper b new k H p d g name other r x c q is_b tells o (directory.known.same tells) directory.kind gen (agrees H p tells o) (pair H p tells o) (held tells) (whole tells) spells (payload tells) (tag tells)
+              (entry caller b new (step.Rename d g name other) no_claims (reply.Refused refusal.WriteFault)) refl writes.adds,
+          pass tells H p o (stopped_world p.world),
+          refl,
+          claim b new k H p d g name other r x c q is_b tells o (directory.known.same tells) directory.kind gen (agrees H p tells o) (pair H p tells o) (held tells) (whole tells) spells (payload tells) (tag tells),
+        )))
+
+-- from the state before the slot was found
+
+module _ (old mid : DiskState) (k : Books) (d g : ℕ) (name other : List ℕ) (r : Record) (q : Paired) (is_old : IsDisk old) (safe : IsSafe old k) (going : k.stopped ≡ false)
+    (directory : KnowsDirectory old k.at d r.generation r) (gen : r.generation ≡ g) (there : IsTrue old.tells → KnownAgreed k old.now → IsThere d old.now) (found-in : FoundIn old d name q) (pass : RowsPass old k (step.Rename d g name other)) where
+  now-in : StaysButFaults old mid → mid.now ≡ old.now
+  now-in stays = stays.cells.now
+
+  told : StaysButFaults old mid → IsTrue mid.tells → IsTrue old.tells
+  told stays t = subst (λ (b : Bool). IsTrue b) stays.disk.tells t
+
+  pub rename-ends : (new : DiskState) (l : Books) (x : Pointer) (before c : Cell) (result : Result (Unit {0}) Refusal) → IsDisk mid → IsDisk new → StaysButFaults old mid → InArea k.at (answer.Holds x) → (IsTrue old.tells → find old.now d (path_of (q.entry / 16)) ≡ answer.Holds x)
+      → (IsTrue old.tells → before ≡ cell_at old.now x.block) → length before.payload ≡ 1024 → Spells (spelled_entry q.inode q.record.generation other) (record { inode = q.inode; generation = q.record.generation; name = other })
+      → c.payload ≡ put_bytes (64 * (q.entry % 16)) (spelled_entry q.inode q.record.generation other) before.payload → c.tag ≡ before.tag
+      → Stores mid k new l ((x.block, c) ∷ []) result → Goes old k new l (step.Rename d g name other) no_claims (done_answer reply.Renamed result)
+  rename-ends new l x before c result is_mid is_new stays area held cell whole spells payload tag stores =
+      goes-after old mid (reads-keep old mid stays) new k l (step.Rename d g name other) no_claims (done_answer reply.Renamed result)
+      (renamed-goes mid new k l d g name other r x c q result is_mid is_new (safe-keeps old mid (reads-keep old mid stays) k safe) going
+      (record { known = KnowsInode-on old mid k.at d r stays directory.known; kind = directory.kind; generation = directory.generation }) gen
+      (λ t. subst (λ (X : Image). KnownAgreed k X → IsThere d X) (sym (now-in stays)) (there (told stays t)))
+      (λ t. subst (λ (X : Image). IsThere d X → (F : Files) → FilesMatch F X → IsFoundEntry F X d name q) (sym (now-in stays)) (found-in (told stays t)))
+      (let a = area.0 in omega (arith, a))
+      (λ t. subst (λ (X : Image). find X d (path_of (q.entry / 16)) ≡ answer.Holds x) (sym (now-in stays)) (held (told stays t)))
+      (λ t. sym (ap (λ (z : Cell). length z.payload) (was t)) ∙ whole)
+      spells
+      (λ t. payload ∙ ap (λ (z : Cell). put_bytes (64 * (q.entry % 16)) (spelled_entry q.inode q.record.generation other) z.payload) (was t))
+      (λ t. tag ∙ ap (λ (z : Cell). z.tag) (was t))
+      (λ t H p o V. pass (told stays t) H p (open-back old mid (reads-keep old mid stays) k H p o) V) stores)
+    where
+      was : IsTrue mid.tells → before ≡ cell_at mid.now x.block
+      was t = cell (told stays t) ∙ ap (λ (X : Image). cell_at X x.block) (sym (now-in stays))
+
+  -- the slot was not found
+  pub rename-unheld : (last : LastRead) (res : Result Pointer Refusal) (why : Refusal) → HoldsSlot old mid k.at d (q.entry / 16) last res → res ≡ Err why → Goes old k mid k (step.Rename d g name other) no_claims (reply.Refused why)
+  rename-unheld last res why holds e = go (subst (λ (z : Result Pointer Refusal). IfErr z (HoldFails old mid d (q.entry / 16))) e holds.refused)
+    where
+      go : HoldFails old mid d (q.entry / 16) why → Goes old k mid k (step.Rename d g name other) no_claims (reply.Refused why)
+      go (inl f) = goes-row old mid k (step.Rename d g name other) is_old safe holds.stays why f.0 f.1 going (λ t H p o.
+          let a = there t (are-agreed old k H p safe o) in
+          let h = slot-holds p.world.files old.now d name q (open-files old k H p o) a (found-in t a p.world.files (open-files old k H p o)) in
+          absurd (f.2 t h.0 h.1))
+      go (inr f) = subst (λ (w : Refusal). Goes old k mid k (step.Rename d g name other) no_claims (reply.Refused w)) (sym f.0)
+          (goes-read old mid k (step.Rename d g name other) is_old safe holds.stays going f.1 (λ t H p o w c. absurd (let n = pass t H p o p.world in cc (n, c))))

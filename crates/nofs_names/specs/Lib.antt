@@ -1,0 +1,14 @@
+pub mod Searching
+pub mod Refusing
+pub mod Renames
+pub mod Listing
+pub mod Drops
+pub mod Removing
+pub mod Owning
+pub mod Keeping
+pub mod Filled
+pub mod Dropping
+pub mod Placing
+pub mod Entering
+pub mod Makes
+pub mod Linking

@@ -1,0 +1,60 @@
+-- What the removal of an inode does to the maps, and asks.
+use Rattle.std.specs.Prelude.{◌≡◌, ℕ, ◌+◌, ◌-◌, ◌/◌, ◌<◌, ◌≤◌, Bool, true, false, ◌&&◌, ◌||◌, not, ◌==◌, List, Option, Some, None, length, IsTrue, slice_set, if◌then◌else◌}
+use Rattle.nofs_bits.specs.Bits.{is_set}
+use Rattle.nofs_disk.specs.Disk.{DiskState}
+use Rattle.nofs_model.specs.Cells.{SuperBlock}
+use Rattle.nofs_model.specs.Image.{Files, files_in, agreed, Home, owner}
+use Rattle.nofs_machine.specs.Meta.{is_gone}
+use Rattle.nofs_machine.specs.Machine.{drop_meta, link_to}
+use Rattle.nofs_machine.specs.History.{FilesMatch}
+use Rattle.nofs_state.specs.declared.books.Books.{Books}
+use Rattle.nofs_names.specs.Refusing.{KnownAgreed}
+use Rattle.nofs_names.specs.declared.searching.Paired.{Paired}
+
+-- a block is moved from one map to the other, where it is freed
+pub record MovesBlock (freed : List Bool) (block : ℕ) (free unknown free2 unknown2 : List Bool) : Type 0 where
+  pub freeing : free2 ≡ (if is_set freed block then slice_set free block true else free)
+  pub knowing : unknown2 ≡ (if is_set freed block then slice_set unknown block false else unknown)
+
+-- so are all below a bound
+pub record AreFreed (freed : List Bool) (bound : ℕ) (free unknown free2 unknown2 : List Bool) : Type 0 where
+  pub free_size : length free2 ≡ length free
+  pub unknown_size : length unknown2 ≡ length unknown
+  pub freeing : (q : ℕ) → q < bound → is_set free2 q ≡ (is_set free q || is_set freed q)
+  pub knowing : (q : ℕ) → q < bound → is_set unknown2 q ≡ (is_set unknown q && not (is_set freed q))
+  pub free_rest : (q : ℕ) → bound ≤ q → is_set free2 q ≡ is_set free q
+  pub unknown_rest : (q : ℕ) → bound ≤ q → is_set unknown2 q ≡ is_set unknown q
+
+-- the maps have the sizes of the disk
+pub record HasSizes (k : Books) : Type 0 where
+  pub unknown_inodes : length k.unknown_inodes ≡ k.at.inodes
+  pub free_inodes : length k.free_inodes ≡ k.at.inodes
+  pub agreed_inodes : length k.agreed_inodes ≡ k.at.inodes
+  pub unknown_blocks : length k.unknown_blocks ≡ k.at.blocks
+  pub free_blocks : length k.free_blocks ≡ k.at.blocks
+
+-- an inode and these blocks are known and free
+pub record FreedAs (k l : Books) (i : ℕ) (freed : List Bool) : Type 0 where
+  pub at : l.at ≡ k.at
+  pub serial : l.serial ≡ k.serial
+  pub stopped : l.stopped ≡ k.stopped
+  pub history : l.history ≡ k.history
+  pub unknown_inodes : l.unknown_inodes ≡ slice_set k.unknown_inodes (i - 1) false
+  pub free_inodes : l.free_inodes ≡ slice_set k.free_inodes (i - 1) true
+  pub agreed_inodes : l.agreed_inodes ≡ slice_set k.agreed_inodes (i - 1) false
+  pub blocks : AreFreed freed k.at.blocks k.free_blocks k.unknown_blocks l.free_blocks l.unknown_blocks
+
+-- whether a home is one of this inode
+abbrev pub is_of : ℕ → Option Home → Bool
+is_of i None = false
+is_of i (Some home) = home.inode == i
+
+-- these are the blocks of an inode
+pub record BlocksOf (d : DiskState) (at : SuperBlock) (i : ℕ) (freed : List Bool) : Type 0 where
+  pub size : length freed ≡ at.blocks
+  pub in_area : (q : ℕ) → is_set freed q ≡ true → 1 + at.inodes / 4 ≤ q
+  pub owned : IsTrue d.tells → agreed (files_in d.now) i ≡ true → (q : ℕ) → q < at.blocks → is_set freed q ≡ is_of i (owner d.now q)
+
+-- the inode loses its last name
+abbrev pub LosesName : DiskState → Books → ℕ → ℕ → Paired → Type 0
+LosesName d k i g q = IsTrue d.tells → KnownAgreed k d.now → (F : Files) → FilesMatch F d.now → is_gone (drop_meta F q.inode (link_to i q.entry g)) ≡ true

@@ -1,0 +1,388 @@
+//! A file gets a further name.
+ghost use Rattle.std.specs.Prelude.{◌≡◌, ◌≤◌, ◌<◌, IfOk, IfSome, false, length};
+ghost use Rattle.nofs_dirent.specs.Entries.{HasEntrySpelling, entry_with, spelled_entry, entry_limit};
+ghost use Rattle.nofs_dirent.specs.EntryLaws.{Spells};
+ghost use Rattle.nofs_dirent.specs.Names.{NameOk};
+ghost use Rattle.nofs_model.specs.Cells.{is_empty_link};
+ghost use Rattle.nofs_machine.specs.Machine as machine;
+ghost use Rattle.nofs_machine.specs.declared.steps.Step.TheVariants as step;
+ghost use Rattle.nofs_machine.specs.declared.replies.Reply.TheVariants as reply;
+ghost use Rattle.nofs_agree.specs.Reading.{IsAt, IsLast, KnowsInode};
+ghost use Rattle.nofs_state.specs.Books.{IsSafe};
+ghost use Rattle.nofs_state.specs.Steps.{Goes};
+ghost use Rattle.nofs_names.specs.Entering.{MayEnter};
+ghost use Rattle.nofs_names.specs.Renames.{done_answer};
+ghost use Rattle.nofs_names.specs.Linking.{FindsLinkPlace, Leads, MayLink, OpensBoth, PlaceIs, SpotIs, StandsLink, TellsDeadPlace, block_rows, both_as, linked, named_rows, place_or_many};
+
+use crate::ending::{Ended, refused};
+use crate::entering::{EntryPlace, enter, read_tables};
+use crate::opening::find_unused;
+use crate::placing::{entry_place, find_entry_slot, take_blocks};
+use nofs_agree::{LastRead, is_agreed_link};
+use nofs_bits::Bits;
+use nofs_dirent::{Entry, name_ok};
+use nofs_disk::{Disk, Failed};
+use nofs_inode::{BackLink, FileKind, Record};
+use nofs_lists::Name;
+use nofs_machine::Refusal;
+use nofs_state::{Books, Core, Opened, open_inode};
+use nofs_super::SuperBlock;
+use std::alloc::{AllocError, Global};
+
+/// A directory, and a file that gets a name in it.
+#[derive(Clone, Copy)]
+pub struct Both {
+    pub directory: Record,
+    pub file: Record,
+}
+
+/// Writes a further name of a file.
+///
+/// # Errors
+///
+/// `Stopped`, `BadName`, `Stale`, `NotDirectory`, `IsDirectory`, `Exists`, `TooManyLinks`,
+/// `DirectoryFull`, `Full`, `SerialsSpent`, `ReadFault`, `WriteFault` and `OutOfMemory`. All but
+/// `WriteFault` leave the disk as it was.
+pub fn link<D: Disk + Drop>(
+    core: &mut Core<D>,
+    alloc: Global,
+    directory: u32,
+    generation: u64,
+    name: &[u8],
+    inode: u32,
+    of: u64,
+) -> Ended
+    requires { IsSafe (D.state core.old.disk) core.old.books }
+    ensures { Goes (D.state core.old.disk) core.old.books (D.state core.new.disk) core.new.books (step.Link directory generation name.now inode of) result.claims (done_answer reply.Linked result.result) }
+{
+    match core.disk.ready(4) {
+        Ok(()) => link_with_room(core, alloc, directory, generation, name, inode, of),
+        Err(_) => refused(Refusal::OutOfMemory),
+    }
+}
+
+fn link_with_room<D: Disk + Drop>(
+    core: &mut Core<D>,
+    alloc: Global,
+    directory: u32,
+    generation: u64,
+    name: &[u8],
+    inode: u32,
+    of: u64,
+) -> Ended
+    requires safe { IsSafe (D.state core.old.disk) core.old.books }
+    requires spare { 4 ≤ (D.state core.old.disk).spare }
+    ensures { Goes (D.state core.old.disk) core.old.books (D.state core.new.disk) core.new.books (step.Link directory generation name.now inode of) result.claims (done_answer reply.Linked result.result) }
+{
+    if core.books.stopped {
+        return refused(Refusal::Stopped);
+    }
+    if !name_ok(name) {
+        return refused(Refusal::BadName);
+    }
+    let both = match open_both(
+        &mut core.disk,
+        &core.books,
+        directory,
+        generation,
+        inode,
+        of,
+    ) {
+        Ok(both) => both,
+        Err(why) => return refused(why),
+    };
+    link_opened(core, alloc, directory, generation, name, inode, of, &both)
+}
+
+// The directory and the file.
+fn open_both<D: Disk>(
+    disk: &mut D,
+    books: &Books,
+    directory: u32,
+    generation: u64,
+    inode: u32,
+    of: u64,
+) -> Result<Both, Refusal>
+    requires numbers { IsAt (D.state disk.old) books.now.at }
+    requires agreed { length books.now.agreed_inodes ≡ books.now.at.inodes }
+    ensures { OpensBoth (D.state disk.old) (D.state disk.new) books.now directory generation inode of result }
+{
+    let mut last = LastRead::NONE;
+    let above = match open_inode(disk, books, directory, generation, &mut last) {
+        Ok(above) => above,
+        Err(why) => return Err(why),
+    };
+    let file = match open_inode(disk, books, inode, of, &mut last) {
+        Ok(file) => file,
+        Err(why) => return Err(why),
+    };
+    both_of(&above, &file)
+}
+
+fn both_of(above: &Opened, file: &Opened) -> Result<Both, Refusal>
+    ensures { result ≡ both_as above.now.kind file.now.kind above.now.found file.now.found }
+{
+    match above.kind {
+        FileKind::File => Err(Refusal::NotDirectory),
+        FileKind::Directory => match file.kind {
+            FileKind::Directory => Err(Refusal::IsDirectory),
+            FileKind::File => Ok(Both {
+                directory: above.found,
+                file: file.found,
+            }),
+        },
+    }
+}
+
+// Finds the places of the name and of its back link, and what they take.
+fn link_opened<D: Disk + Drop>(
+    core: &mut Core<D>,
+    alloc: Global,
+    directory: u32,
+    generation: u64,
+    name: &[u8],
+    inode: u32,
+    of: u64,
+    both: &Both,
+) -> Ended
+    requires safe { IsSafe (D.state core.old.disk) core.old.books }
+    requires spare { 4 ≤ (D.state core.old.disk).spare }
+    requires going { core.old.books.stopped ≡ false }
+    requires stands { StandsLink (D.state core.old.disk) core.old.books directory generation name.now inode of both.now }
+    requires lead { Leads (D.state core.old.disk) core.old.books (step.Link directory generation name.now inode of) (named_rows directory name.now inode (step.Link directory generation name.now inode of)) }
+    requires name { NameOk name.now }
+    ensures { Goes (D.state core.old.disk) core.old.books (D.state core.new.disk) core.new.books (step.Link directory generation name.now inode of) result.claims (done_answer reply.Linked result.result) }
+{
+    let mut names = LastRead::NONE;
+    let mut records = LastRead::NONE;
+    let seen = match find_unused(
+        &mut core.disk,
+        &core.books.at,
+        directory,
+        &both.directory,
+        name,
+        &mut names,
+        &mut records,
+    ) {
+        Ok(seen) => seen,
+        Err(why) => return refused(why),
+    };
+    let link = match link_place(
+        &mut core.disk,
+        &core.books.at,
+        &core.books.agreed_inodes,
+        inode,
+        &both.file,
+        &mut records,
+    ) {
+        Ok(link) => link,
+        Err(why) => return refused(why),
+    };
+    let entry = match entry_place(&seen) {
+        Ok(entry) => entry,
+        Err(why) => return refused(why),
+    };
+    link_at(
+        core, alloc, directory, generation, name, inode, of, both, link, entry,
+    )
+}
+
+// Takes the blocks of an entry, and writes it with its back link.
+fn link_at<D: Disk + Drop>(
+    core: &mut Core<D>,
+    alloc: Global,
+    directory: u32,
+    generation: u64,
+    name: &[u8],
+    inode: u32,
+    of: u64,
+    both: &Both,
+    link: u32,
+    entry: u32,
+) -> Ended
+    requires safe { IsSafe (D.state core.old.disk) core.old.books }
+    requires spare { 4 ≤ (D.state core.old.disk).spare }
+    requires going { core.old.books.stopped ≡ false }
+    requires stands { StandsLink (D.state core.old.disk) core.old.books directory generation name.now inode of both.now }
+    requires place { PlaceIs (D.state core.old.disk) core.old.books directory name.now entry }
+    requires spot { SpotIs (D.state core.old.disk) core.old.books inode link }
+    requires lead { Leads (D.state core.old.disk) core.old.books (step.Link directory generation name.now inode of) (block_rows (step.Link directory generation name.now inode of)) }
+    requires name { NameOk name.now }
+    requires link { link < 4 }
+    requires entry { entry < entry_limit }
+    ensures { Goes (D.state core.old.disk) core.old.books (D.state core.new.disk) core.new.books (step.Link directory generation name.now inode of) result.claims (done_answer reply.Linked result.result) }
+{
+    let mut last = LastRead::NONE;
+    let slot = match find_entry_slot(
+        &mut core.disk,
+        &core.books.at,
+        directory,
+        &both.directory,
+        entry / 16,
+        &mut last,
+    ) {
+        Ok(slot) => slot,
+        Err(why) => return refused(why),
+    };
+    let needed = slot.blocks();
+    let blocks = match take_blocks(core, needed, 0) {
+        Ok(blocks) => blocks,
+        Err(why) => return refused(why),
+    };
+    let place = EntryPlace {
+        entry,
+        slot,
+        blocks,
+        cell: last.cell,
+    };
+    let named = match named_entry(alloc, inode, of, name) {
+        Ok(named) => named,
+        Err(_) => return refused(Refusal::OutOfMemory),
+    };
+    link_named(core, directory, generation, both, link, &place, &named)
+}
+
+// The entry of a name.
+fn named_entry(alloc: Global, inode: u32, generation: u64, name: &[u8]) -> Result<Entry, AllocError>
+    requires { HasEntrySpelling (entry_with inode generation name.now) }
+    ensures value { IfOk result (λ it. it ≡ entry_with inode generation name.now) }
+    ensures spells { Spells (spelled_entry inode generation name.now) (entry_with inode generation name.now) }
+{
+    Ok(Entry {
+        inode,
+        generation,
+        name: Name::from_slice(alloc, name)?,
+    })
+}
+
+// Writes an entry and its back link.
+fn link_named<D: Disk + Drop>(
+    core: &mut Core<D>,
+    directory: u32,
+    generation: u64,
+    both: &Both,
+    link: u32,
+    place: &EntryPlace,
+    named: &Entry,
+) -> Ended
+    requires safe { IsSafe (D.state core.old.disk) core.old.books }
+    requires spare { 4 ≤ (D.state core.old.disk).spare }
+    requires going { core.old.books.stopped ≡ false }
+    requires may { MayEnter (D.state core.old.disk) core.old.books directory both.now.directory place.now.entry place.now.slot place.now.blocks named.now both.now.file }
+    requires known { MayLink (D.state core.old.disk) core.old.books directory generation both.now place.now named.now link }
+    requires link { link < 4 }
+    ensures { Goes (D.state core.old.disk) core.old.books (D.state core.new.disk) core.new.books (step.Link directory generation named.now.name named.now.inode named.now.generation) result.claims (done_answer reply.Linked result.result) }
+{
+    let mut last = LastRead::NONE;
+    let tables = match read_tables(&mut core.disk, directory, named.inode, &mut last) {
+        Ok(tables) => tables,
+        Err(_) => return refused(Refusal::ReadFault),
+    };
+    let back = BackLink {
+        directory,
+        entry: place.entry,
+        generation: both.directory.generation,
+    };
+    let new = linked(&both.file, link, back);
+    enter(
+        core,
+        directory,
+        &both.directory,
+        place,
+        named,
+        &new,
+        &tables,
+    )
+}
+
+// The record with a back link in a place.
+fn linked(it: &Record, place: u32, link: BackLink) -> Record
+    requires { place < 4 }
+    ensures { result ≡ linked it.now place link }
+{
+    let mut links = it.links;
+    links[place as usize] = link;
+    Record { links, ..*it }
+}
+
+// The place of a new back link: the first one that is empty, or else the first one that is no pair
+// with an agreed directory.
+fn link_place<D: Disk>(
+    disk: &mut D,
+    at: &SuperBlock,
+    known: &Bits,
+    inode: u32,
+    it: &Record,
+    last: &mut LastRead,
+) -> Result<u32, Refusal>
+    requires record { KnowsInode (D.state disk.old) at.now inode it.now }
+    requires known { length known.now ≡ at.now.inodes }
+    requires last { IsLast (D.state disk.old) last.old }
+    ensures { FindsLinkPlace (D.state disk.old) (D.state disk.new) known.now inode last.new result }
+{
+    if inode == 2 {
+        return Err(Refusal::TooManyLinks);
+    }
+    match empty_place(&it.links) {
+        Some(place) => Ok(place),
+        None => match dead_place(disk, at, known, inode, it, last) {
+            Ok(place) => place_or_full(place),
+            Err(_) => Err(Refusal::ReadFault),
+        },
+    }
+}
+
+fn place_or_full(place: Option<u32>) -> Result<u32, Refusal>
+    ensures { result ≡ place_or_many place }
+{
+    match place {
+        Some(place) => Ok(place),
+        None => Err(Refusal::TooManyLinks),
+    }
+}
+
+fn empty_place(links: &[BackLink; 4]) -> Option<u32>
+    ensures place { result ≡ machine.place_for_link is_empty_link links.now 0 }
+    ensures range { IfSome result (λ b. b < 4) }
+{
+    if is_empty(&links[0]) {
+        return Some(0);
+    }
+    if is_empty(&links[1]) {
+        return Some(1);
+    }
+    if is_empty(&links[2]) {
+        return Some(2);
+    }
+    if is_empty(&links[3]) {
+        return Some(3);
+    }
+    None
+}
+
+fn is_empty(link: &BackLink) -> bool
+    ensures { result ≡ is_empty_link link.now }
+{
+    link.directory == 0
+}
+
+fn dead_place<D: Disk>(
+    disk: &mut D,
+    at: &SuperBlock,
+    known: &Bits,
+    inode: u32,
+    it: &Record,
+    last: &mut LastRead,
+) -> Result<Option<u32>, Failed>
+    requires record { KnowsInode (D.state disk.old) at.now inode it.now }
+    requires known { length known.now ≡ at.now.inodes }
+    requires last { IsLast (D.state disk.old) last.old }
+    ensures { TellsDeadPlace (D.state disk.old) (D.state disk.new) known.now inode it.now last.new result }
+{
+    for place in 0..4 {
+        if !is_agreed_link(disk, at, known, inode, it, &it.links[place], last)? {
+            return Ok(Some(place as u32));
+        }
+    }
+    Ok(None)
+}

@@ -1,0 +1,179 @@
+//! The blocks that an inode owns.
+ghost use Rattle.std.specs.Prelude.{◌≡◌, ◌+◌, ◌*◌, ◌≤◌, ◌<◌, ℕ, false, length, replicate, IsTrue};
+ghost use Rattle.nofs_ptrs.specs.Paths.{slot_limit};
+ghost use Rattle.nofs_model.specs.Slots.{is_slot};
+ghost use Rattle.nofs_agree.specs.Reading.{IsLast, KnowsInode};
+ghost use Rattle.nofs_names.specs.Owning.{Marks, MarksAll, MarksInode, OwnsBlocks};
+
+use nofs_agree::{LastRead, find_slot};
+use nofs_bits::Bits;
+use nofs_disk::{Disk, Failed};
+use nofs_inode::Record;
+use nofs_machine::Refusal;
+use nofs_model::{PathAnswer, Place, place_of};
+use nofs_super::SuperBlock;
+use std::alloc::Global;
+
+/// The blocks of an inode, as a map with a place for each block of the disk.
+///
+/// # Errors
+///
+/// `OutOfMemory`, and `ReadFault` where a read failed.
+pub(crate) fn owned_blocks<D: Disk>(
+    alloc: Global,
+    disk: &mut D,
+    at: &SuperBlock,
+    inode: u32,
+    it: &Record,
+    last: &mut LastRead,
+) -> Result<Bits, Refusal>
+    requires known { KnowsInode (D.state disk.old) at.now inode it.now }
+    requires last { IsLast (D.state disk.old) last.old }
+    ensures { OwnsBlocks (D.state disk.old) (D.state disk.new) at.now inode last.new result }
+{
+    let mut owned = match Bits::new(alloc, at.blocks) {
+        Ok(owned) => owned,
+        Err(_) => return Err(Refusal::OutOfMemory),
+    };
+    match mark_all(disk, at, inode, it, &mut owned, last) {
+        Ok(()) => Ok(owned),
+        Err(_) => Err(Refusal::ReadFault),
+    }
+}
+
+// Marks the blocks of all slots.
+fn mark_all<D: Disk>(
+    disk: &mut D,
+    at: &SuperBlock,
+    inode: u32,
+    it: &Record,
+    owned: &mut Bits,
+    last: &mut LastRead,
+) -> Result<(), Failed>
+    requires known { KnowsInode (D.state disk.old) at.now inode it.now }
+    requires empty { owned.old ≡ replicate at.now.blocks false }
+    requires last { IsLast (D.state disk.old) last.old }
+    ensures { MarksInode (D.state disk.old) (D.state disk.new) at.now inode owned.new last.new result }
+{
+    mark_slots(disk, at, inode, it, 0, 72, owned, last)?;
+    mark_far(disk, at, inode, it, owned, last)?;
+    mark_slots(disk, at, inode, it, 1 << 32, (1 << 32) + 66, owned, last)
+}
+
+// Marks the blocks of the slots below the top, where there is one.
+fn mark_far<D: Disk>(
+    disk: &mut D,
+    at: &SuperBlock,
+    inode: u32,
+    it: &Record,
+    owned: &mut Bits,
+    last: &mut LastRead,
+) -> Result<(), Failed>
+    requires known { KnowsInode (D.state disk.old) at.now inode it.now }
+    requires size { length owned.old ≡ at.now.blocks }
+    requires last { IsLast (D.state disk.old) last.old }
+    ensures { MarksAll (D.state disk.old) (D.state disk.new) at.now inode 72 slot_limit owned.old owned.new last.new result }
+{
+    match find_slot(disk, at, inode, it, Place::InRecord(9), last)? {
+        PathAnswer::Hole => Ok(()),
+        PathAnswer::Lost => Ok(()),
+        PathAnswer::Holds(_) => mark_children(disk, at, inode, it, owned, last),
+    }
+}
+
+fn mark_children<D: Disk>(
+    disk: &mut D,
+    at: &SuperBlock,
+    inode: u32,
+    it: &Record,
+    owned: &mut Bits,
+    last: &mut LastRead,
+) -> Result<(), Failed>
+    requires known { KnowsInode (D.state disk.old) at.now inode it.now }
+    requires size { length owned.old ≡ at.now.blocks }
+    requires last { IsLast (D.state disk.old) last.old }
+    ensures { MarksAll (D.state disk.old) (D.state disk.new) at.now inode 72 slot_limit owned.old owned.new last.new result }
+{
+    for child in 0..64 {
+        mark_child(disk, at, inode, it, child, owned, last)?;
+    }
+    Ok(())
+}
+
+// Marks the blocks of the slots below a child of the top, where there is one.
+fn mark_child<D: Disk>(
+    disk: &mut D,
+    at: &SuperBlock,
+    inode: u32,
+    it: &Record,
+    child: u64,
+    owned: &mut Bits,
+    last: &mut LastRead,
+) -> Result<(), Failed>
+    requires known { KnowsInode (D.state disk.old) at.now inode it.now }
+    requires child { child < 64 }
+    requires size { length owned.old ≡ at.now.blocks }
+    requires last { IsLast (D.state disk.old) last.old }
+    ensures { MarksAll (D.state disk.old) (D.state disk.new) at.now inode (72 + 64 * child) (72 + 64 * (child + 1)) owned.old owned.new last.new result }
+{
+    let place = Place::UnderRecord {
+        at: 9,
+        place: child,
+    };
+    match find_slot(disk, at, inode, it, place, last)? {
+        PathAnswer::Hole => Ok(()),
+        PathAnswer::Lost => Ok(()),
+        PathAnswer::Holds(_) => {
+            let from = 72 + 64 * child;
+            mark_slots(disk, at, inode, it, from, from + 64, owned, last)
+        }
+    }
+}
+
+// Marks the blocks of some slots.
+fn mark_slots<D: Disk>(
+    disk: &mut D,
+    at: &SuperBlock,
+    inode: u32,
+    it: &Record,
+    from: u64,
+    to: u64,
+    owned: &mut Bits,
+    last: &mut LastRead,
+) -> Result<(), Failed>
+    requires known { KnowsInode (D.state disk.old) at.now inode it.now }
+    requires slots { (k : ℕ) → from ≤ k → k < to → IsTrue (is_slot k) }
+    requires order { from ≤ to }
+    requires size { length owned.old ≡ at.now.blocks }
+    requires last { IsLast (D.state disk.old) last.old }
+    ensures { MarksAll (D.state disk.old) (D.state disk.new) at.now inode from to owned.old owned.new last.new result }
+{
+    for slot in from..to {
+        mark_slot(disk, at, inode, it, slot, owned, last)?;
+    }
+    Ok(())
+}
+
+// Marks the block of a slot, where it holds.
+fn mark_slot<D: Disk>(
+    disk: &mut D,
+    at: &SuperBlock,
+    inode: u32,
+    it: &Record,
+    slot: u64,
+    owned: &mut Bits,
+    last: &mut LastRead,
+) -> Result<(), Failed>
+    requires known { KnowsInode (D.state disk.old) at.now inode it.now }
+    requires slot { IsTrue (is_slot slot) }
+    requires size { length owned.old ≡ at.now.blocks }
+    requires last { IsLast (D.state disk.old) last.old }
+    ensures { Marks (D.state disk.old) (D.state disk.new) at.now inode slot owned.old owned.new last.new result }
+{
+    match find_slot(disk, at, inode, it, place_of(slot), last)? {
+        PathAnswer::Hole => {}
+        PathAnswer::Lost => {}
+        PathAnswer::Holds(pointer) => owned.set(pointer.block, true),
+    }
+    Ok(())
+}

@@ -1,0 +1,105 @@
+//! One write of a step, and an entry in a cell.
+ghost use Rattle.std.specs.Prelude.{◌≡◌, ◌*◌, ◌<◌, ◌≤◌, ◌∷◌, [], length, OnOk};
+ghost use Rattle.nofs_disk.specs.Number.{put_bytes};
+ghost use Rattle.nofs_dirent.specs.Entries.{HasEntrySpelling, entry_with, spelled_entry};
+ghost use Rattle.nofs_dirent.specs.EntryLaws.{Spells};
+ghost use Rattle.nofs_agree.specs.Reading.{IsLast, KnowsInode};
+ghost use Rattle.nofs_names.specs.Renames.{HoldsSlot, IsSlotHeld};
+ghost use Rattle.nofs_state.specs.Writing.{Stores};
+
+use nofs_agree::{LastRead, find_slot};
+use nofs_dirent::{Entry, write_entry};
+use nofs_disk::{Cell, Disk, Pointer};
+use nofs_inode::Record;
+use nofs_lists::Name;
+use nofs_machine::Refusal;
+use nofs_model::{PathAnswer, place_of};
+use nofs_state::Core;
+use nofs_super::SuperBlock;
+use std::alloc::{AllocError, Global};
+
+/// Writes a cell. Where the write fails the mount is stopped.
+///
+/// # Errors
+///
+/// `WriteFault` where the write failed: the cell may be written or not.
+pub(crate) fn write_one<D: Disk + Drop>(
+    core: &mut Core<D>,
+    block: u64,
+    cell: &Cell,
+) -> Result<(), Refusal>
+    requires block { block < (D.state core.old.disk).blocks }
+    requires spare { 1 ≤ (D.state core.old.disk).spare }
+    ensures { Stores (D.state core.old.disk) core.old.books (D.state core.new.disk) core.new.books ((block, cell.now) ∷ []) result }
+{
+    match core.disk.write(block, cell) {
+        Ok(()) => Ok(()),
+        Err(_) => {
+            core.books.stopped = true;
+            Err(Refusal::WriteFault)
+        }
+    }
+}
+
+/// Writes an entry at a place of a directory's cell.
+pub(crate) fn put_entry(
+    alloc: Global,
+    payload: &mut [u8; 1024],
+    place: u32,
+    inode: u32,
+    generation: u64,
+    name: &[u8],
+) -> Result<(), AllocError>
+    requires place { place < 16 }
+    requires spelling { HasEntrySpelling (entry_with inode generation name.now) }
+    ensures whole { length payload.old ≡ 1024 }
+    ensures spells { Spells (spelled_entry inode generation name.now) (entry_with inode generation name.now) }
+    ensures put { OnOk result (payload.new ≡ put_bytes (64 * place) (spelled_entry inode generation name.now) payload.old) }
+{
+    let entry = Entry {
+        inode,
+        generation,
+        name: Name::from_slice(alloc, name)?,
+    };
+    write_entry(payload, place, &entry);
+    Ok(())
+}
+
+/// The block of a slot that holds. It is the one that was read last.
+///
+/// # Errors
+///
+/// `ReadFault` where a read failed. Where the disk tells, the slot must hold; where it does not, it
+/// may answer `LostSlot`.
+pub(crate) fn hold_slot<D: Disk>(
+    disk: &mut D,
+    at: &SuperBlock,
+    directory: u32,
+    it: &Record,
+    slot: u32,
+    names: &mut LastRead,
+) -> Result<Pointer, Refusal>
+    requires known { KnowsInode (D.state disk.old) at.now directory it.now }
+    requires slot { slot < 72 }
+    requires last { IsLast (D.state disk.old) names.old }
+    ensures { HoldsSlot (D.state disk.old) (D.state disk.new) at.now directory slot names.new result }
+{
+    match find_slot(disk, at, directory, it, place_of(u64::from(slot)), names) {
+        Err(_) => Err(Refusal::ReadFault),
+        Ok(answer) => held(answer, slot),
+    }
+}
+
+fn held(answer: PathAnswer, slot: u32) -> Result<Pointer, Refusal>
+    ensures { IsSlotHeld slot answer result }
+{
+    match answer {
+        PathAnswer::Holds(pointer) => Ok(pointer),
+        PathAnswer::Hole => Err(Refusal::LostSlot {
+            slot: u64::from(slot),
+        }),
+        PathAnswer::Lost => Err(Refusal::LostSlot {
+            slot: u64::from(slot),
+        }),
+    }
+}

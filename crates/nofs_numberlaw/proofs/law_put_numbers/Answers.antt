@@ -1,5 +1,0 @@
-use Rattle.nofs_numberlaw.proofs.FileNumbers.{law-put-cells, law-put-record}
-use Rattle.nofs_numberlaw.proofs.law_put_numbers.Goals as goal
-
-pub returns : goal.returns
-returns c = record { cells = law-put-cells; inode = law-put-record }

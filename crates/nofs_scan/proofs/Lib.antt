@@ -1,0 +1,4 @@
+pub mod Elements
+pub mod Committing
+pub mod Lookups
+pub mod Going

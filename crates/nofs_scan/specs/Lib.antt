@@ -1,0 +1,4 @@
+pub mod Seen
+pub mod Elements
+pub mod Late
+pub mod Looking

@@ -1,0 +1,16 @@
+//! The scans of a mounted disk: which inodes and which blocks are used.
+//!
+//! Promise: each verdict that the maps get is that of the disk, and one that stands stays.
+#![tactic(auto)]
+
+mod commits;
+mod entries;
+mod evidence;
+mod looks;
+mod sees;
+
+pub use commits::commit;
+pub use entries::commit_step;
+pub use evidence::{Evidence, Verdict, judge};
+pub use looks::look_batch;
+pub use sees::{see_block, see_inode};

@@ -1,0 +1,4 @@
+pub mod Joining
+pub mod Gathering
+pub mod Working
+pub mod Teaming

@@ -1,0 +1,57 @@
+//! All workers at once.
+ghost use Rattle.std.specs.Prelude.{◌≡◌, ℕ, ◌<◌, length, slice_index_or};
+
+use crate::works::Works;
+use std::thread;
+use std::thread::Threads;
+
+/// Lends each worker to a thread of its own, where one can be made, and waits for all. Each has then
+/// done its work once.
+pub fn work_all<R: Threads + Sync, W: Works + Send>(rt: &R, workers: &mut [W])
+    ensures len { length workers.new ≡ length workers.old }
+    ensures each { (place : ℕ) (default : W) → place < length workers.old → W.worked (slice_index_or workers.old place default) (slice_index_or workers.new place default) }
+{
+    let count = workers.len();
+    if count == 0 {
+        return;
+    }
+    thread::for_each_mut(
+        rt,
+        workers,
+        count,
+        &|_: usize, worker: &mut W|
+            ensures { W.worked worker.old worker.new }
+        { worker.work() },
+    );
+}
+
+/// Lends the users and both sweepers to threads at once. Each has then done its work once.
+pub fn work_team<R: Threads + Sync, U: Works + Send, I: Works + Send, B: Works + Send>(
+    rt: &R,
+    users: &mut Vec<U>,
+    inodes: &mut I,
+    blocks: &mut B,
+)
+    ensures len { length users.new.items ≡ length users.old.items }
+    ensures users { (place : ℕ) (default : U) → place < length users.old.items → U.worked (slice_index_or users.old.items place default) (slice_index_or users.new.items place default) }
+    ensures inodes { I.worked inodes.old inodes.new }
+    ensures blocks { B.worked blocks.old blocks.new }
+{
+    thread::join_mut(
+        rt,
+        &mut || work_all(rt, users.as_mut_slice()),
+        &mut || work_two(rt, inodes, blocks),
+    );
+}
+
+// Lends two workers to threads at once.
+fn work_two<R: Threads + Sync, V: Works + Send, W: Works + Send>(
+    rt: &R,
+    first: &mut V,
+    second: &mut W,
+)
+    ensures first { V.worked first.old first.new }
+    ensures second { W.worked second.old second.new }
+{
+    thread::join_mut(rt, &mut || first.work(), &mut || second.work());
+}

@@ -1,0 +1,78 @@
+//! Serving users at a mount.
+//!
+//! Promise: the history has of each user just the steps that its commands ask for, in order, and of each sweep one step for each
+//! element.
+ghost use Rattle.std.specs.Prelude.{◌≡◌, ◌<◌, ◌≤◌, ◌^◌, true, All, map, vec_len};
+ghost use Rattle.nofs_client.specs.Commands.{AreWellFormed};
+ghost use Rattle.nofs_serve.specs.Served.{TeamServed};
+
+use crate::gather::Gathered;
+use crate::team::{Plan, Room, Sweeps, run_team};
+use nofs_client::LineList;
+use nofs_shared::{Serves, ShareFault, SharedMount};
+use nofs_workers::Gate;
+use std::alloc::Global;
+use std::sync::Wait;
+use std::thread::Threads;
+
+/// A mount that has served its users.
+#[derive(Drop)]
+pub struct Served<V> {
+    pub mount: V,
+    /// The lines of each user.
+    pub lines: Vec<LineList>,
+    /// Whether memory was wanting for some worker.
+    pub out_of_memory: bool,
+}
+
+// Nobody was served, since memory was wanting.
+fn unserved<V>(alloc: Global, mount: V) -> Served<V>
+    ensures { (result.mount ≡ mount) × (result.out_of_memory ≡ true) }
+{
+    Served {
+        mount,
+        lines: Vec::new(alloc),
+        out_of_memory: true,
+    }
+}
+
+/// Serves each user by a worker on a thread of its own beside the two sweepers, and hands the mount back when all have ended.
+pub fn serve<R: Threads + Wait + Sync, V: Serves + Send, T: Gate + Send + Drop>(
+    rt: &R,
+    alloc: Global,
+    mount: V,
+    plans: Vec<Plan<T>>,
+    sweeps: Sweeps<T>,
+) -> Served<V>
+    requires few { vec_len plans ≤ 8 }
+    requires formed { All (λ p. AreWellFormed p.commands) plans.items }
+    requires small { sweeps.inodes < 2 ^ 32 }
+    ensures fixed { V.fixed result.mount ≡ V.fixed mount }
+    ensures served { TeamServed (map (λ p. p.commands) plans.items) sweeps.inodes sweeps.blocks result.out_of_memory result.lines.items (V.entries mount) (V.entries result.mount) }
+{
+    let count = plans.len();
+    let Ok(users) = Vec::with_capacity(alloc, count) else {
+        return unserved(alloc, mount);
+    };
+    let Ok(lines) = Vec::with_capacity(alloc, count) else {
+        return unserved(alloc, mount);
+    };
+    let (shared, passes) = match SharedMount::new(alloc, mount, count as u32 + 2) {
+        Ok(made) => made,
+        Err(ShareFault { mount }) => return unserved(alloc, mount),
+    };
+    let room = Room { users, lines };
+    let Gathered {
+        pass,
+        lines,
+        out_of_memory,
+    } = run_team(rt, alloc, &shared, passes, plans, sweeps, room);
+    let Ok(mount) = shared.close(pass) else {
+        unreachable!()
+    };
+    Served {
+        mount,
+        lines,
+        out_of_memory,
+    }
+}

@@ -1,0 +1,88 @@
+-- A mount stands after a verdict of an earlier state is committed.
+use Rattle.std.proofs.Common.{◌≡◌, ℕ, ◌^◌, ◌<◌, ◌≤◌, arith, Bool, true, false, ◌&&◌, List, [], ◌∷◌, ◌++◌, set, IsTrue, ◌⊎◌, inl, inr, refl, sym, ap, ◌∙◌, subst, le_refl}
+use mathlib.Core.List.{IsPrefix}
+use Rattle.nofs_disk.specs.Disk.{DiskState}
+use Rattle.nofs_disk.specs.Chains.{IsSameDisk-refl, KeepsPast-refl}
+use Rattle.nofs_super.specs.Format.{super_cell}
+use Rattle.nofs_model.specs.Cells.{SuperBlock}
+use Rattle.nofs_model.specs.Image.{Image}
+use Rattle.nofs_machine.specs.Claims.{no_claims}
+use Rattle.nofs_machine.specs.HistoryState.{HistoryState}
+use Rattle.nofs_machine.specs.declared.history.Entry1.{Entry1}
+use Rattle.nofs_machine.specs.declared.steps.ElementKind.{ElementKind}
+use Rattle.nofs_machine.specs.declared.steps.ElementKind.TheVariants as element
+use Rattle.nofs_machine.specs.declared.steps.Step.{Step}
+use Rattle.nofs_machine.specs.declared.replies.Reply.TheVariants as reply
+use Rattle.nofs_machine.specs.Steps.{Fits}
+use Rattle.nofs_state.specs.Books.{with_history}
+use Rattle.nofs_state.specs.Standing.{IsOpen, IsStopped, Past, Sounds}
+use Rattle.nofs_state.specs.Steps.{IsSafeStep, entry}
+use Rattle.nofs_state.specs.declared.books.Books.{Books}
+use Rattle.nofs_scan.specs.Elements.{HasElement, see_step}
+use Rattle.nofs_scan.specs.Late.{Commits, WasOpen}
+use Rattle.nofs_shared.specs.Sees.{is_see}
+use Rattle.nofs_shared.specs.Mounts.{IsMount, IsSoundDisk, MountStands}
+use Rattle.nofs_shared.proofs.Mounting.{Leads, mount-more}
+
+module _ (found early d : DiskState) (first : ℕ) (before k l : Books) (then : IsMount found early first before) (m : IsMount found d first k)
+    (open_then : before.stopped ≡ false) (going : k.stopped ≡ false) (begun : before.history.start ≡ k.history.start) (numbers : before.at ≡ k.at) (begins : IsPrefix before.history.entries k.history.entries) where
+  -- the base of both is the disk that was found, with the mount number raised
+  base-then : (p q : Past) → q.base ≡ early.was before.history.start → p.base ≡ d.was k.history.start → p.base ≡ q.base
+  base-then p q eq ep = ep ∙ m.mounted.base ∙ ap (λ (at : SuperBlock). set found.now 0 (super_cell at)) (sym numbers) ∙ sym then.mounted.base ∙ sym eq
+
+  pub was-open : IsSoundDisk found → (p : Past) → p.base ≡ d.was k.history.start → p.first ≡ first → WasOpen early before k k.history.entries p
+  was-open q p base serial = go st.past st.base st.serial st.now
+    where
+      st : MountStands found early first before
+      st = then.stands q
+
+      go : (o : Past) → o.base ≡ early.was before.history.start → o.first ≡ first → IsOpen early before before.history.entries o ⊎ IsStopped early before before.history.entries o → WasOpen early before k k.history.entries p
+      go o eb ef (inr s) = absurd (let e = s.stopped in cc (e, open_then))
+      go o eb ef (inl s) = record {
+        tells = subst (λ (b : Bool). IsTrue b) (sym then.disk.tells) q.tells;
+        before = before.history.entries;
+        after = begins.0;
+        whole = sym begins.1;
+        start = begun;
+        past = o;
+        mount = record { base = base-then p o eb base; first = serial ∙ sym ef };
+        stood = s;
+      }
+
+  module _ (kind : ElementKind) (item : ℕ) (used result : Bool) (cm : Commits early before d k l kind item used result) (caller : ℕ) where
+    abbrev e : Entry1
+    e = entry caller d d (see_step kind item) no_claims (reply.Seen result)
+
+    safely : IsSafeStep d k d l (reply.Seen result)
+    safely = record { disk = IsSameDisk-refl d; past = KeepsPast-refl d; later = le_refl d.moment; cause = cm.cause; safe = cm.safe; at = cm.at; history = cm.history }
+
+    pub mount-commits : (h : HistoryState) → h.start ≡ l.history.start → h.entries ≡ l.history.entries ++ e ∷ [] → IsMount found d first (record l { history = h })
+    mount-commits = mount-more found d d first k l m (see_step kind item) no_claims (reply.Seen result) caller safely refl
+        (λ q st. (go q st.past st.base st.serial st.now, st.sound))
+      where
+        go : IsSoundDisk found → (p : Past) → p.base ≡ d.was k.history.start → p.first ≡ first → IsOpen d k k.history.entries p ⊎ IsStopped d k k.history.entries p → Leads d l e k.history.entries p
+        go q p eb ef (inr s) = absurd (let t = s.stopped in cc (t, going))
+        go q p eb ef (inl o) =
+            let t = (cm.from_open (subst (λ (b : Bool). IsTrue b) (sym m.disk.tells) q.tells) caller k.history.entries p o (was-open q p eb ef)).done refl refl in
+            (t.0, t.1, inl t.2)
+
+    -- with the entry that the code writes
+    pub mount-kept : (from to spare : ℕ) (s : Step) → s ≡ see_step kind item → from ≡ d.moment → to ≡ d.moment
+        → IsMount found d first (with_history l (record { start = l.history.start; entries = l.history.entries ++ record { caller = caller; from = from; to = to; step = s; reply = reply.Seen result; claims = no_claims } ∷ []; spare = spare }))
+    mount-kept from to spare s same begin end =
+        mount-commits (record { start = l.history.start; entries = l.history.entries ++ record { caller = caller; from = from; to = to; step = s; reply = reply.Seen result; claims = no_claims } ∷ []; spare = spare }) refl
+        (λ j. l.history.entries ++ record { caller = caller; from = begin j; to = end j; step = same j; reply = reply.Seen result; claims = no_claims } ∷ [])
+
+-- what a See step's reply may be
+pub fits-seen : (kind : ElementKind) (item : ℕ) (used : Bool) → Fits (see_step kind item) (reply.Seen used)
+fits-seen element.Inode item used = tt
+fits-seen element.Block item used = tt
+
+pub see-is : (kind : ElementKind) (item : ℕ) → is_see (see_step kind item) ≡ true
+see-is element.Inode item = refl
+see-is element.Block item = refl
+
+-- the number of a verdict's element is small
+pub item-small : (kind : ElementKind) (at : SuperBlock) (item : ℕ) → HasElement kind at item → at.inodes < 2 ^ 32 → at.blocks ≤ 2 ^ 32 → item < 2 ^ 32
+item-small element.Inode at item r i b = let h = r.1 in omega (arith, h, i)
+item-small element.Block at item r i b = let h = r.1 in omega (arith, h, b)

@@ -1,0 +1,14 @@
+pub mod Mounting
+pub mod Refusing
+pub mod Raising
+pub mod Owning
+pub mod Ending
+pub mod Claiming
+pub mod Committing
+pub mod Rooming
+pub mod Walking
+pub mod Collecting
+pub mod Two
+pub mod Sends
+pub mod Examining
+pub mod Looking

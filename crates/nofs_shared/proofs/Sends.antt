@@ -1,0 +1,15 @@
+-- A mount may cross threads. The kit makes no such proof of a struct with a snapshot.
+use denote.RattleType.{RattleType}
+use denote.Param.Send.{IsSend, sendable}
+use denote.Param.SendFields.{declared_send, as_row_send, owner_send}
+use Rattle.nofs_disk.specs.declared.disk.Disk as Disk
+use Rattle.nofs_shared.specs.contracts.mount.Mount.{the_row, the_type}
+use Rattle.nofs_state.specs.contracts.cores.Core as core
+use Rattle.nofs_state.proofs.cores.Core.TheSendSync as core_sends
+use Rattle.std.specs.contracts.snapshot.Snapshot as snapshot
+
+snapshot-send : (D : RattleType) → IsSend (snapshot.the_row D)
+snapshot-send D = owner_send (snapshot.the_type D) (search sendable) (λ d. tt) (λ k x w. tt)
+
+pub mount-send : (D : RattleType) (g : Disk.Ghosts D.Denot) → IsSend D → IsSend (the_row D g)
+mount-send D g d = declared_send (the_type D g) (as_row_send (core.the_field D) (core_sends.the_field_send D d), (search sendable, (as_row_send (snapshot.the_field D) (snapshot-send D), (search sendable, tt))))

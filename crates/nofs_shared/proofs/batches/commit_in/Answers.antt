@@ -1,0 +1,30 @@
+use Rattle.std.proofs.Common.{◌-◌, ℕ, List, refl, sym, ap, ◌∙◌, subst, subst₂}
+use Rattle.nofs_disk.specs.Disk.{DiskState}
+use Rattle.nofs_state.specs.Books.{IsSafe}
+use Rattle.nofs_state.specs.declared.books.Books.{Books}
+use Rattle.nofs_machine.specs.Steps.{Fits}
+use Rattle.nofs_machine.specs.declared.steps.Step.{Step}
+use Rattle.nofs_scan.specs.Elements.{see_step, verdict_at}
+use Rattle.nofs_scan.specs.declared.evidence.Verdict.{Verdict}
+use Rattle.nofs_shared.specs.Added.{AddsStep}
+use Rattle.nofs_shared.specs.Mounts.{IsMount}
+use Rattle.nofs_shared.proofs.Mounting.{safe-history}
+use Rattle.nofs_shared.proofs.Committing.{mount-kept, fits-seen, see-is}
+use Rattle.nofs_shared.proofs.batches.commit_in.Goals as goal
+
+pub returns-clause-keeps : goal.returns-clause-keeps
+returns-clause-keeps g c = λ found first then m.
+    subst₂ (λ (d : DiskState) (l : Books). IsMount (g.D.Disk.state found) d first l) (ap g.D.Disk.state (sym (c.keep_step.ensures.disk ∙ c.commit-stands.ensures.disk))) (sym c.keep_step.ensures.books)
+    (mount-kept (g.D.Disk.state found) (g.D.Disk.state c.args.evidence.now.core.value.disk) (g.D.Disk.state c.args.core.now.disk) first c.args.evidence.now.core.value.books c.args.core.now.books c.commit-stands.new.core.books then m
+    c.requires.earlier.going c.if-core.false c.requires.earlier.begun c.requires.earlier.numbers c.requires.earlier.begins
+    c.args.evidence.now.kind (verdict_at c.args.evidence.now.verdicts c.args.at).item c.args.used c.commit-stands.result c.commit-stands.ensures.commits c.args.caller
+    c.moment-from.result (g.D.Disk.state c.commit-stands.new.core.disk).moment (c.commit-stands.new.core.books.history.spare - 1) c.step_of-step.result
+    (c.step_of-step.ensures ∙ ap (λ (vs : List Verdict). see_step c.args.evidence.now.kind (verdict_at vs c.args.at).item) c.as_slice.ensures) c.moment-from.ensures (λ j. (g.D.Disk.state (c.commit-stands.ensures.disk j)).moment))
+
+pub returns-clause-safe : goal.returns-clause-safe
+returns-clause-safe g c =
+    subst₂ (λ (d : DiskState) (l : Books). IsSafe d l) (ap g.D.Disk.state (sym (c.keep_step.ensures.disk ∙ c.commit-stands.ensures.disk))) (sym c.keep_step.ensures.books)
+    (safe-history c.commit-stands.new.core.books _ (g.D.Disk.state c.args.core.now.disk) c.commit-stands.ensures.commits.safe)
+
+pub returns-clause-fits : goal.returns-clause-fits
+returns-clause-fits g c = fits-seen c.args.evidence.now.kind (verdict_at c.args.evidence.now.verdicts c.args.at).item c.commit-stands.result

@@ -1,0 +1,73 @@
+use Rattle.std.proofs.Common.{◌≡◌, ◌-◌, ℕ, ◌+◌, ◌^◌, ◌<◌, ◌≤◌, List, length, refl, sym, ap, ◌∙◌, subst, arith}
+use Rattle.std.proofs.Math.Logic.{∥∥₁_elim, ∥∥₁_prop}
+use mathlib.Core.List.{IsPrefix}
+use Rattle.nofs_machine.specs.declared.history.Entry1.{Entry1}
+use Rattle.nofs_machine.specs.declared.steps.Step.{Step}
+use Rattle.nofs_scan.specs.Elements.{see_step, verdict_at}
+use Rattle.nofs_scan.specs.declared.evidence.Verdict.{Verdict}
+use Rattle.nofs_shared.specs.Sees.{is_of_sweep}
+use Rattle.nofs_shared.specs.Added.{AddsStep}
+use Rattle.nofs_turn.proofs.Words.{prefix_self}
+use Rattle.nofs_shared.specs.Earlier.{earlier-on}
+use Rattle.nofs_shared.proofs.Owning.{adds-prefix}
+use Rattle.nofs_shared.proofs.Mounting.{mount-history, safe-history}
+use Rattle.nofs_shared.proofs.Rooming.{adds-none, few-left, sweep-served}
+use Rattle.nofs_shared.proofs.mount.Mount.commit.Goals as goal
+
+pub commit_in-requires-clause-earlier : goal.commit_in-requires-clause-earlier
+commit_in-requires-clause-earlier g c = record {
+  going = c.requires.own.going;
+  begun = c.requires.own.begun ∙ sym c.take_room.ensures.stays.1;
+  numbers = c.requires.own.numbers;
+  begins = subst (λ (H : List Entry1). IsPrefix c.args.evidence.now.core.value.books.history.entries H) (sym c.take_room.ensures.stays.0) c.requires.own.begins;
+}
+
+pub invariant_of-self : goal.invariant_of-self
+invariant_of-self g c = record {
+  few = subst (λ (H : List Entry1). length H + c.args.self.now.kept ≤ 2 ^ 62) (sym c.take_room.ensures.stays.0) c.args.self.now.few;
+  room = c.take_room.ensures.kept;
+  safe = safe-history c.args.self.now.core.books c.take_room.new.history (g.D.Disk.state c.args.self.now.core.disk) c.args.self.now.safe;
+  stands = ∥∥₁_elim c.args.self.now.stands ∥∥₁_prop (λ m.
+      ∣ mount-history (g.D.Disk.state c.args.self.now.found.value) (g.D.Disk.state c.args.self.now.core.disk) c.args.self.now.first c.args.self.now.core.books c.take_room.new.history c.take_room.ensures.stays.1 c.take_room.ensures.stays.0 m ∣₁);
+}
+
+pub invariant_of-self-in-Some : goal.invariant_of-self-in-Some
+invariant_of-self-in-Some g c = record {
+  few = few-left c.args.caller (see_step c.args.evidence.now.kind (verdict_at c.args.evidence.now.verdicts c.args.at).item) c.commit_in.result c.take_room.new.history.entries c.commit_in.new.core.books.history.entries c.in-Some.left c.commit_in.ensures.adds c.in-Some.ensures.few;
+  room = (let a = c.in-Some.ensures.room in let b = c.commit_in.ensures.room in omega (arith, a, b));
+  safe = c.commit_in.ensures.safe;
+  stands = ∥∥₁_elim c.requires.own.stood ∥∥₁_prop (λ then. ∥∥₁_elim c.args.self.now.stands ∥∥₁_prop (λ m. ∣ c.commit_in.ensures.keeps c.args.self.now.found.value c.args.self.now.first then
+      (mount-history (g.D.Disk.state c.args.self.now.found.value) (g.D.Disk.state c.args.self.now.core.disk) c.args.self.now.first c.args.self.now.core.books c.take_room.new.history c.take_room.ensures.stays.1 c.take_room.ensures.stays.0 m) ∣₁));
+}
+
+pub returns-in-None-clause-adds : goal.returns-in-None-clause-adds
+returns-in-None-clause-adds g c = adds-none c.args.caller (see_step c.args.evidence.now.kind (verdict_at c.args.evidence.now.verdicts c.args.at).item) c.args.self.now.core.books.history.entries c.take_room.new.history.entries c.take_room.ensures.stays.0
+
+pub returns-clause-adds : goal.returns-clause-adds
+returns-clause-adds g c = subst (λ (H : List Entry1). AddsStep c.args.caller (see_step c.args.evidence.now.kind (verdict_at c.args.evidence.now.verdicts c.args.at).item) c.commit_in.result H c.commit_in.new.core.books.history.entries) c.take_room.ensures.stays.0 c.commit_in.ensures.adds
+
+pub returns-in-None-clause-sweeps : goal.returns-in-None-clause-sweeps
+returns-in-None-clause-sweeps g c = λ e some.
+    let same = c.step_of-step.ensures ∙ ap (λ (vs : List Verdict). see_step c.args.evidence.now.kind (verdict_at vs c.args.at).item) c.as_slice.ensures in
+    absurd (let t = c.take_room.ensures.sweep (ap (λ (s : Step). is_of_sweep c.args.caller s) same ∙ e) some in let n = c.in-None.is in cc (t, n))
+
+pub returns-clause-sweeps : goal.returns-clause-sweeps
+returns-clause-sweeps g c =
+    let same = c.step_of-step.ensures ∙ ap (λ (vs : List Verdict). see_step c.args.evidence.now.kind (verdict_at vs c.args.at).item) c.as_slice.ensures in
+    sweep-served c.args.caller (see_step c.args.evidence.now.kind (verdict_at c.args.evidence.now.verdicts c.args.at).item) c.commit_in.result c.args.self.now.kept c.in-Some.left
+    (λ e some. sym c.in-Some.is ∙ c.take_room.ensures.sweep (ap (λ (s : Step). is_of_sweep c.args.caller s) same ∙ e) some) (λ e. c.commit_in.ensures.sees)
+
+pub returns-clause-others : goal.returns-clause-others
+returns-clause-others g c = λ e.
+    let same = c.step_of-step.ensures ∙ ap (λ (vs : List Verdict). see_step c.args.evidence.now.kind (verdict_at vs c.args.at).item) c.as_slice.ensures in
+    c.in-Some.ensures.others (ap (λ (s : Step). is_of_sweep c.args.caller s) same ∙ e)
+
+pub returns-in-None-clause-own : goal.returns-in-None-clause-own
+returns-in-None-clause-own g c = earlier-on c.requires.own c.take_room.new.history.start c.args.self.now.core.books.at c.take_room.new.history.entries c.take_room.ensures.stays.1 refl
+    (subst (λ (H : List Entry1). IsPrefix c.args.self.now.core.books.history.entries H) (sym c.take_room.ensures.stays.0) (prefix_self c.args.self.now.core.books.history.entries))
+
+pub returns-clause-own : goal.returns-clause-own
+returns-clause-own g c = earlier-on c.requires.own c.commit_in.new.core.books.history.start c.commit_in.new.core.books.at c.commit_in.new.core.books.history.entries
+    (c.commit_in.ensures.same.0 ∙ c.take_room.ensures.stays.1) c.commit_in.ensures.same.1
+    (subst (λ (H : List Entry1). IsPrefix H c.commit_in.new.core.books.history.entries) c.take_room.ensures.stays.0
+    (adds-prefix c.args.caller (see_step c.args.evidence.now.kind (verdict_at c.args.evidence.now.verdicts c.args.at).item) c.commit_in.result c.take_room.new.history.entries c.commit_in.new.core.books.history.entries c.commit_in.ensures.adds))

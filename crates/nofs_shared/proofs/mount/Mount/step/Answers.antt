@@ -1,0 +1,52 @@
+use Rattle.std.proofs.Common.{◌≡◌, ◌-◌, ℕ, ◌+◌, ◌^◌, ◌<◌, ◌≤◌, List, Option, Some, length, refl, sym, ap, ◌∙◌, subst, arith}
+use Rattle.std.proofs.Math.Logic.{∥∥₁_elim, ∥∥₁_prop}
+use Rattle.nofs_machine.specs.declared.history.Entry1.{Entry1}
+use Rattle.nofs_shared.specs.Sees.{is_of_sweep}
+use Rattle.nofs_shared.specs.Added.{AddsStep, Unowned}
+use Rattle.nofs_shared.proofs.Claiming.{unowned-none}
+use Rattle.nofs_shared.proofs.Mounting.{mount-history, safe-history}
+use Rattle.nofs_shared.proofs.Rooming.{adds-none, few-left, sweep-served}
+use Rattle.nofs_shared.proofs.mount.Mount.step.Goals as goal
+
+pub invariant_of-self : goal.invariant_of-self
+invariant_of-self g c = record {
+  few = subst (λ (H : List Entry1). length H + c.args.self.now.kept ≤ 2 ^ 62) (sym c.take_room.ensures.stays.0) c.args.self.now.few;
+  room = c.take_room.ensures.kept;
+  safe = safe-history c.args.self.now.core.books c.take_room.new.history (g.D.Disk.state c.args.self.now.core.disk) c.args.self.now.safe;
+  stands = ∥∥₁_elim c.args.self.now.stands ∥∥₁_prop (λ m.
+      ∣ mount-history (g.D.Disk.state c.args.self.now.found.value) (g.D.Disk.state c.args.self.now.core.disk) c.args.self.now.first c.args.self.now.core.books c.take_room.new.history c.take_room.ensures.stays.1 c.take_room.ensures.stays.0 m ∣₁);
+}
+
+pub invariant_of-self-in-Some : goal.invariant_of-self-in-Some
+invariant_of-self-in-Some g c = record {
+  few = few-left c.args.caller c.args.step c.step_in.result c.take_room.new.history.entries c.step_in.new.core.books.history.entries c.in-Some.left c.step_in.ensures.adds c.in-Some.ensures.few;
+  room = (let a = c.in-Some.ensures.room in let b = c.step_in.ensures.room in omega (arith, a, b));
+  safe = c.step_in.ensures.safe;
+  stands = ∥∥₁_elim c.args.self.now.stands ∥∥₁_prop (λ m. ∣ c.step_in.ensures.keeps c.args.self.now.found.value c.args.self.now.first
+      (mount-history (g.D.Disk.state c.args.self.now.found.value) (g.D.Disk.state c.args.self.now.core.disk) c.args.self.now.first c.args.self.now.core.books c.take_room.new.history c.take_room.ensures.stays.1 c.take_room.ensures.stays.0 m) ∣₁);
+}
+
+pub returns-in-None-clause-adds : goal.returns-in-None-clause-adds
+returns-in-None-clause-adds g c = adds-none c.args.caller c.args.step c.args.self.now.core.books.history.entries c.take_room.new.history.entries c.take_room.ensures.stays.0
+
+pub returns-in-Some-clause-adds : goal.returns-in-Some-clause-adds
+returns-in-Some-clause-adds g c = subst (λ (H : List Entry1). AddsStep c.args.caller c.args.step c.step_in.result H c.step_in.new.core.books.history.entries) c.take_room.ensures.stays.0 c.step_in.ensures.adds
+
+pub returns-in-None-clause-claims : goal.returns-in-None-clause-claims
+returns-in-None-clause-claims g c = λ q. ∣ unowned-none (g.D.Disk.state c.args.self.now.core.disk).now c.args.self.now.core.books.history.entries c.take_room.new.history.entries c.take_room.ensures.stays.0 ∣₁
+
+pub returns-in-Some-clause-claims : goal.returns-in-Some-clause-claims
+returns-in-Some-clause-claims g c = λ q. ∥∥₁_elim c.args.self.now.stands ∥∥₁_prop (λ m.
+    ∣ subst (λ (H : List Entry1). Unowned (g.D.Disk.state c.args.self.now.core.disk).now H c.step_in.new.core.books.history.entries) c.take_room.ensures.stays.0
+    (c.step_in.ensures.claims c.args.self.now.found.value c.args.self.now.first
+    (mount-history (g.D.Disk.state c.args.self.now.found.value) (g.D.Disk.state c.args.self.now.core.disk) c.args.self.now.first c.args.self.now.core.books c.take_room.new.history c.take_room.ensures.stays.1 c.take_room.ensures.stays.0 m) q) ∣₁)
+
+pub returns-in-Some-clause-sweeps : goal.returns-in-Some-clause-sweeps
+returns-in-Some-clause-sweeps g c = sweep-served c.args.caller c.args.step c.step_in.result c.args.self.now.kept c.in-Some.left
+    (λ e some. sym c.in-Some.is ∙ c.take_room.ensures.sweep e some) c.step_in.ensures.sees
+
+pub returns-in-None-clause-sweeps : goal.returns-in-None-clause-sweeps
+returns-in-None-clause-sweeps g c = λ e some. absurd (let t = c.take_room.ensures.sweep e some in let n = c.in-None.is in cc (t, n))
+
+pub returns-in-Some-clause-others : goal.returns-in-Some-clause-others
+returns-in-Some-clause-others g c = λ e. c.in-Some.ensures.others e

@@ -1,0 +1,11 @@
+pub mod Forms
+pub mod Sees
+pub mod Mounts
+pub mod Earlier
+pub mod Added
+pub mod Begins
+pub mod Owned
+pub mod Seats
+pub mod Ends
+pub mod Served
+pub mod Passes

@@ -1,0 +1,142 @@
+//! Several elements of a mount are looked at together, and their verdicts committed one by one.
+ghost use Rattle.std.specs.Prelude.{◌≡◌, ◌+◌, ◌-◌, ◌<◌, ◌≤◌, ◌^◌, ℕ, true, false, All, IfOk, length};
+ghost use Rattle.nofs_machine.specs.Steps.{Fits, is_out_of_memory};
+ghost use Rattle.nofs_state.specs.Books.{IsSafe};
+ghost use Rattle.nofs_scan.specs.Elements.{HasElement, items_of, see_step, verdict_at};
+ghost use Rattle.nofs_shared.specs.Sees.{is_of_sweep};
+ghost use Rattle.nofs_shared.specs.Added.{AddsStep};
+ghost use Rattle.nofs_shared.specs.Earlier.{IsEarlier, IsOfBooks};
+ghost use Rattle.nofs_shared.specs.Mounts.{IsMount};
+
+use crate::acts::NO_CLAIMS;
+use crate::mount::Mount;
+use crate::room::take_room;
+use crate::steps::step_in;
+use nofs_disk::Disk;
+use nofs_machine::{ElementKind, Refusal, Reply, Step};
+use nofs_scan::{Evidence, commit, look_batch};
+use nofs_state::Core;
+use nofs_super::SuperBlock;
+use std::alloc::Global;
+
+// Whether the disk has no such element.
+fn is_beyond(kind: ElementKind, at: &SuperBlock, item: u64) -> bool
+    ensures { result ≡ false → HasElement kind at.now item }
+{
+    match kind {
+        ElementKind::Inode => item == 0 || item > at.inodes,
+        ElementKind::Block => item >= at.blocks,
+    }
+}
+
+// Whether it has them all.
+fn are_elements(kind: ElementKind, at: &SuperBlock, items: &[u64]) -> bool
+    ensures { result ≡ true → All (HasElement kind at.now) items.now }
+{
+    for place in 0..items.len() {
+        if is_beyond(kind, at, items[place]) {
+            return false;
+        }
+    }
+    true
+}
+
+// The step that examines an element.
+fn step_of(kind: ElementKind, item: u64) -> Step
+    requires { item < 2 ^ 32 }
+    ensures { result ≡ see_step kind item }
+{
+    match kind {
+        ElementKind::Inode => Step::SeeInode { inode: item as u32 },
+        ElementKind::Block => Step::SeeBlock { block: item },
+    }
+}
+
+// Commits a verdict of an earlier state of the mount, with its entry. It takes no memory.
+fn commit_in<D: Disk + Drop>(
+    core: &mut Core<D>,
+    alloc: Global,
+    caller: u32,
+    evidence: &Evidence<D>,
+    at: u32,
+    used: bool,
+) -> Reply
+    requires safe { IsSafe (D.state core.old.disk) core.old.books }
+    requires room { 0 < core.old.books.history.spare }
+    requires earlier { IsOfBooks evidence.now.core.value.books core.old.books }
+    requires within { at < length evidence.now.verdicts }
+    requires used { used ≡ (verdict_at evidence.now.verdicts at).used }
+    ensures keeps { (found : D) (first : ℕ) → IsMount (D.state found) (D.state evidence.now.core.value.disk) first evidence.now.core.value.books → IsMount (D.state found) (D.state core.old.disk) first core.old.books → IsMount (D.state found) (D.state core.new.disk) first core.new.books }
+    ensures adds { AddsStep caller (see_step evidence.now.kind (verdict_at evidence.now.verdicts at).item) result core.old.books.history.entries core.new.books.history.entries }
+    ensures safe { IsSafe (D.state core.new.disk) core.new.books }
+    ensures same { (core.new.books.history.start ≡ core.old.books.history.start) × (core.new.books.at ≡ core.old.books.at) }
+    ensures room { core.old.books.history.spare ≤ core.new.books.history.spare + 1 }
+    ensures fits { Fits (see_step evidence.now.kind (verdict_at evidence.now.verdicts at).item) result }
+    ensures sees { is_out_of_memory result ≡ false }
+{
+    let item = evidence.verdicts.as_slice()[at as usize].item;
+    let step = step_of(evidence.kind, item);
+    if core.books.stopped {
+        return step_in(core, alloc, caller, step);
+    }
+    let from = core.disk.moment();
+    let stands = commit(core, evidence, at, used);
+    core.keep_step(caller, from, step, Reply::Seen { used: stands }, NO_CLAIMS);
+    Reply::Seen { used: stands }
+}
+
+impl<D: Disk + Drop> Mount<D> {
+    /// Looks at 1 to 64 elements. It makes no entry: each verdict is committed later.
+    ///
+    /// # Errors
+    ///
+    /// `BadRange` where some element is not on the disk; `Stopped`; `ReadFault`; `OutOfMemory`.
+    pub fn look_batch(
+        &mut self,
+        alloc: Global,
+        kind: ElementKind,
+        items: &[u64],
+    ) -> Result<Evidence<D>, Refusal>
+        requires count { (1 ≤ length items.now) × (length items.now ≤ 64) }
+        ensures same { (self.new.core.books ≡ self.old.core.books) × (self.new.found ≡ self.old.found) × (self.new.first ≡ self.old.first) × (self.new.kept ≡ self.old.kept) }
+        ensures asked { IfOk result (λ evidence. (evidence.kind ≡ kind) × (items_of evidence.verdicts ≡ items.now)) }
+        ensures own { IfOk result (λ evidence. IsEarlier (D.state self.new.found.value) (D.state evidence.core.value.disk) evidence.core.value.books self.new.first self.new.core.books.history.start self.new.core.books.at self.new.core.books.history.entries) }
+    {
+        if !are_elements(kind, &self.core.books.at, items) {
+            return Err(Refusal::BadRange);
+        }
+        look_batch(alloc, &mut self.core, kind, items)
+    }
+
+    /// Commits a verdict of this mount's as one See step: it is set where the element was not examined
+    /// since, and else the one that stands stays and is the answer.
+    pub fn commit(
+        &mut self,
+        alloc: Global,
+        caller: u32,
+        evidence: &Evidence<D>,
+        at: u32,
+        used: bool,
+    ) -> Reply
+        requires own { IsEarlier (D.state self.old.found.value) (D.state evidence.now.core.value.disk) evidence.now.core.value.books self.old.first self.old.core.books.history.start self.old.core.books.at self.old.core.books.history.entries }
+        requires within { at < length evidence.now.verdicts }
+        requires used { used ≡ (verdict_at evidence.now.verdicts at).used }
+        ensures adds { AddsStep caller (see_step evidence.now.kind (verdict_at evidence.now.verdicts at).item) result self.old.core.books.history.entries self.new.core.books.history.entries }
+        ensures same { (self.new.found ≡ self.old.found) × (self.new.first ≡ self.old.first) × (self.new.core.books.history.start ≡ self.old.core.books.history.start) × (self.new.core.books.at ≡ self.old.core.books.at) }
+        ensures fits { Fits (see_step evidence.now.kind (verdict_at evidence.now.verdicts at).item) result }
+        ensures sweeps { is_of_sweep caller (see_step evidence.now.kind (verdict_at evidence.now.verdicts at).item) ≡ true → 0 < self.old.kept → (is_out_of_memory result ≡ false) × (self.new.kept ≡ self.old.kept - 1) }
+        ensures others { is_of_sweep caller (see_step evidence.now.kind (verdict_at evidence.now.verdicts at).item) ≡ false → self.new.kept ≡ self.old.kept }
+        ensures own { IsEarlier (D.state self.new.found.value) (D.state evidence.now.core.value.disk) evidence.now.core.value.books self.new.first self.new.core.books.history.start self.new.core.books.at self.new.core.books.history.entries }
+    {
+        let item = evidence.verdicts.as_slice()[at as usize].item;
+        let step = step_of(evidence.kind, item);
+        let history = &mut self.core.books.history;
+        match take_room(history, self.kept, caller, &step) {
+            None => Reply::Refused(Refusal::OutOfMemory),
+            Some(left) => {
+                self.kept = left;
+                commit_in(&mut self.core, alloc, caller, evidence, at, used)
+            }
+        }
+    }
+}

@@ -1,0 +1,113 @@
+//! A mounted disk with its history.
+ghost use Rattle.std.specs.Prelude.{◌≡◌, ◌+◌, ◌-◌, ◌^◌, ◌<◌, ◌≤◌, true, false, [], length, IfOk, IfErr};
+ghost use Rattle.nofs_machine.specs.Steps.{Fits, is_out_of_memory};
+ghost use Rattle.nofs_machine.specs.World.{World};
+ghost use Rattle.nofs_state.specs.Books.{IsSafe, Says};
+ghost use Rattle.nofs_state.specs.Counted.{CountsBlocks, CountsInodes};
+ghost use Rattle.nofs_shared.specs.Sees.{is_of_sweep};
+ghost use Rattle.nofs_shared.specs.Mounts.{IsMount, IsSoundDisk};
+ghost use Rattle.nofs_shared.specs.Added.{AddsStep, Unowned};
+ghost use Rattle.nofs_shared.specs.Begins.{BeginFails};
+ghost use Rattle.nofs_shared.specs.Ends.{Ends};
+
+use crate::begin::{Prepared, prepare};
+use crate::room::take_room;
+use crate::steps::step_in;
+use nofs_disk::Disk;
+use nofs_machine::{History, Refusal, Reply, Step};
+use nofs_state::{Core, Counts};
+use nofs_super::{MountFault, raise_mount};
+use std::alloc::Global;
+use std::snapshot::Snapshot;
+
+/// A mounted disk, for one caller at a time.
+#[derive(Drop)]
+pub struct Mount<D: Disk + Drop> {
+    pub(crate) core: Core<D>,
+    pub(crate) first: u64,
+    pub(crate) found: Snapshot<D>,
+    // The number of entries of the sweeps for which memory is kept.
+    pub(crate) kept: u64,
+    ghost few: { length core.books.history.entries + kept ≤ 2 ^ 62 },
+    ghost room: { kept ≤ core.books.history.spare },
+    ghost safe: { IsSafe (D.state core.disk) core.books },
+    ghost stands: { ∥ IsMount (D.state found.value) (D.state core.disk) first core.books ∥₁ },
+}
+
+/// Why a disk was not mounted. It comes back.
+#[derive(Drop)]
+pub struct BeginFault<D: Disk + Drop> {
+    pub disk: D,
+    pub cause: MountFault,
+}
+
+impl<D: Disk + Drop> Mount<D> {
+    /// Mounts a disk: its mount number is then one higher, durably.
+    pub fn begin(alloc: Global, disk: D, first: u64) -> Result<Mount<D>, BeginFault<D>>
+        requires { first ≤ 2 ^ 40 }
+        ensures mount { IfOk result (λ m. (m.found.value ≡ disk) × (m.first ≡ first) × (m.core.books.history.entries ≡ []) × (m.kept ≡ m.core.books.at.inodes + m.core.books.at.blocks)) }
+        ensures fault { IfErr result (λ e. BeginFails (D.state disk) (D.state e.disk) e.cause) }
+    {
+        let found = Snapshot::of(&disk);
+        let mut disk = disk;
+        let Prepared { old, room } = match prepare(alloc, &mut disk) {
+            Ok(it) => it,
+            Err(cause) => return Err(BeginFault { disk, cause }),
+        };
+        match raise_mount(&mut disk, &old) {
+            Ok(at) => Ok(Mount {
+                core: Core::over(disk, at, first, room),
+                first,
+                found,
+                kept: at.inodes + at.blocks,
+            }),
+            Err(cause) => Err(BeginFault { disk, cause }),
+        }
+    }
+
+    /// Makes one step of a caller. Each See step of the sweeps, callers 9 and 10, has its memory while
+    /// some is kept for them.
+    pub fn step(&mut self, alloc: Global, caller: u32, step: Step) -> Reply
+        ensures adds { AddsStep caller step result self.old.core.books.history.entries self.new.core.books.history.entries }
+        ensures claims { IsSoundDisk (D.state self.old.found.value) → ∥ Unowned (D.state self.old.core.disk).now self.old.core.books.history.entries self.new.core.books.history.entries ∥₁ }
+        ensures same { (self.new.found ≡ self.old.found) × (self.new.first ≡ self.old.first) × (self.new.core.books.history.start ≡ self.old.core.books.history.start) × (self.new.core.books.at ≡ self.old.core.books.at) }
+        ensures fits { Fits step result }
+        ensures sweeps { is_of_sweep caller step ≡ true → 0 < self.old.kept → (is_out_of_memory result ≡ false) × (self.new.kept ≡ self.old.kept - 1) }
+        ensures others { is_of_sweep caller step ≡ false → self.new.kept ≡ self.old.kept }
+    {
+        let history = &mut self.core.books.history;
+        match take_room(history, self.kept, caller, &step) {
+            None => Reply::Refused(Refusal::OutOfMemory),
+            Some(left) => {
+                self.kept = left;
+                step_in(&mut self.core, alloc, caller, step)
+            }
+        }
+    }
+
+    /// How many inodes and blocks are known to be used, are known to be free, and were not examined.
+    pub fn counts(&self) -> Counts
+        ensures inodes { result.inodes_used + result.inodes_free + result.inodes_unchecked ≡ self.now.core.books.at.inodes }
+        ensures blocks { result.blocks_used + result.blocks_free + result.blocks_unchecked ≡ self.now.core.books.at.blocks }
+        ensures machine { (W : World) → Says self.now.core.books W → CountsInodes W result × CountsBlocks W result }
+    {
+        self.core.books.counts()
+    }
+
+    /// The steps so far with their replies.
+    pub fn history(&self) -> &History
+        ensures { result.now ≡ self.now.core.books.history }
+    {
+        &self.core.books.history
+    }
+
+    /// The device and the history.
+    pub fn end(self) -> (D, History)
+        ensures is { (result.0 ≡ self.core.disk) × (result.1 ≡ self.core.books.history) }
+        ensures ends { ∥ Ends (D.state self.found.value) (D.state result.0) self.first result.1 ∥₁ }
+    {
+        let Mount { core, .. } = self;
+        let Core { disk, books } = core;
+        (disk, books.history)
+    }
+}

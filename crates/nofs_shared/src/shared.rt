@@ -1,0 +1,184 @@
+//! The mount behind a turn, and passes by which callers make steps at it.
+ghost use Rattle.std.specs.Prelude.{◌≡◌, ◌+◌, ◌*◌, ◌/◌, ◌%◌, ◌<◌, ◌≤◌, true, [], length, vec_len, All, IfOk, IfErr, OnErr};
+ghost use Rattle.nofs_turn.specs.Turns.{view_of, IsPassOf, IsFreshPass};
+ghost use Rattle.nofs_turn.specs.Views.{looked};
+ghost use Rattle.nofs_turn.specs.Passes.{Closes};
+ghost use Rattle.nofs_machine.specs.Steps.{Fits, with_made};
+ghost use Rattle.nofs_shared.specs.Owned.{all_by, own_steps};
+ghost use Rattle.nofs_shared.specs.Seats.{SameSeat};
+
+use crate::mount::Mount;
+use nofs_disk::Disk;
+use nofs_machine::{Entry1, Reply, Step, Steps};
+use nofs_super::SuperBlock;
+use nofs_turn::{Busy, Kept, Pass, Section, Turn};
+use std::alloc::Global;
+use std::sync::Wait;
+
+/// What no step changes of a mount: the device as it was found, the first serial, the moment at which
+/// the history starts, and the numbers of the disk. No value of it is made.
+pub struct Grounds<D> {
+    pub found: D,
+    pub first: u64,
+    pub start: u64,
+    pub at: SuperBlock,
+}
+
+impl<D: Disk + Drop> Kept for Mount<D> {
+    type Entry = Entry1;
+
+    type Fixed = Grounds<D>;
+
+    ghost entries = { λ m. m.core.books.history.entries };
+
+    ghost fixed = { λ m. record { found = m.found.value; first = m.first; start = m.core.books.history.start; at = m.core.books.at } };
+
+    fn kept(&self) -> u64 {
+        self.core.books.history.len()
+    }
+}
+
+/// A value behind a turn at which callers make steps, one entry each.
+pub trait Serves: Kept<Entry = Entry1> + Drop {
+    ghost use Rattle.nofs_shared.specs.Owned.{TellsStep};
+
+    /// Makes one step of a caller.
+    fn serve(&mut self, alloc: Global, caller: u32, step: Step) -> Reply
+        ensures fixed { Self.fixed self.new ≡ Self.fixed self.old }
+        ensures tells { TellsStep caller step (Self.entries self.old) (Self.entries self.new) result };
+}
+
+impl<D: Disk + Drop> Serves for Mount<D> {
+    fn serve(&mut self, alloc: Global, caller: u32, step: Step) -> Reply {
+        self.step(alloc, caller, step)
+    }
+}
+
+// One step of a caller, under the turn.
+#[derive(Drop)]
+struct Move {
+    alloc: Global,
+    caller: u32,
+    step: Step,
+}
+
+impl<V: Serves> Section<V> for Move {
+    ghost use Rattle.nofs_shared.specs.Owned.{TellsStep};
+
+    type Out = Reply;
+
+    ghost asks = { λ _ _ _. Unit {0} };
+
+    ghost tells = { λ s _ xs ys r. TellsStep s.caller s.step xs ys r };
+
+    ghost lasts = { λ _ _ _ _ _. tt };
+
+    fn run(self, value: &mut V) -> Reply {
+        value.serve(self.alloc, self.caller, self.step)
+    }
+}
+
+/// The turn was taken, so the step was not made.
+#[derive(Drop)]
+pub struct BusyStep {
+    pub step: Step,
+    pub word: u64,
+}
+
+/// A pass of one caller, which makes steps at the shared mount.
+#[derive(Drop)]
+pub struct SharedPass<'a, R, V: Serves> {
+    pub(crate) rt: &'a R,
+    pub(crate) alloc: Global,
+    pub(crate) turn: &'a Turn<V>,
+    pub(crate) caller: u32,
+    pub(crate) pass: Pass<V>,
+    ghost of: { IsPassOf turn.now pass },
+    ghost own: { all_by caller (view_of pass).mine ≡ true },
+}
+
+impl<'a, R, V: Serves> SharedPass<'a, R, V> {
+    /// A pass of a turn, for this caller. The pass has no entries yet.
+    pub fn new(
+        rt: &'a R,
+        alloc: Global,
+        turn: &'a Turn<V>,
+        caller: u32,
+        pass: Pass<V>,
+    ) -> SharedPass<'a, R, V>
+        requires of { IsPassOf turn.now pass }
+        requires new { (view_of pass).mine ≡ [] }
+        ensures { (result.turn.now ≡ turn.now) × (result.caller ≡ caller) × (result.pass ≡ pass) }
+    {
+        SharedPass {
+            rt,
+            alloc,
+            turn,
+            caller,
+            pass,
+        }
+    }
+
+    /// Makes the step where the turn is free.
+    pub fn try_step(&mut self, step: Step) -> Result<Reply, BusyStep>
+        ensures same { (self.new.turn.now ≡ self.old.turn.now) × (self.new.caller ≡ self.old.caller) }
+        ensures made { IfOk result (λ r. (own_steps (view_of self.new.pass).mine ≡ with_made (own_steps (view_of self.old.pass).mine) step r) × Fits step r) }
+        ensures one_look { (view_of self.new.pass).looks ≡ (view_of self.old.pass).looks + 1 }
+        ensures busy { IfErr result (λ b. (b.step ≡ step) × (b.word % 2 ≡ 1) × (view_of self.new.pass ≡ looked (view_of self.old.pass) b.word)) }
+    {
+        let section = Move {
+            alloc: self.alloc,
+            caller: self.caller,
+            step,
+        };
+        match self.turn.try_with(&mut self.pass, section) {
+            Ok(reply) => Ok(reply),
+            Err(busy) => {
+                let Busy { section, word } = busy;
+                Err(BusyStep {
+                    step: section.step,
+                    word,
+                })
+            }
+        }
+    }
+
+    /// The number of entries, from one look.
+    pub fn progress(&mut self) -> u64
+        ensures same { (self.new.turn.now ≡ self.old.turn.now) × (self.new.caller ≡ self.old.caller) }
+        ensures at_least { length (view_of self.old.pass).seen ≤ result }
+        ensures look { result ≡ (view_of self.new.pass).last / 2 }
+    {
+        self.turn.count(&mut self.pass)
+    }
+
+    /// The pass, with its entries.
+    pub fn back(self) -> Pass<V>
+        ensures { result ≡ self.entry.pass }
+    {
+        let SharedPass { pass, .. } = self;
+        pass
+    }
+}
+
+impl<R: Wait, V: Serves> Steps for SharedPass<'_, R, V> {
+    ghost use Rattle.std.proofs.Common.{refl, ◌∙◌};
+    ghost use Rattle.nofs_shared.specs.Seats.{same_seat, same_seats};
+
+    ghost made = { λ p. own_steps (view_of p.pass).mine };
+
+    ghost goes = { λ p q. (q.turn.now ≡ p.turn.now) × (q.caller ≡ p.caller) × SameSeat (view_of p.pass) (view_of q.pass) };
+
+    ghost goes_none = { λ p. (refl, refl, same_seat (view_of p.pass)) };
+
+    ghost goes_on = { λ a b c p q. (q.0 ∙ p.0, q.1 ∙ p.1, same_seats (view_of a.pass) (view_of b.pass) (view_of c.pass) p.2 q.2) };
+
+    fn step(&mut self, step: Step) -> Reply {
+        let section = Move {
+            alloc: self.alloc,
+            caller: self.caller,
+            step,
+        };
+        self.turn.with(self.rt, &mut self.pass, section)
+    }
+}

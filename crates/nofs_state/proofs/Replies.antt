@@ -1,0 +1,324 @@
+-- The exits of a step that writes nothing: each makes its contract.
+use Rattle.std.proofs.Common.{◌≡◌, ◌≢◌, ℕ, ◌+◌, ◌<◌, ◌≤◌, ◌⊎◌, inl, inr, Bool, true, false, cond, ltb, List, [], ◌∷◌, ◌++◌, Option, Some, None, is_some, IsTrue, refl, sym, ap, ◌∙◌, subst, subst₂, arith}
+use Rattle.std.proofs.lemmas.Bool.{cases_lt}
+use Rattle.nofs_disk.specs.Disk.{DiskState, IsDisk, StaysButFaults, Rose}
+use Rattle.nofs_model.specs.Cells.{null}
+use Rattle.nofs_model.specs.Image.{Image, Files, Home, home_at, owner, path_of, IsSlot}
+use Rattle.nofs_model.proofs.Owners.{owner-holds, owner-slot}
+use Rattle.nofs_model.proofs.Paths.{path_of-number}
+use Rattle.nofs_machine.specs.Search.{first_of}
+use Rattle.nofs_machine.specs.Machine.{gives, given_by, files_by, files_after, nothing, is_write_fault, is_refused, may_give}
+use Rattle.nofs_machine.specs.World.{World, inodes_needed, blocks_needed}
+use Rattle.nofs_machine.specs.Claims.{no_claims, next_stamp, cell_slot, homes_after, has_block, claimed_home, IsClaim, IsBlockClaim, IsInodeClaim, Unclaimed, NoInode}
+use Rattle.nofs_machine.specs.Refusals.{rows, reads_nothing}
+use Rattle.nofs_machine.specs.Answers.{reply_of}
+use Rattle.nofs_machine.specs.History.{agreed_files, files_along, is_flushed, FilesMatch}
+use Rattle.nofs_machine.specs.Next.{Keeps, Learns, Next, AfterFault, ByRow, Done, ByRead, sees_inode, sees_block}
+use Rattle.nofs_machine.specs.Steps.{is_out_of_memory, InRange}
+use Rattle.nofs_machine.specs.declared.history.Claims.{Claims}
+use Rattle.nofs_machine.specs.declared.history.Entry1.{Entry1}
+use Rattle.nofs_machine.specs.declared.steps.Step.{Step}
+use Rattle.nofs_machine.specs.declared.replies.Reply.{Reply}
+use Rattle.nofs_machine.specs.declared.replies.Reply.TheVariants as reply
+use Rattle.nofs_machine.specs.declared.replies.Refusal.{Refusal}
+use Rattle.nofs_machine.specs.declared.replies.Refusal.TheVariants as refusal
+use Rattle.nofs_law_maps.specs.Homes.{HomesMatch}
+use Rattle.nofs_law_maps.proofs.Homes.{holds-has}
+use Rattle.nofs_crashlaw.proofs.FlushStage.{files-stay}
+use Rattle.nofs_agree.specs.Reading.{IsAt}
+use Rattle.nofs_agree.proofs.Climbs.{IsAt-on}
+use Rattle.nofs_state.specs.Books.{IsSafe, Says}
+use Rattle.nofs_state.specs.Standing.{IsOpen, IsStopped, Past}
+use Rattle.nofs_state.specs.Steps.{Causes, Follows, Goes, HasRange, IsReading, Moves, StaysStopped, entry, is_plain}
+use Rattle.nofs_state.specs.declared.books.Books.{Books}
+use Rattle.nofs_state.proofs.Idle.{IsIdle, open-idle, stopped-idle}
+use Rattle.nofs_state.proofs.Sounding.{sounds-keep}
+
+pub keeps-all : (W : World) → Keeps W W
+keeps-all W = record { version = refl; blocks = refl; inodes = refl; mount = refl; serial = refl; files = refl; homes = refl }
+
+pub nothing-learned : (W : World) (s : Step) → Learns W s false W
+nothing-learned W s = record {
+  inodes_stay = λ i k. k;
+  blocks_stay = λ p k. k;
+  inodes_change = λ i ne. absurd (ne refl);
+  blocks_change = λ p ne. absurd (ne refl);
+  inode_seen = λ t. cc t;
+  block_seen = λ t. cc t;
+  inodes_why = λ i k. inl k;
+  blocks_why = λ p k. inl k;
+}
+
+-- the machine's files are those of the disk
+pub open-files : (d : DiskState) (k : Books) (H : List Entry1) (p : Past) → IsOpen d k H p → FilesMatch p.world.files d.now
+open-files d k H p o = subst (λ (F : Files). FilesMatch F d.now) (sym o.files) o.stage.ready.files
+
+-- Homes stay where nothing is claimed and the files stay
+
+-- each used block is that of a slot that has its block
+pub home-has : (W : World) (X : Image) → FilesMatch W.files X → HomesMatch W X → ((b : ℕ) → W.blocks ≤ b → W.homes b ≡ None) → (p : ℕ) (h : Home) → W.homes p ≡ Some h → has_block W.files h ≡ true
+home-has W X match homes past p h e = elim (cases_lt p W.blocks) [
+  | inl low ↦
+      let o = sym (homes p low) ∙ e in
+      let holds = owner-holds X p h.inode h.slot o in
+      let number = path_of-number h.slot (owner-slot X p h.inode h.slot o) in
+      holds-has W.files X match h.inode h.slot holds.0 number.0 holds.1 holds.2
+  | inr high ↦ absurd (let n = past p high in cc (n, e))
+]
+
+pub homes-stay : (W : World) (X : Image) (s : Step) → FilesMatch W.files X → HomesMatch W X → ((b : ℕ) → W.blocks ≤ b → W.homes b ≡ None) → cell_slot W.files s ≡ None → homes_after W s no_claims W.files ≡ W.homes
+homes-stay W X s match homes past slot = λ j p. at p j
+  where
+    go : (p : ℕ) (o : Option Home) → W.homes p ≡ o → (elim o as (λ (_ : Option Home). Option Home) [ None ↦ None | Some home ↦ cond (has_block W.files home) (Some home) None ]) ≡ o
+    go p None e = refl
+    go p (Some h) e = rw (home-has W X match homes past p h e) refl
+
+    none : (p : ℕ) → claimed_home W.files s no_claims p ≡ None
+    none p = rw (slot, claimed_home) refl
+
+    at : (p : ℕ) → homes_after W s no_claims W.files p ≡ W.homes p
+    at p = rw (none p, homes_after) (go p (W.homes p) refl)
+
+-- Entries that refuse
+
+pub refused-idle : (F : Files) (e : Entry1) (why : Refusal) → e.reply ≡ reply.Refused why → is_write_fault (reply.Refused why) ≡ false → IsIdle F e
+refused-idle F e why is safe =
+    let fault : is_write_fault e.reply ≡ false = ap is_write_fault is ∙ safe in
+    let refused : is_refused e.reply ≡ true = ap is_refused is in
+    record {
+      given = rw (refused, fault) refl;
+      files = rw refused refl;
+      no_flush = ap is_flushed is;
+      no_fault = fault;
+    }
+
+-- a failed read
+pub by-read : (W : World) (e : Entry1) → W.stopped ≡ false → ((why : Refusal) → first_of (rows W W e.step) ≡ Some why → reads_nothing why ≡ false) → e.reply ≡ reply.Refused refusal.ReadFault → e.claims ≡ no_claims → Next W e W
+by-read W e going late is none = go (first_of (rows W W e.step)) refl
+  where
+    go : (o : Option Refusal) → first_of (rows W W e.step) ≡ o → Next W e W
+    go None eo = ByRead going eo is none (keeps-all W) going (nothing-learned W e.step)
+    go (Some why) eo = ByRow why going eo (inr (is, late why eo)) none (keeps-all W) going (nothing-learned W e.step)
+
+-- an answer of a step that reads alone
+pub by-answer : (W : World) (X : Image) (e : Entry1) → W.stopped ≡ false → FilesMatch W.files X → HomesMatch W X → ((b : ℕ) → W.blocks ≤ b → W.homes b ≡ None) → IsReading e.step
+    → first_of (rows W W e.step) ≡ None → e.reply ≡ reply_of W e.step e.claims → e.claims ≡ no_claims → Next W e W
+by-answer W X e going match homes past reads none is claims = Done going none is claim files homes-are serial (refl, refl, refl, refl, going) learned
+  where
+    claim : IsClaim W e.step e.claims
+    claim = subst (λ (c : Claims). IsClaim W e.step c) (sym claims) (record {
+      inode = subst (λ (n : ℕ). IsInodeClaim W (next_stamp W) no_claims (ltb 0 n)) (sym reads.no_inode) (NoInode refl refl);
+      cell = subst (λ (n : ℕ). IsBlockClaim W (next_stamp W + inodes_needed e.step) null (ltb 0 n)) (sym (reads.no_block W.files)) (Unclaimed refl);
+      leaf = subst (λ (n : ℕ). IsBlockClaim W (next_stamp W + inodes_needed e.step + 1) null (ltb 1 n)) (sym (reads.no_block W.files)) (Unclaimed refl);
+      top = subst (λ (n : ℕ). IsBlockClaim W (next_stamp W + inodes_needed e.step + 2) null (ltb 2 n)) (sym (reads.no_block W.files)) (Unclaimed refl);
+      apart = tt;
+    })
+
+    files : W.files ≡ files_after W.files (gives W.files e.step e.claims)
+    files = sym (ap (λ (c : Claims). files_after W.files (gives W.files e.step c)) claims ∙ ap (λ g. files_after W.files g) (reads.gives W.files) ∙ files-stay W.files)
+
+    homes-are : W.homes ≡ homes_after W e.step e.claims W.files
+    homes-are = sym (ap (λ (c : Claims). homes_after W e.step c W.files) claims ∙ homes-stay W X e.step match homes past (reads.no_slot W.files))
+
+    serial : W.serial ≡ W.serial + inodes_needed e.step + blocks_needed W.files e.step
+    serial = let a = reads.no_inode in let b = reads.no_block W.files in omega (arith, a, b)
+
+    learned : Learns W e.step true W
+    learned = record {
+      inodes_stay = λ i k. k;
+      blocks_stay = λ p k. k;
+      inodes_change = λ i ne. absurd (ne refl);
+      blocks_change = λ p ne. absurd (ne refl);
+      inode_seen = λ t i q. absurd (let z = reads.sees_no_inode i in cc (q, z));
+      block_seen = λ t p q. absurd (let z = reads.sees_no_block p in cc (q, z));
+      inodes_why = λ i k. inl k;
+      blocks_why = λ p k. inl k;
+    }
+
+-- The contracts, exit by exit
+
+pub safe-on : (old new : DiskState) (k : Books) → StaysButFaults old new → IsSafe old k → IsSafe new k
+safe-on old new k stays s = record {
+  at = IsAt-on old new k.at stays s.at;
+  mount = s.mount;
+  serial = s.serial;
+  unknown_inodes = s.unknown_inodes;
+  free_inodes = s.free_inodes;
+  agreed_inodes = s.agreed_inodes;
+  unknown_blocks = s.unknown_blocks;
+  free_blocks = s.free_blocks;
+  in_area = s.in_area;
+}
+
+plain-fault : (why : Refusal) → is_plain why ≡ true → is_write_fault (reply.Refused why) ≡ false
+plain-fault refusal.WriteFault e = cc
+plain-fault _ e = refl
+
+plain-memory : (why : Refusal) → is_plain why ≡ true → is_out_of_memory (reply.Refused why) ≡ false
+plain-memory refusal.OutOfMemory e = cc
+plain-memory _ e = refl
+
+module _ (old new : DiskState) (k : Books) (s : Step) (is : IsDisk old) (safe : IsSafe old k) (stays : StaysButFaults old new) where
+  -- the mount is stopped
+  pub goes-stopped : k.stopped ≡ true → Goes old k new k s no_claims (reply.Refused refusal.Stopped)
+  goes-stopped stopped = record {
+    disk = stays.disk;
+    past = stays.past;
+    later = (let m = stays.cells.moment in omega (arith, m));
+    cause = record {
+      stopped = λ t n. refl;
+      not_stopped = λ e. stopped;
+      read = λ e. absurd (let f : refusal.Stopped ≡ refusal.ReadFault = cc in cc);
+      write = λ e. absurd (cc);
+      stops = λ going t. absurd (cc (going, stopped));
+      fault = λ e. absurd (cc);
+      keeps = λ t. stopped;
+      flush = λ e. absurd (cc);
+      refused = λ t n. stays.cells;
+      memory = λ t. absurd (cc);
+      range = tt;
+    };
+    safe = safe-on old new k stays safe;
+    at = refl;
+    history = refl;
+    sound = λ tells H p o from q. sounds-keep from old new stays.disk stays.past stays.cells q;
+    from_open = λ tells caller H p o. absurd (let g = o.going in cc (g, stopped));
+    from_stopped = λ tells caller H p o. record {
+      none = λ t. absurd (cc);
+      done = λ n. stopped-idle old new k k H p (entry caller old new s no_claims (reply.Refused refusal.Stopped)) stays refl refl refl o refl refl refl (AfterFault o.world_stopped refl refl refl) stopped;
+      next = λ n. AfterFault o.world_stopped refl refl refl;
+    };
+  }
+
+  -- a refusal by a row of the machine
+  pub goes-row : (why : Refusal) → is_plain why ≡ true → InRange why → k.stopped ≡ false → (IsTrue old.tells → (H : List Entry1) (p : Past) → IsOpen old k H p → first_of (rows p.world p.world s) ≡ Some why) → Goes old k new k s no_claims (reply.Refused why)
+  goes-row why plain range going comes = record {
+    disk = stays.disk;
+    past = stays.past;
+    later = (let m = stays.cells.moment in omega (arith, m));
+    cause = record {
+      stopped = λ t n. absurd (cc (t, going));
+      not_stopped = λ e. absurd (let f : why ≡ refusal.Stopped = cc in let z : is_plain why ≡ false = ap is_plain f in cc (z, plain));
+      read = λ e. absurd (let f : why ≡ refusal.ReadFault = cc in let z : is_plain why ≡ false = ap is_plain f in cc (z, plain));
+      write = λ e. absurd (let f : why ≡ refusal.WriteFault = cc in let z : is_plain why ≡ false = ap is_plain f in cc (z, plain));
+      stops = λ run t. absurd (cc (t, going));
+      fault = λ e. absurd (let f : why ≡ refusal.WriteFault = cc in let z : is_plain why ≡ false = ap is_plain f in cc (z, plain));
+      keeps = λ t. t;
+      flush = λ e. absurd (cc);
+      refused = λ t n. stays.cells;
+      memory = λ t. absurd (let z = plain-memory why plain in cc (t, z));
+      range = range;
+    };
+    safe = safe-on old new k stays safe;
+    at = refl;
+    history = refl;
+    sound = λ tells H p o from q. sounds-keep from old new stays.disk stays.past stays.cells q;
+    from_open = λ tells caller H p o.
+        let e : Entry1 = entry caller old new s no_claims (reply.Refused why) in
+        let open_world : p.world.stopped ≡ false = o.says.stopped ∙ going in
+        record {
+          none = λ t. absurd (let z = plain-memory why plain in cc (t, z));
+          done = λ n f. (
+            p,
+            record { base = refl; first = refl; next = ByRow why open_world (comes tells H p o) (inl refl) refl (keeps-all p.world) open_world (nothing-learned p.world s) },
+            open-idle old new k k H p e stays refl refl refl p.world is tells o (refused-idle p.world.files e why refl (plain-fault why plain))
+                (ByRow why open_world (comes tells H p o) (inl refl) refl (keeps-all p.world) open_world (nothing-learned p.world s)) (keeps-all p.world) o.says refl going,
+          );
+          fault = λ t. absurd (let z = plain-fault why plain in cc (t, z));
+        };
+    from_stopped = λ tells caller H p o. absurd (let t = o.stopped in cc (t, going));
+  }
+
+  -- a read failed
+  pub goes-read : k.stopped ≡ false → Rose old.faults new.faults → (IsTrue old.tells → (H : List Entry1) (p : Past) → IsOpen old k H p → (why : Refusal) → first_of (rows p.world p.world s) ≡ Some why → reads_nothing why ≡ false)
+      → Goes old k new k s no_claims (reply.Refused refusal.ReadFault)
+  goes-read going rose late = record {
+    disk = stays.disk;
+    past = stays.past;
+    later = (let m = stays.cells.moment in omega (arith, m));
+    cause = record {
+      stopped = λ t n. absurd (cc (t, going));
+      not_stopped = λ e. absurd (cc);
+      read = λ e. rose;
+      write = λ e. absurd (cc);
+      stops = λ run t. absurd (cc (t, going));
+      fault = λ e. absurd (cc);
+      keeps = λ t. t;
+      flush = λ e. absurd (cc);
+      refused = λ t n. stays.cells;
+      memory = λ t. absurd (cc);
+      range = tt;
+    };
+    safe = safe-on old new k stays safe;
+    at = refl;
+    history = refl;
+    sound = λ tells H p o from q. sounds-keep from old new stays.disk stays.past stays.cells q;
+    from_open = λ tells caller H p o.
+        let e : Entry1 = entry caller old new s no_claims (reply.Refused refusal.ReadFault) in
+        let open_world : p.world.stopped ≡ false = o.says.stopped ∙ going in
+        record {
+          none = λ t. absurd (cc);
+          done = λ n f. (
+            p,
+            record { base = refl; first = refl; next = by-read p.world e open_world (late tells H p o) refl refl },
+            open-idle old new k k H p e stays refl refl refl p.world is tells o (refused-idle p.world.files e refusal.ReadFault refl refl)
+                (by-read p.world e open_world (late tells H p o) refl refl) (keeps-all p.world) o.says refl going,
+          );
+          fault = λ t. absurd (cc);
+        };
+    from_stopped = λ tells caller H p o. absurd (let t = o.stopped in cc (t, going));
+  }
+
+  -- an answer
+  pub goes-answer : (r : Reply) → is_refused r ≡ false → is_flushed r ≡ false → IsReading s → k.stopped ≡ false
+      → (IsTrue old.tells → (H : List Entry1) (p : Past) → IsOpen old k H p → (first_of (rows p.world p.world s) ≡ None) × (r ≡ reply_of p.world s no_claims)) → Goes old k new k s no_claims r
+  goes-answer r accepted plain reads going comes = record {
+    disk = stays.disk;
+    past = stays.past;
+    later = (let m = stays.cells.moment in omega (arith, m));
+    cause = record {
+      stopped = λ t n. absurd (cc (t, going));
+      not_stopped = λ e. absurd (let z = ap is_refused e in cc (z, accepted));
+      read = λ e. absurd (let z = ap is_refused e in cc (z, accepted));
+      write = λ e. absurd (let z = ap is_refused e in cc (z, accepted));
+      stops = λ run t. absurd (cc (t, going));
+      fault = λ e. absurd (let z = ap is_refused e in cc (z, accepted));
+      keeps = λ t. t;
+      flush = λ e. absurd (let z = ap is_flushed e in cc (z, plain));
+      refused = λ t n. absurd (cc (t, accepted));
+      memory = λ t. absurd (let z = no-memory r accepted in cc (t, z));
+      range = has-range r accepted;
+    };
+    safe = safe-on old new k stays safe;
+    at = refl;
+    history = refl;
+    sound = λ tells H p o from q. sounds-keep from old new stays.disk stays.past stays.cells q;
+    from_open = λ tells caller H p o.
+        let e : Entry1 = entry caller old new s no_claims r in
+        let open_world : p.world.stopped ≡ false = o.says.stopped ∙ going in
+        let c = comes tells H p o in
+        record {
+          none = λ t. absurd (let z = no-memory r accepted in cc (t, z));
+          done = λ n f. (
+            p,
+            record { base = refl; first = refl; next = by-answer p.world old.now e open_world (open-files old k H p o) o.homes o.homes_past reads c.0 c.1 refl },
+            open-idle old new k k H p e stays refl refl refl p.world is tells o
+                (record { given = rw accepted (reads.gives p.world.files); files = rw accepted (ap (λ g. files_after p.world.files g) (reads.gives p.world.files) ∙ files-stay p.world.files); no_flush = plain; no_fault = no-fault r accepted })
+                (by-answer p.world old.now e open_world (open-files old k H p o) o.homes o.homes_past reads c.0 c.1 refl) (keeps-all p.world) o.says refl going,
+          );
+          fault = λ t. absurd (let z = no-fault r accepted in cc (t, z));
+        };
+    from_stopped = λ tells caller H p o. absurd (let t = o.stopped in cc (t, going));
+  }
+    where
+      no-fault : (r : Reply) → is_refused r ≡ false → is_write_fault r ≡ false
+      no-fault (reply.Refused w) e = cc
+      no-fault _ e = refl
+
+      has-range : (r : Reply) → is_refused r ≡ false → HasRange r
+      has-range (reply.Refused w) e = cc
+      has-range _ e = tt
+
+      no-memory : (r : Reply) → is_refused r ≡ false → is_out_of_memory r ≡ false
+      no-memory (reply.Refused w) e = cc
+      no-memory _ e = refl

@@ -1,0 +1,158 @@
+-- One more inode is known, with the verdict of the disk.
+use Rattle.std.proofs.Common.{◌≡◌, ◌≢◌, ℕ, zero, suc, ◌-◌, ◌≤◌, ◌⊎◌, inl, inr, Bool, true, false, ◌&&◌, ◌||◌, not, eqb, ltb, leb, List, length, Some, None, is_some, IsTrue, refl, sym, ap, ◌∙◌, subst, eq-eqb, eqb-true, arith}
+use Rattle.std.specs.Prelude.{slice_set}
+use Rattle.std.proofs.lemmas.Bool.{cases_eq, ne_eqb, and_parts}
+use Rattle.std.proofs.lemmas.Bool.Decides.{nat_tests}
+use Rattle.nofs_bits.specs.Bits.{is_set}
+use Rattle.nofs_disk.specs.Disk.{DiskState, IsDisk, StaysButFaults}
+use Rattle.nofs_model.specs.Image.{is_special}
+use Rattle.nofs_machine.specs.Search.{first_of}
+use Rattle.nofs_machine.specs.World.{World, uses_inode}
+use Rattle.nofs_machine.specs.Claims.{no_claims}
+use Rattle.nofs_machine.specs.Refusals.{rows}
+use Rattle.nofs_machine.specs.Next.{Keeps, Learns}
+use Rattle.nofs_machine.specs.declared.history.Entry1.{Entry1}
+use Rattle.nofs_machine.specs.declared.steps.Step.TheVariants as step
+use Rattle.nofs_machine.specs.declared.replies.Reply.TheVariants as reply
+use Rattle.nofs_state.specs.Books.{IsSafe, Says}
+use Rattle.nofs_state.specs.Standing.{IsOpen, Past}
+use Rattle.nofs_state.specs.Steps.{Follows, entry}
+use Rattle.nofs_state.specs.Verdicts.{learned_inode, verdict_of_inode}
+use Rattle.nofs_state.specs.declared.books.Books.{Books}
+use Rattle.nofs_state.proofs.Maps.{set-here, set-other, set-length}
+use Rattle.nofs_state.proofs.Replies.{keeps-all}
+use Rattle.nofs_state.proofs.Seeing.{follows-seen, sees-inode, stands, verdict-is}
+
+abbrev with_inode : World → ℕ → World
+with_inode W i = record W { known_inodes = λ j. eqb j i || W.known_inodes j }
+
+-- an inode is known, or becomes it
+learns-inode : (W : World) (i : ℕ) → Learns W (step.SeeInode i) true (with_inode W i)
+learns-inode W i = record {
+  inodes_stay = λ j k. rw k (or-true (eqb j i));
+  blocks_stay = λ p k. k;
+  inodes_change = λ j ne. absurd (ne refl);
+  blocks_change = λ p ne. absurd (ne refl);
+  inode_seen = λ t j e. rw e refl;
+  block_seen = λ t p e. absurd (cc e);
+  inodes_why = λ j k. why j (eqb j i) refl k;
+  blocks_why = λ p k. inl k;
+}
+  where
+    or-true : (b : Bool) → (b || true) ≡ true
+    or-true true = refl
+    or-true false = refl
+
+    why : (j : ℕ) (b : Bool) → eqb j i ≡ b → (b || W.known_inodes j) ≡ true → (W.known_inodes j ≡ true) ⊎ ((uses_inode W j ≡ true) ⊎ ((uses_inode W j ≢ uses_inode W j) ⊎ (eqb j i ≡ true)))
+    why j true e k = inr (inr (inr e))
+    why j false e k = inl k
+
+learns-again : (W : World) (i : ℕ) → W.known_inodes i ≡ true → Learns W (step.SeeInode i) true W
+learns-again W i is = record {
+  inodes_stay = λ j k. k;
+  blocks_stay = λ p k. k;
+  inodes_change = λ j ne. absurd (ne refl);
+  blocks_change = λ p ne. absurd (ne refl);
+  inode_seen = λ t j e. subst (λ (n : ℕ). W.known_inodes n ≡ true) (sym (eqb-true j i e)) is;
+  block_seen = λ t p e. absurd (cc e);
+  inodes_why = λ j k. inl k;
+  blocks_why = λ p k. inl k;
+}
+
+keeps-inode : (W : World) (i : ℕ) → Keeps W (with_inode W i)
+keeps-inode W i = record { version = refl; blocks = refl; inodes = refl; mount = refl; serial = refl; files = refl; homes = refl }
+
+le-is : (a b : ℕ) → a ≤ b → leb a b ≡ true
+le-is a b h = grind (arith, nat_tests)
+
+pub inode-row : (W V : World) (i n : ℕ) → W.inodes ≡ n → 1 ≤ i → i ≤ n → first_of (rows W V (step.SeeInode i)) ≡ None
+inode-row W V i n e low high = let t : (eqb i 0 || ltb W.inodes i) ≡ false = none i W.inodes low (omega (arith, e, high)) in rw t refl
+  where
+    none : (a b : ℕ) → 1 ≤ a → a ≤ b → (eqb a 0 || ltb b a) ≡ false
+    none a b h l = grind (arith, nat_tests)
+
+-- the maps with one more inode
+module _ (k : Books) (W : World) (i : ℕ) (used : Bool) (s : Says k W) (low : 1 ≤ i) (high : i ≤ k.at.inodes) (right : used ≡ uses_inode W i) where
+  known-is : length k.unknown_inodes ≡ k.at.inodes → (j : ℕ) → (eqb j i || W.known_inodes j) ≡ (leb 1 j && (leb j k.at.inodes && not (is_set (slice_set k.unknown_inodes (i - 1) false) (j - 1))))
+  known-is len zero = rw (ne_eqb 0 i (λ e. let z : 0 ≡ i = e in omega (arith, z, low))) (s.known_inodes 0)
+  known-is len (suc n) = elim (cases_eq (suc n) i) [
+    | inl same ↦
+        let here : is_set (slice_set k.unknown_inodes (i - 1) false) (i - 1) ≡ false = set-here k.unknown_inodes (i - 1) false (omega (arith, len, low, high)) in
+        subst (λ (m : ℕ). (eqb m i || W.known_inodes m) ≡ (leb 1 m && (leb m k.at.inodes && not (is_set (slice_set k.unknown_inodes (i - 1) false) (m - 1))))) (sym same)
+        (rw (eq-eqb i i refl, le-is 1 i low, le-is i k.at.inodes high, here) refl)
+    | inr other ↦ rw (ne_eqb (suc n) i other, set-other k.unknown_inodes (i - 1) (suc n - 1) false (λ e. other (omega (arith, e, low)))) (s.known_inodes (suc n))
+  ]
+
+  free-is : length k.free_inodes ≡ k.at.inodes → (j : ℕ) → 1 ≤ j → j ≤ k.at.inodes → is_set (slice_set k.free_inodes (i - 1) (not used)) (j - 1) ≡ ((eqb j i || W.known_inodes j) && not (uses_inode W j))
+  free-is len j from to = elim (cases_eq j i) [
+    | inl same ↦
+        let here : is_set (slice_set k.free_inodes (i - 1) (not used)) (i - 1) ≡ not used = set-here k.free_inodes (i - 1) (not used) (omega (arith, len, low, high)) in
+        subst (λ (m : ℕ). is_set (slice_set k.free_inodes (i - 1) (not used)) (m - 1) ≡ ((eqb m i || W.known_inodes m) && not (uses_inode W m))) (sym same) (here ∙ ap not right ∙ rw (eq-eqb i i refl) refl)
+    | inr other ↦ set-other k.free_inodes (i - 1) (j - 1) (not used) (λ e. other (omega (arith, e, low, from))) ∙ s.free_inodes j from to ∙ rw (ne_eqb j i other) refl
+  ]
+
+  agreed-is : length k.agreed_inodes ≡ k.at.inodes → (j : ℕ) → 1 ≤ j → j ≤ k.at.inodes → is_set (slice_set k.agreed_inodes (i - 1) (used && ltb 2 i)) (j - 1) ≡ true → is_some (W.files j) ≡ true
+  agreed-is len j from to e = elim (cases_eq j i) [
+    | inl same ↦
+        let here : is_set (slice_set k.agreed_inodes (i - 1) (used && ltb 2 i)) (i - 1) ≡ (used && ltb 2 i) = set-here k.agreed_inodes (i - 1) (used && ltb 2 i) (omega (arith, len, low, high)) in
+        let both = and_parts used (ltb 2 i) (sym here ∙ subst (λ (m : ℕ). is_set (slice_set k.agreed_inodes (i - 1) (used && ltb 2 i)) (m - 1) ≡ true) same e) in
+        let plain : is_special i ≡ false = above i both.1 in
+        let u : uses_inode W i ≡ true = sym right ∙ both.0 in
+        subst (λ (m : ℕ). is_some (W.files m) ≡ true) (sym same) (ap (λ (b : Bool). b || is_some (W.files i)) (sym plain) ∙ u)
+    | inr other ↦ s.agreed_inodes j from to (sym (set-other k.agreed_inodes (i - 1) (j - 1) (used && ltb 2 i) (λ q. other (omega (arith, q, low, from)))) ∙ e)
+  ]
+    where
+      above : (n : ℕ) → ltb 2 n ≡ true → (eqb n 1 || eqb n 2) ≡ false
+      above n h = grind (arith, nat_tests)
+
+  says-inode : length k.unknown_inodes ≡ k.at.inodes → length k.free_inodes ≡ k.at.inodes → length k.agreed_inodes ≡ k.at.inodes → Says (learned_inode k i used) (with_inode W i)
+  says-inode unknown free agreed = record {
+    version = s.version;
+    blocks = s.blocks;
+    inodes = s.inodes;
+    mount = s.mount;
+    serial = s.serial;
+    stopped = s.stopped;
+    known_inodes = known-is unknown;
+    known_blocks = s.known_blocks;
+    free_inodes = free-is free;
+    free_blocks = s.free_blocks;
+    agreed_inodes = agreed-is agreed;
+  }
+
+-- what holds over any disk, with one more inode
+pub safe-inode : (d : DiskState) (k : Books) (i : ℕ) (used : Bool) → IsSafe d k → IsSafe d (learned_inode k i used)
+safe-inode d k i used s = record {
+  at = s.at;
+  mount = s.mount;
+  serial = s.serial;
+  unknown_inodes = set-length k.unknown_inodes (i - 1) false ∙ s.unknown_inodes;
+  free_inodes = set-length k.free_inodes (i - 1) (not used) ∙ s.free_inodes;
+  agreed_inodes = set-length k.agreed_inodes (i - 1) (used && ltb 2 i) ∙ s.agreed_inodes;
+  unknown_blocks = s.unknown_blocks;
+  free_blocks = s.free_blocks;
+  in_area = s.in_area;
+}
+
+module _ (old new : DiskState) (k : Books) (i : ℕ) (used : Bool) (is : IsDisk old) (safe : IsSafe old k) (stays : StaysButFaults old new) (going : k.stopped ≡ false) (low : 1 ≤ i) (high : i ≤ k.at.inodes) where
+  -- what is known of it is known, and the verdict that stands is the machine's
+  inode-parts : verdict_of_inode k i ≡ Some used → (is_set k.unknown_inodes (i - 1) ≡ false) × (used ≡ not (is_set k.free_inodes (i - 1)))
+  inode-parts stood = verdict-is (is_set k.unknown_inodes (i - 1)) (is_set k.free_inodes (i - 1)) used stood
+
+  inode-known : (H : List Entry1) (p : Past) → IsOpen old k H p → verdict_of_inode k i ≡ Some used → p.world.known_inodes i ≡ true
+  inode-known H p o stood = o.says.known_inodes i ∙ rw (le-is 1 i low, le-is i k.at.inodes high, (inode-parts stood).0) refl
+
+  pub inode-stands : (H : List Entry1) (p : Past) → IsOpen old k H p → verdict_of_inode k i ≡ Some used → used ≡ uses_inode p.world i
+  inode-stands H p o stood = stands (p.world.known_inodes i) (uses_inode p.world i) (is_set k.free_inodes (i - 1)) used (inode-known H p o stood) (o.says.free_inodes i low high) (inode-parts stood).1
+
+  -- the verdict stood
+  pub inode-stood : (caller : ℕ) (H : List Entry1) (p : Past) → IsTrue old.tells → IsOpen old k H p → verdict_of_inode k i ≡ Some used → Follows old new k H p (entry caller old new (step.SeeInode i) no_claims (reply.Seen used))
+  inode-stood caller H p tells o stood = follows-seen old new k k (step.SeeInode i) used is stays refl refl going going caller H p p.world tells o (sees-inode i)
+      (record { rows = inode-row p.world p.world i k.at.inodes o.says.inodes low high; reply = ap reply.Seen (inode-stands H p o stood); keeps = keeps-all p.world; going = o.says.stopped ∙ going; learns = learns-again p.world i (inode-known H p o stood) }) o.says
+
+  -- it was learned
+  pub inode-learned : (caller : ℕ) (H : List Entry1) (p : Past) → IsTrue old.tells → IsOpen old k H p → used ≡ uses_inode p.world i
+      → Follows old new (learned_inode k i used) H p (entry caller old new (step.SeeInode i) no_claims (reply.Seen used))
+  inode-learned caller H p tells o right = follows-seen old new k (learned_inode k i used) (step.SeeInode i) used is stays refl refl going going caller H p (with_inode p.world i) tells o (sees-inode i)
+      (record { rows = inode-row p.world (with_inode p.world i) i k.at.inodes o.says.inodes low high; reply = ap reply.Seen right; keeps = keeps-inode p.world i; going = o.says.stopped ∙ going; learns = learns-inode p.world i })
+      (says-inode k p.world i used o.says low high right safe.unknown_inodes safe.free_inodes safe.agreed_inodes)

@@ -1,0 +1,9 @@
+pub mod Books
+pub mod Standing
+pub mod Steps
+pub mod Beginning
+pub mod Opening
+pub mod Writing
+pub mod Verdicts
+pub mod Owning
+pub mod Counted

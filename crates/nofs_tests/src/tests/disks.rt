@@ -1,0 +1,95 @@
+//! Disks in memory that tests begin with, and calls on any disk with cells of one byte.
+ghost use Rattle.nofs_disk.specs.Disk.{IsSettled};
+ghost use Rattle.nofs_memdisk.specs.Parts.{memory_state};
+
+use nofs_disk::{Cell, Disk, Failed};
+use nofs_memdisk::{CallKind, FaultAt, MemDisk};
+use std::alloc::{AllocError, Global};
+
+/// A disk of four blocks, of which one call fails.
+pub fn failing(
+    alloc: Global,
+    call: CallKind,
+    number: u64,
+    taken: bool,
+) -> Result<MemDisk, AllocError> {
+    let mut disk = MemDisk::new(alloc, 4)?;
+    disk.fail_at(&[FaultAt {
+        call,
+        number,
+        taken,
+    }])?;
+    Ok(disk)
+}
+
+/// Lets a read fail: the next one has number 1.
+pub fn fail_read(disk: &mut MemDisk, number: u64) -> Result<(), AllocError> {
+    let call = FaultAt {
+        call: CallKind::Read,
+        number: disk.calls().reads.saturating_add(number),
+        taken: false,
+    };
+    disk.fail_at(&[call])
+}
+
+/// A disk that holds these cells.
+pub fn disk_of(alloc: Global, cells: &[Cell]) -> Result<MemDisk, AllocError> {
+    let mut disk = MemDisk::new(alloc, cells.len() as u64)?;
+    for (block, cell) in cells.iter().enumerate() {
+        lay(&mut disk, block as u64, cell);
+    }
+    Ok(disk)
+}
+
+fn lay(disk: &mut MemDisk, block: u64, cell: &Cell)
+    requires { IsSettled (memory_state disk.old) }
+    ensures { IsSettled (memory_state disk.new) }
+{
+    if block < disk.blocks() {
+        disk.put_cell(block, cell);
+    }
+}
+
+/// A disk of 16 blocks, of which block 0 has this payload and the others are zeros.
+pub fn disk_with(alloc: Global, payload: &[u8; 1024]) -> Result<MemDisk, AllocError> {
+    let mut disk = MemDisk::new(alloc, 16)?;
+    let mut cell = Cell::ZERO;
+    cell.payload = *payload;
+    disk.put_cell(0, &cell);
+    Ok(disk)
+}
+
+/// Writes a cell of one byte; whether the call succeeded.
+pub fn wrote<D: Disk>(disk: &mut D, block: u64, byte: u8) -> Result<bool, AllocError> {
+    disk.ready(1)?;
+    if block >= disk.blocks() {
+        return Ok(false);
+    }
+    let cell = Cell {
+        payload: [byte; 1024],
+        tag: [byte; 32],
+    };
+    Ok(disk.write(block, &cell).is_ok())
+}
+
+/// Flushes; whether the call succeeded.
+pub fn flushed<D: Disk>(disk: &mut D) -> Result<bool, AllocError> {
+    disk.ready(1)?;
+    Ok(disk.flush().is_ok())
+}
+
+/// The answer of one write-out.
+pub fn written_out<D: Disk>(disk: &mut D) -> Result<Result<Option<u64>, Failed>, AllocError> {
+    disk.ready(1)?;
+    Ok(disk.write_out())
+}
+
+/// The last byte of a block's payload; `None` where the read fails.
+pub fn byte_of<D: Disk>(disk: &mut D, block: u64) -> Option<u8> {
+    if block >= disk.blocks() {
+        return None;
+    }
+    let mut cell = Cell::ZERO;
+    disk.read(block, &mut cell).ok()?;
+    Some(cell.payload[1023])
+}

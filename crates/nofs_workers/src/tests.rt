@@ -1,0 +1,128 @@
+//! Workers over a stand-in for a mount, which notes what it is asked.
+ghost use Rattle.std.specs.Prelude.{IfOk};
+ghost use Rattle.nofs_client.specs.Commands.{AreWellFormed};
+
+mod fake;
+mod gates;
+
+use crate::tests::fake::Fake;
+use crate::tests::gates::{CountGate, no_calls};
+use crate::{
+    BlockSweeper, Downwards, Flusher, InodeSweeper, OpenGate, Upwards, UserEnd, UserWorker,
+};
+use nofs_client::{Command, CommandList, Path};
+use std::alloc::{AllocError, Global};
+use std::sync::atomic::Ordering;
+use std::test::Fail;
+
+fn two_stats(alloc: Global) -> Result<CommandList, AllocError>
+    ensures { IfOk result AreWellFormed }
+{
+    let mut commands = CommandList::new(alloc);
+    commands.push(Command::Stat { path: Path::Label })?;
+    commands.push(Command::Stat { path: Path::Label })?;
+    Ok(commands)
+}
+
+#[test]
+fn a_sweep_of_130_inodes_asks_for_64_and_64_and_2(rt: HostRuntime) -> Result<(), Fail> {
+    let mut sweeper = InodeSweeper::new(Fake::new(rt.alloc()), Upwards { count: 130 }, OpenGate);
+    sweeper.work();
+    assert!(rt; !sweeper.out_of_memory);
+    let fake = sweeper.into_inner();
+    assert_eq!(rt; fake.asked.as_slice(), [64, 64, 2].as_slice());
+    assert_eq!(rt; (fake.seen.len(), fake.committed), (130, 130));
+    assert!(rt; fake.seen.first() == Some(&1) && fake.seen.last() == Some(&130));
+    Ok(())
+}
+
+#[test]
+fn a_sweep_whose_looks_are_refused_sees_one_by_one(rt: HostRuntime) -> Result<(), Fail> {
+    let mut fake = Fake::new(rt.alloc());
+    fake.refuses = true;
+    let mut sweeper = BlockSweeper::new(fake, Downwards { count: 66 }, OpenGate);
+    sweeper.work();
+    let fake = sweeper.into_inner();
+    assert_eq!(rt; fake.asked.as_slice(), [64, 2].as_slice());
+    assert_eq!(rt; (fake.seen.len(), fake.committed), (66, 0));
+    assert!(rt; fake.seen.first() == Some(&65) && fake.seen.last() == Some(&0));
+    Ok(())
+}
+
+#[test]
+fn a_sweep_ends_where_memory_is_wanting(rt: HostRuntime) -> Result<(), Fail> {
+    let mut fake = Fake::new(rt.alloc());
+    fake.room = 70;
+    let mut sweeper = BlockSweeper::new(fake, Upwards { count: 130 }, OpenGate);
+    sweeper.work();
+    assert!(rt; sweeper.out_of_memory);
+    let fake = sweeper.into_inner();
+    assert_eq!(rt; fake.asked.as_slice(), [64, 64].as_slice());
+    assert_eq!(rt; fake.seen.len(), 70);
+    Ok(())
+}
+
+#[test]
+fn a_flusher_with_four_turns_over_three_dirty_blocks_makes_four_calls(
+    rt: HostRuntime,
+) -> Result<(), Fail> {
+    let mut fake = Fake::new(rt.alloc());
+    fake.dirty = 3;
+    let mut flusher = Flusher::new(fake, OpenGate, 4);
+    flusher.work();
+    let fake = flusher.into_inner();
+    assert_eq!(rt; (fake.outs, fake.dirty), (4, 0));
+    Ok(())
+}
+
+#[test]
+fn a_flusher_ends_at_the_first_fault(rt: HostRuntime) -> Result<(), Fail> {
+    let mut fake = Fake::new(rt.alloc());
+    fake.dirty = 3;
+    fake.fails_at = 2;
+    let mut flusher = Flusher::new(fake, OpenGate, 4);
+    flusher.work();
+    let fake = flusher.into_inner();
+    assert_eq!(rt; (fake.outs, fake.dirty), (2, 2));
+    Ok(())
+}
+
+#[test]
+fn a_user_passes_its_gate_at_each_step(rt: HostRuntime) -> Result<(), Fail> {
+    let calls = no_calls();
+    let commands = two_stats(rt.alloc())?;
+    let mut user = UserWorker::new(
+        rt.alloc(),
+        Fake::new(rt.alloc()),
+        commands,
+        CountGate { calls: &calls },
+    );
+    user.work();
+    let UserEnd {
+        steps,
+        lines,
+        out_of_memory,
+    } = user.into_inner();
+    assert!(rt; !out_of_memory);
+    assert_eq!(rt; (lines.len(), steps.others), (2, 2));
+    assert_eq!(rt; calls.before.load(Ordering::SeqCst), 2);
+    assert_eq!(rt; calls.after.load(Ordering::SeqCst), 2);
+    Ok(())
+}
+
+#[test]
+fn a_user_ends_where_memory_is_wanting(rt: HostRuntime) -> Result<(), Fail> {
+    let mut fake = Fake::new(rt.alloc());
+    fake.room = 1;
+    let commands = two_stats(rt.alloc())?;
+    let mut user = UserWorker::new(rt.alloc(), fake, commands, OpenGate);
+    user.work();
+    let UserEnd {
+        steps,
+        lines,
+        out_of_memory,
+    } = user.into_inner();
+    assert!(rt; out_of_memory);
+    assert_eq!(rt; (lines.len(), steps.others), (1, 1));
+    Ok(())
+}

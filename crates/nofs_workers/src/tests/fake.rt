@@ -1,0 +1,194 @@
+//! A stand-in for a mount, which notes the elements that it is asked for.
+ghost use Rattle.std.specs.Prelude.{◌≡◌, ◌^◌, ◌<◌, All, not, false};
+ghost use Rattle.nofs_machine.specs.Steps.{Fits, is_out_of_memory};
+ghost use Rattle.nofs_workers.specs.Sweeps.{AreInRange, see_of as step_to_see};
+ghost use Rattle.nofs_machine.specs.declared.steps.ElementKind.TheVariants.{Inode};
+
+use crate::{Batches, WritesOut};
+use nofs_disk::OutFault;
+use nofs_machine::{ElementKind, FileKind, Refusal, Reply, Stat, Step, Steps};
+use std::alloc::Global;
+use std::mem;
+use std::snapshot::Snapshot;
+
+/// The steps that were made, the last one first. It takes no memory.
+#[derive(Drop)]
+pub enum Past {
+    Start,
+    Made(Snapshot<Step>, Snapshot<Reply>, Snapshot<Past>),
+}
+
+/// The stand-in.
+#[derive(Drop)]
+pub struct Fake {
+    alloc: Global,
+    past: Past,
+    /// How many further steps find memory.
+    pub room: u64,
+    /// The counts of the batches that were asked for.
+    pub asked: Vec<u64>,
+    /// Whether each look is refused.
+    pub refuses: bool,
+    /// The elements that were examined, in order.
+    pub seen: Vec<u64>,
+    /// How many commits were made.
+    pub committed: u64,
+    /// How many steps on no element were made.
+    pub others: u64,
+    /// How many blocks are dirty.
+    pub dirty: u64,
+    /// How many write-outs were asked for.
+    pub outs: u64,
+    /// Which write-out fails, counted from 1; none at 0.
+    pub fails_at: u64,
+}
+
+/// The evidence of a batch: an element is used where its number is odd.
+#[derive(Drop)]
+pub struct Odds {
+    kind: ElementKind,
+    items: Vec<u64>,
+    ghost in_range: { AreInRange kind items.items },
+}
+
+fn see_of(kind: ElementKind, item: u64) -> Step
+    requires { kind ≡ Inode → item < 2 ^ 32 }
+    ensures { result ≡ step_to_see kind item }
+{
+    match kind {
+        ElementKind::Inode => Step::SeeInode { inode: item as u32 },
+        ElementKind::Block => Step::SeeBlock { block: item },
+    }
+}
+
+/// What a step is answered.
+fn reply_to(step: &Step) -> Reply
+    ensures fits { Fits step.now result }
+    ensures room { is_out_of_memory result ≡ false }
+{
+    match step {
+        Step::SeeInode { .. } => Reply::Seen { used: false },
+        Step::SeeBlock { .. } => Reply::Seen { used: false },
+        Step::Stat { .. } => Reply::Stat(Stat {
+            kind: FileKind::File,
+            size: 0,
+            links: 1,
+        }),
+        _ => Reply::Refused(Refusal::Stopped),
+    }
+}
+
+impl Fake {
+    /// A stand-in with room for 1,000 steps, and no dirty block.
+    pub fn new(alloc: Global) -> Self {
+        Fake {
+            alloc,
+            past: Past::Start,
+            room: 1000,
+            asked: Vec::new(alloc),
+            refuses: false,
+            seen: Vec::new(alloc),
+            committed: 0,
+            others: 0,
+            dirty: 0,
+            outs: 0,
+            fails_at: 0,
+        }
+    }
+
+    /// Notes a step, where there is memory for it.
+    fn note(&mut self, step: &Step) -> bool
+        ensures { self.new.past ≡ self.old.past }
+    {
+        if self.room == 0 {
+            return false;
+        }
+        self.room -= 1;
+        match step {
+            Step::SeeInode { inode } => self.seen.push(u64::from(*inode)).is_ok(),
+            Step::SeeBlock { block } => self.seen.push(*block).is_ok(),
+            _ => {
+                self.others = self.others.wrapping_add(1);
+                true
+            }
+        }
+    }
+}
+
+impl Steps for Fake {
+    ghost use Rattle.std.specs.Prelude.{List, [], ◌∷◌, ◌++◌};
+    ghost use Rattle.nofs_machine.specs.Steps.{Made};
+    ghost use Rattle.nofs_workers.specs.declared.tests.fake.Past.TheOpen.{Past-F};
+    ghost use Rattle.nofs_workers.specs.declared.tests.fake.Past.TheFolds.{fold-Past};
+
+    ghost made = { λ fake. fold-Past (List Made) (λ past. elim past [ Past-F.Start ↦ [] | Past-F.Made step reply earlier ↦ earlier.value ++ (step.value, reply.value) ∷ [] ]) fake.past };
+
+    ghost goes = { λ old new. Unit {0} };
+
+    fn step(&mut self, step: Step) -> Reply {
+        if !self.note(&step) {
+            return Reply::Refused(Refusal::OutOfMemory);
+        }
+        let reply = reply_to(&step);
+        let earlier = mem::replace(&mut self.past, Past::Start);
+        self.past = Past::Made(
+            Snapshot::of(&step),
+            Snapshot::of(&reply),
+            Snapshot::of(&earlier),
+        );
+        reply
+    }
+
+    ghost goes_none = { λ steps. tt };
+
+    ghost goes_on = { λ a b c first second. tt };
+}
+
+impl Batches for Fake {
+    ghost use Rattle.std.specs.Prelude.{◌%◌, nat_eq, get_or};
+
+    type Evidence = Odds;
+
+    ghost looked = { λ odds. record { kind = odds.kind; items = odds.items.items; verdict = λ at. nat_eq (get_or odds.items.items at 0 % 2) 1 } };
+
+    ghost owns = { λ fake odds. Unit {0} };
+
+    fn look_batch(&mut self, kind: ElementKind, items: &[u64]) -> Result<Odds, Refusal> {
+        match self.asked.push(items.len() as u64) {
+            Ok(()) => {}
+            Err(_) => return Err(Refusal::OutOfMemory),
+        }
+        if self.refuses {
+            return Err(Refusal::BadRange);
+        }
+        match Vec::from_slice(self.alloc, items) {
+            Ok(items) => Ok(Odds { kind, items }),
+            Err(_) => Err(Refusal::OutOfMemory),
+        }
+    }
+
+    fn judge(evidence: &Odds, at: u32) -> bool {
+        evidence.items[at as usize] % 2 == 1
+    }
+
+    fn commit(&mut self, evidence: &Odds, at: u32, _used: bool) -> Reply {
+        self.committed = self.committed.wrapping_add(1);
+        self.step(see_of(evidence.kind, evidence.items[at as usize]))
+    }
+}
+
+impl WritesOut for Fake {
+    ghost wrote = { λ old out new. Unit {0} };
+
+    fn write_out(&mut self) -> Result<Option<u64>, OutFault> {
+        self.outs = self.outs.wrapping_add(1);
+        if self.outs == self.fails_at {
+            return Err(OutFault::Failed);
+        }
+        if self.dirty == 0 {
+            return Ok(None);
+        }
+        self.dirty -= 1;
+        Ok(Some(self.dirty))
+    }
+}
