@@ -1,8 +1,6 @@
 //! Whole runs over a disk in memory, with the texts and statuses that a user sees.
 
 mod days;
-mod files;
-mod images;
 
 use crate::tool::{Outcome, tool};
 use byteorder::ByteOrder;
@@ -195,6 +193,16 @@ fn a_write_that_fails_stops_the_mount(rt: HostRuntime) -> Result<(), Fail> {
     Ok(())
 }
 
+/// Whether a crash may leave some block with one of several contents.
+fn has_choice(disk: &MemDisk) -> bool {
+    for block in 5..64 {
+        if block < disk.blocks() && disk.choices(block) > 1 {
+            return true;
+        }
+    }
+    false
+}
+
 #[test]
 fn a_flush_that_fails_at_the_end_is_told_by_the_status(rt: HostRuntime) -> Result<(), Fail> {
     let alloc = rt.alloc();
@@ -207,11 +215,7 @@ fn a_flush_that_fails_at_the_end_is_told_by_the_status(rt: HostRuntime) -> Resul
     let (status, sink, disk) = run_on(&rt, alloc, "new 64 16", b"put @ 0 616263".as_slice(), disk)?;
     assert_eq!(rt; sink.bytes(), b"put 3\n".as_slice());
     assert_eq!(rt; status, 3);
-    let mut claimed = 0;
-    for block in 5..64 {
-        claimed += disk.choices(block) - 1;
-    }
-    assert!(rt; claimed >= 1);
+    assert!(rt; has_choice(&disk));
     Ok(())
 }
 
