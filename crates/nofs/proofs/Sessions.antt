@@ -25,7 +25,7 @@ use Rattle.nofs_serve.specs.Teams.{UsersServed}
 use Rattle.nofs_serve.specs.Served.{TeamMade, TeamServed}
 use Rattle.nofs_serve.proofs.Gathering.{length-scripts, neither}
 use Rattle.nofs.specs.Entries.{session_lines, session_text}
-use Rattle.nofs.specs.Serving.{IsRun}
+use Rattle.nofs.specs.Serving.{IsSessionRun}
 
 module _ {W : Type 0} (f : W → List Command) where
   -- one more plan, for the first of the scripts that are left
@@ -64,7 +64,7 @@ twice false e = refl
 -- a team's steps, and then the flush
 pub run-closed : (scripts : List (List Command)) (inodes blocks : ℕ) (out closed : Bool) (lines : List (List Line)) (before served all : List Entry1)
     (flush : Reply) → before ≡ [] → TeamServed scripts inodes blocks out lines before served → AddsStep 0 (step.Flush 0 0) flush served all
-    → closed ≡ not (is_out_of_memory flush) → IsRun scripts inodes blocks (out || not closed) lines all
+    → closed ≡ not (is_out_of_memory flush) → IsSessionRun scripts inodes blocks (out || not closed) lines all
 run-closed scripts inodes blocks out closed lines before served all flush empty t adds is =
     let made : TeamMade scripts inodes blocks out lines (λ c. steps_by c served) = subst
     (λ (h : List Entry1). TeamMade scripts inodes blocks out lines (λ c. steps_by c (drop (length h) served))) empty t.made in
@@ -132,28 +132,28 @@ module _ (follow : LinesFollow) (served all : List Entry1) (same : (c : ℕ) →
 
 -- the text of a session that was served
 pub session-told : (scripts : List (List Command)) (inodes blocks : ℕ) (lines : List (List Line)) (all : List Entry1) (text : List ℕ) → LinesFollow
-    → IsRun scripts inodes blocks false lines all → text ≡ flat_map (λ l. flat_map text_of l) lines → text ≡ session_text scripts all
+    → IsSessionRun scripts inodes blocks false lines all → text ≡ flat_map (λ l. flat_map text_of l) lines → text ≡ session_text scripts all
 session-told scripts inodes blocks lines all text follow run is = is
     ∙ session-said follow run.served all
     (λ c low. adds-others 0 c (step.Flush 0 0) run.flush run.served all run.closes (λ e. absurd (omega (arith, low, e)))) scripts lines (run.team.served refl)
 
 text-told : {E : Type 0} (scripts : List (List Command)) (inodes blocks : ℕ) (lines : List (List Line)) (all : List Entry1) (made : Result (List ℕ) E)
-    → LinesFollow → IsRun scripts inodes blocks false lines all → IfOk made (λ t. t ≡ flat_map (λ l. flat_map text_of l) lines)
-    → IfSome (result_ok made) (λ t. (x : List (List Line)) × IsRun scripts inodes blocks false x all × (t ≡ session_text scripts all))
+    → LinesFollow → IsSessionRun scripts inodes blocks false lines all → IfOk made (λ t. t ≡ flat_map (λ l. flat_map text_of l) lines)
+    → IfSome (result_ok made) (λ t. (x : List (List Line)) × IsSessionRun scripts inodes blocks false x all × (t ≡ session_text scripts all))
 text-told scripts inodes blocks lines all (Ok t) follow run is = (lines, run, session-told scripts inodes blocks lines all t follow run is)
 text-told scripts inodes blocks lines all (Err e) follow run is = tt
 
 -- and where memory was not wanting
 pub session-ends : {E : Type 0} (session scripts : List (List Command)) (inodes blocks : ℕ) (out : Bool) (lines users : List (List Line))
     (all entries : List Entry1) (made : Result (List ℕ) E) (text : Option (List ℕ)) → scripts ≡ session → out ≡ false → users ≡ lines → entries ≡ all
-    → text ≡ result_ok made → LinesFollow → IsRun scripts inodes blocks out lines all → IfOk made (λ t. t ≡ flat_map (λ l. flat_map text_of l) users)
-    → IfSome text (λ t. (x : List (List Line)) × IsRun session inodes blocks false x entries × (t ≡ session_text session entries))
+    → text ≡ result_ok made → LinesFollow → IsSessionRun scripts inodes blocks out lines all → IfOk made (λ t. t ≡ flat_map (λ l. flat_map text_of l) users)
+    → IfSome text (λ t. (x : List (List Line)) × IsSessionRun session inodes blocks false x entries × (t ≡ session_text session entries))
 session-ends session scripts inodes blocks out lines users all entries made text same whole said ends is follow run told =
-    let run_session : IsRun session inodes blocks out lines all = subst (λ (s : List (List Command)). IsRun s inodes blocks out lines all) same run in
-    let run_whole : IsRun session inodes blocks false lines all = subst (λ (o : Bool). IsRun session inodes blocks o lines all) whole run_session in
-    let run_ends : IsRun session inodes blocks false lines entries = subst (λ (h : List Entry1). IsRun session inodes blocks false lines h) (sym ends)
+    let run_session : IsSessionRun session inodes blocks out lines all = subst (λ (s : List (List Command)). IsSessionRun s inodes blocks out lines all) same run in
+    let run_whole : IsSessionRun session inodes blocks false lines all = subst (λ (o : Bool). IsSessionRun session inodes blocks o lines all) whole run_session in
+    let run_ends : IsSessionRun session inodes blocks false lines entries = subst (λ (h : List Entry1). IsSessionRun session inodes blocks false lines h) (sym ends)
     run_whole in
     let told_lines : IfOk made (λ t. t ≡ flat_map (λ l. flat_map text_of l) lines) = subst
     (λ (u : List (List Line)). IfOk made (λ t. t ≡ flat_map (λ l. flat_map text_of l) u)) said told in
-    subst (λ (o : Option (List ℕ)). IfSome o (λ t. (x : List (List Line)) × IsRun session inodes blocks false x entries × (t ≡ session_text session entries)))
+    subst (λ (o : Option (List ℕ)). IfSome o (λ t. (x : List (List Line)) × IsSessionRun session inodes blocks false x entries × (t ≡ session_text session entries)))
     (sym is) (text-told session inodes blocks lines entries made follow run_ends told_lines)

@@ -12,7 +12,7 @@ use Rattle.nofs_serve.specs.Served.{TeamMade}
 
 -- Each user is a caller of its own and made just the steps that its commands ask for, in order; each element was examined once;
 -- and then caller 0 made all durable. Where memory was wanting, each may have ended early
-pub record IsRun (scripts : List (List Command)) (inodes blocks : ℕ) (short : Bool) (lines : List (List Line)) (H : List Entry1) : Type 0 where
+pub record IsSessionRun (scripts : List (List Command)) (inodes blocks : ℕ) (short : Bool) (lines : List (List Line)) (H : List Entry1) : Type 0 where
   pub served : List Entry1
   pub flush : Reply
   pub closes : AddsStep 0 (step.Flush 0 0) flush served H

@@ -9,12 +9,12 @@ use Rattle.nofs_client.specs.declared.commands.Command.{Command}
 use Rattle.nofs_client.specs.declared.lines.Line.{Line}
 use Rattle.nofs_script.specs.declared.faults.ScriptFault.{ScriptFault}
 use Rattle.nofs_script.specs.Sessions.{session_of}
-use Rattle.nofs.specs.declared.words.Task.{Task}
-use Rattle.nofs.specs.declared.words.Task.TheVariants.{New, Run, Scan}
+use Rattle.nofs.specs.declared.words.Request.{Request}
+use Rattle.nofs.specs.declared.words.Request.TheVariants.{New, Run, Scan}
 use Rattle.nofs.specs.declared.begin.Numbers.{Numbers}
 use Rattle.nofs.specs.Begin.{IsRefusedFormat}
 use Rattle.nofs.specs.Entries.{session_text, has_fault}
-use Rattle.nofs.specs.Serving.{IsRun}
+use Rattle.nofs.specs.Serving.{IsSessionRun}
 
 -- all that the source had left was read, within the limit, and it has P
 abbrev pub WithText : SourceState → SourceState → ℕ → (List ℕ → Type 0) → Type 0
@@ -29,7 +29,7 @@ abbrev pub WithSession : List ℕ → (List (List Command) → Type 0) → Type 
 WithSession text P = (session : List (List Command)) × (session_of text ≡ Ok session) × P session
 
 -- a task that serves a session read one
-abbrev pub HasSession : Option Task → SourceState → SourceState → ℕ → Type 0
+abbrev pub HasSession : Option Request → SourceState → SourceState → ℕ → Type 0
 HasSession None old new limit = ⊥
 HasSession (Some Scan) old new limit = Unit {0}
 HasSession (Some Run) old new limit = WithText old new limit (λ text. WithSession text (λ _. Unit {0}))
@@ -37,14 +37,14 @@ HasSession (Some (New blocks inodes)) old new limit = WithText old new limit (λ
 
 -- a session was served: no call of the device failed, each user made the steps of its commands, each element was examined, and
 -- the sink took the whole text that follows from the replies in the history
-abbrev pub IsServed : List (List Command) → Option HistoryState → SinkState → SinkState → Type 0
-IsServed session None old new = ⊥
-IsServed session (Some h) old new = AppendsAll old new (session_text session h.entries) × (has_fault h.entries ≡ false) × ((inodes : ℕ) × (blocks : ℕ) × (lines : List (List Line)) × IsRun session inodes blocks false lines h.entries)
+abbrev pub IsAnswered : List (List Command) → Option HistoryState → SinkState → SinkState → Type 0
+IsAnswered session None old new = ⊥
+IsAnswered session (Some h) old new = AppendsAll old new (session_text session h.entries) × (has_fault h.entries ≡ false) × ((inodes : ℕ) × (blocks : ℕ) × (lines : List (List Line)) × IsSessionRun session inodes blocks false lines h.entries)
 
 -- the mount stood, and no entry has a fault of the device
-abbrev pub IsSound : Option HistoryState → Type 0
-IsSound None = ⊥
-IsSound (Some h) = has_fault h.entries ≡ false
+abbrev pub IsFaultless : Option HistoryState → Type 0
+IsFaultless None = ⊥
+IsFaultless (Some h) = has_fault h.entries ≡ false
 
 -- no mount stood, or an entry has a fault of the device
 abbrev pub IsFaulty : Option HistoryState → Type 0
@@ -59,14 +59,14 @@ IsStatus s = (s ≡ 0) ⊎ (s ≡ 1) ⊎ (s ≡ 2) ⊎ (s ≡ 3) ⊎ (s ≡ 4) �
 pub record MountEnds (found new : DiskState) (sink_old sink_new : SinkState) (status : ℕ) (h : Option HistoryState) : Type 0 where
   pub named : (status ≡ 0) ⊎ (status ≡ 3) ⊎ (status ≡ 5) ⊎ (status ≡ 7)
   pub device : status ≡ 3 → IsFaulty h × Rose found.faults new.faults
-  pub sink : status ≡ 5 → Rose sink_old.faults sink_new.faults × IsSound h
+  pub sink : status ≡ 5 → Rose sink_old.faults sink_new.faults × IsFaultless h
   pub stood : h ≢ None
 
 -- what comes of a session
 pub record SessionEnds (Refused : Type 0) (old new : DiskState) (sink_old sink_new : SinkState) (status : ℕ) (h : Option HistoryState) : Type 0 where
   pub named : (status ≡ 0) ⊎ (status ≡ 3) ⊎ (status ≡ 4) ⊎ (status ≡ 5) ⊎ (status ≡ 7)
   pub device : status ≡ 3 → IsFaulty h × Rose old.faults new.faults
-  pub sink : status ≡ 5 → Rose sink_old.faults sink_new.faults × IsSound h
+  pub sink : status ≡ 5 → Rose sink_old.faults sink_new.faults × IsFaultless h
   pub refused : status ≡ 4 → (h ≡ None) × Refused
 
 -- what a refusal with status 4 leaves of the device: no write was made but those of a format
@@ -74,7 +74,7 @@ abbrev pub IsRefusedBy : Option Numbers → DiskState → DiskState → Type 0
 IsRefusedBy (Some numbers) old new = (IsRefusedFormat old numbers.blocks numbers.inodes × KeepsCells old new) ⊎ (old.moment < new.moment)
 IsRefusedBy None old new = KeepsCells old new
 
-abbrev pub IsRefusedTask : Option Task → DiskState → DiskState → Type 0
+abbrev pub IsRefusedTask : Option Request → DiskState → DiskState → Type 0
 IsRefusedTask None old new = ⊥
 IsRefusedTask (Some (New blocks inodes)) old new = IsRefusedBy (Some (record { blocks = blocks; inodes = inodes })) old new
 IsRefusedTask (Some Run) old new = IsRefusedBy None old new
@@ -83,11 +83,11 @@ IsRefusedTask (Some Scan) old new = IsRefusedBy None old new
 -- each element of the device was examined once, and no call of it failed
 abbrev pub IsScanned : Option HistoryState → Type 0
 IsScanned None = ⊥
-IsScanned (Some h) = (has_fault h.entries ≡ false) × ((inodes : ℕ) × (blocks : ℕ) × (lines : List (List Line)) × IsRun [] inodes blocks false lines h.entries)
+IsScanned (Some h) = (has_fault h.entries ≡ false) × ((inodes : ℕ) × (blocks : ℕ) × (lines : List (List Line)) × IsSessionRun [] inodes blocks false lines h.entries)
 
 -- a session was read and served, or the device was scanned
-abbrev pub IsDone : Option Task → SourceState → SourceState → ℕ → SinkState → SinkState → Option HistoryState → Type 0
+abbrev pub IsDone : Option Request → SourceState → SourceState → ℕ → SinkState → SinkState → Option HistoryState → Type 0
 IsDone None source_old source_new limit old new h = ⊥
 IsDone (Some Scan) source_old source_new limit old new h = IsScanned h
-IsDone (Some Run) source_old source_new limit old new h = WithText source_old source_new limit (λ text. WithSession text (λ session. IsServed session h old new))
-IsDone (Some (New blocks inodes)) source_old source_new limit old new h = WithText source_old source_new limit (λ text. WithSession text (λ session. IsServed session h old new))
+IsDone (Some Run) source_old source_new limit old new h = WithText source_old source_new limit (λ text. WithSession text (λ session. IsAnswered session h old new))
+IsDone (Some (New blocks inodes)) source_old source_new limit old new h = WithText source_old source_new limit (λ text. WithSession text (λ session. IsAnswered session h old new))

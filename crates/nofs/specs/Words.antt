@@ -3,23 +3,23 @@ use Rattle.std.specs.Prelude.{ℕ, List, [], ◌∷◌, codes, if◌then◌else�
 use Rattle.std.specs.Str.{bytes_eq}
 use Rattle.std.specs.declared.option.Option.{Option}
 use Rattle.nofs_script.specs.Words.{number_of}
-use Rattle.nofs.specs.declared.words.Task.{Task}
-use Rattle.nofs.specs.declared.words.Task.TheVariants.{New, Run, Scan}
+use Rattle.nofs.specs.declared.words.Request.{Request}
+use Rattle.nofs.specs.declared.words.Request.TheVariants.{New, Run, Scan}
 
-abbrev pub both : Option ℕ → Option ℕ → Option Task
+abbrev pub both : Option ℕ → Option ℕ → Option Request
 both (Some blocks) (Some inodes) = Some (New blocks inodes)
 both _ _ = None
 
 -- BLOCKS INODES
-abbrev pub new_in : List ℕ → List ℕ → Option Task
+abbrev pub new_in : List ℕ → List ℕ → Option Request
 new_in blocks inodes = both (number_of blocks) (number_of inodes)
 
 -- a command of one word
-abbrev pub plain_in : List ℕ → Option Task
+abbrev pub plain_in : List ℕ → Option Request
 plain_in word = if bytes_eq word (codes "run") then Some Run else (if bytes_eq word (codes "scan") then Some Scan else None)
 
 -- the task that words ask for
-abbrev pub task_in : List (List ℕ) → Option Task
+abbrev pub task_in : List (List ℕ) → Option Request
 task_in (word ∷ []) = plain_in word
 task_in (word ∷ blocks ∷ inodes ∷ []) = if bytes_eq word (codes "new") then new_in blocks inodes else None
 task_in _ = None

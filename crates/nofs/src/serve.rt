@@ -16,7 +16,7 @@ ghost use Rattle.nofs_shared.specs.Added.{AddsStep};
 ghost use Rattle.nofs_shared.specs.Ends.{Ends};
 ghost use Rattle.nofs_shared.specs.Forms.{is_fault as is_fault_in};
 ghost use Rattle.nofs.specs.Entries.{has_fault, session_text};
-ghost use Rattle.nofs.specs.Serving.{IsRun};
+ghost use Rattle.nofs.specs.Serving.{IsSessionRun};
 
 use crate::scan::counts_text;
 use nofs_client::{Line, LineList};
@@ -135,7 +135,7 @@ fn serve_and_close<R: Threads + Wait + Sync, D: Disk + Drop + Send>(
     requires formed { All (λ p. AreWellFormed p.commands) plans.items }
     requires new { mount.core.books.history.entries ≡ [] }
     ensures same { (result.mount.found.value ≡ mount.found.value) × (result.mount.first ≡ mount.first) }
-    ensures ran { IsRun (map (λ p. p.commands) plans.items) mount.core.books.at.inodes mount.core.books.at.blocks result.out_of_memory result.lines.items result.mount.core.books.history.entries }
+    ensures ran { IsSessionRun (map (λ p. p.commands) plans.items) mount.core.books.at.inodes mount.core.books.at.blocks result.out_of_memory result.lines.items result.mount.core.books.history.entries }
 {
     let at = mount.numbers();
     let sweeps = Sweeps {
@@ -181,7 +181,7 @@ pub fn run_session<R: Threads + Wait + Sync, D: Disk + Drop + Send>(
     requires session { IsSession session }
     requires new { mount.core.books.history.entries ≡ [] }
     ensures ends { ∥ Ends (D.state mount.found.value) (D.state result.disk) mount.first result.history ∥₁ }
-    ensures ran { IfSome result.text (λ text. (lines : List (List Line)) × IsRun session mount.core.books.at.inodes mount.core.books.at.blocks false lines result.history.entries × (text ≡ session_text session result.history.entries)) }
+    ensures ran { IfSome result.text (λ text. (lines : List (List Line)) × IsSessionRun session mount.core.books.at.inodes mount.core.books.at.blocks false lines result.history.entries × (text ≡ session_text session result.history.entries)) }
 {
     let Ok(plans) = plans_of(alloc, session) else {
         return ended(mount, None);
@@ -205,7 +205,7 @@ pub fn run_scan<R: Threads + Wait + Sync, D: Disk + Drop + Send>(
 ) -> Ran<D>
     requires { mount.core.books.history.entries ≡ [] }
     ensures ends { ∥ Ends (D.state mount.found.value) (D.state result.disk) mount.first result.history ∥₁ }
-    ensures ran { IfSome result.text (λ text. (lines : List (List Line)) × IsRun [] mount.core.books.at.inodes mount.core.books.at.blocks false lines result.history.entries) }
+    ensures ran { IfSome result.text (λ text. (lines : List (List Line)) × IsSessionRun [] mount.core.books.at.inodes mount.core.books.at.blocks false lines result.history.entries) }
 {
     let Served {
         mount,

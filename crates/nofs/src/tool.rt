@@ -10,12 +10,12 @@ ghost use Rattle.nofs_script.specs.Sessions.{IsSession};
 ghost use Rattle.nofs.specs.Begin.{status_of as status_in};
 ghost use Rattle.nofs.specs.Words.{task_in};
 ghost use Rattle.nofs.specs.Entries.{has_fault};
-ghost use Rattle.nofs.specs.Tool.{HasSession, IsBad, IsDone, IsFaulty, IsRefusedBy, IsRefusedTask, IsScanned, IsServed, IsSound, IsStatus, MountEnds, SessionEnds, WithSession, WithText};
+ghost use Rattle.nofs.specs.Tool.{HasSession, IsBad, IsDone, IsFaulty, IsRefusedBy, IsRefusedTask, IsScanned, IsAnswered, IsFaultless, IsStatus, MountEnds, SessionEnds, WithSession, WithText};
 
 use crate::begin::{Numbers, Refused, format_and_mount, mount, status_of};
 use crate::faults::{SOURCE_FAULT, TOO_LONG, USAGE, cause_text, script_text};
 use crate::serve::{Ran, has_fault_in, run_scan, run_session};
-use crate::words::{Task, task_of};
+use crate::words::{Request, task_of};
 use nofs_disk::Disk;
 use nofs_io::{ReadFault, Sink, Source, TEXT_LIMIT, read_all, write_all};
 use nofs_lists::Content;
@@ -122,7 +122,7 @@ fn mounted<R: Threads + Wait + Sync, K: Sink, D: Disk + Drop + Send>(
     requires session { IsSession session }
     requires new { mount.core.books.history.entries ≡ [] }
     ensures ends { MountEnds (D.state mount.found.value) (D.state result.disk) (K.state sink.old) (K.state sink.new) result.status result.history }
-    ensures done { result.status ≡ 0 → IsServed session result.history (K.state sink.old) (K.state sink.new) }
+    ensures done { result.status ≡ 0 → IsAnswered session result.history (K.state sink.old) (K.state sink.new) }
 {
     written(sink, run_session(rt, alloc, mount, session))
 }
@@ -138,7 +138,7 @@ fn new_outcome<R: Threads + Wait + Sync, K: Sink, D: Disk + Drop + Send>(
 ) -> Outcome<D>
     requires { IsSession session }
     ensures ends { SessionEnds (IsRefusedBy (Some numbers) (D.state disk) (D.state result.disk)) (D.state disk) (D.state result.disk) (K.state sink.old) (K.state sink.new) result.status result.history }
-    ensures done { result.status ≡ 0 → IsServed session result.history (K.state sink.old) (K.state sink.new) }
+    ensures done { result.status ≡ 0 → IsAnswered session result.history (K.state sink.old) (K.state sink.new) }
 {
     match format_and_mount(alloc, disk, numbers) {
         Ok(mount) => mounted(rt, alloc, sink, mount, session),
@@ -156,7 +156,7 @@ fn run_outcome<R: Threads + Wait + Sync, K: Sink, D: Disk + Drop + Send>(
 ) -> Outcome<D>
     requires { IsSession session }
     ensures ends { SessionEnds (IsRefusedBy None (D.state disk) (D.state result.disk)) (D.state disk) (D.state result.disk) (K.state sink.old) (K.state sink.new) result.status result.history }
-    ensures done { result.status ≡ 0 → IsServed session result.history (K.state sink.old) (K.state sink.new) }
+    ensures done { result.status ≡ 0 → IsAnswered session result.history (K.state sink.old) (K.state sink.new) }
 {
     match mount(alloc, disk) {
         Ok(mount) => mounted(rt, alloc, sink, mount, session),
@@ -175,7 +175,7 @@ fn session_outcome<R: Threads + Wait + Sync, K: Sink, D: Disk + Drop + Send>(
 ) -> Outcome<D>
     requires { IsSession session }
     ensures ends { SessionEnds (IsRefusedBy numbers (D.state disk) (D.state result.disk)) (D.state disk) (D.state result.disk) (K.state sink.old) (K.state sink.new) result.status result.history }
-    ensures done { result.status ≡ 0 → IsServed session result.history (K.state sink.old) (K.state sink.new) }
+    ensures done { result.status ≡ 0 → IsAnswered session result.history (K.state sink.old) (K.state sink.new) }
 {
     match numbers {
         Some(numbers) => new_outcome(rt, alloc, sink, disk, numbers, session),
@@ -195,7 +195,7 @@ fn text_outcome<R: Threads + Wait + Sync, K: Sink, D: Disk + Drop + Send>(
     ensures script { result.status ≡ 2 → IsBad text.now × (result.disk ≡ disk) × (result.history ≡ None) }
     ensures ends { result.status ≢ 2 → SessionEnds (IsRefusedBy numbers (D.state disk) (D.state result.disk)) (D.state disk) (D.state result.disk) (K.state sink.old) (K.state sink.new) result.status result.history }
     ensures session { (result.status ≡ 0) ⊎ (result.status ≡ 3) ⊎ (result.status ≡ 4) ⊎ (result.status ≡ 5) → WithSession text.now (λ _. Unit {0}) }
-    ensures done { result.status ≡ 0 → WithSession text.now (λ session. IsServed session result.history (K.state sink.old) (K.state sink.new)) }
+    ensures done { result.status ≡ 0 → WithSession text.now (λ session. IsAnswered session result.history (K.state sink.old) (K.state sink.new)) }
 {
     match parse(alloc, text) {
         Ok(session) => session_outcome(rt, alloc, sink, disk, numbers, session),
@@ -220,9 +220,9 @@ fn source_outcome<R: Threads + Wait + Sync, S: Source, K: Sink, D: Disk + Drop +
     ensures session { (result.status ≡ 0) ⊎ (result.status ≡ 3) ⊎ (result.status ≡ 4) ⊎ (result.status ≡ 5) →
         WithText (S.state source.old) (S.state source.new) TEXT_LIMIT (λ text. WithSession text (λ _. Unit {0})) }
     ensures device { result.status ≡ 3 → IsFaulty result.history × Rose (D.state disk).faults (D.state result.disk).faults }
-    ensures sink { result.status ≡ 5 → Rose (K.state sink.old).faults (K.state sink.new).faults × IsSound result.history }
+    ensures sink { result.status ≡ 5 → Rose (K.state sink.old).faults (K.state sink.new).faults × IsFaultless result.history }
     ensures done { result.status ≡ 0 → WithText (S.state source.old) (S.state source.new) TEXT_LIMIT (λ text.
-        WithSession text (λ session. IsServed session result.history (K.state sink.old) (K.state sink.new))) }
+        WithSession text (λ session. IsAnswered session result.history (K.state sink.old) (K.state sink.new))) }
     ensures untouched { (result.status ≡ 2) ⊎ (result.status ≡ 6) ⊎ (result.status ≡ 8) → (result.disk ≡ disk) × (result.history ≡ None) }
     ensures refused { result.status ≡ 4 → (result.history ≡ None) × IsRefusedBy numbers (D.state disk) (D.state result.disk) }
 {
@@ -281,18 +281,18 @@ pub fn tool<R: Threads + Wait + Sync, S: Source, K: Sink, D: Disk + Drop + Send>
     ensures session { (result.status ≡ 0) ⊎ (result.status ≡ 3) ⊎ (result.status ≡ 4) ⊎ (result.status ≡ 5) →
         HasSession (task_in (map string_bytes words.now)) (S.state source.old) (S.state source.new) TEXT_LIMIT }
     ensures device { result.status ≡ 3 → IsFaulty result.history × Rose (D.state disk).faults (D.state result.disk).faults }
-    ensures sink { result.status ≡ 5 → Rose (K.state sink.old).faults (K.state sink.new).faults × IsSound result.history }
+    ensures sink { result.status ≡ 5 → Rose (K.state sink.old).faults (K.state sink.new).faults × IsFaultless result.history }
     ensures done { result.status ≡ 0 → IsDone (task_in (map string_bytes words.now)) (S.state source.old) (S.state source.new) TEXT_LIMIT (K.state sink.old) (K.state sink.new) result.history }
     ensures untouched { (result.status ≡ 1) ⊎ (result.status ≡ 2) ⊎ (result.status ≡ 6) ⊎ (result.status ≡ 8) → (result.disk ≡ disk) × (result.history ≡ None) }
     ensures refused { result.status ≡ 4 → (result.history ≡ None) × IsRefusedTask (task_in (map string_bytes words.now)) (D.state disk) (D.state result.disk) }
 {
     match task_of(words) {
         None => told(sink, disk, 1, USAGE),
-        Some(Task::New { blocks, inodes }) => {
+        Some(Request::New { blocks, inodes }) => {
             let numbers = Numbers { blocks, inodes };
             source_outcome(rt, alloc, source, sink, disk, Some(numbers))
         }
-        Some(Task::Run) => source_outcome(rt, alloc, source, sink, disk, None),
-        Some(Task::Scan) => scan_outcome(rt, alloc, sink, disk),
+        Some(Request::Run) => source_outcome(rt, alloc, source, sink, disk, None),
+        Some(Request::Scan) => scan_outcome(rt, alloc, sink, disk),
     }
 }

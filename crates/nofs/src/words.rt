@@ -9,7 +9,7 @@ use nofs_script::number_of;
 
 /// What the program is asked for.
 #[derive(Clone, Copy, Debug, PartialEq, Eq)]
-pub enum Task {
+pub enum Request {
     /// Formats the device, mounts it and serves a session.
     New { blocks: u64, inodes: u64 },
     /// Mounts the device and serves a session.
@@ -18,28 +18,28 @@ pub enum Task {
     Scan,
 }
 
-fn new_task(blocks: &str, inodes: &str) -> Option<Task>
+fn new_task(blocks: &str, inodes: &str) -> Option<Request>
     ensures { result ≡ new_in blocks.now inodes.now }
 {
     let blocks = number_of(blocks.as_bytes())?;
     let inodes = number_of(inodes.as_bytes())?;
-    Some(Task::New { blocks, inodes })
+    Some(Request::New { blocks, inodes })
 }
 
-fn plain_task(word: &str) -> Option<Task>
+fn plain_task(word: &str) -> Option<Request>
     ensures { result ≡ plain_in word.now }
 {
     if word.as_bytes() == b"run".as_slice() {
-        Some(Task::Run)
+        Some(Request::Run)
     } else if word.as_bytes() == b"scan".as_slice() {
-        Some(Task::Scan)
+        Some(Request::Scan)
     } else {
         None
     }
 }
 
 /// The task that the words behind the image's path ask for.
-pub fn task_of(words: &[String]) -> Option<Task>
+pub fn task_of(words: &[String]) -> Option<Request>
     ensures { result ≡ task_in (map string_bytes words.now) }
 {
     match words {

@@ -30,7 +30,7 @@ use Rattle.nofs_cases_names.proofs.Roots.{file_record, name-records, drop-record
 use Rattle.nofs_cases_names.proofs.Roots.{root-old, root-match}
 use Rattle.nofs_cases_names.proofs.NameCases.{spells-b, drop-inode, but-two, but-three, nulls, no-entries}
 use Rattle.nofs_cases_laws.specs.PlaceCases.{drop_files, drop_world, again_claims, again_bytes, again_table, again_image, MakeInPlaceCase, full_cell}
-use Rattle.nofs_cases_laws.specs.PlaceCases.{full_image, full_files, full_world, block_three, hole_claims, hole_table, second_block, hole_image, far_links}
+use Rattle.nofs_cases_laws.specs.PlaceCases.{full_image, full_files, full_world, third_block, hole_claims, hole_table, second_block, hole_image, far_links}
 use Rattle.nofs_cases_laws.specs.PlaceCases.{LinkInHoleCase}
 use Rattle.nofs_cases_laws.proofs.HomesCases.{name-low}
 
@@ -196,7 +196,7 @@ wide_record = record {
   kind = Some Folder;
   links = no_links;
   size = 0;
-  direct = block_two 1 ∷ block_three ∷ null ∷ null ∷ null ∷ null ∷ null ∷ null ∷ [];
+  direct = block_two 1 ∷ third_block ∷ null ∷ null ∷ null ∷ null ∷ null ∷ null ∷ [];
   leaf = null;
   top = null;
 }
@@ -269,7 +269,7 @@ block-three-free = free-is full_image (pick (block_two 1) null null) 3 full-plai
     each (suc (suc (suc zero))) e = refl
     each (suc (suc (suc (suc n)))) e = refl
 
-far-hole : HoleInRecord (2 ^ 40 + 2) full_image hole_image 1 3 1 block_three
+far-hole : HoleInRecord (2 ^ 40 + 2) full_image hole_image 1 3 1 third_block
 far-hole = record {
   super = refl;
   records = λ j n1 n3. hole-inode j ∙ others j n1 n3 ∙ sym (full-inode j);

@@ -6,7 +6,7 @@ use Rattle.nofs_machine.specs.History.{FilesMatch}
 use Rattle.nofs_machine.specs.World.{World, uses_inode, uses_block}
 use Rattle.nofs_machine.specs.Claims.{NoInode, Unclaimed}
 use Rattle.nofs_machine.specs.Next.{Next, Done, Run}
-use Rattle.nofs_machine.specs.Good.{HasNumbers}
+use Rattle.nofs_machine.specs.Good.{MatchesSuper}
 use Rattle.nofs_law_maps.specs.Homes.{HomesMatch}
 use Rattle.nofs_law_maps.proofs.Homes.{law-good}
 use Rattle.nofs_crashlaw.proofs.FlushStage.{files-stay}
@@ -57,13 +57,13 @@ unchanged-case = (run, refl, refl)
 pub empty-run-case : EmptyRunCase
 empty-run-case = refl
 
-pub mounted-numbers : HasNumbers mounted first_image
+pub mounted-numbers : MatchesSuper mounted first_image
 mounted-numbers = let n = first-numbers in record { version = n.version; blocks = n.blocks; inodes = n.inodes; mount = n.mount }
 
-seen-numbers : HasNumbers seen first_image
+seen-numbers : MatchesSuper seen first_image
 seen-numbers = let n = first-numbers in record { version = n.version; blocks = n.blocks; inodes = n.inodes; mount = n.mount }
 
-shows : (W : World) → HasNumbers W first_image → FilesMatch W.files first_image → HomesMatch W first_image → Shows W first_image
+shows : (W : World) → MatchesSuper W first_image → FilesMatch W.files first_image → HomesMatch W first_image → Shows W first_image
 shows W numbers match homes = record {
   verified_inodes = W.known_inodes;
   free_inodes = λ i. not (uses_inode W i);

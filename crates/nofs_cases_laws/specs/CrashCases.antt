@@ -17,7 +17,7 @@ use Rattle.nofs_law_images.specs.Moments.{during, AllExplained, IsTracked, OnlyP
 use Rattle.nofs_law_untouched.specs.Grows.{Grows}
 use Rattle.nofs_law_files.specs.Writes.{ContentLies, PointersLie, RecordLies}
 use Rattle.nofs_crashlaw.specs.Laws.{StepUnderWay, AllLater, SparesRest}
-use Rattle.nofs_crashlaw.specs.Stage.{Lasts, IsFirst, IsStep, AddsProper, HasFiles, IsFlush}
+use Rattle.nofs_crashlaw.specs.Stage.{Lasts, IsLeftByMount, IsStep, AddsProper, HasFiles, IsFlush}
 use Rattle.nofs_cases_steps.specs.Images.{blank, image_of, first_table, first_image, put_image, put_block}
 use Rattle.nofs_cases_steps.specs.Worlds.{put_files, entry_of_step, block_two}
 use Rattle.nofs_cases_steps.specs.LeafCase.{leaf_image, leaf_places}
@@ -124,7 +124,7 @@ put_state = record {
 
 -- After a mount.
 abbrev pub FirstStageCase : Type 0
-FirstStageCase = IsFirst (still 0 8) (2 ^ 40)
+FirstStageCase = IsLeftByMount (still 0 8) (2 ^ 40)
 
 -- The Put, from one state of the disk to the next.
 abbrev pub StageCase : Type 0

@@ -70,11 +70,11 @@ abbrev pub full_world : World
 full_world = world full_files (λ p. None) 2
 
 -- block 3, with the stamp 2 ^ 40 + 2, is claimed
-abbrev pub block_three : Pointer
-block_three = record { block = 3; stamp = 2 ^ 40 + 2 }
+abbrev pub third_block : Pointer
+third_block = record { block = 3; stamp = 2 ^ 40 + 2 }
 
 abbrev pub hole_claims : Claims
-hole_claims = cell_claim block_three
+hole_claims = cell_claim third_block
 
 -- the root has it in slot 1, and inode 3 has a second link, to entry 16
 abbrev pub hole_table : Cell
@@ -94,6 +94,6 @@ far_links = link_to 1 0 1 ∷ link_to 1 16 1 ∷ no_link ∷ no_link ∷ []
 -- Link of b to inode 3 in entry 16, for which slot 1 of the root gets its block.
 abbrev pub LinkInHoleCase : Type 0
 LinkInHoleCase = LinkLies full_files full_image hole_image 1 1 16 3 (2 ^ 40) 1 (2 ^ 40 + 2) b (root_file (Bytes full_cell)) (third_file one_link)
-    × EntryInHole (2 ^ 40 + 2) full_image hole_image 1 16 3 (spelled_entry 3 (2 ^ 40) b) block_three null
-    × EntryClaims full_files hole_claims 1 16 b block_three null × IsClaim full_world (step.Link 1 1 b 3 (2 ^ 40)) hole_claims
+    × EntryInHole (2 ^ 40 + 2) full_image hole_image 1 16 3 (spelled_entry 3 (2 ^ 40) b) third_block null
+    × EntryClaims full_files hole_claims 1 16 b third_block null × IsClaim full_world (step.Link 1 1 b 3 (2 ^ 40)) hole_claims
     × OldNumbers full_world full_image

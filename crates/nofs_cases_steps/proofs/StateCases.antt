@@ -4,7 +4,7 @@ use Rattle.nofs_model.specs.Cells.{Content, Table, Pointer, Record, SuperBlock, 
 use Rattle.nofs_model.proofs.Chains.{agreed-holds}
 use Rattle.nofs_law_untouched.proofs.Alike.{agreed-some}
 use Rattle.nofs_law_maps.proofs.Fresh.{sole-is}
-use Rattle.nofs_machine.specs.Good.{HasNumbers, IsFresh}
+use Rattle.nofs_machine.specs.Good.{MatchesSuper, IsFresh}
 use Rattle.nofs_model.specs.Image.{file_from, Image, cell_at, inode, Path, InRecord, path_of, IsSlot, find, files_in, agreed, Home, home_at, CellBelow, IsBelow, record_pointer}
 use Rattle.nofs_model.specs.declared.path.PathAnswer.TheVariants as answer
 use Rattle.nofs_model.specs.declared.value.Value.TheVariants.{Hole}
@@ -28,7 +28,7 @@ use Rattle.nofs_cases_steps.proofs.Below.{record-low, no-links-low, free-low, Re
 use Rattle.nofs_cases_steps.proofs.FileCases.{first-inode, first-empty, first-free, first-match, first-old, first-root, first-label, put-inode, put-plain, put-lies, put-placed, put-claim, put-touches, put-holds, put-label, uncut}
 
 -- the numbers of the disk
-pub first-numbers : HasNumbers first_world first_image
+pub first-numbers : MatchesSuper first_world first_image
 first-numbers =
     let e = sym (numbers-are first_table blank blank) in
     record { version = ap (λ (n : SuperBlock). n.version) e; blocks = ap (λ (n : SuperBlock). n.blocks) e; inodes = ap (λ (n : SuperBlock). n.inodes) e; mount = ap (λ (n : SuperBlock). n.mount) e }

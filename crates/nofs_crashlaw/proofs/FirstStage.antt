@@ -13,7 +13,7 @@ use Rattle.nofs_machine.specs.Allowed.{IsAllowed}
 use Rattle.nofs_machine.specs.Steady.{SteadyRest}
 use Rattle.nofs_law_images.specs.Reasons.{IsMark}
 use Rattle.nofs_law_images.proofs.Moments.{law-flush}
-use Rattle.nofs_crashlaw.specs.Stage.{CellsSurvive, Stage, IsFirst, LawFirstStage}
+use Rattle.nofs_crashlaw.specs.Stage.{CellsSurvive, Stage, IsLeftByMount, LawFirstStage}
 use Rattle.nofs_crashlaw.proofs.Below.{live-below, tag-below}
 use Rattle.nofs_crashlaw.proofs.Flushing.{flushed}
 use Rattle.nofs_crashlaw.proofs.NewMark.{mark-new}
@@ -23,7 +23,7 @@ use Rattle.nofs_crashlaw.proofs.Unflushed.{self-match, law-unflushed}
 rest-first : (B : Image) → SteadyRest B [] B
 rest-first B i live not_agreed = record { live = live; generation = refl; meta = refl; no_value = λ k. refl; no_meta = refl; values = λ k lt. inl refl }
 
-module _ (d : DiskState) (s : ℕ) (p : IsFirst d s) where
+module _ (d : DiskState) (s : ℕ) (p : IsLeftByMount d s) where
   geometry : IsGeometry (length d.now) (super_at d.now).blocks (super_at d.now).inodes
   geometry = let m = (mountable-law d.now).1 p.mountable in m.fits
 

@@ -116,7 +116,7 @@ LawFlushStage old new = (B : Image) (H : List Entry1) (M : Image) (S start s cal
     → IsFlush B H M S start s old new → Stage B (H ++ flush_entry caller old new i g ∷ []) old.now s start s new
 
 -- a disk that tells, as a mount leaves it: each block may hold its present cell alone, and every number on it is below s
-pub record IsFirst (d : DiskState) (s : ℕ) : Type 0 where
+pub record IsLeftByMount (d : DiskState) (s : ℕ) : Type 0 where
   pub disk : IsDisk d
   pub tells : IsTrue d.tells
   pub settled : IsSettled d
@@ -126,7 +126,7 @@ pub record IsFirst (d : DiskState) (s : ℕ) : Type 0 where
 
 -- The first step of a mount may begin, and so may a flush: the rest is steady.
 abbrev pub LawFirstStage : DiskState → Type 0
-LawFirstStage d = (s : ℕ) → IsFirst d s → Stage d.now [] d.now s d.moment s d × SteadyRest d.now [] d.now
+LawFirstStage d = (s : ℕ) → IsLeftByMount d s → Stage d.now [] d.now s d.moment s d × SteadyRest d.now [] d.now
 
 -- Between two steps, also after a write fault: what a read gives is steady, as far as its rest is.
 abbrev pub LawSteady : DiskState → Type 0

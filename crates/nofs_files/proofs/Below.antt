@@ -45,7 +45,8 @@ use Rattle.nofs_state.proofs.Maps.{set-here, set-other}
 use Rattle.nofs_state.proofs.Replies.{goes-read, open-files}
 use Rattle.nofs_state.proofs.Tables.{HasRecord, table_block}
 use Rattle.nofs_files.specs.Answers.{IsFile}
-use Rattle.nofs_files.specs.Putting.{RecordIn, RowsPass, put_answer, sized}
+use Rattle.nofs_files.specs.Putting.{put_answer, sized}
+use Rattle.nofs_state.specs.Owing.{RecordIn, RowsPass}
 use Rattle.nofs_files.proofs.Kept.{claimed-safe, same-content}
 use Rattle.nofs_files.proofs.Climbed.{IsClimb, climb-goes}
 use Rattle.nofs_files.proofs.Climbing.{Climbs}

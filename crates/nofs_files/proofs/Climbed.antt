@@ -24,7 +24,8 @@ use Rattle.nofs_state.proofs.Done.{goes-done}
 use Rattle.nofs_state.proofs.Faults.{goes-fault, stopped_books, stopped_world}
 use Rattle.nofs_state.proofs.Tables.{table_block}
 use Rattle.nofs_state.proofs.TwoWrites.{safe-writes}
-use Rattle.nofs_files.specs.Putting.{RowsPass, put_answer}
+use Rattle.nofs_files.specs.Putting.{put_answer}
+use Rattle.nofs_state.specs.Owing.{RowsPass}
 use Rattle.nofs_files.proofs.Climbing.{Climbs, climb-done, climb-proper, climb-numbered}
 use Rattle.nofs_files.proofs.Parts.{Takes}
 use Rattle.nofs_files.proofs.Ways.{IsNew, IsOld, way_writes}

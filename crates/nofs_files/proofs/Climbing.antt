@@ -40,7 +40,7 @@ use Rattle.nofs_machine.specs.declared.steps.Step.TheVariants as step
 use Rattle.nofs_machine.specs.declared.replies.Reply.TheVariants as reply
 use Rattle.nofs_law_untouched.specs.Frames.{SameNames, OldPointers, Touches}
 use Rattle.nofs_law_untouched.specs.Grows.{Grows, IsPlaced}
-use Rattle.nofs_law_untouched.specs.Gives.{GivesNothing}
+use Rattle.nofs_machine.specs.Gives.{GivesNothing}
 use Rattle.nofs_law_untouched.proofs.Claiming.{not-null, super-same}
 use Rattle.nofs_law_untouched.proofs.Growth.{above-or-not}
 use Rattle.nofs_law_untouched.proofs.Matching.{Matched, matched-agreed, matched-file}
@@ -64,7 +64,7 @@ use Rattle.nofs_state.specs.Books.{IsSafe, Says, knows_block, knows_inode}
 use Rattle.nofs_state.specs.Standing.{IsOpen, Past}
 use Rattle.nofs_state.specs.Writing.{OneOf, image_after, WritesAll}
 use Rattle.nofs_state.specs.declared.books.Books.{Books}
-use Rattle.nofs_machine.specs.Good.{HasNumbers}
+use Rattle.nofs_machine.specs.Good.{MatchesSuper}
 use Rattle.nofs_state.proofs.Done.{IsDone, Adds-map, after_world}
 use Rattle.nofs_state.proofs.Sounded.{AddsNumbered}
 use Rattle.nofs_state.proofs.Replies.{open-files, home-has}
@@ -158,7 +158,7 @@ module _ (old new : DiskState) (k l : Books) (H : List Entry1) (p : Past) (i g s
   slot-of-way : (a : Path) → IsAbove a way → IsSlot a
   slot-of-way a u = above-slot a way u (subst (λ (q : Path). IsSlot q) h.path (path_of-slot slot h.range))
 
-  has-numbers : HasNumbers W X
+  has-numbers : MatchesSuper W X
   has-numbers = world-numbers old k H p o
 
   -- The claim

@@ -31,7 +31,7 @@ use Rattle.nofs_machine.specs.Next.{Learns}
 use Rattle.nofs_machine.specs.declared.history.Entry1.{Entry1}
 use Rattle.nofs_machine.specs.declared.steps.Step.TheVariants as step
 use Rattle.nofs_machine.specs.declared.replies.Reply.TheVariants as reply
-use Rattle.nofs_law_untouched.specs.Gives.{GivesNothing}
+use Rattle.nofs_machine.specs.Gives.{GivesNothing}
 use Rattle.nofs_law_untouched.proofs.Given.{at-itself}
 use Rattle.nofs_law_maps.specs.Homes.{HomesMove}
 use Rattle.nofs_law_maps.specs.Fresh.{Numbered, CellNumbers}

@@ -33,8 +33,8 @@ use Rattle.nofs_state.proofs.Machine.{agreed-live, are-agreed}
 use Rattle.nofs_state.proofs.Tables.{HasRecord, table_block}
 use Rattle.nofs_state.proofs.TwoWrites.{safe-writes}
 use Rattle.nofs_files.specs.Answers.{IsFile}
-use Rattle.nofs_files.specs.Putting.{RecordIn, RowsPass}
-use Rattle.nofs_files.specs.Resizing.{EdgeInData, InData, IsCutMap, IsEdge, IsTail, cut_record, cut_writes, first_cut, kept_slots, maybe, resize_answer}
+use Rattle.nofs_state.specs.Owing.{RecordIn, RowsPass}
+use Rattle.nofs_files.specs.Resizing.{EdgeInData, CellInData, IsCutMap, IsEdge, IsTail, cut_record, cut_writes, first_cut, kept_slots, maybe, resize_answer}
 use Rattle.nofs_files.specs.declared.cutting.NewCell.{NewCell}
 use Rattle.nofs_files.specs.declared.cutting.Edge.{Edge}
 use Rattle.nofs_files.proofs.FileRows.{current-agreed}
@@ -51,14 +51,14 @@ pub record Ready (d : DiskState) (k : Books) (i g size : ℕ) (r : Record) (tail
   pub old : r.size ≤ largest_size
   pub new : size ≤ largest_size
   pub eight : length r.direct ≡ 8
-  pub tail_data : IfSome tail (InData k.at)
+  pub tail_data : IfSome tail (CellInData k.at)
   pub edge_data : EdgeInData k.at edge
   pub tail_is : IsTrue d.tells → IsTail d.now i r.size size tail
   pub edge_is : IsTrue d.tells → IsEdge d.now i (kept_slots r.size size) edge
   pub map : IsCutMap d k.at i (kept_slots r.size size) freed
   pub rows : RowsPass d k (step.Resize i g size)
 
-maybe-apart : (at : SuperBlock) (w : Option NewCell) (ws : List (ℕ × Cell)) → IfSome w (InData at) → IsApart ws 0 → IsApart (maybe w ws) 0
+maybe-apart : (at : SuperBlock) (w : Option NewCell) (ws : List (ℕ × Cell)) → IfSome w (CellInData at) → IsApart ws 0 → IsApart (maybe w ws) 0
 maybe-apart at None ws inside rest = rest
 maybe-apart at (Some it) ws inside rest = ((λ e. let z = inside.0 in omega (arith, e, z)), rest)
 

@@ -23,7 +23,7 @@ use Rattle.nofs_state.specs.declared.books.Books.{Books}
 use Rattle.nofs_state.proofs.Replies.{goes-read}
 use Rattle.nofs_state.proofs.Keeping.{goes-after, goes-memory, open-back, reads-keep, safe-keeps}
 use Rattle.nofs_files.specs.Answers.{IsFile, OpensFile, slots_of}
-use Rattle.nofs_files.specs.Putting.{RowsPass}
+use Rattle.nofs_state.specs.Owing.{RowsPass}
 use Rattle.nofs_files.specs.Resizing.{FindsEdge, FindsTail, IsCutMap, IsEdge, IsTail, MarkFails, MarksCut, kept_slots, resize_answer}
 use Rattle.nofs_files.specs.declared.cutting.NewCell.{NewCell}
 use Rattle.nofs_files.specs.declared.cutting.Edge.{Edge}

@@ -34,7 +34,7 @@ use Rattle.nofs_state.proofs.Replies.{goes-row, goes-read, open-files}
 use Rattle.nofs_state.proofs.Rows.{IsLate, AreLate, first-late, late-row}
 use Rattle.nofs_state.proofs.Machine.{agreed-live, are-agreed, stale-none}
 use Rattle.nofs_files.specs.Answers.{IsFile, OpensFile, slots_of}
-use Rattle.nofs_files.specs.Putting.{RowsPass}
+use Rattle.nofs_state.specs.Owing.{RowsPass}
 use Rattle.nofs_files.specs.Resizing.{EdgeFails, LostLeaf, LostTop, LostChild, EdgeUnread, IsCutBlock, IsEdge, kept_slots, last_child}
 use Rattle.nofs_files.specs.declared.cutting.NewCell.{NewCell}
 use Rattle.nofs_files.specs.declared.cutting.Edge.{Edge}

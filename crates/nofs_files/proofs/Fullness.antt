@@ -25,7 +25,8 @@ use Rattle.nofs_state.specs.declared.books.Books.{Books}
 use Rattle.nofs_state.proofs.Counting.{free-count, unknown-count, none-free, some-free}
 use Rattle.nofs_state.proofs.Machine.{are-agreed}
 use Rattle.nofs_state.proofs.Replies.{goes-row, open-files}
-use Rattle.nofs_files.specs.Putting.{RowsLead, RowsPass}
+use Rattle.nofs_files.specs.Putting.{RowsLead}
+use Rattle.nofs_state.specs.Owing.{RowsPass}
 use Rattle.nofs_model.proofs.Paths.{path-direct}
 use Rattle.nofs_files.proofs.FileRows.{current-agreed, value-is}
 

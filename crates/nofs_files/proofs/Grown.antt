@@ -38,7 +38,8 @@ use Rattle.nofs_state.proofs.Machine.{agreed-live, are-agreed}
 use Rattle.nofs_state.proofs.Maps.{set-here, set-length, set-other}
 use Rattle.nofs_state.proofs.Replies.{open-files}
 use Rattle.nofs_files.specs.Answers.{IsFile}
-use Rattle.nofs_files.specs.Putting.{RecordIn, RowsPass, put_answer, rooted}
+use Rattle.nofs_files.specs.Putting.{put_answer, rooted}
+use Rattle.nofs_state.specs.Owing.{RecordIn, RowsPass}
 use Rattle.nofs_files.proofs.Below.{content-tag, empty-held, taken}
 use Rattle.nofs_files.proofs.Kept.{claimed-safe, same-content}
 use Rattle.nofs_files.proofs.FileRows.{current-agreed}

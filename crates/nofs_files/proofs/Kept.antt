@@ -13,7 +13,7 @@ use Rattle.nofs_machine.specs.Meta.{is_bytes}
 use Rattle.nofs_machine.specs.Machine.{Given, put_given, put_content, files_after, value_of, size_of, filled, file_after, after_meta, born_file, is_at}
 use Rattle.nofs_machine.specs.Machine.{lies_above, bytes_in, trimmed, cut_of}
 use Rattle.nofs_machine.specs.Claims.{has_block, is_present}
-use Rattle.nofs_law_untouched.specs.Gives.{GivesNothing}
+use Rattle.nofs_machine.specs.Gives.{GivesNothing}
 use Rattle.nofs_law_files.proofs.PutFile.{put-made, put-new, put-gives}
 use Rattle.nofs_state.specs.Books.{IsSafe, claimed_books}
 use Rattle.nofs_state.specs.declared.books.Books.{Books}

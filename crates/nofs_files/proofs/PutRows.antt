@@ -39,7 +39,8 @@ use Rattle.nofs_state.proofs.Machine.{are-agreed, agreed-live, stale-none}
 use Rattle.nofs_state.proofs.Replies.{goes-row, goes-read, open-files}
 use Rattle.nofs_state.proofs.Rows.{IsLate, first-late, late-row}
 use Rattle.nofs_files.specs.Answers.{OpensFile, slots_of}
-use Rattle.nofs_files.specs.Putting.{RowsPass, RowsReach, is_bad_range, is_past_end, is_lost_under}
+use Rattle.nofs_files.specs.Putting.{RowsReach, is_bad_range, is_past_end, is_lost_under}
+use Rattle.nofs_state.specs.Owing.{RowsPass}
 use Rattle.nofs_files.proofs.Damage.{held-sound}
 use Rattle.nofs_files.proofs.FileRows.{current-agreed, folder-is, goes-unfiled, large-none, large-some, slots-most, value-is}
 use Rattle.nofs_model.proofs.Paths.{path_of-slot}

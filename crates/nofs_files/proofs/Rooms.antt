@@ -18,7 +18,8 @@ use Rattle.nofs_state.specs.Steps.{Goes}
 use Rattle.nofs_state.specs.declared.books.Books.{Books}
 use Rattle.nofs_state.proofs.Counting.{free-count, unknown-count}
 use Rattle.nofs_state.proofs.Replies.{goes-row}
-use Rattle.nofs_files.specs.Putting.{RowsLead, RowsPass}
+use Rattle.nofs_files.specs.Putting.{RowsLead}
+use Rattle.nofs_state.specs.Owing.{RowsPass}
 use Rattle.nofs_files.proofs.Fullness.{few-unknown}
 
 less : (a b : ℕ) → a < b → ltb a b ≡ true

@@ -14,7 +14,8 @@ use Rattle.nofs_machine.specs.Claims.{is_claimed, no_claims, next_stamp, IsBlock
 use Rattle.nofs_law_untouched.proofs.Growth.{same_path-true, same_path-refl}
 use Rattle.nofs_law_numbers.specs.Cells.{table_tag}
 use Rattle.nofs_state.proofs.Tables.{HasRecord, table_block}
-use Rattle.nofs_files.specs.Putting.{pointed, sized, RecordIn, RowsPass, put_answer}
+use Rattle.nofs_files.specs.Putting.{pointed, sized, put_answer}
+use Rattle.nofs_state.specs.Owing.{RecordIn, RowsPass}
 use Rattle.nofs_files.proofs.Below.{content-tag, empty-held, take-one, taken}
 use Rattle.nofs_files.proofs.Climbing.{Climbs}
 use Rattle.nofs_files.proofs.Grown.{ContentFacts, block-named, ways-end}

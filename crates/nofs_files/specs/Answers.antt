@@ -1,4 +1,5 @@
 -- What the steps on files answer.
+use Rattle.nofs_state.specs.Writing.{stopped_books}
 use Rattle.std.specs.Prelude.{◌≡◌, ℕ, Bool, true, List, Option, Some, if◌then◌else◌, ◌==◌, IsTrue, Result, Ok, Err, IfOk, IfErr, OnOk, OnErr, count_by}
 use Rattle.nofs_ptrs.specs.Paths.{slot_limit}
 use Rattle.nofs_disk.specs.declared.Failed.{Failed}
@@ -67,10 +68,6 @@ got_answer bytes (Err why) = reply.Refused why
 abbrev pub flush_answer : Result (Unit {0}) Refusal → Reply
 flush_answer (Ok done) = reply.Flushed
 flush_answer (Err why) = reply.Refused why
-
--- a mount in which a write failed
-abbrev pub stopped_books : Books → Books
-stopped_books k = record k { stopped = true }
 
 -- the disk is flushed, or the mount is stopped
 pub data FlushesDisk (old : DiskState) (k : Books) (new : DiskState) (l : Books) (result : Result (Unit {0}) Refusal) : Type 0 where

@@ -23,15 +23,6 @@ use Rattle.nofs_state.specs.declared.books.Books.{Books}
 abbrev pub sized : Record → ℕ → Record
 sized r n = record r { size = n }
 
--- a cell of the table with another record of inode i in it
-pub record RecordIn (old : Cell) (i : ℕ) (r : Record) (new : Cell) : Type 0 where
-  pub here : record_of ((i - 1) % 4) new.payload ≡ Some r
-  pub others : (j : ℕ) → j ≢ (i - 1) % 4 → j < 4 → record_of j new.payload ≡ record_of j old.payload
-
--- no row refuses the step
-abbrev pub RowsPass : DiskState → Books → Step → Type 0
-RowsPass d k s = IsTrue d.tells → (H : List Entry1) (p : Past) → IsOpen d k H p → (V : World) → first_of (rows p.world V s) ≡ None
-
 abbrev pub put_answer : Result (Unit {0}) Refusal → Reply
 put_answer (Ok done) = reply.Stored
 put_answer (Err why) = reply.Refused why

@@ -56,8 +56,8 @@ abbrev pub cut_writes : Option NewCell → Edge → ℕ → Cell → List (ℕ �
 cut_writes tail edge block table = maybe tail (maybe edge.below (maybe edge.above ((block, table) ∷ [])))
 
 -- it lies in the data area
-abbrev pub InData : SuperBlock → NewCell → Type 0
-InData at it = (1 + at.inodes / 4 ≤ it.block) × (it.block < at.blocks)
+abbrev pub CellInData : SuperBlock → NewCell → Type 0
+CellInData at it = (1 + at.inodes / 4 ≤ it.block) × (it.block < at.blocks)
 
 -- a cell of pointers without those from a place on
 pub record IsCutCell (from : ℕ) (old new : Cell) : Type 0 where
@@ -80,7 +80,7 @@ pub record CutsBlock (old new : DiskState) (at : SuperBlock) (i : ℕ) (path : P
     (result : Result (Option NewCell) Refusal) : Type 0 where
   pub stays : StaysButFaults old new
   pub cut : IfOk result (λ o. IsTrue old.tells → IsCutBlock old.now (find old.now i path) from o)
-  pub area : IfOk result (λ o. IfSome o (InData at))
+  pub area : IfOk result (λ o. IfSome o (CellInData at))
   pub kept : OnOk result (IsLast new last)
   pub refused : IfErr result (CutFails old new i path slot)
 
@@ -102,8 +102,8 @@ pub record IsEdge (X : Image) (i kept : ℕ) (edge : Edge) : Type 0 where
 
 -- what is cut lies in the data area
 pub record EdgeInData (at : SuperBlock) (edge : Edge) : Type 0 where
-  pub below : IfSome edge.below (InData at)
-  pub above : IfSome edge.above (InData at)
+  pub below : IfSome edge.below (CellInData at)
+  pub above : IfSome edge.above (CellInData at)
 
 -- why the edge is not found: what is cut inside is lost, or a read failed
 pub data EdgeFails (old new : DiskState) (i kept : ℕ) (why : Refusal) : Type 0 where
@@ -152,7 +152,7 @@ pub record IsTail (X : Image) (i old size : ℕ) (tail : Option NewCell) : Type 
 pub record FindsTail (old new : DiskState) (at : SuperBlock) (i end size : ℕ) (last : LastRead) (result : Result (Option NewCell) Failed) : Type 0 where
   pub stays : StaysButFaults old new
   pub tail : IfOk result (λ o. IsTrue old.tells → IsTail old.now i end size o)
-  pub area : IfOk result (λ o. IfSome o (InData at))
+  pub area : IfOk result (λ o. IfSome o (CellInData at))
   pub kept : OnOk result (IsLast new last)
   pub cause : IfErr result (λ failed. Rose old.faults new.faults)
 

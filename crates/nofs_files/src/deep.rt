@@ -18,7 +18,8 @@ ghost use Rattle.nofs_disk.specs.Pointer.{is_null};
 ghost use Rattle.nofs_ptrs.specs.Cells.{pointer_at};
 ghost use Rattle.nofs_model.specs.Cells.{tag_of};
 ghost use Rattle.std.specs.Prelude.{None, Some, IfSome};
-ghost use Rattle.nofs_files.specs.Putting.{AreThreeFree, AreTwoFree, RowsLead, RowsPass, put_answer, rooted};
+ghost use Rattle.nofs_files.specs.Putting.{AreThreeFree, AreTwoFree, RowsLead, put_answer, rooted};
+ghost use Rattle.nofs_state.specs.Owing.{RowsPass};
 
 use crate::puts::{Ended, NO_CLAIMS, clear_payload, fill_content, refused, sized, with_record};
 use nofs_agree::{LastRead, read_block};

@@ -20,7 +20,8 @@ ghost use Rattle.nofs_disk.specs.Number.{zeros};
 ghost use Rattle.nofs_machine.specs.Machine as machine;
 ghost use Rattle.nofs_machine.specs.Meta.{is_bytes};
 ghost use Rattle.nofs_model.specs.declared.value.Value.TheVariants as value;
-ghost use Rattle.nofs_files.specs.Putting.{RecordIn, RowsLead, RowsPass, pointed, put_answer, sized};
+ghost use Rattle.nofs_files.specs.Putting.{RowsLead, pointed, put_answer, sized};
+ghost use Rattle.nofs_state.specs.Owing.{RecordIn, RowsPass};
 
 use crate::content::put_content;
 use nofs_agree::{LastRead, read_block};

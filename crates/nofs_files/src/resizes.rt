@@ -10,8 +10,8 @@ ghost use Rattle.nofs_state.specs.Opening.{is_current};
 ghost use Rattle.nofs_state.specs.Steps.{Goes};
 ghost use Rattle.nofs_state.specs.Writing.{Stores, WritesAll};
 ghost use Rattle.nofs_files.specs.Answers.{IsFile, slots_of};
-ghost use Rattle.nofs_files.specs.Putting.{RowsPass};
-ghost use Rattle.nofs_files.specs.Resizing.{EdgeInData, InData, IsCutMap, IsEdge, IsTail, cut_writes, kept_slots, maybe, resize_answer};
+ghost use Rattle.nofs_state.specs.Owing.{RowsPass};
+ghost use Rattle.nofs_files.specs.Resizing.{EdgeInData, CellInData, IsCutMap, IsEdge, IsTail, cut_writes, kept_slots, maybe, resize_answer};
 
 use crate::cutting::{Edge, NewCell, cut_record, find_edge, find_tail, kept_slots, mark_cut};
 use crate::files::{open_file, slots_of};
@@ -138,7 +138,7 @@ fn resize_cut<D: Disk + Drop>(
     requires old { it.now.size ≤ largest_size }
     requires size { size ≤ largest_size }
     requires eight { length it.now.direct ≡ 8 }
-    requires tail { IfSome tail.now (InData core.old.books.at) }
+    requires tail { IfSome tail.now (CellInData core.old.books.at) }
     requires ends { IsTrue (D.state core.old.disk).tells → IsTail (D.state core.old.disk).now inode it.now.size size tail.now }
     requires edge { EdgeInData core.old.books.at edge.now }
     requires cuts { IsTrue (D.state core.old.disk).tells → IsEdge (D.state core.old.disk).now inode (kept_slots it.now.size size) edge.now }

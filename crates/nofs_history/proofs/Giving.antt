@@ -6,7 +6,7 @@ use Rattle.nofs_model.specs.Image.{Files, path_of, Present}
 use Rattle.nofs_model.specs.declared.value.Value.{Value}
 use Rattle.nofs_machine.specs.Meta.{Meta}
 use Rattle.nofs_machine.specs.Machine.{is_at, lies_above, cell_given, entry_given, make_given, meta_given, no_meta, link_to, value_of, with_entry}
-use Rattle.nofs_history.specs.Gives.{GivesNothing, GivesCell, GivesMeta, GivesBirth}
+use Rattle.nofs_machine.specs.Gives.{GivesNothing, GivesCell, GivesMeta, GivesBirth}
 use Rattle.nofs_machine.specs.declared.history.Claims.{Claims}
 
 pub at-itself : (i g : ℕ) → is_at i g i g ≡ true

@@ -5,7 +5,7 @@ use Rattle.nofs_model.specs.Image.{Image, inode, file_from, files_in, FileState,
 use Rattle.nofs_machine.specs.Machine.{Given, files_after}
 use Rattle.nofs_machine.specs.History.{FilesMatch, SameFile}
 use Rattle.nofs_law_untouched.specs.Frames.{Touches, OldPointers, SameNames}
-use Rattle.nofs_law_untouched.specs.Gives.{GivesNothing}
+use Rattle.nofs_machine.specs.Gives.{GivesNothing}
 use Rattle.nofs_law_untouched.proofs.Matching.{matched-file}
 use Rattle.nofs_law_untouched.proofs.Touching.{same-file}
 use Rattle.nofs_law_untouched.proofs.Alike.{Alike, Kin, match-alike, same-of, same-alike, alike-sym, some-alike}

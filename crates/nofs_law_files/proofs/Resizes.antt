@@ -15,7 +15,7 @@ use Rattle.nofs_machine.specs.Machine.{slots_in, is_at, meta_with, filled, after
 use Rattle.nofs_machine.specs.History.{FilesMatch, SameFile}
 use Rattle.nofs_machine.specs.declared.steps.Step.TheVariants as step
 use Rattle.nofs_law_untouched.specs.Frames.{Rewrites, SameIdentity}
-use Rattle.nofs_law_untouched.specs.Gives.{GivesNothing}
+use Rattle.nofs_machine.specs.Gives.{GivesNothing}
 use Rattle.nofs_law_untouched.proofs.Matching.{Matched, matched-file}
 use Rattle.nofs_law_untouched.proofs.Framing.{some-is}
 use Rattle.nofs_law_untouched.proofs.Touching.{rewrites}

@@ -11,9 +11,9 @@ use Rattle.nofs_machine.specs.Claims.{Unclaimed, NoInode}
 use Rattle.nofs_machine.specs.Next.{ByRead, ByWrite}
 use Rattle.nofs_machine.specs.declared.steps.Step.TheVariants as step
 use Rattle.nofs_law_machine.proofs.Total.{nothing-learned}
-use Rattle.nofs_law_machine.specs.Examples.{AreShown, empty, names, new_names, contents, large_files, elements, FailedRead, FailedFlush, GivenToSlot}
+use Rattle.nofs_law_machine.specs.Examples.{AreShown, empty, name_examples, new_names, contents, large_files, elements, FailedRead, FailedFlush, GivenToSlot}
 
-pub names-shown : AreShown names
+pub names-shown : AreShown name_examples
 unfolding number_at put_number put_bytes zeros entry_of entry_fields spelled_entry is_name path_of slot_of count_below least_from found first_dead first_lost_slot place_for link_place gives with_entry put_content trimmed lines_in_slot
 names-shown = (refl, (refl, (refl, (refl, (refl, (refl, (refl, (refl, (refl, (refl, (refl, (refl, (refl, (refl, (refl, (refl, (refl, (refl, (refl, (refl, (refl, (refl, (refl, tt)))))))))))))))))))))))
 

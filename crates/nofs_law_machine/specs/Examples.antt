@@ -17,7 +17,7 @@ use Rattle.nofs_machine.specs.declared.steps.Step.TheVariants as step
 use Rattle.nofs_machine.specs.declared.replies.Reply.{Reply}
 use Rattle.nofs_machine.specs.declared.replies.Reply.TheVariants as reply
 use Rattle.nofs_machine.specs.declared.replies.Refusal.TheVariants as refusal
-use Rattle.nofs_law_machine.specs.Worlds.{links, no_links, first_slot, cell, directory, file, files, world, first_child_damaged, answer, world_after, without_claims}
+use Rattle.nofs_law_machine.specs.Worlds.{links, no_links, first_slot, cell, directory, file, files, example_world, first_child_damaged, answer, world_after, without_claims}
 
 -- in this world this step with these claims is answered so
 pub record Example : Type 0 where
@@ -60,44 +60,44 @@ named = file S3 (links (link_to 1 0 1) (link_to 0 0 0)) 0 (λ k. Hole)
 
 -- a disk as it is made
 abbrev pub empty : World
-empty = world (files (λ k. Hole) label None None)
+empty = example_world (files (λ k. Hole) label None None)
 
 -- one file, /a
 abbrev pub one : World
-one = world (files (first_slot (cell (spelled_entry 3 S3 a))) label (Some named) None)
+one = example_world (files (first_slot (cell (spelled_entry 3 S3 a))) label (Some named) None)
 
 -- a name that leads to no file
 abbrev pub dead : World
-dead = world (files (first_slot (cell (spelled_entry 3 S3 a))) label None None)
+dead = example_world (files (first_slot (cell (spelled_entry 3 S3 a))) label None None)
 
 -- one name twice
 abbrev pub twice : World
-twice = world (files (first_slot (cell (spelled_entry 3 S3 a ++ spelled_entry 4 S4 a))) label
+twice = example_world (files (first_slot (cell (spelled_entry 3 S3 a ++ spelled_entry 4 S4 a))) label
     (Some (file S3 (links (link_to 1 0 1) (link_to 0 0 0)) 1 (λ k. Hole))) (Some (file S4 (links (link_to 1 1 1) (link_to 0 0 0)) 2 (λ k. Hole))))
 
 -- a directory /a with the file /a/b in it
 abbrev pub nested : World
-nested = world (files (first_slot (cell (spelled_entry 3 S3 a))) label
+nested = example_world (files (first_slot (cell (spelled_entry 3 S3 a))) label
     (Some (directory S3 (links (link_to 1 0 1) (link_to 0 0 0)) (first_slot (cell (spelled_entry 4 S4 b)))))
     (Some (file S4 (links (link_to 3 0 S3) (link_to 0 0 0)) 0 (λ k. Hole))))
 
 -- a second back link that no entry has
 abbrev pub stray : World
-stray = world (files (first_slot (cell (spelled_entry 3 S3 a))) label (Some (file S3 (links (link_to 1 0 1) (link_to 1 1 1)) 0 (λ k. Hole))) None)
+stray = example_world (files (first_slot (cell (spelled_entry 3 S3 a))) label (Some (file S3 (links (link_to 1 0 1) (link_to 1 1 1)) 0 (λ k. Hole))) None)
 
 -- a file with all four names
 abbrev pub four : World
-four = world (files (first_slot (cell (spelled_entry 3 S3 a ++ spelled_entry 3 S3 b ++ spelled_entry 3 S3 c ++ spelled_entry 3 S3 (100 ∷ [])))) label
+four = example_world (files (first_slot (cell (spelled_entry 3 S3 a ++ spelled_entry 3 S3 b ++ spelled_entry 3 S3 c ++ spelled_entry 3 S3 (100 ∷ [])))) label
     (Some (file S3 (link_to 1 0 1 ∷ link_to 1 1 1 ∷ link_to 1 2 1 ∷ link_to 1 3 1 ∷ []) 0 (λ k. Hole))) None)
 
 -- the root's slots are lost
 abbrev pub broken : World
-broken = world (files (λ k. Lost) label None None)
+broken = example_world (files (λ k. Lost) label None None)
 
 -- Names
 
-abbrev pub names : List Example
-names =
+abbrev pub name_examples : List Example
+name_examples =
     example one (step.Look 1 1 a) (reply.Found (record { inode = 3; generation = S3; kind = File }))
     ∷ example one (step.Look 1 1 b) (reply.Refused refusal.Missing)
     ∷ example one (step.Look 3 S3 a) (reply.Refused refusal.NotDirectory)
@@ -144,11 +144,11 @@ new_names =
 
 -- the label file with 1,025 bytes: a slot of content and a hole
 abbrev pub short : World
-short = world (files (λ k. Hole) (file 2 no_links 1025 (first_slot (cell (1 ∷ 2 ∷ 3 ∷ [])))) None None)
+short = example_world (files (λ k. Hole) (file 2 no_links 1025 (first_slot (cell (1 ∷ 2 ∷ 3 ∷ [])))) None None)
 
 -- its two slots are lost
 abbrev pub torn : World
-torn = world (files (λ k. Hole) (file 2 no_links 1025 (λ k. Lost)) None None)
+torn = example_world (files (λ k. Hole) (file 2 no_links 1025 (λ k. Lost)) None None)
 
 abbrev pub contents : List Example
 contents =

@@ -57,8 +57,8 @@ files root label three four i =
     (if i == 4 then four else None)))
 
 -- blocks 5 to 7 are used, and all is known
-abbrev pub world : (ℕ → Option FileState) → World
-world F = record {
+abbrev pub example_world : (ℕ → Option FileState) → World
+example_world F = record {
   version = 1;
   blocks = 64;
   inodes = 16;

@@ -3,7 +3,7 @@
 //! Promise: a law is the contract of a function here; each example is computed from the definitions.
 #![tactic(auto)]
 
-ghost use Rattle.nofs_law_machine.specs.Examples.{AreShown, FailedFlush, FailedRead, GivenToSlot, contents, elements, large_files, names, new_names};
+ghost use Rattle.nofs_law_machine.specs.Examples.{AreShown, FailedFlush, FailedRead, GivenToSlot, contents, elements, large_files, name_examples, new_names};
 ghost use Rattle.nofs_law_machine.specs.Laws.{LawAccepted, LawFits, LawFunction, LawTotal};
 
 /// In every world each step can be answered, and but for claims, faults and what becomes known in one
@@ -25,7 +25,7 @@ pub fn law_fits()
 
 /// Seventy steps in small worlds, each with the answer that was worked by hand, and each refusal among them.
 pub fn law_examples()
-    ensures names { AreShown names }
+    ensures names { AreShown name_examples }
     ensures new_names { AreShown new_names }
     ensures contents { AreShown contents }
     ensures large_files { AreShown large_files }

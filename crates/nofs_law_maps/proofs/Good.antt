@@ -11,12 +11,12 @@ use Rattle.nofs_machine.specs.History.{FilesMatch}
 use Rattle.nofs_machine.specs.World.{World, uses_inode, uses_block}
 use Rattle.nofs_machine.specs.Claims.{claimed_blocks}
 use Rattle.nofs_machine.specs.Next.{Keeps}
-use Rattle.nofs_machine.specs.Good.{HasNumbers}
+use Rattle.nofs_machine.specs.Good.{MatchesSuper}
 use Rattle.nofs_model.specs.Cells.{Pointer, SuperBlock}
 use Rattle.nofs_model.specs.Image.{Image, cell_at, super_at, owner, Home, Files, is_special, is_used_block}
 
 -- the numbers of a world go on, and so does block 0
-pub numbers-on : (W V : World) (X Y : Image) → SameNumbers W V → cell_at Y 0 ≡ cell_at X 0 → HasNumbers W X → HasNumbers V Y
+pub numbers-on : (W V : World) (X Y : Image) → SameNumbers W V → cell_at Y 0 ≡ cell_at X 0 → MatchesSuper W X → MatchesSuper V Y
 numbers-on W V X Y same first n =
     let e = sym (supers X Y first) in
     record {

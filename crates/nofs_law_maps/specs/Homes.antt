@@ -9,7 +9,7 @@ use Rattle.nofs_machine.specs.History.{FilesMatch}
 use Rattle.nofs_machine.specs.World.{World, uses_inode, uses_block}
 use Rattle.nofs_machine.specs.Claims.{claimed_blocks, claimed_home, homes_after, IsClaim}
 use Rattle.nofs_machine.specs.Next.{Keeps, Next}
-use Rattle.nofs_machine.specs.Good.{HasNumbers, IsGood}
+use Rattle.nofs_machine.specs.Good.{MatchesSuper, IsGood}
 use Rattle.nofs_model.specs.Cells.{Pointer}
 use Rattle.nofs_model.specs.Image.{Image, cell_at, super_at, is_data_block, files_in, agreed, Path, slot_of, find, Files, Home, owner, is_used_inode, is_used_block, IsSlot, IsFree}
 
@@ -42,7 +42,7 @@ LawHomes = (W V : World) (step : Step) (c : Claims) (X Y : Image) → HomesMatch
 
 -- numbers, files and homes that are those of the image make the world's maps good
 abbrev pub LawGood : Type 0
-LawGood = (V : World) (Y : Image) → HasNumbers V Y → FilesMatch V.files Y → HomesMatch V Y → GoodMaps V Y
+LawGood = (V : World) (Y : Image) → MatchesSuper V Y → FilesMatch V.files Y → HomesMatch V Y → GoodMaps V Y
 
 -- no step changes these numbers
 pub record SameNumbers (W V : World) : Type 0 where

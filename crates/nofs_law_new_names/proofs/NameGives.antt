@@ -22,7 +22,7 @@ use Rattle.nofs_model.specs.Cells.{FileKind, BackLink, Pointer, spelled_entry}
 use Rattle.nofs_model.specs.Image.{Image, cell_at, super_at, is_data_block, inode, files_in, path_of, find, FileState, Files, is_folder, entry_held, is_special}
 use Rattle.nofs_model.specs.declared.value.Value.{Value}
 use Rattle.nofs_model.specs.declared.value.Value.TheVariants.{Bytes, Lost}
-use Rattle.nofs_law_untouched.specs.Gives.{GivesNothing, GivesCell, GivesMeta, GivesBirth}
+use Rattle.nofs_machine.specs.Gives.{GivesNothing, GivesCell, GivesMeta, GivesBirth}
 use Rattle.nofs_law_old_names.specs.Names.{InPlace, Relinked, NameWrites}
 use Rattle.nofs_law_new_names.specs.Holes.{IsNewRecord, first_links}
 

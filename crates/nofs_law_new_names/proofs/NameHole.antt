@@ -16,7 +16,7 @@ use Rattle.nofs_model.specs.Cells.{Tag, Pointer, Record, tag_of, pointer_at, is_
 use Rattle.nofs_model.specs.Image.{super_in, Image, cell_at, super_at, is_data_block, inode, files_in, agreed, value, node_in, tag_for, Path, InRecord, Under, leaf, path_of, slot_of, is_pointer_slot, find, Present, FileState, Files, record_pointer, IsAbove, IsSlot, IsFree}
 use Rattle.nofs_model.specs.declared.value.Value.{Value}
 use Rattle.nofs_model.specs.declared.value.Value.TheVariants.{Bytes}
-use Rattle.nofs_law_untouched.specs.Gives.{GivesCell}
+use Rattle.nofs_machine.specs.Gives.{GivesCell}
 use Rattle.nofs_law_untouched.specs.Frames.{SameMeta}
 use Rattle.nofs_law_untouched.specs.Grows.{IsPlaced, Grows}
 use Rattle.nofs_law_untouched.proofs.Claiming.{test-above, above-test, not-null, fresh-tag, super-same}

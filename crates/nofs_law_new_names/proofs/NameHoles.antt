@@ -30,7 +30,7 @@ use Rattle.nofs_model.specs.Cells.{Cell, FileKind, Pointer, Record, is_live, rec
 use Rattle.nofs_model.specs.Image.{Image, cell_at, is_inode, is_data_block, inode, files_in, value_in, Path, InRecord, Under, leaf, path_of, find, FileState, Files, is_folder, is_special}
 use Rattle.nofs_model.specs.declared.value.Value.{Value}
 use Rattle.nofs_model.specs.declared.value.Value.TheVariants.{Hole, Bytes, Lost}
-use Rattle.nofs_law_untouched.specs.Gives.{GivesCell}
+use Rattle.nofs_machine.specs.Gives.{GivesCell}
 use Rattle.nofs_law_untouched.specs.Grows.{ClaimedCell, Grows}
 use Rattle.nofs_law_untouched.proofs.Claiming.{claimed-cell-proper}
 use Rattle.nofs_law_old_names.specs.Names.{Relinked, NameWrites}

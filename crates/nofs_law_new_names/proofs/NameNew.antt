@@ -22,7 +22,7 @@ use Rattle.nofs_inode.specs.declared.inode.FileKind.TheVariants.{Directory as Fo
 use Rattle.nofs_model.specs.Image.{Image, inode, file_from, files_in, value_in, node_in, Path, InRecord, Under, path_of, find, FileState, Files, NodeState, Absent, is_folder, entry_held, entry_in_file, pairs, names, is_a, is_pair, is_special, links_in_file, record_pointer, IsSlot}
 use Rattle.nofs_model.specs.declared.value.Value.{Value}
 use Rattle.nofs_model.specs.declared.value.Value.TheVariants.{Hole}
-use Rattle.nofs_law_untouched.specs.Gives.{GivesNothing, GivesCell, GivesMeta, GivesBirth}
+use Rattle.nofs_machine.specs.Gives.{GivesNothing, GivesCell, GivesMeta, GivesBirth}
 use Rattle.nofs_law_old_names.specs.Names.{Relinked, NameWrites}
 use Rattle.nofs_law_new_names.specs.Holes.{IsNewRecord}
 

@@ -17,7 +17,7 @@ use Rattle.nofs_model.specs.Cells.{Cell, FileKind, BackLink, Pointer, pointer_at
 use Rattle.nofs_model.specs.Image.{Image, cell_at, inode, file_from, files_in, agreed, value, value_in, node_in, Path, InRecord, Under, path_of, is_pointer_slot, find, NodeState, Present, FileState, Files, record_pointer, IsSlot}
 use Rattle.nofs_model.specs.declared.value.Value.{Value}
 use Rattle.nofs_model.specs.declared.value.Value.TheVariants.{Bytes}
-use Rattle.nofs_law_untouched.specs.Gives.{GivesCell, GivesMeta}
+use Rattle.nofs_machine.specs.Gives.{GivesCell, GivesMeta}
 use Rattle.nofs_law_untouched.specs.Frames.{SameMeta}
 use Rattle.nofs_law_old_names.specs.Names.{NameWrites}
 

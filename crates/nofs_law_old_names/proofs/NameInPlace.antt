@@ -23,7 +23,7 @@ use Rattle.nofs_inode.specs.declared.inode.FileKind.TheVariants.{Directory as Fo
 use Rattle.nofs_model.specs.Image.{Image, cell_at, super_at, is_inode, is_data_block, inode, file_from, files_in, agreed, value, value_in, node_in, kind_in, tag_for, Path, InRecord, Under, path_of, slot_of, is_pointer_slot, find, Present, FileState, Files, record_pointer, is_folder, entry_held, entry_in_file, entry_at, names, is_pair, links_of, IsSlot}
 use Rattle.nofs_model.specs.declared.value.Value.{Value}
 use Rattle.nofs_model.specs.declared.value.Value.TheVariants.{Bytes}
-use Rattle.nofs_law_untouched.specs.Gives.{GivesNothing, GivesCell}
+use Rattle.nofs_machine.specs.Gives.{GivesNothing, GivesCell}
 use Rattle.nofs_law_old_names.specs.Names.{InPlace, NameWrites}
 
 -- a write of a content cell that holds is proper

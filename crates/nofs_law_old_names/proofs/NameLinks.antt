@@ -26,7 +26,7 @@ use Rattle.nofs_inode.specs.declared.inode.FileKind.TheVariants.{Directory as Fo
 use Rattle.nofs_model.specs.Image.{super_in, Image, cell_at, super_at, is_inode, is_data_block, inode, file_from, files_in, agreed, value, value_in, Path, InRecord, path_of, find, pointer, FileState, Files, is_folder, entry_held, entry_in_file, entry_at, pairs, names, is_a, is_pair, is_root, is_special, links_of, record_pointer, IsSlot}
 use Rattle.nofs_model.specs.declared.value.Value.{Value}
 use Rattle.nofs_model.specs.declared.value.Value.TheVariants.{Bytes}
-use Rattle.nofs_law_untouched.specs.Gives.{GivesNothing, GivesCell, GivesMeta}
+use Rattle.nofs_machine.specs.Gives.{GivesNothing, GivesCell, GivesMeta}
 use Rattle.nofs_law_old_names.specs.Names.{InPlace, Relinked, NameWrites}
 
 pub pairs-like : (a b : FileState) (u v : Option FileState) (i : ℕ) (link : BackLink) → a.kind ≡ b.kind → a.generation ≡ b.generation → SameDirectory u v link.entry → pairs (Some a) u i link ≡ pairs (Some b) v i link

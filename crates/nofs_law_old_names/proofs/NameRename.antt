@@ -23,7 +23,7 @@ use Rattle.nofs_model.specs.Cells.{Entry, Pointer, Record, spelled_entry}
 use Rattle.nofs_model.specs.Image.{Image, cell_at, is_data_block, file_from, files_in, value_in, path_of, find, FileState, Files, is_folder, entry_held, entry_in_file, entry_at, names}
 use Rattle.nofs_model.specs.declared.value.Value.{Value}
 use Rattle.nofs_model.specs.declared.value.Value.TheVariants.{Bytes}
-use Rattle.nofs_law_untouched.specs.Gives.{GivesNothing, GivesCell}
+use Rattle.nofs_machine.specs.Gives.{GivesNothing, GivesCell}
 use Rattle.nofs_law_old_names.specs.Names.{InPlace, NameWrites}
 
 -- an entry stands in a directory, in one of its 1,152 places

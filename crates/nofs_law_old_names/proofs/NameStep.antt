@@ -18,7 +18,7 @@ use Rattle.nofs_model.specs.Cells.{FileKind, BackLink, Entry, Record}
 use Rattle.nofs_inode.specs.declared.inode.FileKind.TheVariants.{Directory as Folder}
 use Rattle.nofs_model.specs.Image.{Image, inode, file_from, files_in, FileState, Files, is_folder, entry_held, entry_in_file, pairs, names, is_a, is_pair, is_root, is_special, links_of}
 use Rattle.nofs_model.specs.declared.value.Value.{Value}
-use Rattle.nofs_law_untouched.specs.Gives.{GivesNothing, GivesCell}
+use Rattle.nofs_machine.specs.Gives.{GivesNothing, GivesCell}
 use Rattle.nofs_law_old_names.specs.Names.{NameWrites}
 
 -- what a pair's entry says

@@ -1,4 +1,3 @@
 pub mod Frames
-pub mod Gives
 pub mod Grows
 pub mod Laws

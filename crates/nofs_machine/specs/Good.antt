@@ -6,7 +6,7 @@ use Rattle.nofs_machine.specs.History.{FilesMatch}
 use Rattle.nofs_machine.specs.World.{World, uses_inode, uses_block}
 
 -- the world's numbers are those of the image's superblock
-pub record HasNumbers (W : World) (X : Image) : Type 0 where
+pub record MatchesSuper (W : World) (X : Image) : Type 0 where
   pub version : W.version ≡ (super_at X).version
   pub blocks : W.blocks ≡ (super_at X).blocks
   pub inodes : W.inodes ≡ (super_at X).inodes
@@ -14,7 +14,7 @@ pub record HasNumbers (W : World) (X : Image) : Type 0 where
 
 -- the maps and the image are those of the world
 pub record IsGood (W : World) (verified_inodes free_inodes verified_blocks free_blocks : ℕ → Bool) (X : Image) : Type 0 where
-  pub numbers : HasNumbers W X
+  pub numbers : MatchesSuper W X
   pub files : FilesMatch W.files X
   pub homes : (p : ℕ) → p < W.blocks → W.homes p ≡ owner X p
   pub inodes : (i : ℕ) → verified_inodes i ≡ W.known_inodes i

@@ -14,3 +14,4 @@ pub mod Answers
 pub mod Claims
 pub mod Next
 pub mod Good
+pub mod Gives

@@ -7,7 +7,7 @@ use Rattle.nofs_disk.specs.declared.Failed.{Failed}
 use Rattle.nofs_disk.specs.declared.tag.Cell.{Cell}
 use Rattle.nofs_disk.specs.Chains.{IsSameDisk-trans, KeepsPast-trans, StaysButFaults-refl, StaysButFaults-trans}
 use Rattle.nofs_disk.specs.Disk.{DiskState, Flushes, IsDisk, IsSettled, StaysButFaults, cell_at, no_cell}
-use Rattle.nofs_mirror.specs.declared.mirror.Opening.{Opening}
+use Rattle.nofs_mirror.specs.declared.mirror.MirrorStart.{MirrorStart}
 use Rattle.nofs_mirror.specs.declared.past.MirrorCall.{MirrorCall}
 use Rattle.nofs_mirror.specs.declared.past.Span.{Span}
 use Rattle.nofs_mirror.specs.Copying.{Copies, HasCopied}
@@ -84,7 +84,7 @@ copy_covers n lead other may is_lead lead_fits other_fits lead_tells other_tells
     subst F (sym is) (subst G (sym same) (is_lead.has_now b lead_tells (omega arith)))
 
 -- what is kept of a mirror that begins
-pub kept_begins : (lead other first : DiskState) (opening : Opening) (past : List MirrorCall) → IsDisk lead → IsDisk other → opening.blocks ≤ lead.blocks → opening.blocks ≤ other.blocks → StaysButFaults first lead → past ≡ []
+pub kept_begins : (lead other first : DiskState) (opening : MirrorStart) (past : List MirrorCall) → IsDisk lead → IsDisk other → opening.blocks ≤ lead.blocks → opening.blocks ≤ other.blocks → StaysButFaults first lead → past ≡ []
     → IsTrue opening.lead.is_in → (IsTrue opening.other.is_in → HasCopied lead other opening.blocks × IsSettled other) → ∥ MirrorKeeps lead other first opening past ∥₁
 kept_begins lead other first opening past is_lead is_other lead_fits other_fits stays begins lead_in copied =
     let F : List MirrorCall → Type 0 = λ l. ∥ MirrorKeeps lead other first opening l ∥₁ in

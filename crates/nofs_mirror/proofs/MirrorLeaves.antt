@@ -3,7 +3,7 @@ use Rattle.std.proofs.Common.{◌≡◌, ℕ, ◌+◌, ◌*◌, ◌≤◌, Bool,
 use Rattle.std.specs.Prelude.{IsTrue}
 use Rattle.nofs_disk.specs.declared.tag.Cell.{Cell}
 use Rattle.nofs_disk.specs.Disk.{DiskState}
-use Rattle.nofs_mirror.specs.declared.mirror.Opening.{Opening}
+use Rattle.nofs_mirror.specs.declared.mirror.MirrorStart.{MirrorStart}
 use Rattle.nofs_mirror.specs.declared.past.MirrorCall.{MirrorCall}
 use Rattle.nofs_mirror.specs.declared.past.Span.{Span}
 use Rattle.nofs_mirror.specs.Mirror.{SideLeaves, SideLeft, last_span, mirror_state}
@@ -14,7 +14,7 @@ during_here : (side : MirrorCall → Span) (leaves : ℕ → List Cell → Type 
 during_here side leaves n opened past call to at whole is_in low high left =
     inr (inl (refl, record { in_then = is_in; at = at; low = low; high = high; whole = whole; left = left; first = refl }))
 
-pub lead_leaves : (lead lead_new other_new first : DiskState) (opening : Opening) (past : List MirrorCall) (call : MirrorCall) (s e : ℕ) (was_in : Bool)
+pub lead_leaves : (lead lead_new other_new first : DiskState) (opening : MirrorStart) (past : List MirrorCall) (call : MirrorCall) (s e : ℕ) (was_in : Bool)
     → was_in ≡ (last_span (λ c. c.lead) opening.lead past).is_in → call.lead.began ≡ lead.moment → call.lead.ended ≡ lead_new.moment
     → SideLeaves was_in lead.moment (mirror_state lead_new other_new first opening (call ∷ past) s e) lead_new (2 * length past + 1)
 lead_leaves lead lead_new other_new first opening past call s e was_in same begins ends = record {
@@ -25,7 +25,7 @@ lead_leaves lead lead_new other_new first opening past call s e was_in same begi
   );
 }
 
-pub other_leaves : (lead_new other other_new first : DiskState) (opening : Opening) (past : List MirrorCall) (call : MirrorCall) (s e : ℕ) (was_in : Bool)
+pub other_leaves : (lead_new other other_new first : DiskState) (opening : MirrorStart) (past : List MirrorCall) (call : MirrorCall) (s e : ℕ) (was_in : Bool)
     → was_in ≡ (last_span (λ c. c.other) opening.other past).is_in → call.other.began ≡ other.moment → call.other.ended ≡ other_new.moment
     → SideLeaves was_in other.moment (mirror_state lead_new other_new first opening (call ∷ past) s e) other_new (2 * length past + 1)
 other_leaves lead_new other other_new first opening past call s e was_in same begins ends = record {

@@ -4,7 +4,7 @@ use Rattle.std.specs.Prelude.{eqb}
 use Rattle.std.proofs.lemmas.Bool.{eq-eqb, ne_eqb}
 use Rattle.nofs_disk.specs.declared.tag.Cell.{Cell}
 use Rattle.nofs_disk.specs.Disk.{DiskState, IsSameDisk, KeepsPast}
-use Rattle.nofs_mirror.specs.declared.mirror.Opening.{Opening}
+use Rattle.nofs_mirror.specs.declared.mirror.MirrorStart.{MirrorStart}
 use Rattle.nofs_mirror.specs.declared.past.MirrorCall.{MirrorCall}
 use Rattle.nofs_mirror.specs.declared.past.Effect.{Effect}
 use Rattle.nofs_mirror.specs.declared.past.Effect.TheVariants.{Write, Settle, Nothing}
@@ -59,7 +59,7 @@ pub was_now : (a b : ℕ → List Cell) (n : ℕ) (past : List MirrorCall) (call
 was_now a b n past call = rw (eq-eqb (2 * length (call ∷ past)) (2 * length (call ∷ past)) refl) refl
 
 -- the sides of a mirror before and after a call
-pub record Goes (lead lead_new other other_new : DiskState) (opening : Opening) (past : List MirrorCall) : Type 0 where
+pub record Goes (lead lead_new other other_new : DiskState) (opening : MirrorStart) (past : List MirrorCall) : Type 0 where
   pub lead_disk : IsSameDisk lead lead_new
   pub other_disk : IsSameDisk other other_new
   pub lead_past : KeepsPast lead lead_new
@@ -67,18 +67,18 @@ pub record Goes (lead lead_new other other_new : DiskState) (opening : Opening) 
   pub lead_marked : IsMarkedBySide (λ c. c.lead) opening.lead past lead.moment
   pub other_marked : IsMarkedBySide (λ c. c.other) opening.other past other.moment
 
-pub goes_was : (lead lead_new other other_new : DiskState) (opening : Opening) (past : List MirrorCall) → Goes lead lead_new other other_new opening past
+pub goes_was : (lead lead_new other other_new : DiskState) (opening : MirrorStart) (past : List MirrorCall) → Goes lead lead_new other other_new opening past
     → KeepsWas lead.was lead_new.was other.was other_new.was opening.lead opening.other past lead.moment other.moment
 goes_was lead lead_new other other_new opening past g = record { lead_was = g.lead_past.was; other_was = g.other_past.was; lead_marked = g.lead_marked; other_marked = g.other_marked }
 
-pub tells_same : (lead lead_new other other_new : DiskState) (opening : Opening) (past : List MirrorCall) → Goes lead lead_new other other_new opening past → both_tell lead_new other_new ≡ both_tell lead other
+pub tells_same : (lead lead_new other other_new : DiskState) (opening : MirrorStart) (past : List MirrorCall) → Goes lead lead_new other other_new opening past → both_tell lead_new other_new ≡ both_tell lead other
 tells_same lead lead_new other other_new opening past g = let p = g.lead_disk.tells in let q = g.other_disk.tells in λ i. p i && q i
 
 pub told_same : {A : Type 0} (t t' : Bool) (xs xs' : List A) → t' ≡ t → xs' ≡ xs → if_told t' xs' ≡ if_told t xs
 told_same t t' xs xs' p q = λ i. if_told (p i) (q i)
 
 -- a call that makes no moment
-pub past_stays : (lead lead_new other other_new first : DiskState) (opening : Opening) (past : List MirrorCall) (s t e f : ℕ) → Goes lead lead_new other other_new opening past → lead_new.moment ≡ lead.moment → other_new.moment ≡ other.moment
+pub past_stays : (lead lead_new other other_new first : DiskState) (opening : MirrorStart) (past : List MirrorCall) (s t e f : ℕ) → Goes lead lead_new other other_new opening past → lead_new.moment ≡ lead.moment → other_new.moment ≡ other.moment
     → KeepsPast (mirror_state lead other first opening past s e) (mirror_state lead_new other_new first opening past t f)
 past_stays lead lead_new other other_new first opening past s t e f g lead_at other_at = record {
   was = λ m low. told_same (both_tell lead other) (both_tell lead_new other_new) _ _ (tells_same lead lead_new other other_new opening past g) (was_keeps _ _ _ _ _ _ opening.blocks past _ _ m (goes_was lead lead_new other other_new opening past g));
@@ -97,7 +97,7 @@ past_stays lead lead_new other other_new first opening past s t e f g lead_at ot
     less m image (inr left) = inr (stays_no_less (λ c. c.other) opening.blocks opening.other past other other_new m image g.other_past other_at g.other_marked left)
 
 -- a write or flush
-pub past_moves : (lead lead_new other other_new first : DiskState) (opening : Opening) (past : List MirrorCall) (call : MirrorCall) (s t e f : ℕ) → Goes lead lead_new other other_new opening past → call.lead.began ≡ lead.moment → call.other.began ≡ other.moment
+pub past_moves : (lead lead_new other other_new first : DiskState) (opening : MirrorStart) (past : List MirrorCall) (call : MirrorCall) (s t e f : ℕ) → Goes lead lead_new other other_new opening past → call.lead.began ≡ lead.moment → call.other.began ≡ other.moment
     → KeepsPast (mirror_state lead other first opening past s e) (mirror_state lead_new other_new first opening (call ∷ past) t f)
 past_moves lead lead_new other other_new first opening past call s t e f g lead_at other_at = record {
   was = λ m low. told_same (both_tell lead other) (both_tell lead_new other_new) _ _ (tells_same lead lead_new other other_new opening past g)

@@ -8,7 +8,7 @@ use Rattle.nofs_disk.specs.declared.Failed.{Failed}
 use Rattle.nofs_disk.specs.declared.tag.Cell.{Cell}
 use Rattle.nofs_disk.specs.Disk.{DiskState, IsSameDisk, KeepsCells, MakesReady, Reads, Rose, StaysButFaults, cell_at, no_cell}
 use Rattle.nofs_mirror.specs.declared.log.Sides.{Sides}
-use Rattle.nofs_mirror.specs.declared.mirror.Opening.{Opening}
+use Rattle.nofs_mirror.specs.declared.mirror.MirrorStart.{MirrorStart}
 use Rattle.nofs_mirror.specs.declared.past.MirrorCall.{MirrorCall}
 use Rattle.nofs_mirror.specs.declared.past.Span.{Span}
 use Rattle.nofs_mirror.specs.Asking.{Rests}
@@ -31,13 +31,13 @@ side_stays n s t side opened past old new r room is = record {
 }
 
 -- both sides make no moment
-pub record BothRest (lead lead_new other other_new : DiskState) (opening : Opening) (past : List MirrorCall) (s : ℕ) : Type 0 where
+pub record BothRest (lead lead_new other other_new : DiskState) (opening : MirrorStart) (past : List MirrorCall) (s : ℕ) : Type 0 where
   pub lead_rests : Rests lead lead_new
   pub other_rests : Rests other other_new
   pub lead_side : IsSide opening.blocks s (λ c. c.lead) opening.lead past lead
   pub other_side : IsSide opening.blocks s (λ c. c.other) opening.other past other
 
-rest_goes : (lead lead_new other other_new : DiskState) (opening : Opening) (past : List MirrorCall) (s : ℕ) → BothRest lead lead_new other other_new opening past s → Goes lead lead_new other other_new opening past
+rest_goes : (lead lead_new other other_new : DiskState) (opening : MirrorStart) (past : List MirrorCall) (s : ℕ) → BothRest lead lead_new other other_new opening past s → Goes lead lead_new other other_new opening past
 rest_goes lead lead_new other other_new opening past s r = record {
   lead_disk = r.lead_rests.disk;
   other_disk = r.other_rests.disk;
@@ -47,11 +47,11 @@ rest_goes lead lead_new other other_new opening past s r = record {
   other_marked = r.other_side.marked;
 }
 
-rest_may : (lead lead_new other other_new first : DiskState) (opening : Opening) (past : List MirrorCall) (s : ℕ) → BothRest lead lead_new other other_new opening past s → (b : ℕ)
+rest_may : (lead lead_new other other_new first : DiskState) (opening : MirrorStart) (past : List MirrorCall) (s : ℕ) → BothRest lead lead_new other other_new opening past s → (b : ℕ)
     → may_after lead_new.was other_new.was opening.blocks first.may past b ≡ may_after lead.was other.was opening.blocks first.may past b
 rest_may lead lead_new other other_new first opening past s r b = may_keeps _ _ _ _ _ _ opening.blocks first.may past _ _ b (goes_was lead lead_new other other_new opening past (rest_goes lead lead_new other other_new opening past s r))
 
-rest_now : (lead lead_new other other_new : DiskState) (opening : Opening) (past : List MirrorCall) (s : ℕ) (x : Bool) → BothRest lead lead_new other other_new opening past s → now_of x opening.blocks lead_new.now other_new.now ≡ now_of x opening.blocks lead.now other.now
+rest_now : (lead lead_new other other_new : DiskState) (opening : MirrorStart) (past : List MirrorCall) (s : ℕ) (x : Bool) → BothRest lead lead_new other other_new opening past s → now_of x opening.blocks lead_new.now other_new.now ≡ now_of x opening.blocks lead.now other.now
 rest_now lead lead_new other other_new opening past s x r = let p = r.lead_rests.cells.now in let q = r.other_rests.cells.now in λ i. now_of x opening.blocks (p i) (q i)
 
 -- a side that is in goes on
@@ -61,7 +61,7 @@ serves_on n may now now_new old new r same s = record {
   covers = λ b c low has. let F : List Cell → Type 0 = λ l. Contains l c in let p = r.cells.may in s.covers b c low (subst F (λ i. p i b) has);
 }
 
-pub rest_kept : (lead lead_new other other_new first : DiskState) (opening : Opening) (past : List MirrorCall) (s : ℕ) → BothRest lead lead_new other other_new opening past s → ∥ MirrorKeeps lead other first opening past ∥₁ → ∥ MirrorKeeps lead_new other_new first opening past ∥₁
+pub rest_kept : (lead lead_new other other_new first : DiskState) (opening : MirrorStart) (past : List MirrorCall) (s : ℕ) → BothRest lead lead_new other other_new opening past s → ∥ MirrorKeeps lead other first opening past ∥₁ → ∥ MirrorKeeps lead_new other_new first opening past ∥₁
 rest_kept lead lead_new other other_new first opening past s r kept = ∥∥₁_elim kept ∥∥₁_prop (λ k. ∣ (λ t. goes (k (sym (tells_same lead lead_new other other_new opening past (rest_goes lead lead_new other other_new opening past s r)) ∙ t))) ∣₁)
   where
     lead_in : Bool
@@ -83,12 +83,12 @@ rest_kept lead lead_new other other_new first opening past s r kept = ∥∥₁_
           within = m.within;
         })
 
-pub rest_disk : (lead lead_new other other_new first : DiskState) (opening : Opening) (past : List MirrorCall) (s t e f : ℕ) → BothRest lead lead_new other other_new opening past s → e ≤ f
+pub rest_disk : (lead lead_new other other_new first : DiskState) (opening : MirrorStart) (past : List MirrorCall) (s t e f : ℕ) → BothRest lead lead_new other other_new opening past s → e ≤ f
     → IsSameDisk (mirror_state lead other first opening past s e) (mirror_state lead_new other_new first opening past t f)
 rest_disk lead lead_new other other_new first opening past s t e f r more =
     record { blocks = refl; tells = tells_same lead lead_new other other_new opening past (rest_goes lead lead_new other other_new opening past s r); holds_back = refl; faults = more }
 
-pub rest_cells : (lead lead_new other other_new first : DiskState) (opening : Opening) (past : List MirrorCall) (s t e f : ℕ) → BothRest lead lead_new other other_new opening past s
+pub rest_cells : (lead lead_new other other_new first : DiskState) (opening : MirrorStart) (past : List MirrorCall) (s t e f : ℕ) → BothRest lead lead_new other other_new opening past s
     → KeepsCells (mirror_state lead other first opening past s e) (mirror_state lead_new other_new first opening past t f)
 rest_cells lead lead_new other other_new first opening past s t e f r =
     let tells = tells_same lead lead_new other other_new opening past (rest_goes lead lead_new other other_new opening past s r) in
@@ -98,7 +98,7 @@ rest_cells lead lead_new other other_new first opening past s t e f r =
       moment = refl;
     }
 
-pub mirror_ready : {E : Type 0} (lead lead_new other other_new first : DiskState) (opening : Opening) (past : List MirrorCall) (s t e n : ℕ) {result : Result (Unit {0}) E} → BothRest lead lead_new other other_new opening past s → s ≤ t → OnOk result (n ≤ t)
+pub mirror_ready : {E : Type 0} (lead lead_new other other_new first : DiskState) (opening : MirrorStart) (past : List MirrorCall) (s t e n : ℕ) {result : Result (Unit {0}) E} → BothRest lead lead_new other other_new opening past s → s ≤ t → OnOk result (n ≤ t)
     → MakesReady (mirror_state lead other first opening past s e) (mirror_state lead_new other_new first opening past t e) n result
 mirror_ready lead lead_new other other_new first opening past s t e n r more room = record {
   disk = rest_disk lead lead_new other other_new first opening past s t e e r (omega arith);
@@ -111,11 +111,11 @@ mirror_ready lead lead_new other other_new first opening past s t e n r more roo
 }
 
 -- the first cells of each side that is in are the mirror's
-pub lead_serves : (lead other first : DiskState) (opening : Opening) (past : List MirrorCall) → ∥ MirrorKeeps lead other first opening past ∥₁ → IsTrue (both_tell lead other) → IsTrue (last_span (λ c. c.lead) opening.lead past).is_in
+pub lead_serves : (lead other first : DiskState) (opening : MirrorStart) (past : List MirrorCall) → ∥ MirrorKeeps lead other first opening past ∥₁ → IsTrue (both_tell lead other) → IsTrue (last_span (λ c. c.lead) opening.lead past).is_in
     → take opening.blocks lead.now ≡ now_of (last_span (λ c. c.lead) opening.lead past).is_in opening.blocks lead.now other.now
 lead_serves lead other first opening past kept t e = cells_known _ _ (∥∥₁_elim kept ∥∥₁_prop (λ k. ∣ ((k t).lead e).now ∣₁))
 
-pub other_serves : (lead other first : DiskState) (opening : Opening) (past : List MirrorCall) → ∥ MirrorKeeps lead other first opening past ∥₁ → IsTrue (both_tell lead other) → IsTrue (last_span (λ c. c.other) opening.other past).is_in
+pub other_serves : (lead other first : DiskState) (opening : MirrorStart) (past : List MirrorCall) → ∥ MirrorKeeps lead other first opening past ∥₁ → IsTrue (both_tell lead other) → IsTrue (last_span (λ c. c.other) opening.other past).is_in
     → take opening.blocks other.now ≡ now_of (last_span (λ c. c.lead) opening.lead past).is_in opening.blocks lead.now other.now
 other_serves lead other first opening past kept t e = cells_known _ _ (∥∥₁_elim kept ∥∥₁_prop (λ k. ∣ ((k t).other e).now ∣₁))
 
@@ -125,14 +125,14 @@ left_here : (side : MirrorCall → Span) (leaves : ℕ → List Cell → Type 0)
 left_here side leaves n opened [] at whole is_in ends left = (refl, record { in_then = is_in; at = at; low = (omega arith); high = (omega arith); whole = whole; left = left; first = refl })
 left_here side leaves n opened (call ∷ past) at whole is_in ends left = inl (refl, record { in_then = is_in; at = at; low = (omega arith); high = (omega arith); whole = whole; left = left; first = refl })
 
-pub lead_served : (lead other first : DiskState) (opening : Opening) (past : List MirrorCall) (s e : ℕ) (is_in : Bool) → IsSide opening.blocks s (λ c. c.lead) opening.lead past lead → is_in ≡ (last_span (λ c. c.lead) opening.lead past).is_in → ∥ MirrorKeeps lead other first opening past ∥₁
+pub lead_served : (lead other first : DiskState) (opening : MirrorStart) (past : List MirrorCall) (s e : ℕ) (is_in : Bool) → IsSide opening.blocks s (λ c. c.lead) opening.lead past lead → is_in ≡ (last_span (λ c. c.lead) opening.lead past).is_in → ∥ MirrorKeeps lead other first opening past ∥₁
     → SideServes is_in (mirror_state lead other first opening past s e) lead
 lead_served lead other first opening past s e is_in side same kept = record {
   now = λ i t. lead_serves lead other first opening past kept t (sym same ∙ i) ∙ sym (told-is (both_tell lead other) _ t);
   left = λ i t image left. (t, inl (left_here (λ c. c.lead) lead.left opening.blocks opening.lead past lead.moment image (sym same ∙ i) side.last left));
 }
 
-pub other_served : (lead other first : DiskState) (opening : Opening) (past : List MirrorCall) (s e : ℕ) (is_in : Bool) → IsSide opening.blocks s (λ c. c.other) opening.other past other → is_in ≡ (last_span (λ c. c.other) opening.other past).is_in → ∥ MirrorKeeps lead other first opening past ∥₁
+pub other_served : (lead other first : DiskState) (opening : MirrorStart) (past : List MirrorCall) (s e : ℕ) (is_in : Bool) → IsSide opening.blocks s (λ c. c.other) opening.other past other → is_in ≡ (last_span (λ c. c.other) opening.other past).is_in → ∥ MirrorKeeps lead other first opening past ∥₁
     → SideServes is_in (mirror_state lead other first opening past s e) other
 other_served lead other first opening past s e is_in side same kept = record {
   now = λ i t. other_serves lead other first opening past kept t (sym same ∙ i) ∙ sym (told-is (both_tell lead other) _ t);
@@ -143,7 +143,7 @@ other_served lead other first opening past s e is_in side same kept = record {
 given : (n block : ℕ) (t : Bool) (side now : List Cell) (into : Cell) → block < n → IsTrue t → into ≡ cell_at side block → take n side ≡ now → into ≡ cell_at (if_told t now) block
 given n block t side now into low if_told gave same = gave ∙ sym (get_or-take n side block no_cell low) ∙ ap (λ l. cell_at l block) (same ∙ sym (told-is t now if_told))
 
-pub mirror_reads : (lead lead_new other other_new first : DiskState) (opening : Opening) (past : List MirrorCall) (s e f block : ℕ) (sides : Sides) (into : Cell) (result : Result (Unit {0}) Failed)
+pub mirror_reads : (lead lead_new other other_new first : DiskState) (opening : MirrorStart) (past : List MirrorCall) (s e f block : ℕ) (sides : Sides) (into : Cell) (result : Result (Unit {0}) Failed)
     → EitherReads lead lead_new other other_new sides block into result → IsSide opening.blocks s (λ c. c.lead) opening.lead past lead → IsSide opening.blocks s (λ c. c.other) opening.other past other
     → sides.lead_in ≡ (last_span (λ c. c.lead) opening.lead past).is_in → sides.other_in ≡ (last_span (λ c. c.other) opening.other past).is_in → ∥ MirrorKeeps lead other first opening past ∥₁ → block < opening.blocks → e ≤ f → OnErr result (Rose e f) → OnOk result (f ≡ e)
     → Reads (mirror_state lead other first opening past s e) (mirror_state lead_new other_new first opening past s f) block into result

@@ -8,13 +8,13 @@ use Rattle.nofs_disk.specs.declared.tag.Cell.{Cell}
 use Rattle.nofs_disk.specs.Cells.{Contains-known, IsSizedCell-known, Picks-known}
 use Rattle.nofs_disk.specs.Disk.{DiskState, IsDisk, Picks, cell_at, no_cell}
 use Rattle.nofs_mirror.specs.declared.log.Sides.{Sides}
-use Rattle.nofs_mirror.specs.declared.mirror.Opening.{Opening}
+use Rattle.nofs_mirror.specs.declared.mirror.MirrorStart.{MirrorStart}
 use Rattle.nofs_mirror.specs.declared.past.MirrorCall.{MirrorCall}
 use Rattle.nofs_mirror.specs.declared.past.Span.{Span}
 use Rattle.nofs_mirror.specs.Mirror.{IsMirrored, IsServed, IsSide, LeftBy, SideLeft, both_tell, last_span, may_after, mirror_state, now_of, if_told}
 
 -- what is kept of a mirror over all its calls, where it tells
-abbrev pub MirrorKeeps : DiskState → DiskState → DiskState → Opening → List MirrorCall → Type 0
+abbrev pub MirrorKeeps : DiskState → DiskState → DiskState → MirrorStart → List MirrorCall → Type 0
 MirrorKeeps lead other first opening past =
     IsTrue (both_tell lead other)
     → IsMirrored opening.blocks (may_after lead.was other.was opening.blocks first.may past) (now_of (last_span (λ c. c.lead) opening.lead past).is_in opening.blocks lead.now other.now)
@@ -83,7 +83,7 @@ now_len true n a b low_a low_b = length-take-le n a low_a
 now_len false n a b low_a low_b = length-take-le n b low_b
 
 -- a mirror keeps every law of a disk
-pub mirror_is : (lead other first : DiskState) (opening : Opening) (past : List MirrorCall) (spare faults : ℕ) {sides : Sides} {moment : ℕ} → IsDisk lead → IsDisk other
+pub mirror_is : (lead other first : DiskState) (opening : MirrorStart) (past : List MirrorCall) (spare faults : ℕ) {sides : Sides} {moment : ℕ} → IsDisk lead → IsDisk other
     → IsSide opening.blocks spare (λ c. c.lead) opening.lead past lead → IsSide opening.blocks spare (λ c. c.other) opening.other past other
     → sides.lead_in ≡ (last_span (λ c. c.lead) opening.lead past).is_in → sides.other_in ≡ (last_span (λ c. c.other) opening.other past).is_in → IsTrue (sides.lead_in || sides.other_in)
     → moment ≡ 2 * length past → 2 * spare + moment < 2 ^ 64 → faults < 2 ^ 64 → ∥ MirrorKeeps lead other first opening past ∥₁

@@ -6,7 +6,7 @@ use Rattle.nofs_disk.specs.Disk.{DiskState, IsSameDisk, IsSizedCell, KeepsCells,
 use Rattle.nofs_mirror.specs.declared.log.Sides.{Sides}
 use Rattle.nofs_mirror.specs.declared.mirror.MirrorCause.{MirrorCause}
 use Rattle.nofs_mirror.specs.declared.mirror.MirrorCause.TheVariants.{TooSmall, ReadFault, OutOfMemory}
-use Rattle.nofs_mirror.specs.declared.mirror.Opening.{Opening}
+use Rattle.nofs_mirror.specs.declared.mirror.MirrorStart.{MirrorStart}
 use Rattle.nofs_mirror.specs.declared.past.MirrorCall.{MirrorCall}
 use Rattle.nofs_mirror.specs.declared.past.Effect.{Effect}
 use Rattle.nofs_mirror.specs.declared.past.Effect.TheVariants.{Write, Settle, Nothing}
@@ -74,7 +74,7 @@ abbrev pub both_tell : DiskState → DiskState → Bool
 both_tell lead other = lead.tells && other.tells
 
 -- what contracts see of a mirror
-abbrev pub mirror_state : DiskState → DiskState → DiskState → Opening → List MirrorCall → ℕ → ℕ → DiskState
+abbrev pub mirror_state : DiskState → DiskState → DiskState → MirrorStart → List MirrorCall → ℕ → ℕ → DiskState
 mirror_state lead other first opening past spare faults = record {
   blocks = opening.blocks;
   moment = 2 * length past;

@@ -20,7 +20,7 @@ use std::snapshot::Snapshot;
 
 /// How many blocks a mirror has, and the moments of both sides at its opening.
 #[derive(Clone, Copy)]
-pub struct Opening {
+pub struct MirrorStart {
     blocks: u64,
     lead: Span,
     other: Span,
@@ -34,7 +34,7 @@ pub struct Mirror<A: Disk + Drop, B: Disk + Drop> {
     other: B,
     /// The lead as it was given.
     first: Snapshot<A>,
-    opening: Opening,
+    opening: MirrorStart,
     log: Log,
     ghost lead_side: { IsSide opening.blocks log.spare (λ c. c.lead) opening.lead (past_calls log.past.value) (A.state lead) },
     ghost other_side: { IsSide opening.blocks log.spare (λ c. c.other) opening.other (past_calls log.past.value) (B.state other) },
@@ -191,7 +191,7 @@ impl<A: Disk + Drop, B: Disk + Drop> Mirror<A, B> {
             lead,
             other,
             first,
-            opening: Opening {
+            opening: MirrorStart {
                 blocks,
                 lead: Span {
                     began: lead_at,

@@ -33,8 +33,10 @@ use Rattle.nofs_state.proofs.Machine.{agreed-live, are-agreed}
 use Rattle.nofs_state.proofs.Tables.{HasRecord, table_block}
 use Rattle.nofs_names.specs.Searching.{IsFoundEntry}
 use Rattle.nofs_names.specs.Refusing.{IsThere, KnownAgreed}
-use Rattle.nofs_names.specs.Renames.{FoundIn, RowsPass, done_answer}
-use Rattle.nofs_names.specs.Drops.{ClearedIn, HasNoNames, KeepsName, RecordIn, relinked}
+use Rattle.nofs_names.specs.Renames.{FoundIn, done_answer}
+use Rattle.nofs_state.specs.Owing.{RowsPass}
+use Rattle.nofs_names.specs.Drops.{ClearedIn, HasNoNames, KeepsName, relinked}
+use Rattle.nofs_state.specs.Owing.{RecordIn}
 use Rattle.nofs_names.specs.declared.searching.Paired.{Paired}
 use Rattle.nofs_names.proofs.Dropping.{its, kept-ends, kept-done, drop-proper, EndsWell, drop-numbered}
 

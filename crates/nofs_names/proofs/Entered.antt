@@ -19,7 +19,7 @@ use Rattle.nofs_machine.proofs.EntryPut.{with-entry-put, zeros-are}
 use Rattle.nofs_law_numbers.specs.Cells.{table_tag}
 use Rattle.nofs_state.specs.Writing.{IsApart, image_after}
 use Rattle.nofs_state.proofs.Tables.{HasRecord, record-here, record-other}
-use Rattle.nofs_names.specs.Entering.{AreTables, IsTable, entered, pointed, rooted, table_of}
+use Rattle.nofs_names.specs.Entering.{AreTables, IsTable, entered, with_direct, with_leaf, table_block}
 use Rattle.nofs_names.specs.declared.entering.Tables.{Tables}
 
 -- Some writes
@@ -39,17 +39,17 @@ written-here b c ws X low apart = written-apart ws (slice_set X b c) b apart ∙
 
 module _ (X Y : Image) (d i : ℕ) (dr r : Record) (before after : Tables) (tables : AreTables before d dr i r after) (ne : d ≢ i)
     (whole : (super_at X).blocks ≤ length X) (room : 2 + (super_at X).inodes / 4 ≤ (super_at X).blocks) (quarters : (super_at X).inodes % 4 ≡ 0)
-    (d-range : is_inode X d ≡ true) (i-range : is_inode X i ≡ true) (first : before.directory ≡ cell_at X (table_of d))
-    (second : before.inode ≡ cell_at X (table_of i))
-    (super : cell_at Y 0 ≡ cell_at X 0) (at-d : cell_at Y (table_of d) ≡ after.directory) (at-i : cell_at Y (table_of i) ≡ after.inode)
-    (beside : (b : ℕ) → b ≤ (super_at X).inodes / 4 → b ≢ table_of d → b ≢ table_of i → cell_at Y b ≡ cell_at X b) where
+    (d-range : is_inode X d ≡ true) (i-range : is_inode X i ≡ true) (first : before.directory ≡ cell_at X (table_block d))
+    (second : before.inode ≡ cell_at X (table_block i))
+    (super : cell_at Y 0 ≡ cell_at X 0) (at-d : cell_at Y (table_block d) ≡ after.directory) (at-i : cell_at Y (table_block i) ≡ after.inode)
+    (beside : (b : ℕ) → b ≤ (super_at X).inodes / 4 → b ≢ table_block d → b ≢ table_block i → cell_at Y b ≡ cell_at X b) where
   inside : (j : ℕ) → is_inode X j ≡ true → (1 ≤ j) × (j ≤ (super_at X).inodes)
   inside j e = let b = and-both (leb 1 j) (leb j (super_at X).inodes) e in (leb-true 1 j b.0, leb-true j (super_at X).inodes b.1)
 
-  low : (j : ℕ) → is_inode X j ≡ true → table_of j ≤ (super_at X).inodes / 4
+  low : (j : ℕ) → is_inode X j ≡ true → table_block j ≤ (super_at X).inodes / 4
   low j e = let a = inside j e in let q = quarters in omega (arith, a, q)
 
-  fits : (j : ℕ) → is_inode X j ≡ true → table_of j < length X
+  fits : (j : ℕ) → is_inode X j ≡ true → table_block j < length X
   fits j e = let a = low j e in let t = room in let w = whole in omega (arith, a, t, w)
 
   -- both records are there
@@ -61,13 +61,13 @@ module _ (X Y : Image) (d i : ℕ) (dr r : Record) (before after : Tables) (tabl
   -- with this cell in between, in which the directory's record alone is new
   module _ (middle : Cell) (one : IsTable before.directory d dr middle) where
     abbrev M : Image
-    M = slice_set X (table_of d) middle
+    M = slice_set X (table_block d) middle
 
-    m-here : cell_at M (table_of d) ≡ middle
-    m-here = get_or-set_same X (table_of d) middle no_cell (fits d d-range)
+    m-here : cell_at M (table_block d) ≡ middle
+    m-here = get_or-set_same X (table_block d) middle no_cell (fits d d-range)
 
-    m-other : (b : ℕ) → b ≢ table_of d → cell_at M b ≡ cell_at X b
-    m-other b off = get_or-set_other X (table_of d) b middle no_cell off
+    m-other : (b : ℕ) → b ≢ table_block d → cell_at M b ≡ cell_at X b
+    m-other b off = get_or-set_other X (table_block d) b middle no_cell off
 
     m-super : cell_at M 0 ≡ cell_at X 0
     m-super = m-other 0 (λ e. omega (arith, e))
@@ -87,7 +87,7 @@ module _ (X Y : Image) (d i : ℕ) (dr r : Record) (before after : Tables) (tabl
     m-range : is_inode M i ≡ true
     m-range = ap (λ (q : SuperBlock). leb 1 i && leb i q.inodes) same-super ∙ i-range
 
-    both-by : HasRecord M i r after.inode → ((b : ℕ) → b ≤ (super_at M).inodes / 4 → b ≢ table_of i → cell_at Y b ≡ cell_at M b) → Both
+    both-by : HasRecord M i r after.inode → ((b : ℕ) → b ≤ (super_at M).inodes / 4 → b ≢ table_block i → cell_at Y b ≡ cell_at M b) → Both
     both-by has off = record {
       directory = record-other M Y i r after.inode has (subst (λ (q : SuperBlock). q.inodes % 4 ≡ 0) (sym same-super) quarters) (super ∙ sym m-super) at-i off
           d ne ∙ m-record;
@@ -100,29 +100,29 @@ module _ (X Y : Image) (d i : ℕ) (dr r : Record) (before after : Tables) (tabl
   both = elim (cases_eq ((d - 1) / 4) ((i - 1) / 4)) [
     | inl e ↦
         let s = tables.same e in
-        let ti : table_of i ≡ table_of d = ap (λ (n : ℕ). 1 + n) (sym e) in
+        let ti : table_block i ≡ table_block d = ap (λ (n : ℕ). 1 + n) (sym e) in
         both-by s.1.0 s.1.1
         (record {
           range = m-range s.1.0 s.1.1;
           here = s.1.2.here.here;
           others = λ j off lt. s.1.2.here.others j off lt ∙ ap
-              (λ (c : Cell). record_of j c.payload) (sym (ap (cell_at (slice_set X (table_of d) s.1.0)) ti ∙ m-here s.1.0 s.1.1));
+              (λ (c : Cell). record_of j c.payload) (sym (ap (cell_at (slice_set X (table_block d) s.1.0)) ti ∙ m-here s.1.0 s.1.1));
         })
         (λ b l off.
-        let nd : b ≢ table_of d = λ q. off (q ∙ sym ti) in
+        let nd : b ≢ table_block d = λ q. off (q ∙ sym ti) in
         beside b (subst (λ (q : SuperBlock). b ≤ q.inodes / 4) (same-super s.1.0 s.1.1) l) nd off ∙ sym (m-other s.1.0 s.1.1 b nd))
     | inr apart ↦
         let s = tables.apart apart in
-        let off-i : table_of i ≢ table_of d = λ q. apart (omega (arith, q)) in
+        let off-i : table_block i ≢ table_block d = λ q. apart (omega (arith, q)) in
         both-by after.directory s.0
         (record {
           range = m-range after.directory s.0;
           here = s.1.here.here;
           others = λ j off lt. s.1.here.others j off lt ∙ ap
-              (λ (c : Cell). record_of j c.payload) (second ∙ sym (m-other after.directory s.0 (table_of i) off-i));
+              (λ (c : Cell). record_of j c.payload) (second ∙ sym (m-other after.directory s.0 (table_block i) off-i));
         })
-        (λ b l off. elim (cases_eq b (table_of d)) [
-          | inl here ↦ ap (cell_at Y) here ∙ at-d ∙ sym (ap (cell_at (slice_set X (table_of d) after.directory)) here ∙ m-here after.directory s.0)
+        (λ b l off. elim (cases_eq b (table_block d)) [
+          | inl here ↦ ap (cell_at Y) here ∙ at-d ∙ sym (ap (cell_at (slice_set X (table_block d) after.directory)) here ∙ m-here after.directory s.0)
           | inr other ↦ beside b (subst (λ (q : SuperBlock). b ≤ q.inodes / 4) (same-super after.directory s.0) l) other off ∙ sym
               (m-other after.directory s.0 b other)
         ])
@@ -137,21 +137,21 @@ module _ (X Y : Image) (d i : ℕ) (dr r : Record) (before after : Tables) (tabl
   pub records-beside : (j : ℕ) → j ≢ d → j ≢ i → inode Y j ≡ inode X j
   records-beside = both.others
 
-  pub low-d : table_of d ≤ (super_at X).inodes / 4
+  pub low-d : table_block d ≤ (super_at X).inodes / 4
   low-d = low d d-range
 
-  pub low-i : table_of i ≤ (super_at X).inodes / 4
+  pub low-i : table_block i ≤ (super_at X).inodes / 4
   low-i = low i i-range
 
   tags : ((d - 1) / 4 ≡ (i - 1) / 4) ⊎ ((d - 1) / 4 ≢ (i - 1) / 4)
-      → (tag_of after.directory.tag ≡ Some (table_tag (table_of d))) × (tag_of after.inode.tag ≡ Some (table_tag (table_of i)))
+      → (tag_of after.directory.tag ≡ Some (table_tag (table_block d))) × (tag_of after.inode.tag ≡ Some (table_tag (table_block i)))
   tags (inl e) =
       let s = tables.same e in
       let t = s.1.2.tag in
       (ap (λ (c : Cell). tag_of c.tag) s.0 ∙ t ∙ ap (λ (n : ℕ). Some (table_tag (1 + n))) (sym e), t)
   tags (inr ne) = let s = tables.apart ne in (s.0.tag, s.1.tag)
 
-  pub tables-tagged : (tag_of after.directory.tag ≡ Some (table_tag (table_of d))) × (tag_of after.inode.tag ≡ Some (table_tag (table_of i)))
+  pub tables-tagged : (tag_of after.directory.tag ≡ Some (table_tag (table_block d))) × (tag_of after.inode.tag ≡ Some (table_tag (table_block i)))
   tables-tagged = tags (cases_eq ((d - 1) / 4) ((i - 1) / 4))
 
 -- The records of the directory, with another pointer
@@ -162,10 +162,10 @@ low-not a b h = grind (arith, nat_tests)
 not-leb : (a b : ℕ) → b < a → leb a b ≡ false
 not-leb a b h = grind (arith, nat_tests)
 
-pub pointed-here : (r : Record) (k : ℕ) (x : Pointer) → k < 8 → length r.direct ≡ 8 → record_pointer (pointed r k x) k ≡ x
+pub pointed-here : (r : Record) (k : ℕ) (x : Pointer) → k < 8 → length r.direct ≡ 8 → record_pointer (with_direct r k x) k ≡ x
 pointed-here r k x h len = rw (low-not k 8 h, low-not k 9 (omega (arith, h))) (get_or-set_same r.direct k x null (omega (arith, h, len)))
 
-pub pointed-other : (r : Record) (k : ℕ) (x : Pointer) (m : ℕ) → m ≢ k → record_pointer (pointed r k x) m ≡ record_pointer r m
+pub pointed-other : (r : Record) (k : ℕ) (x : Pointer) (m : ℕ) → m ≢ k → record_pointer (with_direct r k x) m ≡ record_pointer r m
 pointed-other r k x m ne = go (eqb m 8) (eqb m 9)
   where
     go : (a b : Bool) → cond a r.leaf (cond b r.top (get_or (slice_set r.direct k x) m null)) ≡ cond a r.leaf (cond b r.top (get_or r.direct m null))
@@ -173,7 +173,7 @@ pointed-other r k x m ne = go (eqb m 8) (eqb m 9)
     go false true = refl
     go false false = get_or-set_other r.direct k m x null ne
 
-pub rooted-other : (r : Record) (y : Pointer) (m : ℕ) → m ≢ 8 → record_pointer (rooted r y) m ≡ record_pointer r m
+pub rooted-other : (r : Record) (y : Pointer) (m : ℕ) → m ≢ 8 → record_pointer (with_leaf r y) m ≡ record_pointer r m
 rooted-other r y m ne = go (eqb m 8) refl
   where
     go : (a : Bool) → eqb m 8 ≡ a → cond a y (cond (eqb m 9) r.top (get_or r.direct m null)) ≡ cond a r.leaf (cond (eqb m 9) r.top (get_or r.direct m null))

@@ -16,7 +16,7 @@ use Rattle.nofs_law_new_names.specs.Holes.{EntryInHole, HoleInRecord, HoleUnderL
 use Rattle.nofs_law_numbers.specs.Cells.{table_tag}
 use Rattle.nofs_state.specs.Writing.{OneOf, image_after}
 use Rattle.nofs_state.proofs.Tables.{HasRecord, record-here, record-other}
-use Rattle.nofs_names.specs.Entering.{AreTables, IsMoreLeaf, IsNewCell, IsNewLeaf, IsTable, pointed, rooted, table_of}
+use Rattle.nofs_names.specs.Entering.{AreTables, IsMoreLeaf, IsNewCell, IsNewLeaf, IsTable, with_direct, with_leaf, table_block}
 use Rattle.nofs_names.specs.declared.entering.Tables.{Tables}
 use Rattle.nofs_names.proofs.Entered.{written-apart, written-here, record-of-directory, record-of-inode, records-beside, tables-tagged, pointed-here, pointed-other, rooted-other, content-new, new-cell-tag, new-leaf-tag}
 use Rattle.nofs_names.proofs.ZeroPointers.{past-null, past-same}
@@ -49,7 +49,7 @@ module _ (X : Image) (d i e : ℕ) (dr : Record) (ready : IsReady X d i e dr) wh
   inside : (j : ℕ) → is_inode X j ≡ true → (1 ≤ j) × (j ≤ (super_at X).inodes)
   inside j t = let b = and-both (leb 1 j) (leb j (super_at X).inodes) t in (leb-true 1 j b.0, leb-true j (super_at X).inodes b.1)
 
-  low : (j : ℕ) → is_inode X j ≡ true → table_of j ≤ (super_at X).inodes / 4
+  low : (j : ℕ) → is_inode X j ≡ true → table_block j ≤ (super_at X).inodes / 4
   low j t = let a = inside j t in let q = ready.quarters in omega (arith, a, q)
 
   fits : (b : ℕ) → b ≤ (super_at X).inodes / 4 → b < length X
@@ -63,14 +63,14 @@ module _ (X : Image) (d i e : ℕ) (dr : Record) (ready : IsReady X d i e dr) wh
       let w = ready.whole in
       (omega (arith, a), omega (arith, l, w))
 
-  off : (b j : ℕ) → is_data_block X b ≡ true → is_inode X j ≡ true → b ≢ table_of j
+  off : (b j : ℕ) → is_data_block X b ≡ true → is_inode X j ≡ true → b ≢ table_block j
   off b j t u q = let a = above b t in let l = low j u in omega (arith, a, l, q)
 
   not-zero : (b : ℕ) → is_data_block X b ≡ true → 0 ≢ b
   not-zero b t q = let a = above b t in omega (arith, a, q)
 
   -- a cell of the table
-  in-table : (j : ℕ) → is_inode X j ≡ true → (b : ℕ) (cell c : Cell) → b ≡ table_of j → cell ≡ c → tag_of c.tag ≡ Some (table_tag (table_of j))
+  in-table : (j : ℕ) → is_inode X j ≡ true → (b : ℕ) (cell c : Cell) → b ≡ table_block j → cell ≡ c → tag_of c.tag ≡ Some (table_tag (table_block j))
       → (0 < b) × (b ≤ (super_at X).inodes / 4) × (tag_of cell.tag ≡ Some (table_tag b))
   in-table j t b cell c eb ec tag = (
     omega (arith, eb),
@@ -82,67 +82,67 @@ module _ (X : Image) (d i e : ℕ) (dr : Record) (ready : IsReady X d i e dr) wh
   -- the two tables are written last
   module _ (before after : Tables) (new : Record) (r : Record) (tables : AreTables before d new i r after) (Z : Image) (len : length Z ≡ length X) where
     abbrev Y : Image
-    Y = image_after ((table_of d, after.directory) ∷ (table_of i, after.inode) ∷ []) Z
+    Y = image_after ((table_block d, after.directory) ∷ (table_block i, after.inode) ∷ []) Z
 
-    last-i : cell_at Y (table_of i) ≡ after.inode
-    last-i = get_or-set_same (slice_set Z (table_of d) after.directory) (table_of i) after.inode no_cell
-        (let l = length-set Z (table_of d) after.directory in let f = fits (table_of i) (low i ready.i_range) in omega (arith, l, f, len))
+    last-i : cell_at Y (table_block i) ≡ after.inode
+    last-i = get_or-set_same (slice_set Z (table_block d) after.directory) (table_block i) after.inode no_cell
+        (let l = length-set Z (table_block d) after.directory in let f = fits (table_block i) (low i ready.i_range) in omega (arith, l, f, len))
 
-    last-d : cell_at Y (table_of d) ≡ after.directory
-    last-d = elim (cases_eq (table_of d) (table_of i)) [
+    last-d : cell_at Y (table_block d) ≡ after.directory
+    last-d = elim (cases_eq (table_block d) (table_block i)) [
       | inl e ↦ ap (cell_at Y) e ∙ last-i ∙ sym (tables.same (omega (arith, e))).0
-      | inr ne ↦ written-here (table_of d) after.directory ((table_of i, after.inode) ∷ []) Z
-          (let f = fits (table_of d) (low d ready.d_range) in omega (arith, f, len)) (ne, tt)
+      | inr ne ↦ written-here (table_block d) after.directory ((table_block i, after.inode) ∷ []) Z
+          (let f = fits (table_block d) (low d ready.d_range) in omega (arith, f, len)) (ne, tt)
     ]
 
-    last-other : (b : ℕ) → b ≢ table_of d → b ≢ table_of i → cell_at Y b ≡ cell_at Z b
-    last-other b nd ni = written-apart ((table_of d, after.directory) ∷ (table_of i, after.inode) ∷ []) Z b (nd, (ni, tt))
+    last-other : (b : ℕ) → b ≢ table_block d → b ≢ table_block i → cell_at Y b ≡ cell_at Z b
+    last-other b nd ni = written-apart ((table_block d, after.directory) ∷ (table_block i, after.inode) ∷ []) Z b (nd, (ni, tt))
 
   -- A hole of the record
 
   module _ (s : ℕ) (x : Pointer) (block : IsNewBlock s X x) (c : Cell) (before after : Tables) (r : Record) (it : Entry) (small : e / 16 < 8)
       (filled : IsNewCell d dr.generation e it x.stamp c)
-      (tables : AreTables before d (pointed dr (e / 16) x) i r after) (first : before.directory ≡ cell_at X (table_of d))
-      (second : before.inode ≡ cell_at X (table_of i)) where
+      (tables : AreTables before d (with_direct dr (e / 16) x) i r after) (first : before.directory ≡ cell_at X (table_block d))
+      (second : before.inode ≡ cell_at X (table_block i)) where
     abbrev Y1 : Image
-    Y1 = image_after ((x.block, c) ∷ (table_of d, after.directory) ∷ (table_of i, after.inode) ∷ []) X
+    Y1 = image_after ((x.block, c) ∷ (table_block d, after.directory) ∷ (table_block i, after.inode) ∷ []) X
 
     len1 : length (slice_set X x.block c) ≡ length X
     len1 = length-set X x.block c
 
-    other1 : (b : ℕ) → b ≢ x.block → b ≢ table_of d → b ≢ table_of i → cell_at Y1 b ≡ cell_at X b
-    other1 b nx nd ni = last-other before after (pointed dr (e / 16) x) r tables (slice_set X x.block c) len1 b nd ni ∙ get_or-set_other X x.block b c no_cell
+    other1 : (b : ℕ) → b ≢ x.block → b ≢ table_block d → b ≢ table_block i → cell_at Y1 b ≡ cell_at X b
+    other1 b nx nd ni = last-other before after (with_direct dr (e / 16) x) r tables (slice_set X x.block c) len1 b nd ni ∙ get_or-set_other X x.block b c no_cell
         nx
 
     cell1 : cell_at Y1 x.block ≡ c
-    cell1 = last-other before after (pointed dr (e / 16) x) r tables (slice_set X x.block c) len1 x.block (off x.block d block.area ready.d_range)
+    cell1 = last-other before after (with_direct dr (e / 16) x) r tables (slice_set X x.block c) len1 x.block (off x.block d block.area ready.d_range)
         (off x.block i block.area ready.i_range)
         ∙ get_or-set_same X x.block c no_cell (above x.block block.area).1
 
-    at-d1 : cell_at Y1 (table_of d) ≡ after.directory
-    at-d1 = last-d before after (pointed dr (e / 16) x) r tables (slice_set X x.block c) len1
+    at-d1 : cell_at Y1 (table_block d) ≡ after.directory
+    at-d1 = last-d before after (with_direct dr (e / 16) x) r tables (slice_set X x.block c) len1
 
-    at-i1 : cell_at Y1 (table_of i) ≡ after.inode
-    at-i1 = last-i before after (pointed dr (e / 16) x) r tables (slice_set X x.block c) len1
+    at-i1 : cell_at Y1 (table_block i) ≡ after.inode
+    at-i1 = last-i before after (with_direct dr (e / 16) x) r tables (slice_set X x.block c) len1
 
     super1 : cell_at Y1 0 ≡ cell_at X 0
     super1 = other1 0 (not-zero x.block block.area) (λ q. omega (arith, q)) (λ q. omega (arith, q))
 
-    beside1 : (b : ℕ) → b ≤ (super_at X).inodes / 4 → b ≢ table_of d → b ≢ table_of i → cell_at Y1 b ≡ cell_at X b
+    beside1 : (b : ℕ) → b ≤ (super_at X).inodes / 4 → b ≢ table_block d → b ≢ table_block i → cell_at Y1 b ≡ cell_at X b
     beside1 b l nd ni = other1 b (λ q. let a = above x.block block.area in omega (arith, a, l, q)) nd ni
 
-    d1 : inode Y1 d ≡ pointed dr (e / 16) x
-    d1 = record-of-directory X Y1 d i (pointed dr (e / 16) x) r before after tables ready.apart ready.whole ready.room ready.quarters ready.d_range
+    d1 : inode Y1 d ≡ with_direct dr (e / 16) x
+    d1 = record-of-directory X Y1 d i (with_direct dr (e / 16) x) r before after tables ready.apart ready.whole ready.room ready.quarters ready.d_range
         ready.i_range first second super1 at-d1 at-i1 beside1
 
     pub direct-inode : inode Y1 i ≡ r
-    direct-inode = record-of-inode X Y1 d i (pointed dr (e / 16) x) r before after tables ready.apart ready.whole ready.room ready.quarters ready.d_range
+    direct-inode = record-of-inode X Y1 d i (with_direct dr (e / 16) x) r before after tables ready.apart ready.whole ready.room ready.quarters ready.d_range
         ready.i_range first second super1 at-d1 at-i1 beside1
 
     pub direct-hole : HoleInRecord s X Y1 d i (e / 16) x
     direct-hole = record {
       super = super1;
-      records = records-beside X Y1 d i (pointed dr (e / 16) x) r before after tables ready.apart ready.whole ready.room ready.quarters ready.d_range
+      records = records-beside X Y1 d i (with_direct dr (e / 16) x) r before after tables ready.apart ready.whole ready.room ready.quarters ready.d_range
           ready.i_range first second super1 at-d1 at-i1 beside1;
       cell = record {
         free = block.free;
@@ -155,10 +155,10 @@ module _ (X : Image) (d i e : ℕ) (dr : Record) (ready : IsReady X d i e dr) wh
       };
       blocks = λ b t ne. other1 b ne (off b d t ready.d_range) (off b i t ready.i_range);
       meta = record {
-        kind = ap (λ (q : Record). q.kind) (d1 ∙ ap (λ (q : Record). pointed q (e / 16) x) (sym ready.directory));
-        generation = ap (λ (q : Record). q.generation) (d1 ∙ ap (λ (q : Record). pointed q (e / 16) x) (sym ready.directory));
-        size = ap (λ (q : Record). q.size) (d1 ∙ ap (λ (q : Record). pointed q (e / 16) x) (sym ready.directory));
-        links = ap (λ (q : Record). q.links) (d1 ∙ ap (λ (q : Record). pointed q (e / 16) x) (sym ready.directory));
+        kind = ap (λ (q : Record). q.kind) (d1 ∙ ap (λ (q : Record). with_direct q (e / 16) x) (sym ready.directory));
+        generation = ap (λ (q : Record). q.generation) (d1 ∙ ap (λ (q : Record). with_direct q (e / 16) x) (sym ready.directory));
+        size = ap (λ (q : Record). q.size) (d1 ∙ ap (λ (q : Record). with_direct q (e / 16) x) (sym ready.directory));
+        links = ap (λ (q : Record). q.links) (d1 ∙ ap (λ (q : Record). with_direct q (e / 16) x) (sym ready.directory));
       };
       pointer = ap (λ (q : Record). record_pointer q (e / 16)) d1 ∙ pointed-here dr (e / 16) x small ready.eight;
       pointers = λ n ne. ap (λ (q : Record). record_pointer q n) d1 ∙ pointed-other dr (e / 16) x n ne ∙ ap (λ (q : Record). record_pointer q n)
@@ -173,11 +173,11 @@ module _ (X : Image) (d i e : ℕ) (dr : Record) (ready : IsReady X d i e dr) wh
       content = ap (λ (z : Cell). Bytes z.payload) cell1 ∙ ap Bytes filled.payload ∙ content-new e it short;
     }
 
-    tagged1 : (tag_of after.directory.tag ≡ Some (table_tag (table_of d))) × (tag_of after.inode.tag ≡ Some (table_tag (table_of i)))
-    tagged1 = tables-tagged X Y1 d i (pointed dr (e / 16) x) r before after tables ready.apart ready.whole ready.room ready.quarters ready.d_range
+    tagged1 : (tag_of after.directory.tag ≡ Some (table_tag (table_block d))) × (tag_of after.inode.tag ≡ Some (table_tag (table_block i)))
+    tagged1 = tables-tagged X Y1 d i (with_direct dr (e / 16) x) r before after tables ready.apart ready.whole ready.room ready.quarters ready.d_range
         ready.i_range first second super1 at-d1 at-i1 beside1
 
-    pub direct-each : (y : Pointer) (b : ℕ) (cell : Cell) → OneOf ((x.block, c) ∷ (table_of d, after.directory) ∷ (table_of i, after.inode) ∷ []) b cell
+    pub direct-each : (y : Pointer) (b : ℕ) (cell : Cell) → OneOf ((x.block, c) ∷ (table_block d, after.directory) ∷ (table_block i, after.inode) ∷ []) b cell
         → IsWritten X Y1 e x y b cell
     direct-each y b cell (inl one) = (one.1 ∙ sym (ap (cell_at Y1) one.0 ∙ cell1), inl one.0)
     direct-each y b cell (inr (inl one)) = (
@@ -197,9 +197,9 @@ module _ (X : Image) (d i e : ℕ) (dr : Record) (ready : IsReady X d i e dr) wh
   module _ (s : ℕ) (x y : Pointer) (block : IsNewBlock s X x) (agrees : agreed (files_in X) d ≡ true) (held : find X d leaf ≡ answer.Holds y)
       (c u t before-leaf : Cell) (before : Cell) (r : Record) (it : Entry) (high : 8 ≤ e / 16)
       (filled : IsNewCell d dr.generation e it x.stamp c) (more : IsMoreLeaf before-leaf (e / 16 - 8) x u) (was : before-leaf ≡ cell_at X y.block)
-      (table : IsTable before i r t) (first : before ≡ cell_at X (table_of i)) where
+      (table : IsTable before i r t) (first : before ≡ cell_at X (table_block i)) where
     abbrev Y2 : Image
-    Y2 = image_after ((x.block, c) ∷ (y.block, u) ∷ (table_of i, t) ∷ []) X
+    Y2 = image_after ((x.block, c) ∷ (y.block, u) ∷ (table_block i, t) ∷ []) X
 
     area2 : is_data_block X y.block ≡ true
     area2 = (find-held X d leaf y held).agrees.area
@@ -212,23 +212,23 @@ module _ (X : Image) (d i e : ℕ) (dr : Record) (ready : IsReady X d i e dr) wh
     len2 = length-set (slice_set X x.block c) y.block u ∙ length-set X x.block c
 
     cell2 : cell_at Y2 x.block ≡ c
-    cell2 = written-here x.block c ((y.block, u) ∷ (table_of i, t) ∷ []) X (above x.block block.area).1 (xy, (off x.block i block.area ready.i_range, tt))
+    cell2 = written-here x.block c ((y.block, u) ∷ (table_block i, t) ∷ []) X (above x.block block.area).1 (xy, (off x.block i block.area ready.i_range, tt))
 
     leaf2 : cell_at Y2 y.block ≡ u
-    leaf2 = written-here y.block u ((table_of i, t) ∷ []) (slice_set X x.block c)
+    leaf2 = written-here y.block u ((table_block i, t) ∷ []) (slice_set X x.block c)
         (let l = length-set X x.block c in let a = (above y.block area2).1 in omega (arith, l, a)) (off y.block i area2 ready.i_range, tt)
 
-    at-i2 : cell_at Y2 (table_of i) ≡ t
-    at-i2 = get_or-set_same (slice_set (slice_set X x.block c) y.block u) (table_of i) t no_cell
-        (let f = fits (table_of i) (low i ready.i_range) in let l = len2 in omega (arith, f, l))
+    at-i2 : cell_at Y2 (table_block i) ≡ t
+    at-i2 = get_or-set_same (slice_set (slice_set X x.block c) y.block u) (table_block i) t no_cell
+        (let f = fits (table_block i) (low i ready.i_range) in let l = len2 in omega (arith, f, l))
 
-    other2 : (b : ℕ) → b ≢ x.block → b ≢ y.block → b ≢ table_of i → cell_at Y2 b ≡ cell_at X b
-    other2 b nx ny ni = written-apart ((x.block, c) ∷ (y.block, u) ∷ (table_of i, t) ∷ []) X b (nx, (ny, (ni, tt)))
+    other2 : (b : ℕ) → b ≢ x.block → b ≢ y.block → b ≢ table_block i → cell_at Y2 b ≡ cell_at X b
+    other2 b nx ny ni = written-apart ((x.block, c) ∷ (y.block, u) ∷ (table_block i, t) ∷ []) X b (nx, (ny, (ni, tt)))
 
     super2 : cell_at Y2 0 ≡ cell_at X 0
     super2 = other2 0 (not-zero x.block block.area) (not-zero y.block area2) (λ q. omega (arith, q))
 
-    beside2 : (b : ℕ) → b ≤ (super_at X).inodes / 4 → b ≢ table_of i → cell_at Y2 b ≡ cell_at X b
+    beside2 : (b : ℕ) → b ≤ (super_at X).inodes / 4 → b ≢ table_block i → cell_at Y2 b ≡ cell_at X b
     beside2 b l ni = other2 b (λ q. let a = above x.block block.area in omega (arith, a, l, q)) (λ q. let a = above y.block area2 in omega (arith, a, l, q))
         ni
 
@@ -280,7 +280,7 @@ module _ (X : Image) (d i e : ℕ) (dr : Record) (ready : IsReady X d i e dr) wh
       content = ap (λ (z : Cell). Bytes z.payload) cell2 ∙ ap Bytes filled.payload ∙ content-new e it short;
     }
 
-    pub under-each : (b : ℕ) (cell : Cell) → OneOf ((x.block, c) ∷ (y.block, u) ∷ (table_of i, t) ∷ []) b cell → IsWritten X Y2 e x y b cell
+    pub under-each : (b : ℕ) (cell : Cell) → OneOf ((x.block, c) ∷ (y.block, u) ∷ (table_block i, t) ∷ []) b cell → IsWritten X Y2 e x y b cell
     under-each b cell (inl one) = (one.1 ∙ sym (ap (cell_at Y2) one.0 ∙ cell2), inl one.0)
     under-each b cell (inr (inl one)) = (one.1 ∙ sym (ap (cell_at Y2) one.0 ∙ leaf2), inr (inl (high, one.0)))
     under-each b cell (inr (inr (inl one))) = (
@@ -295,10 +295,10 @@ module _ (X : Image) (d i e : ℕ) (dr : Record) (ready : IsReady X d i e dr) wh
   module _ (s : ℕ) (x y : Pointer) (block : IsNewBlock s X x) (leaf-block : IsNewBlock s X y) (xy : x.block ≢ y.block) (none : find X d leaf ≡ answer.Hole)
       (c u : Cell) (before after : Tables) (r : Record) (it : Entry) (high : 8 ≤ e / 16)
       (filled : IsNewCell d dr.generation e it x.stamp c) (new : IsNewLeaf d dr.generation y.stamp (e / 16 - 8) x u)
-      (tables : AreTables before d (rooted dr y) i r after) (first : before.directory ≡ cell_at X (table_of d))
-      (second : before.inode ≡ cell_at X (table_of i)) where
+      (tables : AreTables before d (with_leaf dr y) i r after) (first : before.directory ≡ cell_at X (table_block d))
+      (second : before.inode ≡ cell_at X (table_block i)) where
     abbrev Y3 : Image
-    Y3 = image_after ((x.block, c) ∷ (y.block, u) ∷ (table_of d, after.directory) ∷ (table_of i, after.inode) ∷ []) X
+    Y3 = image_after ((x.block, c) ∷ (y.block, u) ∷ (table_block d, after.directory) ∷ (table_block i, after.inode) ∷ []) X
 
     abbrev Z3 : Image
     Z3 = slice_set (slice_set X x.block c) y.block u
@@ -306,10 +306,10 @@ module _ (X : Image) (d i e : ℕ) (dr : Record) (ready : IsReady X d i e dr) wh
     len3 : length Z3 ≡ length X
     len3 = length-set (slice_set X x.block c) y.block u ∙ length-set X x.block c
 
-    to-z : (b : ℕ) → b ≢ table_of d → b ≢ table_of i → cell_at Y3 b ≡ cell_at Z3 b
-    to-z b nd ni = last-other before after (rooted dr y) r tables Z3 len3 b nd ni
+    to-z : (b : ℕ) → b ≢ table_block d → b ≢ table_block i → cell_at Y3 b ≡ cell_at Z3 b
+    to-z b nd ni = last-other before after (with_leaf dr y) r tables Z3 len3 b nd ni
 
-    other3 : (b : ℕ) → b ≢ x.block → b ≢ y.block → b ≢ table_of d → b ≢ table_of i → cell_at Y3 b ≡ cell_at X b
+    other3 : (b : ℕ) → b ≢ x.block → b ≢ y.block → b ≢ table_block d → b ≢ table_block i → cell_at Y3 b ≡ cell_at X b
     other3 b nx ny nd ni = to-z b nd ni ∙ get_or-set_other (slice_set X x.block c) y.block b u no_cell ny ∙ get_or-set_other X x.block b c no_cell nx
 
     cell3 : cell_at Y3 x.block ≡ c
@@ -321,31 +321,31 @@ module _ (X : Image) (d i e : ℕ) (dr : Record) (ready : IsReady X d i e dr) wh
         ∙ get_or-set_same (slice_set X x.block c) y.block u no_cell
         (let l = length-set X x.block c in let a = (above y.block leaf-block.area).1 in omega (arith, l, a))
 
-    at-d3 : cell_at Y3 (table_of d) ≡ after.directory
-    at-d3 = last-d before after (rooted dr y) r tables Z3 len3
+    at-d3 : cell_at Y3 (table_block d) ≡ after.directory
+    at-d3 = last-d before after (with_leaf dr y) r tables Z3 len3
 
-    at-i3 : cell_at Y3 (table_of i) ≡ after.inode
-    at-i3 = last-i before after (rooted dr y) r tables Z3 len3
+    at-i3 : cell_at Y3 (table_block i) ≡ after.inode
+    at-i3 = last-i before after (with_leaf dr y) r tables Z3 len3
 
     super3 : cell_at Y3 0 ≡ cell_at X 0
     super3 = other3 0 (not-zero x.block block.area) (not-zero y.block leaf-block.area) (λ q. omega (arith, q)) (λ q. omega (arith, q))
 
-    beside3 : (b : ℕ) → b ≤ (super_at X).inodes / 4 → b ≢ table_of d → b ≢ table_of i → cell_at Y3 b ≡ cell_at X b
+    beside3 : (b : ℕ) → b ≤ (super_at X).inodes / 4 → b ≢ table_block d → b ≢ table_block i → cell_at Y3 b ≡ cell_at X b
     beside3 b l nd ni = other3 b (λ q. let a = above x.block block.area in omega (arith, a, l, q))
         (λ q. let a = above y.block leaf-block.area in omega (arith, a, l, q)) nd ni
 
-    d3 : inode Y3 d ≡ rooted dr y
-    d3 = record-of-directory X Y3 d i (rooted dr y) r before after tables ready.apart ready.whole ready.room ready.quarters ready.d_range ready.i_range first
+    d3 : inode Y3 d ≡ with_leaf dr y
+    d3 = record-of-directory X Y3 d i (with_leaf dr y) r before after tables ready.apart ready.whole ready.room ready.quarters ready.d_range ready.i_range first
         second super3 at-d3 at-i3 beside3
 
     pub with-inode : inode Y3 i ≡ r
-    with-inode = record-of-inode X Y3 d i (rooted dr y) r before after tables ready.apart ready.whole ready.room ready.quarters ready.d_range ready.i_range
+    with-inode = record-of-inode X Y3 d i (with_leaf dr y) r before after tables ready.apart ready.whole ready.room ready.quarters ready.d_range ready.i_range
         first second super3 at-d3 at-i3 beside3
 
     pub with-hole : HoleWithLeaf s X Y3 d i (e / 16 - 8) x y
     with-hole = record {
       super = super3;
-      records = records-beside X Y3 d i (rooted dr y) r before after tables ready.apart ready.whole ready.room ready.quarters ready.d_range ready.i_range
+      records = records-beside X Y3 d i (with_leaf dr y) r before after tables ready.apart ready.whole ready.room ready.quarters ready.d_range ready.i_range
           first second super3 at-d3 at-i3 beside3;
       empty = none;
       cell = record {
@@ -365,10 +365,10 @@ module _ (X : Image) (d i e : ℕ) (dr : Record) (ready : IsReady X d i e dr) wh
       };
       blocks = λ b t nx ny. other3 b nx ny (off b d t ready.d_range) (off b i t ready.i_range);
       meta = record {
-        kind = ap (λ (q : Record). q.kind) (d3 ∙ ap (λ (q : Record). rooted q y) (sym ready.directory));
-        generation = ap (λ (q : Record). q.generation) (d3 ∙ ap (λ (q : Record). rooted q y) (sym ready.directory));
-        size = ap (λ (q : Record). q.size) (d3 ∙ ap (λ (q : Record). rooted q y) (sym ready.directory));
-        links = ap (λ (q : Record). q.links) (d3 ∙ ap (λ (q : Record). rooted q y) (sym ready.directory));
+        kind = ap (λ (q : Record). q.kind) (d3 ∙ ap (λ (q : Record). with_leaf q y) (sym ready.directory));
+        generation = ap (λ (q : Record). q.generation) (d3 ∙ ap (λ (q : Record). with_leaf q y) (sym ready.directory));
+        size = ap (λ (q : Record). q.size) (d3 ∙ ap (λ (q : Record). with_leaf q y) (sym ready.directory));
+        links = ap (λ (q : Record). q.links) (d3 ∙ ap (λ (q : Record). with_leaf q y) (sym ready.directory));
       };
       leaf_is = ap (λ (q : Record). record_pointer q 8) d3;
       others = λ m ne. ap (λ (q : Record). record_pointer q m) d3 ∙ rooted-other dr y m ne ∙ ap (λ (q : Record). record_pointer q m) (sym ready.directory);
@@ -387,11 +387,11 @@ module _ (X : Image) (d i e : ℕ) (dr : Record) (ready : IsReady X d i e dr) wh
       content = ap (λ (z : Cell). Bytes z.payload) cell3 ∙ ap Bytes filled.payload ∙ content-new e it short;
     }
 
-    tagged3 : (tag_of after.directory.tag ≡ Some (table_tag (table_of d))) × (tag_of after.inode.tag ≡ Some (table_tag (table_of i)))
-    tagged3 = tables-tagged X Y3 d i (rooted dr y) r before after tables ready.apart ready.whole ready.room ready.quarters ready.d_range ready.i_range first
+    tagged3 : (tag_of after.directory.tag ≡ Some (table_tag (table_block d))) × (tag_of after.inode.tag ≡ Some (table_tag (table_block i)))
+    tagged3 = tables-tagged X Y3 d i (with_leaf dr y) r before after tables ready.apart ready.whole ready.room ready.quarters ready.d_range ready.i_range first
         second super3 at-d3 at-i3 beside3
 
-    pub with-each : (b : ℕ) (cell : Cell) → OneOf ((x.block, c) ∷ (y.block, u) ∷ (table_of d, after.directory) ∷ (table_of i, after.inode) ∷ []) b cell
+    pub with-each : (b : ℕ) (cell : Cell) → OneOf ((x.block, c) ∷ (y.block, u) ∷ (table_block d, after.directory) ∷ (table_block i, after.inode) ∷ []) b cell
         → IsWritten X Y3 e x y b cell
     with-each b cell (inl one) = (one.1 ∙ sym (ap (cell_at Y3) one.0 ∙ cell3), inl one.0)
     with-each b cell (inr (inl one)) = (one.1 ∙ sym (ap (cell_at Y3) one.0 ∙ leaf3), inr (inl (high, one.0)))

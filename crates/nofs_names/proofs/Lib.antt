@@ -20,7 +20,6 @@ pub mod NameWrite
 pub mod Dropping
 pub mod Relinks
 pub mod Dropped
-pub mod MapMoves
 pub mod MapFreed
 pub mod Removed
 pub mod Blocks

@@ -35,13 +35,14 @@ use Rattle.nofs_state.proofs.Replies.{goes-row, goes-read, open-files}
 use Rattle.nofs_state.proofs.Rows.{IsLate, first-late, late-row}
 use Rattle.nofs_names.specs.Searching.{Passed}
 use Rattle.nofs_names.specs.Refusing.{Fails, ByRow, ByRead, FindsNone, IsThere, KnownAgreed, exists_rows}
-use Rattle.nofs_names.specs.Renames.{RowsPass, done_answer}
-use Rattle.nofs_names.specs.Entering.{Enters, MayEnter, ReadsTables, table_of}
+use Rattle.nofs_names.specs.Renames.{done_answer}
+use Rattle.nofs_state.specs.Owing.{RowsPass}
+use Rattle.nofs_names.specs.Entering.{Enters, MayEnter, ReadsTables, table_block}
 use Rattle.nofs_names.specs.declared.ending.Ended.{Ended}
 use Rattle.nofs_names.specs.declared.entering.EntryPlace.{EntryPlace}
 use Rattle.nofs_names.specs.declared.entering.Tables.{Tables}
-use Rattle.nofs_names.specs.Placing.{FindsEntrySlot, FitsSlot, IsEntrySlot, IsSlotCell, IsPlaceOf, LiesInside, SlotFails, TakesBlocks, blocks_of, place_or_full, room_rows}
-use Rattle.nofs_names.specs.Linking.{AreBoth, FindsLinkPlace, IsKnown, Leads, MayLink, OpensBoth, PlaceIs, SpotIs, StandsLink, block_rows, both_rows, linked, many_rows, named_rows, new_rows, place_rows}
+use Rattle.nofs_names.specs.Placing.{FindsEntrySlot, FitsSlot, IsEntrySlot, IsSlotCell, IsPlaceOf, LiesInside, SlotFails, TakesBlocks, blocks_needed, place_or_full, room_rows}
+use Rattle.nofs_names.specs.Linking.{AreBoth, FindsLinkPlace, IsKnown, Leads, MayLink, OpensBoth, PlaceIs, SpotIs, StandsLink, block_rows, both_rows, with_link, many_rows, named_rows, new_rows, place_rows}
 use Rattle.nofs_names.specs.declared.links.Both.{Both}
 use Rattle.nofs_names.specs.declared.placing.EntryBlocks.{EntryBlocks}
 use Rattle.nofs_names.specs.declared.placing.EntrySlot.{EntrySlot}
@@ -307,7 +308,7 @@ module _ (old : DiskState) (k : Books) (d g : ℕ) (name : List ℕ) (i of : ℕ
 pub link-needs : (old : DiskState) (k : Books) (d g : ℕ) (name : List ℕ) (i of : ℕ) → IsSafe old k
     → (IsTrue old.tells → KnownAgreed k old.now → IsThere d old.now × IsThere i old.now) → (e : ℕ) → e < entry_limit → PlaceIs old k d name e
     → (s : EntrySlot) → FitsSlot k.at (e / 16) s → (IsTrue old.tells → IsEntrySlot old.now d (e / 16) s) → IsTrue old.tells → (H : List Entry1) (p : Past)
-    → IsOpen old k H p → blocks_needed p.world.files (step.Link d g name i of) ≡ blocks_of s
+    → IsOpen old k H p → blocks_needed p.world.files (step.Link d g name i of) ≡ blocks_needed s
 link-needs old k d g name i of safe there e range place s fits found t H p o =
     let q = place t H p o in
     rw q (slot-needs p.world.files old.now d (e / 16) (open-files old k H p o) (there t (are-agreed old k H p safe o)).0 (omega (arith, range)) s (found t) (
@@ -341,14 +342,14 @@ link-untold old mid k d g both p it spot is safe going may stays rose = goes-rea
 pub link-ends : (old mid new : DiskState) (k l : Books) (d g : ℕ) (both : Both) (p : EntryPlace) (it : Entry) (spot : ℕ) (t : Tables) (ended : Ended)
     (r : Record) (last_read : LastRead) → IsDisk mid → IsDisk new → IsSafe old k → k.stopped ≡ false → MayLink old k d g both p it spot
     → (before : Record) → MayEnter old k d both.directory p.entry p.slot p.blocks it before → ReadsTables old mid d it.inode last_read (Ok t)
-    → r ≡ linked both.file spot (link_to d p.entry both.directory.generation)
+    → r ≡ with_link both.file spot (link_to d p.entry both.directory.generation)
     → Enters mid k new l d both.directory p it r t p.slot ended
     → Goes mid k new l (step.Link d g it.name it.inode it.generation) ended.claims (done_answer reply.Linked ended.result)
 link-ends old mid new k l d g both p it spot t ended r last_read is_mid is_new safe going may before enters reads e w =
     enters-goes old mid new k l d g both p it spot t ended is_mid is_new (safe-keeps old mid (reads-keep old mid reads.stays) k safe) going
     (may-link-on old mid k d g both p it spot reads.stays may) before enters
-    (λ z. reads.directory (back z) ∙ ap (λ (X : Image). cell_at X (table_of d)) (sym reads.stays.cells.now))
-    (λ z. reads.inode (back z) ∙ ap (λ (X : Image). cell_at X (table_of it.inode)) (sym reads.stays.cells.now))
+    (λ z. reads.directory (back z) ∙ ap (λ (X : Image). cell_at X (table_block d)) (sym reads.stays.cells.now))
+    (λ z. reads.inode (back z) ∙ ap (λ (X : Image). cell_at X (table_block it.inode)) (sym reads.stays.cells.now))
     (subst (λ (q : Record). Enters mid k new l d both.directory p it q t p.slot ended) e w)
   where
     back : IsTrue mid.tells → IsTrue old.tells

@@ -26,7 +26,7 @@ use Rattle.nofs_state.specs.declared.books.Books.{Books}
 use Rattle.nofs_state.specs.declared.opening.Opened.{Opened}
 use Rattle.nofs_state.proofs.Machine.{agreed-live, machine-pair, stale-none, stale-some}
 use Rattle.nofs_names.specs.Refusing.{Fails, ByRow, ByRead, KnownAgreed}
-use Rattle.nofs_names.specs.Linking.{FindsLinkPlace, IsKnown, OpensBoth, TellsDeadPlace, both_as, both_rows, dead_place, linked, place_or_many}
+use Rattle.nofs_names.specs.Linking.{FindsLinkPlace, IsKnown, OpensBoth, TellsDeadPlace, both_as, both_rows, dead_place, with_link, place_or_many}
 use Rattle.nofs_names.proofs.Rowing.{current-agreed, folder-at}
 
 -- The directory and the file
@@ -270,10 +270,10 @@ module _ (old : DiskState) (at : SuperBlock) (known : List Bool) (i : ℕ) (r : 
 
 -- The record with the link has a spelling
 pub linked-spells : (r : Record) (b : ℕ) (link : BackLink) → r.kind ≡ Some File → 1 ≤ link.directory → HasRecordSpelling r
-    → HasRecordSpelling (linked r b link)
+    → HasRecordSpelling (with_link r b link)
 linked-spells r b link e one s =
     let live = subst (λ (o : Option FileKind). AllowsRecord o r) e s in
-    subst (λ (o : Option FileKind). AllowsRecord o (linked r b link)) (sym e) (record {
+    subst (λ (o : Option FileKind). AllowsRecord o (with_link r b link)) (sym e) (record {
       generation = live.generation;
       tidy = All-set IsTidyLink r.links b link (λ z. absurd (omega (arith, one, z))) live.tidy;
       allowed = live.allowed;

@@ -33,7 +33,7 @@ use Rattle.nofs_machine.specs.declared.steps.Step.TheVariants as step
 use Rattle.nofs_machine.specs.declared.replies.Reply.TheVariants as reply
 use Rattle.nofs_crashlaw.proofs.Below.{live-stands}
 use Rattle.nofs_law_untouched.specs.Frames.{OldPointers}
-use Rattle.nofs_law_untouched.specs.Gives.{GivesNothing}
+use Rattle.nofs_machine.specs.Gives.{GivesNothing}
 use Rattle.nofs_law_untouched.proofs.Matching.{Matched, matched-agreed, matched-file}
 use Rattle.nofs_law_maps.specs.Homes.{HomesMove}
 use Rattle.nofs_law_maps.specs.Fresh.{Numbered, CellNumbers}
@@ -62,7 +62,7 @@ use Rattle.nofs_state.proofs.Sounded.{AddsNumbered}
 use Rattle.nofs_state.proofs.Replies.{open-files}
 use Rattle.nofs_state.proofs.Machine.{agreed-live}
 use Rattle.nofs_state.proofs.Tables.{table_block}
-use Rattle.nofs_names.specs.Linking.{linked}
+use Rattle.nofs_names.specs.Linking.{with_link}
 use Rattle.nofs_names.proofs.BlockClaims.{IsClaiming, TakenBlocks, claiming-learns, claiming-says}
 use Rattle.nofs_names.proofs.EnteredHole.{IsWritten}
 use Rattle.nofs_names.proofs.NameWrite.{KeepsFile, file-used, file-blocks}
@@ -98,7 +98,7 @@ pub record Links (X Y : Image) (W : World) (d g : ℕ) (name : List ℕ) (i of e
   pub link : link_place W.files i ≡ Some spot
   pub claim : IsClaim W (step.Link d g name i of) c
   pub spells : Spells (spelled_entry i of name) (record { inode = i; generation = of; name = name })
-  pub record_is : inode Y i ≡ linked (inode X i) spot (link_to d e g)
+  pub record_is : inode Y i ≡ with_link (inode X i) spot (link_to d e g)
 
 -- its writes where the entry's slot holds the block x
 pub record LinksInPlace (X Y : Image) (d e i of : ℕ) (name : List ℕ) (x : Pointer) (ws : List (ℕ × Cell)) : Type 0 where

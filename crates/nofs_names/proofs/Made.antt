@@ -19,7 +19,7 @@ use Rattle.nofs_state.proofs.Done.{goes-done}
 use Rattle.nofs_state.proofs.Faults.{goes-fault, stopped_books, stopped_world}
 use Rattle.nofs_state.proofs.TwoWrites.{safe-writes}
 use Rattle.nofs_names.specs.Makes.{made_answer}
-use Rattle.nofs_names.specs.Renames.{RowsPass}
+use Rattle.nofs_state.specs.Owing.{RowsPass}
 use Rattle.nofs_names.proofs.Claiming.{Taken}
 use Rattle.nofs_names.proofs.Making.{Makes, EndsWell, make-done, make-proper, make-numbered}
 

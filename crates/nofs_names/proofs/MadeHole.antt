@@ -29,9 +29,9 @@ use Rattle.nofs_state.specs.Writing.{image_after}
 use Rattle.nofs_state.specs.declared.books.Books.{Books}
 use Rattle.nofs_state.proofs.Machine.{agreed-live, world-numbers}
 use Rattle.nofs_state.proofs.Replies.{open-files}
-use Rattle.nofs_names.specs.Entering.{AreTables, IsMoreLeaf, IsNewCell, IsNewLeaf, IsTable, pointed, rooted, table_of}
+use Rattle.nofs_names.specs.Entering.{AreTables, IsMoreLeaf, IsNewCell, IsNewLeaf, IsTable, with_direct, with_leaf, table_block}
 use Rattle.nofs_names.specs.Makes.{MayMake, made_record}
-use Rattle.nofs_names.specs.Placing.{FitsSlot, IsEntrySlot, IsSlotCell, blocks_of}
+use Rattle.nofs_names.specs.Placing.{FitsSlot, IsEntrySlot, IsSlotCell, blocks_needed}
 use Rattle.nofs_names.specs.declared.entering.EntryPlace.{EntryPlace}
 use Rattle.nofs_names.specs.declared.entering.Tables.{Tables}
 use Rattle.nofs_names.specs.declared.placing.EntrySlot.{EntrySlot}
@@ -132,14 +132,14 @@ module _ (b : DiskState) (k : Books) (H : List Entry1) (p : Past) (d g : ℕ) (n
 
   -- the blocks that are claimed
 
-  cell-set : (n : ℕ) → blocks_of place.slot ≡ n → 1 ≤ n → (is_set k.free_blocks place.blocks.cell ≡ true) × (place.blocks.cell < k.at.blocks)
+  cell-set : (n : ℕ) → blocks_needed place.slot ≡ n → 1 ≤ n → (is_set k.free_blocks place.blocks.cell ≡ true) × (place.blocks.cell < k.at.blocks)
   cell-set n e le = let f = may.blocks.cell (omega (arith, e, le)) in (f.0, (let l = f.1 in let m = safe.free_blocks in omega (arith, l, m)))
 
-  cell-picked : (n : ℕ) → blocks_of place.slot ≡ n → 1 ≤ n → IsPicked p.world (next_stamp p.world + 1) (claimed_pointer (made_books k i) place.blocks.cell)
+  cell-picked : (n : ℕ) → blocks_needed place.slot ≡ n → 1 ≤ n → IsPicked p.world (next_stamp p.world + 1) (claimed_pointer (made_books k i) place.blocks.cell)
   cell-picked n e le = let f = cell-set n e le in block-picked b k H p safe o place.blocks.cell 1 f.1 f.0
 
-  needs : (s : EntrySlot) → place.slot ≡ s → blocks_needed p.world.files (step.Make d g name kind) ≡ blocks_of s
-  needs s e = needs-are b k H p d g name kind dr place i tells safe o may ∙ ap blocks_of e
+  needs : (s : EntrySlot) → place.slot ≡ s → blocks_needed p.world.files (step.Make d g name kind) ≡ blocks_needed s
+  needs s e = needs-are b k H p d g name kind dr place i tells safe o may ∙ ap blocks_needed e
 
   module _ (new : DiskState) (is_b : IsDisk b) (cell : Cell) (filled : IsNewCell d dr.generation place.entry
       (record { inode = i; generation = next_of k; name = name }) (claimed_pointer (made_books k i) place.blocks.cell).stamp cell) where
@@ -163,17 +163,17 @@ module _ (b : DiskState) (k : Books) (H : List Entry1) (p : Past) (d g : ℕ) (n
     -- A hole of the record
 
     module _ (slot-is : place.slot ≡ entry.Direct) (before after : Tables)
-        (tables : AreTables before d (pointed dr (place.entry / 16) (claimed_pointer (made_books k i) place.blocks.cell)) i
+        (tables : AreTables before d (with_direct dr (place.entry / 16) (claimed_pointer (made_books k i) place.blocks.cell)) i
         (made_record kind (next_of k) (link_to d place.entry g)) after)
-        (was_d : before.directory ≡ cell_at b.now (table_of d)) (was_i : before.inode ≡ cell_at b.now (table_of i)) where
+        (was_d : before.directory ≡ cell_at b.now (table_block d)) (was_i : before.inode ≡ cell_at b.now (table_block i)) where
       abbrev C1 : Claims
       C1 = make_claims i (next_of k) (claimed_pointer (made_books k i) place.blocks.cell) null
 
       abbrev ws1 : List (ℕ × Cell)
-      ws1 = (place.blocks.cell, cell) ∷ (table_of d, after.directory) ∷ (table_of i, after.inode) ∷ []
+      ws1 = (place.blocks.cell, cell) ∷ (table_block d, after.directory) ∷ (table_block i, after.inode) ∷ []
 
       picked1 : IsPicked p.world (next_stamp p.world + 1) (claimed_pointer (made_books k i) place.blocks.cell)
-      picked1 = cell-picked 1 (ap blocks_of slot-is) (omega arith)
+      picked1 = cell-picked 1 (ap blocks_needed slot-is) (omega arith)
 
       claim1 : IsClaim p.world (step.Make d g name kind) (make_claims i (next_of k) (claimed_pointer (made_books k i) place.blocks.cell) null)
       claim1 = claim-one (needs entry.Direct slot-is) picked1
@@ -211,7 +211,7 @@ module _ (b : DiskState) (k : Books) (H : List Entry1) (p : Past) (d g : ℕ) (n
       }
 
       pub direct-made : IsMade b new k H p d g name kind place.entry (make_claims i (next_of k) (claimed_pointer (made_books k i) place.blocks.cell) null)
-          ((place.blocks.cell, cell) ∷ (table_of d, after.directory) ∷ (table_of i, after.inode) ∷ []) 1 is_b tells o
+          ((place.blocks.cell, cell) ∷ (table_block d, after.directory) ∷ (table_block i, after.inode) ∷ []) 1 is_b tells o
       direct-made = record {
         it = makes1;
         ends = in-hole-ends b new k H p d g name kind place.entry C1 ws1 is_b tells o makes1
@@ -224,15 +224,15 @@ module _ (b : DiskState) (k : Books) (H : List Entry1) (p : Past) (d g : ℕ) (n
     module _ (y : Pointer) (slot-is : place.slot ≡ entry.UnderLeaf y) (u t before : Cell)
         (more : IsMoreLeaf place.cell (place.entry / 16 - 8) (claimed_pointer (made_books k i) place.blocks.cell) u)
         (table : IsTable before i (made_record kind (next_of k) (link_to d place.entry g)) t)
-        (was_i : before ≡ cell_at b.now (table_of i)) where
+        (was_i : before ≡ cell_at b.now (table_block i)) where
       abbrev C2 : Claims
       C2 = make_claims i (next_of k) (claimed_pointer (made_books k i) place.blocks.cell) null
 
       abbrev ws2 : List (ℕ × Cell)
-      ws2 = (place.blocks.cell, cell) ∷ (y.block, u) ∷ (table_of i, t) ∷ []
+      ws2 = (place.blocks.cell, cell) ∷ (y.block, u) ∷ (table_block i, t) ∷ []
 
       picked2 : IsPicked p.world (next_stamp p.world + 1) (claimed_pointer (made_books k i) place.blocks.cell)
-      picked2 = cell-picked 1 (ap blocks_of slot-is) (omega arith)
+      picked2 = cell-picked 1 (ap blocks_needed slot-is) (omega arith)
 
       claim2 : IsClaim p.world (step.Make d g name kind) (make_claims i (next_of k) (claimed_pointer (made_books k i) place.blocks.cell) null)
       claim2 = claim-one (needs (entry.UnderLeaf y) slot-is) picked2
@@ -278,7 +278,7 @@ module _ (b : DiskState) (k : Books) (H : List Entry1) (p : Past) (d g : ℕ) (n
       }
 
       pub under-made : IsMade b new k H p d g name kind place.entry (make_claims i (next_of k) (claimed_pointer (made_books k i) place.blocks.cell) null)
-          ((place.blocks.cell, cell) ∷ (y.block, u) ∷ (table_of i, t) ∷ []) 1 is_b tells o
+          ((place.blocks.cell, cell) ∷ (y.block, u) ∷ (table_block i, t) ∷ []) 1 is_b tells o
       under-made = record {
         it = makes2;
         ends = in-hole-ends b new k H p d g name kind place.entry C2 ws2 is_b tells o makes2 y writes2;
@@ -291,9 +291,9 @@ module _ (b : DiskState) (k : Books) (H : List Entry1) (p : Past) (d g : ℕ) (n
     module _ (slot-is : place.slot ≡ entry.WithLeaf) (u : Cell) (before after : Tables)
         (leafed : IsNewLeaf d dr.generation (claimed_pointer (claimed_books (made_books k i) place.blocks.cell) place.blocks.leaf).stamp (place.entry / 16 - 8)
         (claimed_pointer (made_books k i) place.blocks.cell) u)
-        (tables : AreTables before d (rooted dr (claimed_pointer (claimed_books (made_books k i) place.blocks.cell) place.blocks.leaf)) i
+        (tables : AreTables before d (with_leaf dr (claimed_pointer (claimed_books (made_books k i) place.blocks.cell) place.blocks.leaf)) i
         (made_record kind (next_of k) (link_to d place.entry g)) after)
-        (was_d : before.directory ≡ cell_at b.now (table_of d)) (was_i : before.inode ≡ cell_at b.now (table_of i)) where
+        (was_d : before.directory ≡ cell_at b.now (table_block d)) (was_i : before.inode ≡ cell_at b.now (table_block i)) where
       abbrev y : Pointer
       y = claimed_pointer (claimed_books (made_books k i) place.blocks.cell) place.blocks.leaf
 
@@ -302,13 +302,13 @@ module _ (b : DiskState) (k : Books) (H : List Entry1) (p : Past) (d g : ℕ) (n
           (claimed_pointer (claimed_books (made_books k i) place.blocks.cell) place.blocks.leaf)
 
       abbrev ws3 : List (ℕ × Cell)
-      ws3 = (place.blocks.cell, cell) ∷ (place.blocks.leaf, u) ∷ (table_of d, after.directory) ∷ (table_of i, after.inode) ∷ []
+      ws3 = (place.blocks.cell, cell) ∷ (place.blocks.leaf, u) ∷ (table_block d, after.directory) ∷ (table_block i, after.inode) ∷ []
 
       leaf-free : (is_set k.free_blocks place.blocks.leaf ≡ true) × (place.blocks.leaf < length k.free_blocks) × (place.blocks.cell < place.blocks.leaf)
-      leaf-free = may.blocks.leaf (let e = ap blocks_of slot-is in omega (arith, e))
+      leaf-free = may.blocks.leaf (let e = ap blocks_needed slot-is in omega (arith, e))
 
       picked3 : IsPicked p.world (next_stamp p.world + 1) (claimed_pointer (made_books k i) place.blocks.cell)
-      picked3 = cell-picked 2 (ap blocks_of slot-is) (omega arith)
+      picked3 = cell-picked 2 (ap blocks_needed slot-is) (omega arith)
 
       leaf-picked : IsPicked p.world (next_stamp p.world + 1 + 1) (claimed_pointer (claimed_books (made_books k i) place.blocks.cell) place.blocks.leaf)
       leaf-picked =
@@ -368,7 +368,7 @@ module _ (b : DiskState) (k : Books) (H : List Entry1) (p : Past) (d g : ℕ) (n
 
       pub with-made : IsMade b new k H p d g name kind place.entry (make_claims i (next_of k) (claimed_pointer (made_books k i) place.blocks.cell)
           (claimed_pointer (claimed_books (made_books k i) place.blocks.cell) place.blocks.leaf))
-          ((place.blocks.cell, cell) ∷ (place.blocks.leaf, u) ∷ (table_of d, after.directory) ∷ (table_of i, after.inode) ∷ []) 2 is_b tells o
+          ((place.blocks.cell, cell) ∷ (place.blocks.leaf, u) ∷ (table_block d, after.directory) ∷ (table_block i, after.inode) ∷ []) 2 is_b tells o
       with-made = record {
         it = makes3;
         ends = in-hole-ends b new k H p d g name kind place.entry C3 ws3 is_b tells o makes3 y writes3;

@@ -16,7 +16,8 @@ use Rattle.nofs_state.specs.declared.books.Books.{Books}
 use Rattle.nofs_state.proofs.Keeping.{open-back, reads-keep}
 use Rattle.nofs_names.specs.Searching.{IsFoundEntry, KnowsPaired}
 use Rattle.nofs_names.specs.Refusing.{IsThere, KnownAgreed}
-use Rattle.nofs_names.specs.Renames.{FoundIn, RowsPass}
+use Rattle.nofs_names.specs.Renames.{FoundIn}
+use Rattle.nofs_state.specs.Owing.{RowsPass}
 use Rattle.nofs_names.specs.Drops.{HasNoNames}
 use Rattle.nofs_names.specs.Dropping.{ClearsEntry, MayDrop}
 use Rattle.nofs_names.specs.declared.searching.Paired.{Paired}

@@ -36,8 +36,10 @@ use Rattle.nofs_state.proofs.Machine.{agreed-live, are-agreed}
 use Rattle.nofs_state.proofs.Tables.{HasRecord, table_block}
 use Rattle.nofs_names.specs.Searching.{IsFoundEntry}
 use Rattle.nofs_names.specs.Refusing.{IsThere, KnownAgreed}
-use Rattle.nofs_names.specs.Renames.{FoundIn, RowsPass, done_answer}
-use Rattle.nofs_names.specs.Drops.{ClearedIn, HasNoNames, RecordIn}
+use Rattle.nofs_names.specs.Renames.{FoundIn, done_answer}
+use Rattle.nofs_state.specs.Owing.{RowsPass}
+use Rattle.nofs_names.specs.Drops.{ClearedIn, HasNoNames}
+use Rattle.nofs_state.specs.Owing.{RecordIn}
 use Rattle.nofs_names.specs.Removing.{BlocksOf, FreedAs, HasSizes, LosesName, is_of}
 use Rattle.nofs_names.proofs.MapFreed.{freed-from}
 use Rattle.nofs_names.proofs.Leaving.{Freed}

@@ -33,7 +33,8 @@ use Rattle.nofs_state.proofs.Replies.{goes-row, goes-read, open-files}
 use Rattle.nofs_state.proofs.Machine.{agreed-live, are-agreed}
 use Rattle.nofs_names.specs.Searching.{IsFoundEntry}
 use Rattle.nofs_names.specs.Refusing.{IsThere, KnownAgreed}
-use Rattle.nofs_names.specs.Renames.{FoundIn, HoldFails, HoldsSlot, RowsPass, done_answer}
+use Rattle.nofs_names.specs.Renames.{FoundIn, HoldFails, HoldsSlot, done_answer}
+use Rattle.nofs_state.specs.Owing.{RowsPass}
 use Rattle.nofs_names.specs.declared.searching.Paired.{Paired}
 use Rattle.nofs_names.proofs.Renaming.{claim, rename-done, rename-proper, rename-numbered}
 

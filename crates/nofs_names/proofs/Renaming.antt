@@ -33,7 +33,7 @@ use Rattle.nofs_machine.specs.declared.steps.Step.TheVariants as step
 use Rattle.nofs_machine.specs.declared.replies.Reply.TheVariants as reply
 use Rattle.nofs_machine.proofs.EntryPut.{with-entry-put}
 use Rattle.nofs_law_untouched.specs.Frames.{OldPointers}
-use Rattle.nofs_law_untouched.specs.Gives.{GivesNothing}
+use Rattle.nofs_machine.specs.Gives.{GivesNothing}
 use Rattle.nofs_law_untouched.proofs.Matching.{Matched, matched-agreed, matched-file}
 use Rattle.nofs_law_maps.specs.Homes.{HomesMove}
 use Rattle.nofs_law_maps.specs.Fresh.{Numbered, CellNumbers}

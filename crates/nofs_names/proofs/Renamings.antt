@@ -29,7 +29,7 @@ use Rattle.nofs_state.proofs.Rows.{IsLate, first-late, late-row}
 use Rattle.nofs_state.proofs.Machine.{are-agreed}
 use Rattle.nofs_names.specs.Searching.{IsFoundEntry, Passed}
 use Rattle.nofs_names.specs.Refusing.{Fails, KnownAgreed, IsThere, directory_rows, missing_rows, exists_rows, OpensDirectory, FindsPair, FindsNone}
-use Rattle.nofs_names.specs.Renames.{RowsPass}
+use Rattle.nofs_state.specs.Owing.{RowsPass}
 use Rattle.nofs_names.specs.declared.searching.Paired.{Paired}
 use Rattle.nofs_names.specs.declared.searching.Unfound.{Unfound}
 use Rattle.nofs_names.proofs.Looked.{missing-late}

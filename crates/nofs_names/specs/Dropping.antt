@@ -19,7 +19,8 @@ use Rattle.nofs_agree.specs.Reading.{KnowsDirectory}
 use Rattle.nofs_state.specs.declared.books.Books.{Books}
 use Rattle.nofs_names.specs.Searching.{KnowsPaired}
 use Rattle.nofs_names.specs.Refusing.{Fails, IsThere, KnownAgreed}
-use Rattle.nofs_names.specs.Renames.{FoundIn, RowsPass}
+use Rattle.nofs_names.specs.Renames.{FoundIn}
+use Rattle.nofs_state.specs.Owing.{RowsPass}
 use Rattle.nofs_names.specs.Drops.{ClearedIn, HasNoNames}
 use Rattle.nofs_names.specs.declared.searching.Paired.{Paired}
 

@@ -16,11 +16,6 @@ use Rattle.nofs_names.specs.declared.searching.Paired.{Paired}
 abbrev pub relinked : Record → BackLink → Record
 relinked r gone = record r { links = without_link gone r.links }
 
--- a cell of the table with another record of inode i in it
-pub record RecordIn (old : Cell) (i : ℕ) (r : Record) (new : Cell) : Type 0 where
-  pub here : record_of ((i - 1) % 4) new.payload ≡ Some r
-  pub others : (j : ℕ) → j ≢ (i - 1) % 4 → j < 4 → record_of j new.payload ≡ record_of j old.payload
-
 -- the cell is that of a block, without the entry at a place
 pub record ClearedIn (d : DiskState) (x : Pointer) (place : ℕ) (c : Cell) : Type 0 where
   pub whole : IsTrue d.tells → length (cell_at d.now x.block).payload ≡ 1024

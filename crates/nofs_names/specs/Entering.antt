@@ -14,8 +14,8 @@ use Rattle.nofs_law_numbers.specs.Cells.{table_tag}
 use Rattle.nofs_state.specs.Books.{claimed_books, claimed_pointer}
 use Rattle.nofs_state.specs.Writing.{Stores}
 use Rattle.nofs_state.specs.declared.books.Books.{Books}
-use Rattle.nofs_names.specs.Drops.{RecordIn}
-use Rattle.nofs_names.specs.Placing.{AreFree, FitsSlot, blocks_of}
+use Rattle.nofs_state.specs.Owing.{RecordIn}
+use Rattle.nofs_names.specs.Placing.{AreFree, FitsSlot, blocks_needed}
 use Rattle.nofs_names.specs.declared.ending.Ended.{Ended}
 use Rattle.nofs_names.specs.declared.entering.EntryPlace.{EntryPlace}
 use Rattle.nofs_names.specs.declared.entering.Tables.{Tables}
@@ -24,23 +24,23 @@ use Rattle.nofs_names.specs.declared.placing.EntrySlot.{EntrySlot}
 use Rattle.nofs_names.specs.declared.placing.EntrySlot.TheVariants as entry
 
 -- the block of the table with the record of an inode
-abbrev pub table_of : ℕ → ℕ
-table_of i = 1 + (i - 1) / 4
+abbrev pub table_block : ℕ → ℕ
+table_block i = 1 + (i - 1) / 4
 
 -- the cells of the table with the records of a directory and of an inode
 pub record ReadsTables (old new : DiskState) (d i : ℕ) (last : LastRead) (result : Result Tables Failed) : Type 0 where
   pub stays : StaysButFaults old new
-  pub directory : IfOk result (λ t. IsTrue old.tells → t.directory ≡ cell_at old.now (table_of d))
-  pub inode : IfOk result (λ t. IsTrue old.tells → t.inode ≡ cell_at old.now (table_of i))
+  pub directory : IfOk result (λ t. IsTrue old.tells → t.directory ≡ cell_at old.now (table_block d))
+  pub inode : IfOk result (λ t. IsTrue old.tells → t.inode ≡ cell_at old.now (table_block i))
   pub kept : OnOk result (IsLast new last)
   pub cause : OnErr result (Rose old.faults new.faults)
 
 -- the record with another direct pointer, and with another leaf
-abbrev pub pointed : Record → ℕ → Pointer → Record
-pointed r k x = record r { direct = slice_set r.direct k x }
+abbrev pub with_direct : Record → ℕ → Pointer → Record
+with_direct r k x = record r { direct = slice_set r.direct k x }
 
-abbrev pub rooted : Record → Pointer → Record
-rooted r y = record r { leaf = y }
+abbrev pub with_leaf : Record → Pointer → Record
+with_leaf r y = record r { leaf = y }
 
 -- what a new entry asks, over any disk
 pub record MayEnter (d : DiskState) (k : Books) (i : ℕ) (r : Record) (e : ℕ) (slot : EntrySlot) (b : EntryBlocks) (named : Entry) (new : Record) : Type 0
@@ -48,8 +48,8 @@ pub record MayEnter (d : DiskState) (k : Books) (i : ℕ) (r : Record) (e : ℕ)
     pub directory : KnowsDirectory d k.at i r.generation r
     pub range : e < entry_limit
     pub fits : FitsSlot k.at (e / 16) slot
-    pub free : AreFree k.free_blocks (blocks_of slot) b
-    pub stamps : k.serial + blocks_of slot ≤ 2 ^ 40
+    pub free : AreFree k.free_blocks (blocks_needed slot) b
+    pub stamps : k.serial + blocks_needed slot ≤ 2 ^ 40
     pub one : 1 ≤ named.inode
     pub most : named.inode ≤ k.at.inodes
     pub spelling : HasEntrySpelling named
@@ -62,7 +62,7 @@ entered payload e it = put_bytes (64 * (e % 16)) (spelled_entry it.inode it.gene
 -- a cell of the table with another record of an inode in it, and its tag
 pub record IsTable (before : Cell) (i : ℕ) (r : Record) (after : Cell) : Type 0 where
   pub here : RecordIn before i r after
-  pub tag : tag_of after.tag ≡ Some (table_tag (table_of i))
+  pub tag : tag_of after.tag ≡ Some (table_tag (table_block i))
 
 -- the cells of the table with a record of a directory and one of an inode. Where both records lie in one cell, both are that cell
 pub record AreTables (before : Tables) (d : ℕ) (dr : Record) (i : ℕ) (r : Record) (after : Tables) : Type 0 where
@@ -100,7 +100,7 @@ pub record EntersHeld (old : DiskState) (k : Books) (new : DiskState) (l : Books
   pub tag : cell.tag ≡ p.cell.tag
   pub written : IsTable t.inode it.inode r table
   pub claims : ended.claims ≡ no_claims
-  pub stores : Stores old k new l ((x.block, cell) ∷ (table_of it.inode, table) ∷ []) ended.result
+  pub stores : Stores old k new l ((x.block, cell) ∷ (table_block it.inode, table) ∷ []) ended.result
 
 -- into a hole of the record
 pub record EntersDirect (old : DiskState) (k : Books) (new : DiskState) (l : Books) (d : ℕ) (dr : Record) (p : EntryPlace) (it : Entry) (r : Record)
@@ -108,10 +108,10 @@ pub record EntersDirect (old : DiskState) (k : Books) (new : DiskState) (l : Boo
   pub cell : Cell
   pub after : Tables
   pub filled : IsNewCell d dr.generation p.entry it (claimed_pointer k p.blocks.cell).stamp cell
-  pub tables : AreTables t d (pointed dr (p.entry / 16) (claimed_pointer k p.blocks.cell)) it.inode r after
+  pub tables : AreTables t d (with_direct dr (p.entry / 16) (claimed_pointer k p.blocks.cell)) it.inode r after
   pub claims : ended.claims ≡ record no_claims { cell = claimed_pointer k p.blocks.cell }
   pub stores : Stores old (claimed_books k p.blocks.cell) new l
-      ((p.blocks.cell, cell) ∷ (table_of d, after.directory) ∷ (table_of it.inode, after.inode) ∷ []) ended.result
+      ((p.blocks.cell, cell) ∷ (table_block d, after.directory) ∷ (table_block it.inode, after.inode) ∷ []) ended.result
 
 -- into a hole under a leaf that holds
 pub record EntersUnderLeaf (old : DiskState) (k : Books) (new : DiskState) (l : Books) (d : ℕ) (dr : Record) (p : EntryPlace) (y : Pointer) (it : Entry)
@@ -123,7 +123,7 @@ pub record EntersUnderLeaf (old : DiskState) (k : Books) (new : DiskState) (l : 
   pub above : IsMoreLeaf p.cell (p.entry / 16 - 8) (claimed_pointer k p.blocks.cell) leaf
   pub written : IsTable t.inode it.inode r table
   pub claims : ended.claims ≡ record no_claims { cell = claimed_pointer k p.blocks.cell }
-  pub stores : Stores old (claimed_books k p.blocks.cell) new l ((p.blocks.cell, cell) ∷ (y.block, leaf) ∷ (table_of it.inode, table) ∷ []) ended.result
+  pub stores : Stores old (claimed_books k p.blocks.cell) new l ((p.blocks.cell, cell) ∷ (y.block, leaf) ∷ (table_block it.inode, table) ∷ []) ended.result
 
 -- into a hole where there is no leaf
 pub record EntersWithLeaf (old : DiskState) (k : Books) (new : DiskState) (l : Books) (d : ℕ) (dr : Record) (p : EntryPlace) (it : Entry) (r : Record)
@@ -134,14 +134,14 @@ pub record EntersWithLeaf (old : DiskState) (k : Books) (new : DiskState) (l : B
   pub filled : IsNewCell d dr.generation p.entry it (claimed_pointer k p.blocks.cell).stamp cell
   pub above : IsNewLeaf d dr.generation (claimed_pointer (claimed_books k p.blocks.cell) p.blocks.leaf).stamp (p.entry / 16 - 8)
       (claimed_pointer k p.blocks.cell) leaf
-  pub tables : AreTables t d (rooted dr (claimed_pointer (claimed_books k p.blocks.cell) p.blocks.leaf)) it.inode r after
+  pub tables : AreTables t d (with_leaf dr (claimed_pointer (claimed_books k p.blocks.cell) p.blocks.leaf)) it.inode r after
   pub claims : ended.claims ≡ record no_claims {
     cell = claimed_pointer k p.blocks.cell;
     leaf = claimed_pointer (claimed_books k p.blocks.cell)
         p.blocks.leaf;
   }
   pub stores : Stores old (claimed_books (claimed_books k p.blocks.cell) p.blocks.leaf) new l
-      ((p.blocks.cell, cell) ∷ (p.blocks.leaf, leaf) ∷ (table_of d, after.directory) ∷ (table_of it.inode, after.inode) ∷ []) ended.result
+      ((p.blocks.cell, cell) ∷ (p.blocks.leaf, leaf) ∷ (table_block d, after.directory) ∷ (table_block it.inode, after.inode) ∷ []) ended.result
 
 -- a new entry is written, by what stands in its slot
 abbrev pub Enters : DiskState → Books → DiskState → Books → ℕ → Record → EntryPlace → Entry → Record → Tables → EntrySlot → Ended → Type 0

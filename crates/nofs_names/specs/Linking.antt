@@ -25,7 +25,7 @@ use Rattle.nofs_state.specs.Standing.{IsOpen, Past}
 use Rattle.nofs_state.specs.declared.books.Books.{Books}
 use Rattle.nofs_names.specs.Placing.{IsEntrySlot, IsSlotCell}
 use Rattle.nofs_names.specs.Refusing.{Fails, IsThere, KnownAgreed, PartPasses, exists_rows}
-use Rattle.nofs_names.specs.Renames.{RowsPass}
+use Rattle.nofs_state.specs.Owing.{RowsPass}
 use Rattle.nofs_names.specs.declared.entering.EntryPlace.{EntryPlace}
 use Rattle.nofs_names.specs.declared.links.Both.{Both}
 
@@ -89,8 +89,8 @@ pub record FindsLinkPlace (old new : DiskState) (known : List Bool) (i : ℕ) (l
   pub refused : IfErr result (Fails old new (IsKnown known i) (many_rows i))
 
 -- the record with a back link in a place
-abbrev pub linked : Record → ℕ → BackLink → Record
-linked r b link = record r { links = slice_set r.links b link }
+abbrev pub with_link : Record → ℕ → BackLink → Record
+with_link r b link = record r { links = slice_set r.links b link }
 
 -- Link, part by part
 

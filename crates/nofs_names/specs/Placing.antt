@@ -40,11 +40,11 @@ abbrev pub IsPlaceOf : Unfound → Result ℕ Refusal → Type 0
 IsPlaceOf u result = LiesInside u → result ≡ place_or_full (place_of_entry u)
 
 -- how many blocks a new entry takes
-abbrev pub blocks_of : EntrySlot → ℕ
-blocks_of (entry.Held x) = 0
-blocks_of entry.Direct = 1
-blocks_of (entry.UnderLeaf y) = 1
-blocks_of entry.WithLeaf = 2
+abbrev pub blocks_needed : EntrySlot → ℕ
+blocks_needed (entry.Held x) = 0
+blocks_needed entry.Direct = 1
+blocks_needed (entry.UnderLeaf y) = 1
+blocks_needed entry.WithLeaf = 2
 
 -- what stands in slot k of a directory
 abbrev pub IsEntrySlot : Image → ℕ → ℕ → EntrySlot → Type 0

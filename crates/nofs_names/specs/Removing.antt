@@ -1,4 +1,5 @@
 -- What the removal of an inode does to the maps, and asks.
+use Rattle.nofs_state.specs.Owning.{AreFreed}
 use Rattle.std.specs.Prelude.{◌≡◌, ℕ, ◌+◌, ◌-◌, ◌/◌, ◌<◌, ◌≤◌, Bool, true, false, ◌&&◌, ◌||◌, not, ◌==◌, List, Option, Some, None, length, IsTrue, slice_set, if◌then◌else◌}
 use Rattle.nofs_bits.specs.Bits.{is_set}
 use Rattle.nofs_disk.specs.Disk.{DiskState}
@@ -10,20 +11,6 @@ use Rattle.nofs_machine.specs.History.{FilesMatch}
 use Rattle.nofs_state.specs.declared.books.Books.{Books}
 use Rattle.nofs_names.specs.Refusing.{KnownAgreed}
 use Rattle.nofs_names.specs.declared.searching.Paired.{Paired}
-
--- a block is moved from one map to the other, where it is freed
-pub record MovesBlock (freed : List Bool) (block : ℕ) (free unknown free2 unknown2 : List Bool) : Type 0 where
-  pub freeing : free2 ≡ (if is_set freed block then slice_set free block true else free)
-  pub knowing : unknown2 ≡ (if is_set freed block then slice_set unknown block false else unknown)
-
--- so are all below a bound
-pub record AreFreed (freed : List Bool) (bound : ℕ) (free unknown free2 unknown2 : List Bool) : Type 0 where
-  pub free_size : length free2 ≡ length free
-  pub unknown_size : length unknown2 ≡ length unknown
-  pub freeing : (q : ℕ) → q < bound → is_set free2 q ≡ (is_set free q || is_set freed q)
-  pub knowing : (q : ℕ) → q < bound → is_set unknown2 q ≡ (is_set unknown q && not (is_set freed q))
-  pub free_rest : (q : ℕ) → bound ≤ q → is_set free2 q ≡ is_set free q
-  pub unknown_rest : (q : ℕ) → bound ≤ q → is_set unknown2 q ≡ is_set unknown q
 
 -- the maps have the sizes of the disk
 pub record HasSizes (k : Books) : Type 0 where

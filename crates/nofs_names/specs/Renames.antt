@@ -45,10 +45,6 @@ pub record HoldsSlot (old new : DiskState) (at : SuperBlock) (d slot : ℕ) (las
   pub kept : OnOk result (IsLast new last)
   pub refused : IfErr result (HoldFails old new d slot)
 
--- no row refuses the step
-abbrev pub RowsPass : DiskState → Books → Step → Type 0
-RowsPass d k s = IsTrue d.tells → (H : List Entry1) (p : Past) → IsOpen d k H p → (V : World) → first_of (rows p.world V s) ≡ None
-
 abbrev pub done_answer : Reply → Result (Unit {0}) Refusal → Reply
 done_answer r (Ok done) = r
 done_answer r (Err why) = reply.Refused why

@@ -12,7 +12,8 @@ ghost use Rattle.nofs_law_numbers.specs.Cells.{table_tag};
 ghost use Rattle.nofs_state.specs.Books.{IsSafe};
 ghost use Rattle.nofs_state.specs.Steps.{Goes};
 ghost use Rattle.nofs_names.specs.Renames.{done_answer};
-ghost use Rattle.nofs_names.specs.Drops.{KeepsName, RecordIn, relinked};
+ghost use Rattle.nofs_names.specs.Drops.{KeepsName, relinked};
+ghost use Rattle.nofs_state.specs.Owing.{RecordIn};
 ghost use Rattle.nofs_names.specs.Dropping.{ClearsEntry, MayDrop, drop_answer};
 ghost use Rattle.nofs_names.specs.Removing.{LosesName};
 

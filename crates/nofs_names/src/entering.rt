@@ -8,7 +8,7 @@ ghost use Rattle.nofs_ptrs.specs.Cells.{pointer_at};
 ghost use Rattle.nofs_agree.specs.Reading.{IsLast};
 ghost use Rattle.nofs_state.specs.Books.{IsSafe};
 ghost use Rattle.nofs_inode.specs.InodeRecords.{HasRecordSpelling};
-ghost use Rattle.nofs_names.specs.Entering.{AreTables, Enters, EntersDirect, EntersHeld, EntersUnderLeaf, EntersWithLeaf, MayEnter, ReadsTables, pointed, rooted};
+ghost use Rattle.nofs_names.specs.Entering.{AreTables, Enters, EntersDirect, EntersHeld, EntersUnderLeaf, EntersWithLeaf, MayEnter, ReadsTables, with_direct, with_leaf};
 
 use crate::drops::with_record;
 use crate::ending::{Ended, NO_CLAIMS};
@@ -152,7 +152,7 @@ fn add_pointer(payload: &mut [u8; 1024], place: u32, it: Pointer)
 // The record with another direct pointer.
 fn pointed(it: &Record, slot: u32, pointer: Pointer) -> Record
     requires slot { slot < 8 }
-    ensures { result ≡ pointed it.now slot pointer }
+    ensures { result ≡ with_direct it.now slot pointer }
 {
     let mut direct = it.direct;
     direct[slot as usize] = pointer;
@@ -161,7 +161,7 @@ fn pointed(it: &Record, slot: u32, pointer: Pointer) -> Record
 
 // The record with another leaf.
 fn rooted(it: &Record, leaf: Pointer) -> Record
-    ensures { result ≡ rooted it.now leaf }
+    ensures { result ≡ with_leaf it.now leaf }
 {
     Record { leaf, ..*it }
 }

@@ -12,7 +12,7 @@ ghost use Rattle.nofs_state.specs.Books.{IsSafe};
 ghost use Rattle.nofs_state.specs.Steps.{Goes};
 ghost use Rattle.nofs_names.specs.Entering.{MayEnter};
 ghost use Rattle.nofs_names.specs.Renames.{done_answer};
-ghost use Rattle.nofs_names.specs.Linking.{FindsLinkPlace, Leads, MayLink, OpensBoth, PlaceIs, SpotIs, StandsLink, TellsDeadPlace, block_rows, both_as, linked, named_rows, place_or_many};
+ghost use Rattle.nofs_names.specs.Linking.{FindsLinkPlace, Leads, MayLink, OpensBoth, PlaceIs, SpotIs, StandsLink, TellsDeadPlace, block_rows, both_as, with_link, named_rows, place_or_many};
 
 use crate::ending::{Ended, refused};
 use crate::entering::{EntryPlace, enter, read_tables};
@@ -298,7 +298,7 @@ fn link_named<D: Disk + Drop>(
 // The record with a back link in a place.
 fn linked(it: &Record, place: u32, link: BackLink) -> Record
     requires { place < 4 }
-    ensures { result ≡ linked it.now place link }
+    ensures { result ≡ with_link it.now place link }
 {
     let mut links = it.links;
     links[place as usize] = link;

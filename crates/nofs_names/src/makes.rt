@@ -9,7 +9,7 @@ ghost use Rattle.nofs_state.specs.Steps.{Goes};
 ghost use Rattle.nofs_machine.specs.declared.steps.Step.TheVariants as step;
 ghost use Rattle.nofs_names.specs.Makes.{AreInodesFull, FindsInode, MayMake, PlaceIs, RowsLeft, is_raised, made_answer, made_record};
 ghost use Rattle.nofs_names.specs.Refusing.{IsThere, KnownAgreed};
-ghost use Rattle.nofs_names.specs.Renames.{RowsPass};
+ghost use Rattle.nofs_state.specs.Owing.{RowsPass};
 
 use crate::ending::{Ended, refused};
 use crate::entering::{EntryPlace, enter, read_tables};

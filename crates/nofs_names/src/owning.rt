@@ -3,14 +3,16 @@ ghost use Rattle.std.specs.Prelude.{◌≡◌, ◌+◌, ◌*◌, ◌≤◌, ◌<
 ghost use Rattle.nofs_ptrs.specs.Paths.{slot_limit};
 ghost use Rattle.nofs_model.specs.Slots.{is_slot};
 ghost use Rattle.nofs_agree.specs.Reading.{IsLast, KnowsInode};
-ghost use Rattle.nofs_names.specs.Owning.{Marks, MarksAll, MarksInode, OwnsBlocks};
+ghost use Rattle.nofs_names.specs.Owning.{MarksInode, OwnsBlocks};
+ghost use Rattle.nofs_state.specs.Owning.{MarksAll};
 
 use nofs_agree::{LastRead, find_slot};
 use nofs_bits::Bits;
 use nofs_disk::{Disk, Failed};
 use nofs_inode::Record;
 use nofs_machine::Refusal;
-use nofs_model::{PathAnswer, Place, place_of};
+use nofs_model::{PathAnswer, Place};
+use nofs_state::mark_slots;
 use nofs_super::SuperBlock;
 use std::alloc::Global;
 
@@ -128,52 +130,4 @@ fn mark_child<D: Disk>(
             mark_slots(disk, at, inode, it, from, from + 64, owned, last)
         }
     }
-}
-
-// Marks the blocks of some slots.
-fn mark_slots<D: Disk>(
-    disk: &mut D,
-    at: &SuperBlock,
-    inode: u32,
-    it: &Record,
-    from: u64,
-    to: u64,
-    owned: &mut Bits,
-    last: &mut LastRead,
-) -> Result<(), Failed>
-    requires known { KnowsInode (D.state disk.old) at.now inode it.now }
-    requires slots { (k : ℕ) → from ≤ k → k < to → IsTrue (is_slot k) }
-    requires order { from ≤ to }
-    requires size { length owned.old ≡ at.now.blocks }
-    requires last { IsLast (D.state disk.old) last.old }
-    ensures { MarksAll (D.state disk.old) (D.state disk.new) at.now inode from to owned.old owned.new last.new result }
-{
-    for slot in from..to {
-        mark_slot(disk, at, inode, it, slot, owned, last)?;
-    }
-    Ok(())
-}
-
-// Marks the block of a slot, where it holds.
-fn mark_slot<D: Disk>(
-    disk: &mut D,
-    at: &SuperBlock,
-    inode: u32,
-    it: &Record,
-    slot: u64,
-    owned: &mut Bits,
-    last: &mut LastRead,
-) -> Result<(), Failed>
-    requires known { KnowsInode (D.state disk.old) at.now inode it.now }
-    requires slot { IsTrue (is_slot slot) }
-    requires size { length owned.old ≡ at.now.blocks }
-    requires last { IsLast (D.state disk.old) last.old }
-    ensures { Marks (D.state disk.old) (D.state disk.new) at.now inode slot owned.old owned.new last.new result }
-{
-    match find_slot(disk, at, inode, it, place_of(slot), last)? {
-        PathAnswer::Hole => {}
-        PathAnswer::Lost => {}
-        PathAnswer::Holds(pointer) => owned.set(pointer.block, true),
-    }
-    Ok(())
 }

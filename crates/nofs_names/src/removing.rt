@@ -9,7 +9,7 @@ ghost use Rattle.nofs_state.specs.Books.{IsSafe};
 ghost use Rattle.nofs_state.specs.Steps.{Goes};
 ghost use Rattle.nofs_names.specs.Renames.{done_answer};
 ghost use Rattle.nofs_names.specs.Dropping.{ClearsEntry, MayDrop};
-ghost use Rattle.nofs_names.specs.Removing.{AreFreed, BlocksOf, FreedAs, HasSizes, LosesName, MovesBlock};
+ghost use Rattle.nofs_names.specs.Removing.{BlocksOf, FreedAs, HasSizes, LosesName};
 
 use crate::drops::with_record;
 use crate::searching::Paired;
@@ -19,31 +19,6 @@ use nofs_disk::{Cell, Disk, Pointer};
 use nofs_inode::{FREE_RECORD, Record};
 use nofs_machine::Refusal;
 use nofs_state::{Books, Core, write_two};
-
-// Marks a block as known and free, where it is among those that are freed.
-fn move_block(free: &mut Bits, unknown: &mut Bits, freed: &Bits, block: u64)
-    requires place { block < length freed.now }
-    requires free { length free.old ≡ length freed.now }
-    requires unknown { length unknown.old ≡ length freed.now }
-    ensures { MovesBlock freed.now block free.old unknown.old free.new unknown.new }
-{
-    if freed.get(block) {
-        free.set(block, true);
-        unknown.set(block, false);
-    }
-}
-
-// Marks these blocks as known and free.
-fn free_blocks(free: &mut Bits, unknown: &mut Bits, freed: &Bits, blocks: u64)
-    requires blocks { length freed.now ≡ blocks }
-    requires free { length free.old ≡ blocks }
-    requires unknown { length unknown.old ≡ blocks }
-    ensures { AreFreed freed.now blocks free.old unknown.old free.new unknown.new }
-{
-    for block in 0..blocks {
-        move_block(free, unknown, freed, block);
-    }
-}
 
 // Marks an inode and its blocks as known and free.
 fn free_all(books: &mut Books, freed: &Bits, inode: u32)
@@ -57,12 +32,7 @@ fn free_all(books: &mut Books, freed: &Bits, inode: u32)
     books.unknown_inodes.set(number, false);
     books.free_inodes.set(number, true);
     books.agreed_inodes.set(number, false);
-    free_blocks(
-        &mut books.free_blocks,
-        &mut books.unknown_blocks,
-        freed,
-        books.at.blocks,
-    );
+    books.free_blocks(freed);
 }
 
 // Writes the cell without the entry, and a free record.

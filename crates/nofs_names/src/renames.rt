@@ -11,7 +11,8 @@ ghost use Rattle.nofs_state.specs.Books.{IsSafe};
 ghost use Rattle.nofs_state.specs.Steps.{Goes};
 ghost use Rattle.nofs_names.specs.Searching.{KnowsPaired};
 ghost use Rattle.nofs_names.specs.Refusing.{IsThere, KnownAgreed};
-ghost use Rattle.nofs_names.specs.Renames.{FoundIn, RowsPass, done_answer};
+ghost use Rattle.nofs_names.specs.Renames.{FoundIn, done_answer};
+ghost use Rattle.nofs_state.specs.Owing.{RowsPass};
 
 use crate::opening::{find_pair, find_unused, open_directory};
 use crate::searching::Paired;

@@ -7,7 +7,7 @@ ghost use Rattle.nofs_client.specs.Commands.{AreWellFormed};
 ghost use Rattle.nofs_serve.specs.Served.{TeamServed};
 
 use crate::gather::Gathered;
-use crate::team::{Plan, Room, Sweeps, run_team};
+use crate::team::{Plan, TeamRoom, Sweeps, run_team};
 use nofs_client::LineList;
 use nofs_shared::{Serves, ShareFault, SharedMount};
 use nofs_workers::Gate;
@@ -61,7 +61,7 @@ pub fn serve<R: Threads + Wait + Sync, V: Serves + Send, T: Gate + Send + Drop>(
         Ok(made) => made,
         Err(ShareFault { mount }) => return unserved(alloc, mount),
     };
-    let room = Room { users, lines };
+    let room = TeamRoom { users, lines };
     let Gathered {
         pass,
         lines,

@@ -38,7 +38,7 @@ pub struct Sweeps<T> {
 
 /// What a team is put together in: room for its users, and for their lines.
 #[derive(Drop)]
-pub struct Room<'a, R: Wait, V: Serves, T: Gate> {
+pub struct TeamRoom<'a, R: Wait, V: Serves, T: Gate> {
     pub users: Vec<UserWorker<Way<'a, R, V>, T>>,
     pub lines: Vec<LineList>,
 }
@@ -104,7 +104,7 @@ pub fn run_team<'a, R: Threads + Wait + Sync, V: Serves + Send, T: Gate + Send +
     passes: Vec<Pass<V>>,
     plans: Vec<Plan<T>>,
     sweeps: Sweeps<T>,
-    room: Room<'a, R, V, T>,
+    room: TeamRoom<'a, R, V, T>,
 ) -> Gathered<V>
     requires few { vec_len plans ≤ 8 }
     requires formed { All (λ p. AreWellFormed p.commands) plans.items }
@@ -115,7 +115,7 @@ pub fn run_team<'a, R: Threads + Wait + Sync, V: Serves + Send, T: Gate + Send +
     ensures of { IsPassOf shared.now.turn result.pass }
     ensures gathered { (v : View Entry1 V.Fixed) → v.stands ≡ 1 → v.mine ≡ [] → All (λ p. view_of p ≡ v) passes.items → TeamGathered (map (λ p. p.commands) plans.items) sweeps.inodes sweeps.blocks result.out_of_memory result.lines.items v (view_of result.pass) }
 {
-    let (mut passes, Room { users, lines }) = (passes, room);
+    let (mut passes, TeamRoom { users, lines }) = (passes, room);
     let mut users = seat_users(rt, alloc, shared, plans, &mut passes, users);
     let Sweeps {
         inodes,

@@ -64,8 +64,8 @@ abbrev pub step_of : Made → Step
 step_of m = m.0
 
 -- the steps of a caller in the history are those of its script, in order; or the first ones of them, where memory ended it early
-abbrev pub Follows : ℕ → List Step → List Entry1 → Type 0
-Follows c script H = IsPrefix (map step_of (steps_by c H)) script
+abbrev pub FollowsSteps : ℕ → List Step → List Entry1 → Type 0
+FollowsSteps c script H = IsPrefix (map step_of (steps_by c H)) script
 
 -- what a caller was to do, in order
 pub record Task : Type 0 where
@@ -75,7 +75,7 @@ pub record Task : Type 0 where
 -- each of these callers made the steps of its task, in order; or the first ones of them, where memory ended it early
 abbrev pub FollowEach : List Task → List Entry1 → Type 0
 FollowEach [] H = Unit {0}
-FollowEach (t ∷ ts) H = Follows t.caller t.steps H × FollowEach ts H
+FollowEach (t ∷ ts) H = FollowsSteps t.caller t.steps H × FollowEach ts H
 
 -- each made all of them
 abbrev pub WholeEach : List Task → List Entry1 → Type 0

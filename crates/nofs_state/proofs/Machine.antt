@@ -10,7 +10,7 @@ use Rattle.nofs_machine.specs.Machine.{generation_of}
 use Rattle.nofs_machine.specs.World.{World}
 use Rattle.nofs_machine.specs.Refusals.{row, stale}
 use Rattle.nofs_machine.specs.History.{FilesMatch, SameFile, agreed_files}
-use Rattle.nofs_machine.specs.Good.{HasNumbers}
+use Rattle.nofs_machine.specs.Good.{MatchesSuper}
 use Rattle.nofs_machine.specs.declared.history.Entry1.{Entry1}
 use Rattle.nofs_machine.specs.declared.replies.Refusal.{Refusal}
 use Rattle.nofs_machine.specs.declared.replies.Refusal.TheVariants as refusal
@@ -29,7 +29,7 @@ pub agreed-live : (X : Image) (i : ℕ) → agreed (files_in X) i ≡ true → i
 agreed-live X i a = live-some X i (agreed-some (files_in X) i (agreed-holds (files_in X) i a))
 
 -- the world has the numbers of the disk
-pub world-numbers : (d : DiskState) (k : Books) (H : List Entry1) (p : Past) → IsOpen d k H p → HasNumbers p.world d.now
+pub world-numbers : (d : DiskState) (k : Books) (H : List Entry1) (p : Past) → IsOpen d k H p → MatchesSuper p.world d.now
 world-numbers d k H p o = record {
   version = o.says.version ∙ ap (λ (q : SuperBlock). q.version) (sym o.at);
   blocks = o.says.blocks ∙ ap (λ (q : SuperBlock). q.blocks) (sym o.at);

@@ -7,3 +7,4 @@ pub mod Writing
 pub mod Verdicts
 pub mod Owning
 pub mod Counted
+pub mod Owing

@@ -6,7 +6,7 @@ use denote.Param.Send.{Quiet-if}
 use Rattle.nofs_model.specs.Cells.{SuperBlock}
 use Rattle.nofs_shared.proofs.Sends.{mount-send}
 use Rattle.nofs_serve.specs.Served.{TeamServed}
-use Rattle.nofs.specs.Serving.{IsRun}
+use Rattle.nofs.specs.Serving.{IsSessionRun}
 use Rattle.nofs.proofs.Sessions.{run-closed}
 use Rattle.nofs.proofs.serve.serve_and_close.Goals as goal
 use Rattle.nofs.proofs.serve.serve_and_close.Goals.{then-out_of_memory, else-out_of_memory}
@@ -33,5 +33,5 @@ returns-clause-ran g c =
     ] in
     let team : TeamServed scripts at.inodes at.blocks out lines before served = subst
     (λ (s : SuperBlock). TeamServed scripts s.inodes s.blocks out lines before served) c.numbers-at.ensures.is c.serve-mount.ensures.served in
-    subst (λ b. IsRun scripts at.inodes at.blocks b lines all) short
+    subst (λ b. IsSessionRun scripts at.inodes at.blocks b lines all) short
     (run-closed scripts at.inodes at.blocks out closed lines before served all adds.0 c.requires.new team adds.1 adds.2)

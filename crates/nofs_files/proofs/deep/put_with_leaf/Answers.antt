@@ -6,7 +6,8 @@ use Rattle.nofs_state.specs.Writing.{Stores}
 use Rattle.nofs_state.specs.Books.{claimed_books, claimed_pointer}
 use Rattle.nofs_state.specs.Steps.{Goes}
 use Rattle.nofs_state.specs.declared.books.Books.{Books}
-use Rattle.nofs_files.specs.Putting.{RecordIn, put_answer, rooted}
+use Rattle.nofs_files.specs.Putting.{put_answer, rooted}
+use Rattle.nofs_state.specs.Owing.{RecordIn}
 use Rattle.nofs_files.specs.declared.puts.Ended.{Ended}
 use Rattle.nofs_files.proofs.Below.{goes-unread-late}
 use Rattle.nofs_files.proofs.Grown.{leaf-ends}

@@ -6,7 +6,8 @@ use Rattle.nofs_state.specs.Writing.{Stores}
 use Rattle.nofs_state.specs.Books.{claimed_pointer}
 use Rattle.nofs_state.specs.Steps.{Goes}
 use Rattle.nofs_state.specs.declared.books.Books.{Books}
-use Rattle.nofs_files.specs.Putting.{RecordIn, pointed, put_answer}
+use Rattle.nofs_files.specs.Putting.{pointed, put_answer}
+use Rattle.nofs_state.specs.Owing.{RecordIn}
 use Rattle.nofs_state.proofs.Replies.{goes-read}
 use Rattle.nofs_files.proofs.Shallow.{direct-ends}
 use Rattle.nofs_files.proofs.puts.put_in_hole.Goals as goal

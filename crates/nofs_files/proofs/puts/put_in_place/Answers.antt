@@ -3,7 +3,8 @@ use Rattle.nofs_model.specs.Cells.{Record}
 use Rattle.nofs_machine.specs.declared.steps.Step.TheVariants as step
 use Rattle.nofs_disk.specs.Disk.{cell_at}
 use Rattle.nofs_state.specs.Writing.{Stores}
-use Rattle.nofs_files.specs.Putting.{RecordIn, sized}
+use Rattle.nofs_files.specs.Putting.{sized}
+use Rattle.nofs_state.specs.Owing.{RecordIn}
 use Rattle.nofs_state.proofs.Replies.{goes-read}
 use Rattle.nofs_files.proofs.Shallow.{place-ends}
 use Rattle.nofs_files.proofs.puts.put_in_place.Goals as goal

@@ -4,7 +4,7 @@ use Rattle.nofs_model.specs.Cells.{Record}
 use Rattle.nofs_machine.specs.declared.steps.Step.TheVariants as step
 use Rattle.nofs_state.specs.Writing.{Stores}
 use Rattle.nofs_state.proofs.Replies.{goes-read}
-use Rattle.nofs_files.specs.Putting.{RecordIn}
+use Rattle.nofs_state.specs.Owing.{RecordIn}
 use Rattle.nofs_files.specs.Resizing.{cut_record, cut_writes}
 use Rattle.nofs_files.proofs.CutGoes.{resize-ends}
 use Rattle.nofs_files.proofs.resizes.resize_cut.Goals as goal

@@ -6,7 +6,7 @@ use Rattle.nofs_machine.specs.Machine.{link_to}
 use Rattle.nofs_machine.specs.declared.steps.Step.TheVariants as step
 use Rattle.nofs_state.specs.Writing.{Stores}
 use Rattle.nofs_state.proofs.Replies.{goes-read}
-use Rattle.nofs_names.specs.Drops.{RecordIn}
+use Rattle.nofs_state.specs.Owing.{RecordIn}
 use Rattle.nofs_names.proofs.Relinks.{relinked-spells}
 use Rattle.nofs_names.proofs.Dropped.{drop-ends}
 use Rattle.nofs_names.proofs.drops.drop_link.Goals as goal

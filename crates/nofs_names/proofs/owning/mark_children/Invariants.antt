@@ -1,5 +1,5 @@
 use Rattle.std.proofs.Common.{◌+◌, ◌*◌, Ok}
-use Rattle.nofs_names.specs.Owning.{MarksAll}
+use Rattle.nofs_state.specs.Owning.{MarksAll}
 use Rattle.nofs_names.proofs.owning.mark_children.Given as goal
 
 abbrev pub invariant-loop-child : goal.invariant-loop-child

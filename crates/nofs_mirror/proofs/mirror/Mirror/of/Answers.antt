@@ -1,6 +1,6 @@
 use Rattle.std.proofs.Common.{refl, sym, subst, ◌≡◌, true, List}
 use Rattle.std.proofs.lemmas.Bool.{or_left}
-use Rattle.nofs_mirror.specs.declared.mirror.Opening.{Opening}
+use Rattle.nofs_mirror.specs.declared.mirror.MirrorStart.{MirrorStart}
 use Rattle.nofs_mirror.specs.declared.past.MirrorCall.{MirrorCall}
 use Rattle.nofs_mirror.specs.Mirror.{last_span}
 use Rattle.nofs_mirror.specs.Past.{past_calls}
@@ -9,7 +9,7 @@ use Rattle.nofs_mirror.proofs.mirror.Mirror.of.Goals as goal
 
 pub invariant_of-result : goal.invariant_of-result
 invariant_of-result g c =
-    let opening : Opening = record {
+    let opening : MirrorStart = record {
       blocks = c.args.blocks;
       lead = record { began = c.moment-lead_at.result; ended = c.moment-lead_at.result; is_in = true };
       other = record { began = c.moment-other_at.result; ended = c.moment-other_at.result; is_in = c.args.other_in };

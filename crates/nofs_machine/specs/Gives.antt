@@ -1,5 +1,5 @@
--- What a step gives to one inode, in four words: nothing, a cell, a meta, or its birth.
-use Rattle.std.specs.Prelude.{◌≡◌, ◌≢◌, ℕ, ◌==◌, List, Some, None, if◌then◌else◌}
+-- What an entry gives to one inode: nothing, a cell, a meta, or its birth.
+use Rattle.std.specs.Prelude.{◌≡◌, ◌≢◌, ℕ, List, Some, None, if◌then◌else◌, ◌==◌}
 use Rattle.nofs_model.specs.Cells.{FileKind, BackLink}
 use Rattle.nofs_model.specs.Image.{Path, path_of, Present}
 use Rattle.nofs_model.specs.declared.value.Value.{Value}
@@ -15,11 +15,11 @@ pub record GivesNothing (given : Given) (j : ℕ) : Type 0 where
   pub metas : (g : ℕ) → given.metas j g ≡ None
 
 -- slot k gets a value, and the blocks of pointers above it are there
-pub record GivesCell (given : Given) (i g k : ℕ) (v : Value) : Type 0 where
-  pub born : given.born i ≡ None
-  pub slots : (l : ℕ) → given.slots i g l ≡ (if k == l then Some v else None)
-  pub nodes : (path : Path) → given.nodes i g path ≡ (if lies_above path (path_of k) then Some Present else None)
-  pub metas : given.metas i g ≡ None
+pub record GivesCell (given : Given) (d g k : ℕ) (v : Value) : Type 0 where
+  pub born : given.born d ≡ None
+  pub slots : (l : ℕ) → given.slots d g l ≡ if k == l then Some v else None
+  pub nodes : (path : Path) → given.nodes d g path ≡ if lies_above path (path_of k) then Some Present else None
+  pub metas : given.metas d g ≡ None
 
 -- the inode gets a meta, and no slot of it anything
 pub record GivesMeta (given : Given) (i g : ℕ) (meta : Meta) : Type 0 where
