@@ -9,6 +9,7 @@ ghost use Rattle.nofs_agree.specs.Reading.{IsLast, KnowsDirectory, KnowsInode};
 
 use crate::path::find_slot;
 use crate::reads::{LastRead, read_inode};
+use nofs_dirent::ENTRY_LIMIT;
 use nofs_disk::{Disk, Failed};
 use nofs_inode::{BackLink, FileKind, Record};
 use nofs_model::{PathAnswer, names_inode, place_of};
@@ -74,7 +75,7 @@ fn has_entry<D: Disk>(
     requires last { IsLast (D.state disk.old) last.old }
     ensures { TellsAnswer (D.state disk.old) (D.state disk.new) (λ X. files.names (files.entry_at (files.files_in X) link.now.directory link.now.entry) inode generation) last.new result }
 {
-    if link.entry >= 1152 {
+    if link.entry >= ENTRY_LIMIT {
         return Ok(false);
     }
     let place = place_of(u64::from(link.entry / 16));

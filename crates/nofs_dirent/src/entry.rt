@@ -14,6 +14,9 @@ use nofs_disk::{clear, read_u32_at, read_u64_at, write_bytes_at, write_u32_at, w
 use nofs_lists::Name;
 use std::alloc::{AllocError, Global};
 
+/// How many entries a directory has at most: 16 in each of its slots 0 to 71.
+pub const ENTRY_LIMIT: u32 = 1152;
+
 /// A name in a directory, and the inode that it names.
 #[derive(Drop)]
 pub struct Entry {

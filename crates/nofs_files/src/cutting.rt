@@ -17,7 +17,7 @@ use nofs_disk::{Cell, Disk, Failed, Pointer};
 use nofs_inode::Record;
 use nofs_machine::Refusal;
 use nofs_model::Place;
-use nofs_ptrs::write_pointer;
+use nofs_ptrs::{SLOT_LIMIT, write_pointer};
 use nofs_state::mark_slots;
 use nofs_super::SuperBlock;
 use std::alloc::Global;
@@ -84,7 +84,7 @@ pub(crate) fn mark_cut<D: Disk>(
         Ok(freed) => freed,
         Err(_) => return Err(Refusal::OutOfMemory),
     };
-    match mark_slots(disk, at, inode, it, kept, 4168, &mut freed, last) {
+    match mark_slots(disk, at, inode, it, kept, SLOT_LIMIT, &mut freed, last) {
         Ok(()) => {}
         Err(_) => return Err(Refusal::ReadFault),
     }

@@ -12,6 +12,7 @@ use nofs_disk::{Disk, Failed};
 use nofs_inode::{FileKind, Record};
 use nofs_machine::Refusal;
 use nofs_model::place_of;
+use nofs_ptrs::SLOT_LIMIT;
 use nofs_state::{Books, open_inode};
 use nofs_super::SuperBlock;
 
@@ -19,7 +20,7 @@ use nofs_super::SuperBlock;
 pub(crate) fn slots_of(at: &SuperBlock) -> u64
     ensures { result ≡ slots_of at.now }
 {
-    if at.version == 1 { 72 } else { 4168 }
+    if at.version == 1 { 72 } else { SLOT_LIMIT }
 }
 
 fn is_folder(kind: FileKind) -> bool

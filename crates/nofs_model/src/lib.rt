@@ -22,7 +22,7 @@ pub use entry::names_inode;
 pub use laws::{law_formatted, law_mountable, law_names, law_owners, law_slots, law_sound};
 pub use mountable::is_mountable;
 pub use names::agreed;
-pub use owner::owner_of;
+pub use owner::{is_slot, owner_of};
 pub use path::PathAnswer;
 pub use place::{Place, has_pointers, place_of, slot_number};
 pub use scan::{ScanResult, full_scan};

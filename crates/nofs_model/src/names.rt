@@ -10,6 +10,7 @@ use crate::entry::names_inode;
 use crate::image::{cell_at, numbers_of, read_inode};
 use crate::path::PathAnswer;
 use crate::slots::find_number;
+use nofs_dirent::ENTRY_LIMIT;
 use nofs_disk::Cell;
 use nofs_inode::{BackLink, FileKind, Record};
 use nofs_super::SuperBlock;
@@ -134,7 +135,7 @@ fn has_entry(cells: &[Cell], at: &SuperBlock, link: &BackLink, inode: u32, gener
     requires directory { (image.inode cells.now link.now.directory).kind ≡ Some kind.Directory }
     ensures { result ≡ files.names (files.entry_at (files.files_in cells.now) link.now.directory link.now.entry) inode generation }
 {
-    if link.entry >= 1152 {
+    if link.entry >= ENTRY_LIMIT {
         return false;
     }
     match find_number(cells, at, link.directory, u64::from(link.entry / 16)) {

@@ -10,6 +10,7 @@ use crate::names::is_agreed;
 use crate::path::PathAnswer;
 use crate::slots::find_number;
 use nofs_disk::{Cell, Tag, read_tag};
+use nofs_ptrs::SLOT_LIMIT;
 use nofs_super::SuperBlock;
 
 /// The owner of a block: the inode and the slot that hold it, where the inode is agreed. It asks a
@@ -86,9 +87,9 @@ fn owner_found(
     }
 }
 
-// Whether a number is a slot's.
-fn is_slot(number: u64) -> bool
+/// Whether a number is a slot's: below 4,168 for content, 2^32 to 2^32 + 65 for a block of pointers.
+pub fn is_slot(number: u64) -> bool
     ensures { result ≡ is_slot number }
 {
-    number < 4168 || number >= 1 << 32 && number < (1 << 32) + 66
+    number < SLOT_LIMIT || number >= 1 << 32 && number < (1 << 32) + 66
 }

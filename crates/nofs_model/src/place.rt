@@ -5,6 +5,8 @@ ghost use Rattle.std.specs.Prelude.{◌≡◌, ◌<◌, ◌+◌, ◌^◌, IsTrue
 ghost use Rattle.nofs_model.specs.Slots.{is_pointer_slot, is_slot, path_of, slot_of};
 ghost use Rattle.nofs_model.specs.Places.{IsPlace, place_path};
 
+use nofs_ptrs::SLOT_LIMIT;
+
 /// Where the pointer of a slot stands.
 #[derive(Clone, Copy, Debug, PartialEq, Eq)]
 pub enum Place {
@@ -30,7 +32,7 @@ pub fn place_of(slot: u64) -> Place
             at: 8,
             place: slot - 8,
         }
-    } else if slot < 4168 {
+    } else if slot < SLOT_LIMIT {
         Place::UnderChild {
             child: (slot - 72) / 64,
             place: (slot - 72) % 64,

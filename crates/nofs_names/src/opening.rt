@@ -8,6 +8,7 @@ ghost use Rattle.nofs_names.specs.Refusing.{FindsNone, FindsPair, IsPairOf, Open
 
 use crate::searching::{Paired, Searched, Unfound, search};
 use nofs_agree::LastRead;
+use nofs_dirent::ENTRY_LIMIT;
 use nofs_disk::Disk;
 use nofs_inode::{FileKind, Record};
 use nofs_machine::Refusal;
@@ -162,7 +163,7 @@ fn in_directory(entry: Option<u32>) -> Option<u32>
     ensures same { IfSome entry (λ e. e < entry_limit) → result ≡ entry }
 {
     match entry {
-        Some(entry) => { if entry < 1152 { Some(entry) } else { None } }
+        Some(entry) => { if entry < ENTRY_LIMIT { Some(entry) } else { None } }
         None => None,
     }
 }

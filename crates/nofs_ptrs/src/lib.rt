@@ -10,4 +10,4 @@ mod path;
 mod tests;
 
 pub use cell::{read_pointer, write_pointer};
-pub use path::{SlotPath, path_of};
+pub use path::{SLOT_LIMIT, SlotPath, path_of};

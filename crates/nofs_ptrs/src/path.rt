@@ -4,6 +4,9 @@
 ghost use Rattle.std.specs.Prelude.{◌≡◌, ◌≤◌, ◌↔◌, IfSome, IsNone};
 ghost use Rattle.nofs_ptrs.specs.Paths.{IsSlot, path_of, place_of, slot_limit};
 
+/// How many slots of content a file has at most.
+pub const SLOT_LIMIT: u64 = 4168;
+
 /// The place of the pointer of a slot of content. Pointers are counted from 0.
 #[derive(Clone, Copy, Debug, PartialEq, Eq)]
 pub enum SlotPath {

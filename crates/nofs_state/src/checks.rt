@@ -11,6 +11,7 @@ ghost use Rattle.nofs_state.specs.Verdicts.{Judges, names_block};
 use nofs_agree::{LastRead, PathAnswer, check_chain, check_path, read_block};
 use nofs_bits::Bits;
 use nofs_disk::{Disk, Failed, Tag, read_tag};
+use nofs_model::is_slot;
 use nofs_super::SuperBlock;
 
 /// Whether an inode is used: it is 1 or 2, or agreed.
@@ -109,13 +110,6 @@ fn is_owned<D: Disk>(
         return Ok(false);
     }
     check_chain(disk, at, known, tag.inode)
-}
-
-// Whether a number is a slot's.
-fn is_slot(number: u64) -> bool
-    ensures { result ≡ slots.is_slot number }
-{
-    number < 4168 || number >= 1 << 32 && number < (1 << 32) + 66
 }
 
 // Whether a slot holds this block.

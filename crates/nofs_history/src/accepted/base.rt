@@ -18,6 +18,7 @@ use nofs_disk::{Cell, read_u64_at};
 use nofs_inode::inode::FileKind;
 use nofs_inode::{FREE_RECORD, Record, read_record};
 use nofs_model::{Value, agreed, value_of};
+use nofs_ptrs::SLOT_LIMIT;
 use std::alloc::{AllocError, Global};
 
 /// The files of the agreed inodes of a base, which can be mounted. The error is want of memory
@@ -139,7 +140,7 @@ fn slot_count(it: &Record) -> u64
     ensures holes { (X : image.Image) (i k : ℕ) → image.inode X i ≡ it.now → result ≤ k → k < slot_limit → slots.value X i k ≡ value.Hole }
 {
     if !it.top.is_null() {
-        4168
+        SLOT_LIMIT
     } else if !it.leaf.is_null() {
         72
     } else {

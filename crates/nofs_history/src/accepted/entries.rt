@@ -8,6 +8,7 @@ use crate::accepted::files::FilesNow;
 use crate::accepted::gifts::Wanted;
 use nofs_machine::{Claims, Entry1, Refusal, Reply, Step};
 use nofs_model::Value;
+use nofs_ptrs::SLOT_LIMIT;
 use std::alloc::{AllocError, Global};
 
 fn is_fit(step: &Step, claims: &Claims) -> bool
@@ -38,7 +39,7 @@ fn is_fit(step: &Step, claims: &Claims) -> bool
 fn fits_cell(slot: u64, at: u32, count: u64) -> bool
     ensures { result ≡ (nat_lt slot slot_limit && nat_le (at + count) 1024) }
 {
-    slot < 4168 && at <= 1024 && count <= 1024 - u64::from(at)
+    slot < SLOT_LIMIT && at <= 1024 && count <= 1024 - u64::from(at)
 }
 
 fn is_write_fault(reply: &Reply) -> bool

@@ -5,7 +5,7 @@ ghost use Rattle.nofs_machine.specs.Machine as machine;
 ghost use Rattle.nofs_model.specs.Files as files;
 ghost use Rattle.nofs_history.specs.Kept.{kept_value, file_of, kept_files_of};
 
-use nofs_dirent::{Entry, read_entry};
+use nofs_dirent::{ENTRY_LIMIT, Entry, read_entry};
 use nofs_inode::inode::{BackLink, FileKind};
 use std::alloc::{AllocError, Global};
 
@@ -48,7 +48,7 @@ impl FileNow {
     pub fn entry_at(&self, alloc: Global, entry: u32) -> Result<Option<Entry>, AllocError>
         ensures { IfOk result (λ found. found ≡ files.entry_in_file (Some (file_of self.now)) entry) }
     {
-        if self.kind != FileKind::Directory || entry >= 1152 {
+        if self.kind != FileKind::Directory || entry >= ENTRY_LIMIT {
             return Ok(None);
         }
         match self.values.get(entry as usize / 16) {

@@ -15,6 +15,7 @@ use crate::accepted::gifts::Wanted;
 use nofs_disk::Cell;
 use nofs_machine::{Entry1, History};
 use nofs_model::{Value, is_mountable, value_of};
+use nofs_ptrs::SLOT_LIMIT;
 use std::alloc::{AllocError, Global};
 
 /// The values that a history accepted for a slot of one generation of an inode, the base's first. It is
@@ -30,7 +31,7 @@ pub fn accepted_of(
 ) -> Result<Vec<Value>, AllocError>
     ensures { IfOk result (λ values. image.IsMountable base.now → slot < slot_limit → (first : ℕ) (V : World) → IsAfter base.now first history.now V → values.items ≡ accepted_of base.now history.now.entries inode generation slot) }
 {
-    if slot >= 4168 || !is_mountable(base) {
+    if slot >= SLOT_LIMIT || !is_mountable(base) {
         return Ok(Vec::new(alloc));
     }
     let wanted = Wanted {

@@ -9,6 +9,7 @@ ghost use Rattle.nofs_model.specs.Files as files;
 ghost use Rattle.nofs_history.specs.Kept.{file_of, kept_files_of};
 
 use crate::accepted::files::{FileNow, FilesNow, names};
+use nofs_dirent::ENTRY_LIMIT;
 use nofs_inode::inode::{BackLink, FileKind};
 use std::alloc::{AllocError, Global};
 
@@ -190,7 +191,7 @@ impl FilesNow {
     ) -> Result<Option<u32>, AllocError>
         ensures { IfOk result (λ found. found ≡ machine.found (kept_files_of self.now) directory name.now) }
     {
-        self.found_from(alloc, directory, name, 0, 1152)
+        self.found_from(alloc, directory, name, 0, ENTRY_LIMIT)
     }
 
     /// Whether a name stands in this entry and leads to no file.
@@ -240,6 +241,6 @@ impl FilesNow {
     ) -> Result<Option<u32>, AllocError>
         ensures { IfOk result (λ found. found ≡ machine.first_dead (kept_files_of self.now) directory name.now) }
     {
-        self.dead_from(alloc, directory, name, 0, 1152)
+        self.dead_from(alloc, directory, name, 0, ENTRY_LIMIT)
     }
 }

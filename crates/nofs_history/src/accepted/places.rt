@@ -8,6 +8,7 @@ ghost use Rattle.nofs_model.specs.Files as files;
 ghost use Rattle.nofs_history.specs.Kept.{kept_value, file_of, kept_files_of};
 
 use crate::accepted::files::{FileNow, FilesNow, Kept};
+use nofs_dirent::ENTRY_LIMIT;
 use std::alloc::{AllocError, Global};
 
 fn has_bytes(kept: &Kept) -> bool
@@ -130,7 +131,7 @@ impl FilesNow {
             ∷ option_map (λ k. 16 * k) (least_from (λ k. machine.is_hole (machine.value_of (kept_files_of self.now) directory k)) 0 72)
             ∷ [])) }
     {
-        match self.empty_from(alloc, directory, 0, 1152)? {
+        match self.empty_from(alloc, directory, 0, ENTRY_LIMIT)? {
             Some(entry) => Ok(Some(entry)),
             None => Ok(self.hole_place(directory)),
         }
