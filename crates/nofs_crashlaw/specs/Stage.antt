@@ -19,15 +19,15 @@ use Rattle.nofs_law_images.specs.Proper.{Proper}
 use Rattle.nofs_law_images.specs.Moments.{during, AllExplained, IsTracked}
 
 -- the cells that a crash may leave have their reasons since the mark
-pub record CellsSurvive (d : DiskState) (m : Mark) : Type 0 where
-  pub mark : IsMark m
-  pub size : length m.image ≡ d.blocks
-  pub explained : AllExplained m d.may
+pub record CellsSurvive (d : DiskState) (L : Mark) : Type 0 where
+  pub mark : IsMark L
+  pub size : length L.image ≡ d.blocks
+  pub explained : AllExplained L d.may
 
 -- the machine's files are those of the disk, and every number on it is below the next one
-pub record Ready (d : DiskState) (F : Files) (m : Mark) (s : ℕ) : Type 0 where
+pub record Ready (d : DiskState) (F : Files) (L : Mark) (s : ℕ) : Type 0 where
   pub files : FilesMatch F d.now
-  pub survives : CellsSurvive d m
+  pub survives : CellsSurvive d L
   pub positive : 0 < s
   pub fresh : (b : ℕ) (c : Cell) → b < (super_at d.now).blocks → Contains (d.may b) c → CellBelow s d.now b c
 

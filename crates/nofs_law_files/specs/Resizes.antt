@@ -63,4 +63,4 @@ LawResizeHomes = (W : World) (X Y : Image) (i g size : ℕ) (f : FileState) (s :
 
 -- A pointer may be cut off where its slot is, since holes are given to all that lies below.
 abbrev pub LawResizeHoles : Type 0
-LawResizeHoles = (m : Mark) (F : Files) (i g size : ℕ) (f : FileState) (a : Path) → F i ≡ Some f → IsSlot a → is_cut (cut_at f size) a ≡ true → Holes (during m (resize_given F i g size)) i g a
+LawResizeHoles = (L : Mark) (F : Files) (i g size : ℕ) (f : FileState) (a : Path) → F i ≡ Some f → IsSlot a → is_cut (cut_at f size) a ≡ true → Holes (during L (resize_given F i g size)) i g a

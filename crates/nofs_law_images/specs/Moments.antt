@@ -16,39 +16,39 @@ is_removal (Some (Is kind size links)) = false
 
 -- the mark, with what the step under way gives
 abbrev pub during : Mark → Given → Mark
-during m given = record {
-  image = m.image;
-  stamps = m.stamps;
-  since = λ i g k. m.since i g k ++ option_to_list (given.slots i g k);
-  metas = λ i g. m.metas i g ++ option_to_list (given.metas i g);
-  stands = λ i g. m.stands i g && not (is_removal (given.metas i g));
+during L given = record {
+  image = L.image;
+  stamps = L.stamps;
+  since = λ i g k. L.since i g k ++ option_to_list (given.slots i g k);
+  metas = λ i g. L.metas i g ++ option_to_list (given.metas i g);
+  stands = λ i g. L.stands i g && not (is_removal (given.metas i g));
 }
 
 -- each cell that a crash may leave has its reason
 abbrev pub AllExplained : Mark → (ℕ → List Cell) → Type 0
-AllExplained m may = (b : ℕ) (c : Cell) → Contains (may b) c → Fine m b c × Solid m b c
+AllExplained L may = (b : ℕ) (c : Cell) → Contains (may b) c → Fine L b c × Solid L b c
 
 -- may has nothing but what it had before the step, and proper writes of it
 abbrev pub OnlyProper : Mark → Image → (ℕ → List Cell) → (ℕ → List Cell) → Type 0
-OnlyProper m X before after = (b : ℕ) (c : Cell) → Contains (after b) c → Contains (before b) c ⊎ Proper m X b c
+OnlyProper L X before after = (b : ℕ) (c : Cell) → Contains (after b) c → Contains (before b) c ⊎ Proper L X b c
 
 -- a generation that stands is agreed now
 abbrev pub IsTracked : Mark → Image → Type 0
-IsTracked m X = (i g : ℕ) → m.stands i g ≡ true → agreed (files_in X) i ≡ true
+IsTracked L X = (i g : ℕ) → L.stands i g ≡ true → agreed (files_in X) i ≡ true
 
 abbrev pub LawMoment : Type 0
-LawMoment = (m : Mark) (given : Given) (X : Image) (before after : ℕ → List Cell) → IsMark m → Picks before (length m.image) X → IsTracked m X
-    → AllExplained m before → OnlyProper (during m given) X before after → IsMark (during m given) × AllExplained (during m given) after
+LawMoment = (L : Mark) (given : Given) (X : Image) (before after : ℕ → List Cell) → IsMark L → Picks before (length L.image) X → IsTracked L X
+    → AllExplained L before → OnlyProper (during L given) X before after → IsMark (during L given) × AllExplained (during L given) after
 
 -- what a flush that succeeded leaves
 abbrev pub LawFlush : Type 0
-LawFlush = (m : Mark) (may : ℕ → List Cell) → IsMark m → ((b : ℕ) (c : Cell) → Contains (may b) c → c ≡ cell_at m.image b) → AllExplained m may
+LawFlush = (L : Mark) (may : ℕ → List Cell) → IsMark L → ((b : ℕ) (c : Cell) → Contains (may b) c → c ≡ cell_at L.image b) → AllExplained L may
 
 -- what each image that picks from explained cells says
-pub record Survives (m : Mark) (X : Image) : Type 0 where
-  pub reads : ReadsSince m X
-  pub keeps : KeepsSure m X
-  pub pointers : KeepsPointers m X
+pub record Survives (L : Mark) (X : Image) : Type 0 where
+  pub reads : ReadsSince L X
+  pub keeps : KeepsSure L X
+  pub pointers : KeepsPointers L X
 
 abbrev pub LawImages : Type 0
-LawImages = (m : Mark) (may : ℕ → List Cell) (X : Image) → IsMark m → AllExplained m may → Picks may (length m.image) X → Survives m X
+LawImages = (L : Mark) (may : ℕ → List Cell) (X : Image) → IsMark L → AllExplained L may → Picks may (length L.image) X → Survives L X

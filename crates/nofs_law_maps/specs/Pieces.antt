@@ -27,10 +27,10 @@ LawPointers = (W : World) (c : Claims) (X : Image) (i : ℕ) (a : Path) (x : Poi
 
 -- the entries of a directory's cell in which one entry was written
 abbrev pub LawEntries : Type 0
-LawEntries = (old : Value) (e : ℕ) (bytes content : List ℕ) → length (bytes_in old) ≡ 1024 → length bytes ≡ 64 → with_entry old e bytes ≡ Bytes content
-    → (entry_in content (e % 16) ≡ entry_of bytes) × ((j : ℕ) → j < 16 → j ≢ e % 16 → entry_in content j ≡ entry_in (bytes_in old) j)
+LawEntries = (old : Value) (n : ℕ) (bytes content : List ℕ) → length (bytes_in old) ≡ 1024 → length bytes ≡ 64 → with_entry old n bytes ≡ Bytes content
+    → (entry_in content (n % 16) ≡ entry_of bytes) × ((j : ℕ) → j < 16 → j ≢ n % 16 → entry_in content j ≡ entry_in (bytes_in old) j)
 
 abbrev pub LawEntryNumbers : Type 0
-LawEntryNumbers = (W : World) (c : Claims) (old : Value) (e : ℕ) (bytes content : List ℕ) → length (bytes_in old) ≡ 1024 → length bytes ≡ 64 → with_entry old e bytes ≡ Bytes content
+LawEntryNumbers = (W : World) (c : Claims) (old : Value) (place : ℕ) (bytes content : List ℕ) → length (bytes_in old) ≡ 1024 → length bytes ≡ 64 → with_entry old place bytes ≡ Bytes content
     → IfSome (entry_of bytes) (λ (n : Entry). Numbered W c n.generation) → ((j : ℕ) → j < 16 → IfSome (entry_in (bytes_in old) j) (λ (n : Entry). Numbered W c n.generation))
     → (j : ℕ) → j < 16 → IfSome (entry_in content j) (λ (n : Entry). Numbered W c n.generation)

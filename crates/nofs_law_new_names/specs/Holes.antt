@@ -70,76 +70,76 @@ pub data HoleClaimed (s : ℕ) (X Y : Image) (d i k : ℕ) (x y : Pointer) : Typ
   WithLeaf : 8 ≤ k → k < 72 → HoleWithLeaf s X Y d i (k - 8) x y → HoleClaimed s X Y d i k x y
 
 -- Link: the file gets the link of entry e in place b of its record
-pub record LinkLies (F : Files) (X Y : Image) (d g e i of b s : ℕ) (name : List ℕ) (f h : FileState) : Type 0 where
+pub record LinkLies (F : Files) (X Y : Image) (d g n i of b s : ℕ) (name : List ℕ) (f h : FileState) : Type 0 where
   pub files : FilesMatch F X
   pub is : F d ≡ Some f
   pub generation : f.generation ≡ g
   pub folder : is_folder f.kind ≡ true
-  pub range : e < entry_limit
-  pub unpaired : is_paired F d e ≡ false
+  pub range : n < entry_limit
+  pub unpaired : is_paired F d n ≡ false
   pub is_file : F i ≡ Some h
   pub of_is : h.generation ≡ of
   pub file : is_folder h.kind ≡ false
   pub plain : is_special i ≡ false
   pub place : b < length h.links
   pub spells : Spells (spelled_entry i of name) (record { inode = i; generation = of; name = name })
-  pub linked : Relinked X Y i (set_link h.links b (link_to d e g))
+  pub linked : Relinked X Y i (set_link h.links b (link_to d n g))
   pub old : (j : ℕ) → is_some (F j) ≡ true → OldPointers s X j
 
 -- the entry's slot holds, and its block is written in place
-pub record EntryInPlace (X Y : Image) (d e i : ℕ) (bytes : List ℕ) (x : Pointer) : Type 0 where
-  pub held : find X d (path_of (e / 16)) ≡ answer.Holds x
+pub record EntryInPlace (X Y : Image) (d n i : ℕ) (bytes : List ℕ) (x : Pointer) : Type 0 where
+  pub held : find X d (path_of (n / 16)) ≡ answer.Holds x
   pub whole : length (cell_at X x.block).payload ≡ 1024
   pub writes : InPlace X Y x i
-  pub content : Bytes (cell_at Y x.block).payload ≡ with_entry (Bytes (cell_at X x.block).payload) e bytes
+  pub content : Bytes (cell_at Y x.block).payload ≡ with_entry (Bytes (cell_at X x.block).payload) n bytes
 
 -- or it was empty, and gets the block of x, with the leaf y where it lies under one
-pub record EntryInHole (s : ℕ) (X Y : Image) (d e i : ℕ) (bytes : List ℕ) (x y : Pointer) : Type 0 where
-  pub empty : find X d (path_of (e / 16)) ≡ answer.Hole
-  pub claimed : HoleClaimed s X Y d i (e / 16) x y
-  pub content : Bytes (cell_at Y x.block).payload ≡ with_entry Hole e bytes
+pub record EntryInHole (s : ℕ) (X Y : Image) (d n i : ℕ) (bytes : List ℕ) (x y : Pointer) : Type 0 where
+  pub empty : find X d (path_of (n / 16)) ≡ answer.Hole
+  pub claimed : HoleClaimed s X Y d i (n / 16) x y
+  pub content : Bytes (cell_at Y x.block).payload ≡ with_entry Hole n bytes
 
 abbrev pub LawLinkInPlace : Type 0
-LawLinkInPlace = (F : Files) (X Y : Image) (d g e i of b s : ℕ) (name : List ℕ) (f h : FileState) (x : Pointer) → LinkLies F X Y d g e i of b s name f h → EntryInPlace X Y d e i (spelled_entry i of name) x
-    → ((m : Mark) → is_data_block m.image x.block ≡ true → Proper (during m (link_given F d g name i of e b)) X x.block (cell_at Y x.block))
-    × ((m : Mark) → super_at m.image ≡ super_at Y → is_data_block m.image (1 + (i - 1) / 4) ≡ false → Proper (during m (link_given F d g name i of e b)) X (1 + (i - 1) / 4) (cell_at Y (1 + (i - 1) / 4)))
-    × FilesMatch (files_after F (link_given F d g name i of e b)) Y
+LawLinkInPlace = (F : Files) (X Y : Image) (d g n i of b s : ℕ) (name : List ℕ) (f h : FileState) (x : Pointer) → LinkLies F X Y d g n i of b s name f h → EntryInPlace X Y d n i (spelled_entry i of name) x
+    → ((L : Mark) → is_data_block L.image x.block ≡ true → Proper (during L (link_given F d g name i of n b)) X x.block (cell_at Y x.block))
+    × ((L : Mark) → super_at L.image ≡ super_at Y → is_data_block L.image (1 + (i - 1) / 4) ≡ false → Proper (during L (link_given F d g name i of n b)) X (1 + (i - 1) / 4) (cell_at Y (1 + (i - 1) / 4)))
+    × FilesMatch (files_after F (link_given F d g name i of n b)) Y
 
 abbrev pub LawLinkInHole : Type 0
-LawLinkInHole = (F : Files) (X Y : Image) (d g e i of b s : ℕ) (name : List ℕ) (f h : FileState) (x y : Pointer) → LinkLies F X Y d g e i of b s name f h → EntryInHole s X Y d e i (spelled_entry i of name) x y
-    → ((m : Mark) → is_data_block m.image x.block ≡ true → (inode Y d).generation ≡ f.generation → Proper (during m (link_given F d g name i of e b)) X x.block (cell_at Y x.block))
-    × ((m : Mark) (t : ℕ) (c : Cell) → 0 < t → is_data_block m.image t ≡ false
-    → ((j : ℕ) → is_inode m.image j ≡ true → 1 + (j - 1) / 4 ≡ t → (record_at c.payload ((j - 1) % 4) ≡ inode X j) ⊎ (record_at c.payload ((j - 1) % 4) ≡ inode Y j))
-    → Contains (m.metas d (inode X d).generation) (meta_of (inode X d)) → m.stamps ≤ x.stamp → m.stamps ≤ y.stamp ⊎ ((z : Pointer) × (find X d leaf ≡ answer.Holds z)) → Proper (during m (link_given F d g name i of e b)) X t c)
-    × FilesMatch (files_after F (link_given F d g name i of e b)) Y
+LawLinkInHole = (F : Files) (X Y : Image) (d g n i of b s : ℕ) (name : List ℕ) (f h : FileState) (x y : Pointer) → LinkLies F X Y d g n i of b s name f h → EntryInHole s X Y d n i (spelled_entry i of name) x y
+    → ((L : Mark) → is_data_block L.image x.block ≡ true → (inode Y d).generation ≡ f.generation → Proper (during L (link_given F d g name i of n b)) X x.block (cell_at Y x.block))
+    × ((L : Mark) (t : ℕ) (c : Cell) → 0 < t → is_data_block L.image t ≡ false
+    → ((j : ℕ) → is_inode L.image j ≡ true → 1 + (j - 1) / 4 ≡ t → (record_at c.payload ((j - 1) % 4) ≡ inode X j) ⊎ (record_at c.payload ((j - 1) % 4) ≡ inode Y j))
+    → Contains (L.metas d (inode X d).generation) (meta_of (inode X d)) → L.stamps ≤ x.stamp → L.stamps ≤ y.stamp ⊎ ((z : Pointer) × (find X d leaf ≡ answer.Holds z)) → Proper (during L (link_given F d g name i of n b)) X t c)
+    × FilesMatch (files_after F (link_given F d g name i of n b)) Y
 
 -- Make: the claimed inode gets its first record
-pub record MakeLies (F : Files) (X Y : Image) (d g e s : ℕ) (name : List ℕ) (kind : FileKind) (claims : Claims) (f : FileState) : Type 0 where
+pub record MakeLies (F : Files) (X Y : Image) (d g n s : ℕ) (name : List ℕ) (kind : FileKind) (claims : Claims) (f : FileState) : Type 0 where
   pub files : FilesMatch F X
   pub is : F d ≡ Some f
   pub generation : f.generation ≡ g
   pub folder : is_folder f.kind ≡ true
-  pub range : e < entry_limit
-  pub unpaired : is_paired F d e ≡ false
+  pub range : n < entry_limit
+  pub unpaired : is_paired F d n ≡ false
   pub none : F claims.inode ≡ None
   pub plain : is_special claims.inode ≡ false
   pub young : f.generation < claims.generation
   pub spells : Spells (spelled_entry claims.inode claims.generation name) (record { inode = claims.inode; generation = claims.generation; name = name })
-  pub made : IsNewRecord Y claims.inode claims.generation kind (first_links d e g)
+  pub made : IsNewRecord Y claims.inode claims.generation kind (first_links d n g)
   pub old : (j : ℕ) → is_some (F j) ≡ true → OldPointers s X j
 
 abbrev pub LawMakeInPlace : Type 0
-LawMakeInPlace = (F : Files) (X Y : Image) (d g e s : ℕ) (name : List ℕ) (kind : FileKind) (claims : Claims) (f : FileState) (x : Pointer) → MakeLies F X Y d g e s name kind claims f → EntryInPlace X Y d e claims.inode (spelled_entry claims.inode claims.generation name) x
-    → ((m : Mark) → is_data_block m.image x.block ≡ true → Proper (during m (make_given F d g name kind claims e)) X x.block (cell_at Y x.block))
-    × ((m : Mark) → super_at m.image ≡ super_at Y → is_data_block m.image (1 + (claims.inode - 1) / 4) ≡ false → m.stamps ≤ claims.generation → ((q : ℕ) → m.stands claims.inode q ≡ false)
-    → Proper (during m (make_given F d g name kind claims e)) X (1 + (claims.inode - 1) / 4) (cell_at Y (1 + (claims.inode - 1) / 4)))
-    × FilesMatch (files_after F (make_given F d g name kind claims e)) Y
+LawMakeInPlace = (F : Files) (X Y : Image) (d g n s : ℕ) (name : List ℕ) (kind : FileKind) (claims : Claims) (f : FileState) (x : Pointer) → MakeLies F X Y d g n s name kind claims f → EntryInPlace X Y d n claims.inode (spelled_entry claims.inode claims.generation name) x
+    → ((L : Mark) → is_data_block L.image x.block ≡ true → Proper (during L (make_given F d g name kind claims n)) X x.block (cell_at Y x.block))
+    × ((L : Mark) → super_at L.image ≡ super_at Y → is_data_block L.image (1 + (claims.inode - 1) / 4) ≡ false → L.stamps ≤ claims.generation → ((q : ℕ) → L.stands claims.inode q ≡ false)
+    → Proper (during L (make_given F d g name kind claims n)) X (1 + (claims.inode - 1) / 4) (cell_at Y (1 + (claims.inode - 1) / 4)))
+    × FilesMatch (files_after F (make_given F d g name kind claims n)) Y
 
 abbrev pub LawMakeInHole : Type 0
-LawMakeInHole = (F : Files) (X Y : Image) (d g e s : ℕ) (name : List ℕ) (kind : FileKind) (claims : Claims) (f : FileState) (y : Pointer) → MakeLies F X Y d g e s name kind claims f → EntryInHole s X Y d e claims.inode (spelled_entry claims.inode claims.generation name) claims.cell y
-    → ((m : Mark) → is_data_block m.image claims.cell.block ≡ true → (inode Y d).generation ≡ f.generation → Proper (during m (make_given F d g name kind claims e)) X claims.cell.block (cell_at Y claims.cell.block))
-    × ((m : Mark) (t : ℕ) (c : Cell) → 0 < t → is_data_block m.image t ≡ false
-    → ((j : ℕ) → is_inode m.image j ≡ true → 1 + (j - 1) / 4 ≡ t → (record_at c.payload ((j - 1) % 4) ≡ inode X j) ⊎ (record_at c.payload ((j - 1) % 4) ≡ inode Y j))
-    → Contains (m.metas d (inode X d).generation) (meta_of (inode X d)) → m.stamps ≤ claims.cell.stamp → m.stamps ≤ y.stamp ⊎ ((z : Pointer) × (find X d leaf ≡ answer.Holds z))
-    → m.stamps ≤ claims.generation → ((q : ℕ) → m.stands claims.inode q ≡ false) → Proper (during m (make_given F d g name kind claims e)) X t c)
-    × FilesMatch (files_after F (make_given F d g name kind claims e)) Y
+LawMakeInHole = (F : Files) (X Y : Image) (d g n s : ℕ) (name : List ℕ) (kind : FileKind) (claims : Claims) (f : FileState) (y : Pointer) → MakeLies F X Y d g n s name kind claims f → EntryInHole s X Y d n claims.inode (spelled_entry claims.inode claims.generation name) claims.cell y
+    → ((L : Mark) → is_data_block L.image claims.cell.block ≡ true → (inode Y d).generation ≡ f.generation → Proper (during L (make_given F d g name kind claims n)) X claims.cell.block (cell_at Y claims.cell.block))
+    × ((L : Mark) (t : ℕ) (c : Cell) → 0 < t → is_data_block L.image t ≡ false
+    → ((j : ℕ) → is_inode L.image j ≡ true → 1 + (j - 1) / 4 ≡ t → (record_at c.payload ((j - 1) % 4) ≡ inode X j) ⊎ (record_at c.payload ((j - 1) % 4) ≡ inode Y j))
+    → Contains (L.metas d (inode X d).generation) (meta_of (inode X d)) → L.stamps ≤ claims.cell.stamp → L.stamps ≤ y.stamp ⊎ ((z : Pointer) × (find X d leaf ≡ answer.Holds z))
+    → L.stamps ≤ claims.generation → ((q : ℕ) → L.stands claims.inode q ≡ false) → Proper (during L (make_given F d g name kind claims n)) X t c)
+    × FilesMatch (files_after F (make_given F d g name kind claims n)) Y

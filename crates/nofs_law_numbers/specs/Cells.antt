@@ -50,19 +50,19 @@ pub data EntriesFrom (X : Image) (d : ℕ) (a : Path) (old : Value) : Type 0 whe
   Zeros : old ≡ Hole → EntriesFrom X d a old
 
 -- one entry of a directory's cell is written or cleared
-pub record EntryWritten (W : World) (c : Claims) (X : Image) (d : ℕ) (a : Path) (cell : Cell) (old : Value) (e : ℕ) (bytes : List ℕ) : Type 0 where
+pub record EntryWritten (W : World) (c : Claims) (X : Image) (d : ℕ) (a : Path) (cell : Cell) (old : Value) (place : ℕ) (bytes : List ℕ) : Type 0 where
   pub before : EntriesFrom X d a old
   -- the entry's bytes
   pub whole : length bytes ≡ 64
   -- the other entries stay
-  pub content : Bytes cell.payload ≡ with_entry old e bytes
+  pub content : Bytes cell.payload ≡ with_entry old place bytes
   -- what is written names a generation that the step may write, or spells no entry
   pub number : IfSome (entry_of bytes) (λ (n : Entry). Numbered W c n.generation)
 
 -- A directory's cell with one entry written.
 abbrev pub LawDirectoryNumbers : Type 0
-LawDirectoryNumbers = (W : World) (c : Claims) (X : Image) (d : ℕ) (a : Path) (x : Pointer) (cell : Cell) (old : Value) (e : ℕ) (bytes : List ℕ) → OldNumbers W X → CellFor c X d a x cell
-    → kind_in (inode X d) a ≡ Directory → EntryWritten W c X d a cell old e bytes → CellNumbers (Numbered W c) X x.block cell
+LawDirectoryNumbers = (W : World) (c : Claims) (X : Image) (d : ℕ) (a : Path) (x : Pointer) (cell : Cell) (old : Value) (n : ℕ) (bytes : List ℕ) → OldNumbers W X → CellFor c X d a x cell
+    → kind_in (inode X d) a ≡ Directory → EntryWritten W c X d a cell old n bytes → CellNumbers (Numbered W c) X x.block cell
 
 -- a record that is written in place of a live one
 pub record RecordFrom (W : World) (c : Claims) (X : Image) (j : ℕ) (r : Record) : Type 0 where

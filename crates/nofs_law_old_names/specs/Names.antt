@@ -38,55 +38,55 @@ pub record NameWrites (s d i : ℕ) (X Y : Image) : Type 0 where
       ⊎ ((tag_of (cell_at Y b).tag ≡ tag_of (cell_at X b).tag) × ((path : Path) × (x : Pointer) × (find X d path ≡ answer.Holds x) × (x.block ≡ b))))
 
 -- Rename: the found entry's name is written in place
-pub record RenameLies (F : Files) (X Y : Image) (d g e s : ℕ) (new : List ℕ) (f : FileState) (x : Pointer) (entry : Entry) : Type 0 where
+pub record RenameLies (F : Files) (X Y : Image) (d g n s : ℕ) (new : List ℕ) (f : FileState) (x : Pointer) (entry : Entry) : Type 0 where
   pub files : FilesMatch F X
   pub is : F d ≡ Some f
   pub generation : f.generation ≡ g
-  pub found : entry_at F d e ≡ Some entry
-  pub held : find X d (path_of (e / 16)) ≡ answer.Holds x
+  pub found : entry_at F d n ≡ Some entry
+  pub held : find X d (path_of (n / 16)) ≡ answer.Holds x
   pub whole : length (cell_at X x.block).payload ≡ 1024
   pub spells : Spells (spelled_entry entry.inode entry.generation new) (record { inode = entry.inode; generation = entry.generation; name = new })
-  pub content : Bytes (cell_at Y x.block).payload ≡ with_entry (Bytes (cell_at X x.block).payload) e (spelled_entry entry.inode entry.generation new)
+  pub content : Bytes (cell_at Y x.block).payload ≡ with_entry (Bytes (cell_at X x.block).payload) n (spelled_entry entry.inode entry.generation new)
   pub writes : InPlace X Y x 0
   pub old : (j : ℕ) → is_some (F j) ≡ true → OldPointers s X j
 
 -- The write is proper, and the machine's files are those of the disk after it.
 abbrev pub LawRename : Type 0
-LawRename = (F : Files) (X Y : Image) (d g e s : ℕ) (new : List ℕ) (f : FileState) (x : Pointer) (entry : Entry) → RenameLies F X Y d g e s new f x entry
-    → ((m : Mark) → is_data_block m.image x.block ≡ true → Proper (during m (rename_given F d g new e)) X x.block (cell_at Y x.block))
-    × FilesMatch (files_after F (rename_given F d g new e)) Y
+LawRename = (F : Files) (X Y : Image) (d g n s : ℕ) (new : List ℕ) (f : FileState) (x : Pointer) (entry : Entry) → RenameLies F X Y d g n s new f x entry
+    → ((L : Mark) → is_data_block L.image x.block ≡ true → Proper (during L (rename_given F d g new n)) X x.block (cell_at Y x.block))
+    × FilesMatch (files_after F (rename_given F d g new n)) Y
 
 -- Drop: the found entry is cleared in place, and the record of its inode loses the link or becomes free
-pub record DropLies (F : Files) (X Y : Image) (d g e s : ℕ) (f h : FileState) (x : Pointer) (entry : Entry) : Type 0 where
+pub record DropLies (F : Files) (X Y : Image) (d g n s : ℕ) (f h : FileState) (x : Pointer) (entry : Entry) : Type 0 where
   pub files : FilesMatch F X
   pub is : F d ≡ Some f
   pub generation : f.generation ≡ g
-  pub found : entry_at F d e ≡ Some entry
-  pub paired : is_paired F d e ≡ true
+  pub found : entry_at F d n ≡ Some entry
+  pub paired : is_paired F d n ≡ true
   pub named : F entry.inode ≡ Some h
   -- a directory that goes has no names
   pub no_names : is_folder h.kind ≡ true → (b : ℕ) → b < entry_limit → is_paired F entry.inode b ≡ false
-  pub held : find X d (path_of (e / 16)) ≡ answer.Holds x
+  pub held : find X d (path_of (n / 16)) ≡ answer.Holds x
   pub whole : length (cell_at X x.block).payload ≡ 1024
-  pub content : Bytes (cell_at Y x.block).payload ≡ with_entry (Bytes (cell_at X x.block).payload) e (zeros 64)
+  pub content : Bytes (cell_at Y x.block).payload ≡ with_entry (Bytes (cell_at X x.block).payload) n (zeros 64)
   pub writes : InPlace X Y x entry.inode
   pub old : (j : ℕ) → is_some (F j) ≡ true → OldPointers s X j
 
 -- The directory's cell is proper.
 abbrev pub LawDropEntry : Type 0
-LawDropEntry = (F : Files) (X Y : Image) (d g e s : ℕ) (f h : FileState) (x : Pointer) (entry : Entry) → DropLies F X Y d g e s f h x entry
-    → (m : Mark) → is_data_block m.image x.block ≡ true → Proper (during m (drop_given F d g e)) X x.block (cell_at Y x.block)
+LawDropEntry = (F : Files) (X Y : Image) (d g n s : ℕ) (f h : FileState) (x : Pointer) (entry : Entry) → DropLies F X Y d g n s f h x entry
+    → (L : Mark) → is_data_block L.image x.block ≡ true → Proper (during L (drop_given F d g n)) X x.block (cell_at Y x.block)
 
 -- Where the inode has another name: its record is proper, and the machine's files are those of the disk.
 abbrev pub LawDropName : Type 0
-LawDropName = (F : Files) (X Y : Image) (d g e s : ℕ) (f h : FileState) (x : Pointer) (entry : Entry) → DropLies F X Y d g e s f h x entry
-    → drop_meta F entry.inode (link_to d e g) ≡ Is h.kind h.size (without_link (link_to d e g) h.links) → Relinked X Y entry.inode (without_link (link_to d e g) h.links)
-    → ((m : Mark) → super_at m.image ≡ super_at Y → is_data_block m.image (1 + (entry.inode - 1) / 4) ≡ false → Proper (during m (drop_given F d g e)) X (1 + (entry.inode - 1) / 4) (cell_at Y (1 + (entry.inode - 1) / 4)))
-    × FilesMatch (files_after F (drop_given F d g e)) Y
+LawDropName = (F : Files) (X Y : Image) (d g n s : ℕ) (f h : FileState) (x : Pointer) (entry : Entry) → DropLies F X Y d g n s f h x entry
+    → drop_meta F entry.inode (link_to d n g) ≡ Is h.kind h.size (without_link (link_to d n g) h.links) → Relinked X Y entry.inode (without_link (link_to d n g) h.links)
+    → ((L : Mark) → super_at L.image ≡ super_at Y → is_data_block L.image (1 + (entry.inode - 1) / 4) ≡ false → Proper (during L (drop_given F d g n)) X (1 + (entry.inode - 1) / 4) (cell_at Y (1 + (entry.inode - 1) / 4)))
+    × FilesMatch (files_after F (drop_given F d g n)) Y
 
 -- Where it has none: so is its free record.
 abbrev pub LawDropFile : Type 0
-LawDropFile = (F : Files) (X Y : Image) (d g e s : ℕ) (f h : FileState) (x : Pointer) (entry : Entry) → DropLies F X Y d g e s f h x entry
-    → drop_meta F entry.inode (link_to d e g) ≡ Gone → (inode Y entry.inode).kind ≡ None
-    → ((m : Mark) → super_at m.image ≡ super_at Y → is_data_block m.image (1 + (entry.inode - 1) / 4) ≡ false → ((q : ℕ) → m.stands entry.inode q ≡ true → h.generation ≡ q) → Proper (during m (drop_given F d g e)) X (1 + (entry.inode - 1) / 4) (cell_at Y (1 + (entry.inode - 1) / 4)))
-    × FilesMatch (files_after F (drop_given F d g e)) Y
+LawDropFile = (F : Files) (X Y : Image) (d g n s : ℕ) (f h : FileState) (x : Pointer) (entry : Entry) → DropLies F X Y d g n s f h x entry
+    → drop_meta F entry.inode (link_to d n g) ≡ Gone → (inode Y entry.inode).kind ≡ None
+    → ((L : Mark) → super_at L.image ≡ super_at Y → is_data_block L.image (1 + (entry.inode - 1) / 4) ≡ false → ((q : ℕ) → L.stands entry.inode q ≡ true → h.generation ≡ q) → Proper (during L (drop_given F d g n)) X (1 + (entry.inode - 1) / 4) (cell_at Y (1 + (entry.inode - 1) / 4)))
+    × FilesMatch (files_after F (drop_given F d g n)) Y

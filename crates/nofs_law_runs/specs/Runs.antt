@@ -24,7 +24,7 @@ pub record IsDirectory (F : Files) (d g : ℕ) : Type 0 where
 
 -- a directory in which some entry is the other half of a back link
 abbrev pub Filled : Files → ℕ → Type 0
-Filled F j = (e : ℕ) × (e < entry_limit) × (is_paired F j e ≡ true)
+Filled F j = (n : ℕ) × (n < entry_limit) × (is_paired F j n ≡ true)
 
 -- whether a step is a Drop
 abbrev pub is_drop : Step → Bool

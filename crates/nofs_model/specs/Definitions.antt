@@ -44,12 +44,12 @@ pub data IsValue (X : Image) (i k : ℕ) : Value → Type 0 where
 -- Names
 
 -- entry e of the directory d: sixteen stand in a slot, and a directory has 1,152
-pub record IsEntry (X : Image) (d e : ℕ) (it : Entry) : Type 0 where
+pub record IsEntry (X : Image) (d n : ℕ) (it : Entry) : Type 0 where
   pub directory : (inode X d).kind ≡ Some kind.Directory
-  pub range : e < entry_limit
+  pub range : n < entry_limit
   pub pointer : Pointer
-  pub holds : Holds X d (path_of (e / 16)) pointer
-  pub spelled : entry_in (cell_at X pointer.block).payload (e % 16) ≡ Some it
+  pub holds : Holds X d (path_of (n / 16)) pointer
+  pub spelled : entry_in (cell_at X pointer.block).payload (n % 16) ≡ Some it
 
 -- a back link of i is a pair: it leads to a live directory of its generation whose entry names this generation of i.
 -- Where i is a directory itself, the directory that names it is older

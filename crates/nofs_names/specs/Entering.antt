@@ -43,11 +43,11 @@ abbrev pub with_leaf : Record → Pointer → Record
 with_leaf r y = record r { leaf = y }
 
 -- what a new entry asks, over any disk
-pub record MayEnter (d : DiskState) (k : Books) (i : ℕ) (r : Record) (e : ℕ) (slot : EntrySlot) (b : EntryBlocks) (named : Entry) (new : Record) : Type 0
+pub record MayEnter (d : DiskState) (k : Books) (i : ℕ) (r : Record) (n : ℕ) (slot : EntrySlot) (b : EntryBlocks) (named : Entry) (new : Record) : Type 0
   where
     pub directory : KnowsDirectory d k.at i r.generation r
-    pub range : e < entry_limit
-    pub fits : FitsSlot k.at (e / 16) slot
+    pub range : n < entry_limit
+    pub fits : FitsSlot k.at (n / 16) slot
     pub free : AreFree k.free_blocks (blocks_needed slot) b
     pub stamps : k.serial + blocks_needed slot ≤ 2 ^ 40
     pub one : 1 ≤ named.inode
@@ -71,9 +71,9 @@ pub record AreTables (before : Tables) (d : ℕ) (dr : Record) (i : ℕ) (r : Re
   pub apart : (d - 1) / 4 ≢ (i - 1) / 4 → IsTable before.directory d dr after.directory × IsTable before.inode i r after.inode
 
 -- a cell that the directory did not have
-pub record IsNewCell (d g e : ℕ) (it : Entry) (stamp : ℕ) (c : Cell) : Type 0 where
-  pub payload : c.payload ≡ entered (zeros 1024) e it
-  pub tag : tag_of c.tag ≡ Some (record { kind = kind.Directory; inode = d; generation = g; slot = e / 16; stamp = stamp })
+pub record IsNewCell (d g n : ℕ) (it : Entry) (stamp : ℕ) (c : Cell) : Type 0 where
+  pub payload : c.payload ≡ entered (zeros 1024) n it
+  pub tag : tag_of c.tag ≡ Some (record { kind = kind.Directory; inode = d; generation = g; slot = n / 16; stamp = stamp })
 
 -- the leaf with one pointer more
 pub record IsMoreLeaf (before : Cell) (n : ℕ) (x : Pointer) (c : Cell) : Type 0 where

@@ -26,11 +26,11 @@ pub record TellsPair (old new : DiskState) (link : BackLink) (payload : List ℕ
 
 -- no entry below this one is a pair
 abbrev pub NoPairs : Files → ℕ → ℕ → Type 0
-NoPairs F d n = (e : ℕ) → e < n → is_paired F d e ≡ false
+NoPairs F d n = (place : ℕ) → place < n → is_paired F d place ≡ false
 
 -- some entry is, or none below this one
 abbrev pub NamesAre : Files → ℕ → ℕ → Bool → Type 0
-NamesAre F d n true = (e : ℕ) × (e < entry_limit) × (is_paired F d e ≡ true)
+NamesAre F d n true = (place : ℕ) × (place < entry_limit) × (is_paired F d place ≡ true)
 NamesAre F d n false = NoPairs F d n
 
 pub record NamesOn (old new : DiskState) (d n m : ℕ) (last : LastRead) (result : Result Bool Failed) : Type 0 where
