@@ -4,7 +4,6 @@ pub mod Touching
 pub mod Alike
 pub mod Entries
 pub mod Growth
-pub mod Shrinking
 pub mod Given
 pub mod Claiming
 pub mod EntryCells
