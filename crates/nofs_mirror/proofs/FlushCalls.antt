@@ -8,7 +8,7 @@ use Rattle.nofs_disk.specs.declared.Failed.{Failed}
 use Rattle.nofs_disk.specs.declared.tag.Cell.{Cell}
 use Rattle.nofs_disk.specs.Cells.{Contains-known, Picks-known}
 use Rattle.nofs_disk.specs.Disk.{DiskState, Flushes, Picks, cell_at, no_cell}
-use Rattle.nofs_mirror.specs.declared.asking.SideAnswer.{SideAnswer}
+use Rattle.nofs_mirror.specs.declared.asking.SideCall.{SideCall}
 use Rattle.nofs_mirror.specs.declared.mirror.MirrorStart.{MirrorStart}
 use Rattle.nofs_mirror.specs.declared.past.MirrorCall.{MirrorCall}
 use Rattle.nofs_mirror.specs.declared.past.Effect.TheVariants.{Settle, Nothing}
@@ -22,7 +22,7 @@ use Rattle.nofs_mirror.proofs.MirrorPast.{Goes, past_moves, tells_same, told_sam
 use Rattle.nofs_mirror.proofs.SidePast.{left_during}
 
 -- a flush asks the sides
-pub record CalledFlush (lead lead_new other other_new first : DiskState) (opening : MirrorStart) (past : List MirrorCall) (spare : ℕ) (a o : SideAnswer) : Type 0 where
+pub record CalledFlush (lead lead_new other other_new first : DiskState) (opening : MirrorStart) (past : List MirrorCall) (spare : ℕ) (a o : SideCall) : Type 0 where
   pub called : Called lead lead_new other other_new first opening past spare a o
   pub lead_flushes : SideFlushes lead lead_new a.answer
   pub other_flushes : SideFlushes other other_new o.answer
@@ -34,7 +34,7 @@ told_when true false xs ys same e = cc
 told_when false true xs ys same e = cc
 
 -- the sides of a mirror that tells
-flushed_sides : (lead lead_new other other_new first : DiskState) (opening : MirrorStart) (past : List MirrorCall) (s : ℕ) (a o : SideAnswer) → CalledFlush lead lead_new other other_new first opening past s a o → IsTrue (both_tell lead_new other_new)
+flushed_sides : (lead lead_new other other_new first : DiskState) (opening : MirrorStart) (past : List MirrorCall) (s : ℕ) (a o : SideCall) → CalledFlush lead lead_new other other_new first opening past s a o → IsTrue (both_tell lead_new other_new)
     → IsMirrored opening.blocks (may_after lead_new.was other_new.was opening.blocks first.may past) (now_of (is_asked a.answer) opening.blocks lead.now other.now) (is_asked a.answer) (is_asked o.answer) lead other
     → FlushedSides a.answer o.answer opening.blocks (may_after lead_new.was other_new.was opening.blocks first.may past) (flushed_cells lead_new.was other_new.was (call_of (flush_effect a.answer o.answer) a o)) lead lead_new other other_new
 flushed_sides lead lead_new other other_new first opening past s a o w t k =
@@ -52,14 +52,14 @@ flushed_sides lead lead_new other other_new first opening past s a o w t k =
       mirrored = k;
     }
 
-pub flush_kept : (lead lead_new other other_new first : DiskState) (opening : MirrorStart) (past : List MirrorCall) (s : ℕ) (a o : SideAnswer) → CalledFlush lead lead_new other other_new first opening past s a o
+pub flush_kept : (lead lead_new other other_new first : DiskState) (opening : MirrorStart) (past : List MirrorCall) (s : ℕ) (a o : SideCall) → CalledFlush lead lead_new other other_new first opening past s a o
     → ∥ MirrorKeeps lead_new other_new first opening (call_of (flush_effect a.answer o.answer) a o ∷ past) ∥₁
 flush_kept lead lead_new other other_new first opening past s a o w =
     let call : MirrorCall = call_of (flush_effect a.answer o.answer) a o in
     ∥∥₁_elim (asked_kept lead lead_new other other_new first opening past s a o w.called) ∥∥₁_prop (λ k. ∣ (λ t.
     flush_mirrored a.answer o.answer opening.blocks (may_after lead_new.was other_new.was opening.blocks first.may past) (flushed_cells lead_new.was other_new.was call) lead lead_new other other_new (flushed_sides lead lead_new other other_new first opening past s a o w t (k t))) ∣₁)
 
-pub mirror_flushes : (lead lead_new other other_new first : DiskState) (opening : MirrorStart) (past : List MirrorCall) (s t e f : ℕ) (a o : SideAnswer) (result : Result (Unit {0}) Failed)
+pub mirror_flushes : (lead lead_new other other_new first : DiskState) (opening : MirrorStart) (past : List MirrorCall) (s t e f : ℕ) (a o : SideCall) (result : Result (Unit {0}) Failed)
     → CalledFlush lead lead_new other other_new first opening past s a o → t + 1 ≡ s → e < 2 ^ 64 → is_ok result ≡ any_done a.answer o.answer → f ≡ counted_if (any_done a.answer o.answer) e
     → Flushes (mirror_state lead other first opening past s e) (mirror_state lead_new other_new first opening (call_of (flush_effect a.answer o.answer) a o ∷ past) t f) result
 mirror_flushes lead lead_new other other_new first opening past s t e f a o result w room low is count = record {

@@ -5,7 +5,7 @@ use Rattle.std.proofs.Math.Logic.{∥∥₁_elim, ∥∥₁_prop}
 use Rattle.nofs_disk.specs.declared.Failed.{Failed}
 use Rattle.nofs_disk.specs.declared.tag.Cell.{Cell}
 use Rattle.nofs_disk.specs.Disk.{DiskState, IsDisk, IsSameDisk, Rose}
-use Rattle.nofs_mirror.specs.declared.asking.SideAnswer.{SideAnswer}
+use Rattle.nofs_mirror.specs.declared.asking.SideCall.{SideCall}
 use Rattle.nofs_mirror.specs.declared.mirror.MirrorStart.{MirrorStart}
 use Rattle.nofs_mirror.specs.declared.past.MirrorCall.{MirrorCall}
 use Rattle.nofs_mirror.specs.Asking.{counted, counted_if, is_asked}
@@ -15,7 +15,7 @@ use Rattle.nofs_mirror.proofs.MirrorCells.{SideGoes, cells_known, mirrored_same,
 use Rattle.nofs_mirror.proofs.MirrorPast.{Goes, goes_was, may_keeps, tells_same}
 
 -- a write or flush asks the sides of a mirror that are in
-pub record Called (lead lead_new other other_new first : DiskState) (opening : MirrorStart) (past : List MirrorCall) (spare : ℕ) (a o : SideAnswer) : Type 0 where
+pub record Called (lead lead_new other other_new first : DiskState) (opening : MirrorStart) (past : List MirrorCall) (spare : ℕ) (a o : SideCall) : Type 0 where
   pub lead_is : IsDisk lead
   pub lead_new_is : IsDisk lead_new
   pub other_is : IsDisk other
@@ -32,7 +32,7 @@ pub record Called (lead lead_new other other_new first : DiskState) (opening : M
   pub other_ended : o.ended ≡ other_new.moment
   pub kept : ∥ MirrorKeeps lead other first opening past ∥₁
 
-pub called_goes : (lead lead_new other other_new first : DiskState) (opening : MirrorStart) (past : List MirrorCall) (s : ℕ) (a o : SideAnswer) → Called lead lead_new other other_new first opening past s a o → Goes lead lead_new other other_new opening past
+pub called_goes : (lead lead_new other other_new first : DiskState) (opening : MirrorStart) (past : List MirrorCall) (s : ℕ) (a o : SideCall) → Called lead lead_new other other_new first opening past s a o → Goes lead lead_new other other_new opening past
 called_goes lead lead_new other other_new first opening past s a o c = record {
   lead_disk = c.lead_goes.disk;
   other_disk = c.other_goes.disk;
@@ -48,7 +48,7 @@ pub may_same : (lead lead_new other other_new first : DiskState) (opening : Mirr
 may_same lead lead_new other other_new first opening past g b = may_keeps _ _ _ _ _ _ opening.blocks first.may past _ _ b (goes_was lead lead_new other other_new opening past g)
 
 -- the same cells of sides that are asked
-pub asked_kept : (lead lead_new other other_new first : DiskState) (opening : MirrorStart) (past : List MirrorCall) (s : ℕ) (a o : SideAnswer) → Called lead lead_new other other_new first opening past s a o
+pub asked_kept : (lead lead_new other other_new first : DiskState) (opening : MirrorStart) (past : List MirrorCall) (s : ℕ) (a o : SideCall) → Called lead lead_new other other_new first opening past s a o
     → ∥ (IsTrue (both_tell lead_new other_new) → IsMirrored opening.blocks (may_after lead_new.was other_new.was opening.blocks first.may past) (now_of (is_asked a.answer) opening.blocks lead.now other.now) (is_asked a.answer) (is_asked o.answer) lead other) ∥₁
 asked_kept lead lead_new other other_new first opening past s a o c = ∥∥₁_elim c.kept ∥∥₁_prop (λ k. ∣ (λ t. goes (k (sym tells ∙ t))) ∣₁)
   where
@@ -67,7 +67,7 @@ asked_kept lead lead_new other other_new first opening past s a o c = ∥∥₁_
         subst G (sym c.other_asked) (subst F (sym c.lead_asked) (mirrored_same opening.blocks (may_after lead.was other.was opening.blocks first.may past) M _ _ _ lead other (λ b. may_same lead lead_new other other_new first opening past g b) m))
 
 -- the sides that are asked have the same first cells
-pub asked_now : (lead lead_new other other_new first : DiskState) (opening : MirrorStart) (past : List MirrorCall) (s : ℕ) (a o : SideAnswer) → Called lead lead_new other other_new first opening past s a o → IsTrue (both_tell lead_new other_new)
+pub asked_now : (lead lead_new other other_new first : DiskState) (opening : MirrorStart) (past : List MirrorCall) (s : ℕ) (a o : SideCall) → Called lead lead_new other other_new first opening past s a o → IsTrue (both_tell lead_new other_new)
     → IsTrue (is_asked a.answer) → IsTrue (is_asked o.answer) → take opening.blocks other.now ≡ take opening.blocks lead.now
 asked_now lead lead_new other other_new first opening past s a o c t e f =
     cells_known _ _ (∥∥₁_elim (asked_kept lead lead_new other other_new first opening past s a o c) ∥∥₁_prop (λ k. ∣ ((k t).other f).now ∙ sym ((k t).lead e).now ∣₁))

@@ -8,7 +8,7 @@ use Rattle.nofs_disk.specs.declared.Failed.{Failed}
 use Rattle.nofs_disk.specs.declared.tag.Cell.{Cell}
 use Rattle.nofs_disk.specs.Cells.{Picks-known}
 use Rattle.nofs_disk.specs.Disk.{DiskState, IsSizedCell, Picks, Writes}
-use Rattle.nofs_mirror.specs.declared.asking.SideAnswer.{SideAnswer}
+use Rattle.nofs_mirror.specs.declared.asking.SideCall.{SideCall}
 use Rattle.nofs_mirror.specs.declared.mirror.MirrorStart.{MirrorStart}
 use Rattle.nofs_mirror.specs.declared.past.MirrorCall.{MirrorCall}
 use Rattle.nofs_mirror.specs.declared.past.Effect.TheVariants.{Write}
@@ -22,21 +22,21 @@ use Rattle.nofs_mirror.proofs.MirrorWrites.{side_leaves, write_err, write_mirror
 use Rattle.nofs_mirror.proofs.SidePast.{left_during}
 
 -- a write asks the sides
-pub record CalledWrite (lead lead_new other other_new first : DiskState) (opening : MirrorStart) (past : List MirrorCall) (spare : ℕ) (a o : SideAnswer) (b : ℕ) (snap : Snapshot Cell) : Type 0 where
+pub record CalledWrite (lead lead_new other other_new first : DiskState) (opening : MirrorStart) (past : List MirrorCall) (spare : ℕ) (a o : SideCall) (b : ℕ) (snap : Snapshot Cell) : Type 0 where
   pub called : Called lead lead_new other other_new first opening past spare a o
   pub inside : b < opening.blocks
   pub sized : IsSizedCell snap.value
   pub lead_writes : SideWrites lead lead_new b snap.value a.answer
   pub other_writes : SideWrites other other_new b snap.value o.answer
 
-pub write_kept : (lead lead_new other other_new first : DiskState) (opening : MirrorStart) (past : List MirrorCall) (s : ℕ) (a o : SideAnswer) (b : ℕ) (snap : Snapshot Cell) → CalledWrite lead lead_new other other_new first opening past s a o b snap
+pub write_kept : (lead lead_new other other_new first : DiskState) (opening : MirrorStart) (past : List MirrorCall) (s : ℕ) (a o : SideCall) (b : ℕ) (snap : Snapshot Cell) → CalledWrite lead lead_new other other_new first opening past s a o b snap
     → ∥ MirrorKeeps lead_new other_new first opening (call_of (Write b snap) a o ∷ past) ∥₁
 write_kept lead lead_new other other_new first opening past s a o b snap w =
     let call : MirrorCall = call_of (Write b snap) a o in
     ∥∥₁_elim (asked_kept lead lead_new other other_new first opening past s a o w.called) ∥∥₁_prop (λ k. ∣ (λ t.
     write_mirrored a.answer o.answer opening.blocks (flushed_cells lead_new.was other_new.was call) (may_after lead_new.was other_new.was opening.blocks first.may past) b snap lead lead_new other other_new w.inside w.sized w.lead_writes w.other_writes (k t)) ∣₁)
 
-pub mirror_writes : (lead lead_new other other_new first : DiskState) (opening : MirrorStart) (past : List MirrorCall) (s t e f : ℕ) (a o : SideAnswer) (b : ℕ) (snap : Snapshot Cell) (result : Result (Unit {0}) Failed)
+pub mirror_writes : (lead lead_new other other_new first : DiskState) (opening : MirrorStart) (past : List MirrorCall) (s t e f : ℕ) (a o : SideCall) (b : ℕ) (snap : Snapshot Cell) (result : Result (Unit {0}) Failed)
     → CalledWrite lead lead_new other other_new first opening past s a o b snap → t + 1 ≡ s → e < 2 ^ 64 → is_ok result ≡ any_done a.answer o.answer → f ≡ counted_if (any_done a.answer o.answer) e
     → Writes (mirror_state lead other first opening past s e) (mirror_state lead_new other_new first opening (call_of (Write b snap) a o ∷ past) t f) b snap.value result
 mirror_writes lead lead_new other other_new first opening past s t e f a o b snap result w room low is count = record {

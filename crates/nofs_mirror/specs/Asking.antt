@@ -5,7 +5,7 @@ use Rattle.nofs_disk.specs.declared.tag.Cell.{Cell}
 use Rattle.nofs_disk.specs.Disk.{DiskState, Flushes, IsSameDisk, KeepsCells, KeepsPast, Rose, StaysButFaults, Writes, cell_at}
 use Rattle.nofs_mirror.specs.declared.asking.SideAnswer.{SideAnswer}
 use Rattle.nofs_mirror.specs.declared.asking.SideAnswer.TheVariants.{Out, Done, Fault}
-use Rattle.nofs_mirror.specs.declared.asking.SideAnswer.{SideAnswer}
+use Rattle.nofs_mirror.specs.declared.asking.SideCall.{SideCall}
 use Rattle.nofs_mirror.specs.declared.log.Sides.{Sides}
 use Rattle.nofs_mirror.specs.declared.past.MirrorCall.{MirrorCall}
 use Rattle.nofs_mirror.specs.declared.past.Effect.{Effect}
@@ -57,7 +57,7 @@ abbrev pub flush_effect : SideAnswer → SideAnswer → Effect
 flush_effect lead other = if any_done lead other then Settle else Nothing
 
 -- the call with these answers
-abbrev pub call_of : Effect → SideAnswer → SideAnswer → MirrorCall
+abbrev pub call_of : Effect → SideCall → SideCall → MirrorCall
 call_of effect lead other = record {
   effect = effect;
   lead = record { began = lead.began; ended = lead.ended; is_in = lead_stays lead.answer other.answer };

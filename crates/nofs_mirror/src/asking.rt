@@ -19,7 +19,7 @@ pub enum SideAnswer {
 
 /// What a side answered, and its moments at the call's start and end.
 #[derive(Clone, Copy)]
-pub struct SideAnswer {
+pub struct SideCall {
     pub answer: SideAnswer,
     pub began: u64,
     pub ended: u64,
@@ -93,7 +93,7 @@ pub fn read_side<D: Disk>(disk: &mut D, is_in: bool, block: u64, into: &mut Cell
 }
 
 /// Writes to a side that is in.
-pub fn write_side<D: Disk>(disk: &mut D, is_in: bool, block: u64, cell: &Cell) -> SideAnswer
+pub fn write_side<D: Disk>(disk: &mut D, is_in: bool, block: u64, cell: &Cell) -> SideCall
     requires block { block < (D.state disk.old).blocks }
     requires spare { 1 ≤ (D.state disk.old).spare }
     ensures writes { SideWrites (D.state disk.old) (D.state disk.new) block cell.now result.answer }
@@ -105,7 +105,7 @@ pub fn write_side<D: Disk>(disk: &mut D, is_in: bool, block: u64, cell: &Cell) -
     let began = disk.moment();
     let answer = ask_write(disk, is_in, block, cell);
     let ended = disk.moment();
-    SideAnswer {
+    SideCall {
         answer,
         began,
         ended,
@@ -129,7 +129,7 @@ fn ask_write<D: Disk>(disk: &mut D, is_in: bool, block: u64, cell: &Cell) -> Sid
 }
 
 /// Flushes a side that is in.
-pub fn flush_side<D: Disk>(disk: &mut D, is_in: bool) -> SideAnswer
+pub fn flush_side<D: Disk>(disk: &mut D, is_in: bool) -> SideCall
     requires { 1 ≤ (D.state disk.old).spare }
     ensures flushes { SideFlushes (D.state disk.old) (D.state disk.new) result.answer }
     ensures asked { is_asked result.answer ≡ is_in }
@@ -140,7 +140,7 @@ pub fn flush_side<D: Disk>(disk: &mut D, is_in: bool) -> SideAnswer
     let began = disk.moment();
     let answer = ask_flush(disk, is_in);
     let ended = disk.moment();
-    SideAnswer {
+    SideCall {
         answer,
         began,
         ended,

@@ -5,7 +5,7 @@ ghost use Rattle.std.specs.Prelude.{◌≡◌, ◌+◌, ◌*◌, ◌^◌, ◌<�
 ghost use Rattle.nofs_mirror.specs.Asking.{any_done, call_of, counted, counted_if, flush_effect, sides_after};
 ghost use Rattle.nofs_mirror.specs.Past.{past_calls};
 
-use crate::asking::{SideAnswer, SideAnswer, any_done, lead_stays, other_stays};
+use crate::asking::{SideCall, SideAnswer, any_done, lead_stays, other_stays};
 use crate::past::{Effect, MirrorCall, Past, Span};
 use nofs_disk::Failed;
 use std::alloc::AllocError;
@@ -82,7 +82,7 @@ fn answer(done: bool, faults: &mut u64) -> Result<(), Failed>
 }
 
 // The call with these answers.
-fn call_of(effect: Effect, lead: &SideAnswer, other: &SideAnswer) -> MirrorCall
+fn call_of(effect: Effect, lead: &SideCall, other: &SideCall) -> MirrorCall
     ensures { result ≡ call_of effect lead.now other.now }
 {
     let lead_in = lead_stays(lead.answer, other.answer);
@@ -145,7 +145,7 @@ impl Log {
 
     /// Adds a write or flush with the answers of both sides, and answers for the mirror. A side that
     /// failed goes out, but for the last one.
-    pub fn note(&mut self, effect: Effect, lead: &SideAnswer, other: &SideAnswer) -> Result<(), Failed>
+    pub fn note(&mut self, effect: Effect, lead: &SideCall, other: &SideCall) -> Result<(), Failed>
         requires { 1 ≤ self.old.spare }
         ensures past { past_calls self.new.past.value ≡ call_of effect lead.now other.now ∷ past_calls self.old.past.value }
         ensures sides { self.new.sides ≡ sides_after lead.now.answer other.now.answer }

@@ -29,7 +29,7 @@ use Rattle.nofs_state.specs.declared.books.Books.{Books}
 use Rattle.nofs_state.proofs.Machine.{agreed-live}
 use Rattle.nofs_state.proofs.Maps.{set-here, set-other, set-length}
 use Rattle.nofs_state.proofs.Replies.{open-files}
-use Rattle.nofs_names.specs.Placing.{FitsSlot, IsEntrySlot, blocks_needed}
+use Rattle.nofs_names.specs.Placing.{FitsSlot, IsEntrySlot, slot_blocks}
 use Rattle.nofs_names.specs.declared.placing.EntrySlot.{EntrySlot}
 use Rattle.nofs_names.specs.declared.placing.EntrySlot.TheVariants as entry
 use Rattle.nofs_names.proofs.Claiming.{Taken}
@@ -55,14 +55,14 @@ module _ (F : Files) (X : Image) (d e : ℕ) (match : FilesMatch F X) (agrees : 
   under n h far en = let v = in-hole h in let p = path-leaf (e / 16) far (omega (arith, range)) in rw (v, p, en)
       (plus-none (elim n [ Absent ↦ 1 | Present ↦ 0 | Damaged ↦ 0 ]))
 
-  asks-for : (at : SuperBlock) (s : EntrySlot) → FitsSlot at (e / 16) s → IsEntrySlot X d (e / 16) s → blocks_for F d (e / 16) ≡ blocks_needed s
+  asks-for : (at : SuperBlock) (s : EntrySlot) → FitsSlot at (e / 16) s → IsEntrySlot X d (e / 16) s → blocks_for F d (e / 16) ≡ slot_blocks s
   asks-for at (entry.Held x) f h = let v : is_bytes (value_of F d (e / 16)) ≡ true = ap is_bytes (value-is ∙ ap (value_in X) h) in rw v refl
   asks-for at entry.Direct f h = let v = in-hole h in let p = path-direct (e / 16) f in rw (v, p) refl
   asks-for at (entry.UnderLeaf y) f h = under Present h.0 f.0 (leaf-is ∙ ap node_in h.1)
   asks-for at entry.WithLeaf f h = under Absent h.0 f (leaf-is ∙ ap node_in h.1)
 
   pub make-asks : (g : ℕ) (name : List ℕ) (kind : FileKind) (at : SuperBlock) (s : EntrySlot) → place_for F d name ≡ Some e → FitsSlot at (e / 16) s
-      → IsEntrySlot X d (e / 16) s → blocks_needed F (step.Make d g name kind) ≡ blocks_needed s
+      → IsEntrySlot X d (e / 16) s → blocks_needed F (step.Make d g name kind) ≡ slot_blocks s
   make-asks g name kind at s place f h = ap (blocks_at F d) place ∙ asks-for at s f h
 
 -- The claims of a Make

@@ -28,7 +28,7 @@ use Rattle.nofs_state.specs.declared.books.Books.{Books}
 use Rattle.nofs_state.proofs.Machine.{agreed-live, world-numbers}
 use Rattle.nofs_state.proofs.Maps.{set-here, set-length, set-other}
 use Rattle.nofs_state.proofs.Replies.{open-files}
-use Rattle.nofs_names.specs.Placing.{IsEntrySlot, blocks_needed}
+use Rattle.nofs_names.specs.Placing.{IsEntrySlot, slot_blocks}
 use Rattle.nofs_names.specs.declared.placing.EntrySlot.{EntrySlot}
 use Rattle.nofs_names.specs.declared.placing.EntrySlot.TheVariants as entry
 use Rattle.nofs_names.proofs.BlockClaims.{TakenBlocks}
@@ -50,7 +50,7 @@ module _ (F : Files) (X : Image) (d k : ℕ) (match : FilesMatch F X) (agrees : 
   empty-slot e = ap is_bytes (value-as ∙ ap (value_in X) e)
 
   pub slot-needs : (s : EntrySlot) → IsEntrySlot X d k s
-      → ((s ≡ entry.Direct → k < 8) × ((y : Pointer) → s ≡ entry.UnderLeaf y → 8 ≤ k) × (s ≡ entry.WithLeaf → 8 ≤ k)) → blocks_for F d k ≡ blocks_needed s
+      → ((s ≡ entry.Direct → k < 8) × ((y : Pointer) → s ≡ entry.UnderLeaf y → 8 ≤ k) × (s ≡ entry.WithLeaf → 8 ≤ k)) → blocks_for F d k ≡ slot_blocks s
   slot-needs (entry.Held x) is fits = let v : is_bytes (value_of F d k) ≡ true = ap is_bytes (value-as ∙ ap (value_in X) is) in rw v refl
   slot-needs entry.Direct is fits = let v = empty-slot is in let p = path-direct k (fits.0 refl) in rw (v, p) refl
   slot-needs (entry.UnderLeaf y) is fits =

@@ -41,7 +41,7 @@ use Rattle.nofs_names.specs.Entering.{Enters, MayEnter, ReadsTables, table_block
 use Rattle.nofs_names.specs.declared.ending.Ended.{Ended}
 use Rattle.nofs_names.specs.declared.entering.EntryPlace.{EntryPlace}
 use Rattle.nofs_names.specs.declared.entering.Tables.{Tables}
-use Rattle.nofs_names.specs.Placing.{FindsEntrySlot, FitsSlot, IsEntrySlot, IsSlotCell, IsPlaceOf, LiesInside, SlotFails, TakesBlocks, blocks_needed, place_or_full, room_rows}
+use Rattle.nofs_names.specs.Placing.{FindsEntrySlot, FitsSlot, IsEntrySlot, IsSlotCell, IsPlaceOf, LiesInside, SlotFails, TakesBlocks, slot_blocks, place_or_full, room_rows}
 use Rattle.nofs_names.specs.Linking.{AreBoth, FindsLinkPlace, IsKnown, Leads, MayLink, OpensBoth, PlaceIs, SpotIs, StandsLink, block_rows, both_rows, with_link, many_rows, named_rows, new_rows, place_rows}
 use Rattle.nofs_names.specs.declared.links.Both.{Both}
 use Rattle.nofs_names.specs.declared.placing.EntryBlocks.{EntryBlocks}
@@ -308,7 +308,7 @@ module _ (old : DiskState) (k : Books) (d g : ℕ) (name : List ℕ) (i of : ℕ
 pub link-needs : (old : DiskState) (k : Books) (d g : ℕ) (name : List ℕ) (i of : ℕ) → IsSafe old k
     → (IsTrue old.tells → KnownAgreed k old.now → IsThere d old.now × IsThere i old.now) → (e : ℕ) → e < entry_limit → PlaceIs old k d name e
     → (s : EntrySlot) → FitsSlot k.at (e / 16) s → (IsTrue old.tells → IsEntrySlot old.now d (e / 16) s) → IsTrue old.tells → (H : List Entry1) (p : Past)
-    → IsOpen old k H p → blocks_needed p.world.files (step.Link d g name i of) ≡ blocks_needed s
+    → IsOpen old k H p → blocks_needed p.world.files (step.Link d g name i of) ≡ slot_blocks s
 link-needs old k d g name i of safe there e range place s fits found t H p o =
     let q = place t H p o in
     rw q (slot-needs p.world.files old.now d (e / 16) (open-files old k H p o) (there t (are-agreed old k H p safe o)).0 (omega (arith, range)) s (found t) (

@@ -34,7 +34,7 @@ use Rattle.nofs_state.proofs.Tables.{HasRecord}
 use Rattle.nofs_state.proofs.TwoWrites.{safe-writes}
 use Rattle.nofs_names.specs.Renames.{done_answer}
 use Rattle.nofs_state.specs.Owing.{RowsPass}
-use Rattle.nofs_names.specs.Placing.{FitsSlot, IsEntrySlot, IsSlotCell, blocks_needed}
+use Rattle.nofs_names.specs.Placing.{FitsSlot, IsEntrySlot, IsSlotCell, slot_blocks}
 use Rattle.nofs_names.specs.Entering.{Enters, EntersHeld, EntersDirect, EntersUnderLeaf, EntersWithLeaf, MayEnter, table_block}
 use Rattle.nofs_names.specs.Linking.{MayLink, with_link}
 use Rattle.nofs_names.specs.declared.ending.Ended.{Ended}
@@ -142,7 +142,7 @@ module _ (first b new : DiskState) (k l : Books) (d g : ℕ) (both : Both) (p : 
       range = enters.range;
     }
 
-    needs : blocks_needed q.world.files (step.Link d g it.name it.inode it.generation) ≡ blocks_needed p.slot
+    needs : blocks_needed q.world.files (step.Link d g it.name it.inode it.generation) ≡ slot_blocks p.slot
     needs =
         let e = may.place tells H q o in
         rw e (slot-needs q.world.files b.now d (p.entry / 16) (open-files b k H q o) agrees (let r = enters.range in omega (arith, r)) p.slot (may.slot tells)
@@ -207,7 +207,7 @@ module _ (first b new : DiskState) (k l : Books) (d g : ℕ) (both : Both) (p : 
       in-table = write.in-table b.now it.inode x w.cell w.table new_record geometry.fits geometry.table geometry.multiple area has
 
       link1 : Links b.now (image_after ws1 b.now) q.world d g it.name it.inode it.generation p.entry spot no_claims
-      link1 = links no_claims ws1 (claim-none k q.world o.says d g it.name it.inode it.generation (needs ∙ ap blocks_needed eq))
+      link1 = links no_claims ws1 (claim-none k q.world o.says d g it.name it.inode it.generation (needs ∙ ap slot_blocks eq))
           (write.record-new b.now it.inode x w.cell w.table new_record geometry.fits geometry.table geometry.multiple area has)
 
       pub held-comes : Comes b new k H q d g it.name it.inode it.generation p.entry spot no_claims 0 ws1 is_b tells o
@@ -232,7 +232,7 @@ module _ (first b new : DiskState) (k l : Books) (d g : ℕ) (both : Both) (p : 
             | inr r ↦ elim r [ inl a ↦ (a.1 ∙ sym (ap (cell_at (image_after ws1 b.now)) a.0 ∙ in-table), inr a.0) | inr none ↦ absurd none ]
           ];
         });
-        needs = needs ∙ ap blocks_needed eq;
+        needs = needs ∙ ap slot_blocks eq;
       }
 
     -- a hole of the record
@@ -244,11 +244,11 @@ module _ (first b new : DiskState) (k l : Books) (d g : ℕ) (both : Both) (p : 
       ws2 = (p.blocks.cell, w.cell) ∷ (table_block d, w.after.directory) ∷ (table_block it.inode, w.after.inode) ∷ []
 
       free2 : (is_set k.free_blocks p.blocks.cell ≡ true) × (p.blocks.cell < length k.free_blocks)
-      free2 = enters.free.cell (subst (λ (z : EntrySlot). 1 ≤ blocks_needed z) (sym eq) (omega arith))
+      free2 = enters.free.cell (subst (λ (z : EntrySlot). 1 ≤ slot_blocks z) (sym eq) (omega arith))
 
       claim2 : IsClaim q.world s (claims_of x2 null)
       claim2 = claim-cell k q.world o.says d g it.name it.inode it.generation p.blocks.cell free2.0
-          (let a = free2.1 in let n = safe.free_blocks in omega (arith, a, n)) (needs ∙ ap blocks_needed eq)
+          (let a = free2.1 in let n = safe.free_blocks in omega (arith, a, n)) (needs ∙ ap slot_blocks eq)
 
       block2 : IsNewBlock (next_stamp q.world) b.now x2
       block2 = new-block b k H q s (claims_of x2 null) o claim2 x2
@@ -277,7 +277,7 @@ module _ (first b new : DiskState) (k l : Books) (d g : ℕ) (both : Both) (p : 
           each = direct-each b.now d it.inode p.entry both.directory ready (next_stamp q.world) x2 block2 w.cell t w.after new_record it small w.filled
               w.tables (at-d tells) (at-i tells) x2;
         });
-        needs = needs ∙ ap blocks_needed eq;
+        needs = needs ∙ ap slot_blocks eq;
       }
 
     -- a hole under a leaf that holds
@@ -289,11 +289,11 @@ module _ (first b new : DiskState) (k l : Books) (d g : ℕ) (both : Both) (p : 
       ws3 = (p.blocks.cell, w.cell) ∷ (y.block, w.leaf) ∷ (table_block it.inode, w.table) ∷ []
 
       free3 : (is_set k.free_blocks p.blocks.cell ≡ true) × (p.blocks.cell < length k.free_blocks)
-      free3 = enters.free.cell (subst (λ (z : EntrySlot). 1 ≤ blocks_needed z) (sym eq) (omega arith))
+      free3 = enters.free.cell (subst (λ (z : EntrySlot). 1 ≤ slot_blocks z) (sym eq) (omega arith))
 
       claim3 : IsClaim q.world s (claims_of x3 null)
       claim3 = claim-cell k q.world o.says d g it.name it.inode it.generation p.blocks.cell free3.0
-          (let a = free3.1 in let n = safe.free_blocks in omega (arith, a, n)) (needs ∙ ap blocks_needed eq)
+          (let a = free3.1 in let n = safe.free_blocks in omega (arith, a, n)) (needs ∙ ap slot_blocks eq)
 
       block3 : IsNewBlock (next_stamp q.world) b.now x3
       block3 = new-block b k H q s (claims_of x3 null) o claim3 x3
@@ -325,7 +325,7 @@ module _ (first b new : DiskState) (k l : Books) (d g : ℕ) (both : Both) (p : 
           each = under-each b.now d it.inode p.entry both.directory ready (next_stamp q.world) x3 y block3 agrees hole3.1 w.cell w.leaf w.table p.cell t.inode
               new_record it high3 w.filled w.above was3 w.written (at-i tells);
         });
-        needs = needs ∙ ap blocks_needed eq;
+        needs = needs ∙ ap slot_blocks eq;
       }
 
     -- a hole where there is no leaf
@@ -340,10 +340,10 @@ module _ (first b new : DiskState) (k l : Books) (d g : ℕ) (both : Both) (p : 
       ws4 = (p.blocks.cell, w.cell) ∷ (p.blocks.leaf, w.leaf) ∷ (table_block d, w.after.directory) ∷ (table_block it.inode, w.after.inode) ∷ []
 
       free4 : (is_set k.free_blocks p.blocks.cell ≡ true) × (p.blocks.cell < length k.free_blocks)
-      free4 = enters.free.cell (subst (λ (z : EntrySlot). 1 ≤ blocks_needed z) (sym eq) (omega arith))
+      free4 = enters.free.cell (subst (λ (z : EntrySlot). 1 ≤ slot_blocks z) (sym eq) (omega arith))
 
       leaf4 : (is_set k.free_blocks p.blocks.leaf ≡ true) × (p.blocks.leaf < length k.free_blocks) × (p.blocks.cell < p.blocks.leaf)
-      leaf4 = enters.free.leaf (subst (λ (z : EntrySlot). 2 ≤ blocks_needed z) (sym eq) (omega arith))
+      leaf4 = enters.free.leaf (subst (λ (z : EntrySlot). 2 ≤ slot_blocks z) (sym eq) (omega arith))
 
       xy4 : p.blocks.cell ≢ p.blocks.leaf
       xy4 e = let a = leaf4.2 in omega (arith, a, e)
@@ -351,7 +351,7 @@ module _ (first b new : DiskState) (k l : Books) (d g : ℕ) (both : Both) (p : 
       claim4 : IsClaim q.world s (claims_of x4 y4)
       claim4 = let n = safe.free_blocks in let a = free4.1 in let c = leaf4.1 in
           claim-both k q.world o.says d g it.name it.inode it.generation p.blocks.cell free4.0 (omega (arith, a, n)) p.blocks.leaf leaf4.0
-          (omega (arith, c, n)) xy4 (far p.blocks.cell free4.0) (far p.blocks.leaf leaf4.0) (needs ∙ ap blocks_needed eq)
+          (omega (arith, c, n)) xy4 (far p.blocks.cell free4.0) (far p.blocks.leaf leaf4.0) (needs ∙ ap slot_blocks eq)
 
       named-x : is_claimed x4 ≡ true
       named-x = let t = ne_eqb p.blocks.cell 0 (λ e. let f = far p.blocks.cell free4.0 in omega (arith, e, f)) in rw t refl
@@ -387,7 +387,7 @@ module _ (first b new : DiskState) (k l : Books) (d g : ℕ) (both : Both) (p : 
           each = with-each b.now d it.inode p.entry both.directory ready (next_stamp q.world) x4 y4 block4 leaf-block4 xy4 hole4.1 w.cell w.leaf t w.after
               new_record it high4 w.filled w.above w.tables (at-d tells) (at-i tells);
         });
-        needs = needs ∙ ap blocks_needed eq;
+        needs = needs ∙ ap slot_blocks eq;
       }
 
   -- by what stands in the slot
@@ -408,8 +408,8 @@ module _ (first b new : DiskState) (k l : Books) (d g : ℕ) (both : Both) (p : 
           ((λ e. let a = (subst (λ (z : EntrySlot). FitsSlot k.at (p.entry / 16) z) eq enters.fits).0 in omega (arith, a, e)), ((λ e. omega (arith, e)), tt))
           (taken-none k) (λ tells H q o. held-comes tells H q o x eq w) may.rows w.stores)
       go slots.Direct eq w =
-          let c = enters.free.cell (subst (λ (z : EntrySlot). 1 ≤ blocks_needed z) (sym eq) (omega arith)) in
-          let a = c.1 in let n = safe.free_blocks in let m = ap blocks_needed eq in let q = enters.stamps in
+          let c = enters.free.cell (subst (λ (z : EntrySlot). 1 ≤ slot_blocks z) (sym eq) (omega arith)) in
+          let a = c.1 in let n = safe.free_blocks in let m = ap slot_blocks eq in let q = enters.stamps in
           as-claims (claims_of (claimed_pointer k p.blocks.cell) null) w.claims
           (stores-goes b new k (claimed_books k p.blocks.cell) l d g it.name it.inode it.generation p.entry spot
           (claims_of (claimed_pointer k p.blocks.cell) null) 1 _ ended.result is_b is_new safe going
@@ -417,8 +417,8 @@ module _ (first b new : DiskState) (k l : Books) (d g : ℕ) (both : Both) (p : 
           (apart-far p.blocks.cell (far p.blocks.cell c.0), ((λ e. omega (arith, e)), ((λ e. omega (arith, e)), tt)))
           (taken-cell k p.blocks.cell (far p.blocks.cell c.0) a) (λ tells H q o. direct-comes tells H q o eq w) may.rows w.stores)
       go (slots.UnderLeaf y) eq w =
-          let c = enters.free.cell (subst (λ (z : EntrySlot). 1 ≤ blocks_needed z) (sym eq) (omega arith)) in
-          let a = c.1 in let n = safe.free_blocks in let m = ap blocks_needed eq in let q = enters.stamps in
+          let c = enters.free.cell (subst (λ (z : EntrySlot). 1 ≤ slot_blocks z) (sym eq) (omega arith)) in
+          let a = c.1 in let n = safe.free_blocks in let m = ap slot_blocks eq in let q = enters.stamps in
           as-claims (claims_of (claimed_pointer k p.blocks.cell) null) w.claims
           (stores-goes b new k (claimed_books k p.blocks.cell) l d g it.name it.inode it.generation p.entry spot
           (claims_of (claimed_pointer k p.blocks.cell) null) 1 _ ended.result is_b is_new safe going
@@ -431,9 +431,9 @@ module _ (first b new : DiskState) (k l : Books) (d g : ℕ) (both : Both) (p : 
           )
           (taken-cell k p.blocks.cell (far p.blocks.cell c.0) a) (λ tells H q o. under-comes tells H q o y eq w) may.rows w.stores)
       go slots.WithLeaf eq w =
-          let c = enters.free.cell (subst (λ (z : EntrySlot). 1 ≤ blocks_needed z) (sym eq) (omega arith)) in
-          let f = enters.free.leaf (subst (λ (z : EntrySlot). 2 ≤ blocks_needed z) (sym eq) (omega arith)) in
-          let a = c.1 in let a2 = f.1 in let n = safe.free_blocks in let m = ap blocks_needed eq in let q = enters.stamps in
+          let c = enters.free.cell (subst (λ (z : EntrySlot). 1 ≤ slot_blocks z) (sym eq) (omega arith)) in
+          let f = enters.free.leaf (subst (λ (z : EntrySlot). 2 ≤ slot_blocks z) (sym eq) (omega arith)) in
+          let a = c.1 in let a2 = f.1 in let n = safe.free_blocks in let m = ap slot_blocks eq in let q = enters.stamps in
           as-claims (claims_of (claimed_pointer k p.blocks.cell) (claimed_pointer (claimed_books k p.blocks.cell) p.blocks.leaf)) w.claims
           (stores-goes b new k (claimed_books (claimed_books k p.blocks.cell) p.blocks.leaf) l d g it.name it.inode it.generation p.entry spot
           (claims_of (claimed_pointer k p.blocks.cell) (claimed_pointer (claimed_books k p.blocks.cell) p.blocks.leaf)) 2 _ ended.result is_b is_new safe

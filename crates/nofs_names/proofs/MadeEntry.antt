@@ -33,7 +33,7 @@ use Rattle.nofs_state.proofs.Tables.{HasRecord, table_block}
 use Rattle.nofs_state.specs.Owing.{RecordIn}
 use Rattle.nofs_names.specs.Entering.{IsTable, entered}
 use Rattle.nofs_names.specs.Makes.{MayMake, made_record}
-use Rattle.nofs_names.specs.Placing.{blocks_needed}
+use Rattle.nofs_names.specs.Placing.{slot_blocks}
 use Rattle.nofs_names.specs.declared.entering.EntryPlace.{EntryPlace}
 use Rattle.nofs_names.specs.declared.placing.EntrySlot.TheVariants as entry
 use Rattle.nofs_names.proofs.Asking.{make_claims, make-asks, inode-picked, claims-none}
@@ -93,7 +93,7 @@ module _ (b : DiskState) (k : Books) (H : List Entry1) (p : Past) (d g : ℕ) (n
   pub inode-claim : IsInodeClaim p.world (next_stamp p.world) (make_claims i (next_of k) null null) true
   inode-claim = inode-picked b k H p safe o i may.above may.within may.free
 
-  pub needs-are : blocks_needed p.world.files (step.Make d g name kind) ≡ blocks_needed place.slot
+  pub needs-are : blocks_needed p.world.files (step.Make d g name kind) ≡ slot_blocks place.slot
   needs-are = make-asks p.world.files b.now d place.entry (open-files b k H p o) agrees may.range g name kind k.at place.slot place-here may.fits
       (may.slot tells)
 
@@ -160,7 +160,7 @@ module _ (b : DiskState) (k : Books) (H : List Entry1) (p : Past) (d g : ℕ) (n
     made-held : Makes b.now (image_after ((x.block, cell) ∷ (table_block i, table) ∷ []) b.now) p.world d g name kind place.entry
         (make_claims i (next_of k) null null)
     made-held = makes-from (image_after ((x.block, cell) ∷ (table_block i, table) ∷ []) b.now) null null
-        (claims-none p.world d g name kind i (next_of k) inode-claim (needs-are ∙ ap blocks_needed slot-is))
+        (claims-none p.world d g name kind i (next_of k) inode-claim (needs-are ∙ ap slot_blocks slot-is))
         (write.record-new b.now i x cell table _ geometry.fits geometry.table geometry.multiple area has)
 
     writes-held : WritesInPlace b.now (image_after ((x.block, cell) ∷ (table_block i, table) ∷ []) b.now) d place.entry (make_claims i (next_of k) null null) name x
@@ -199,5 +199,5 @@ module _ (b : DiskState) (k : Books) (H : List Entry1) (p : Past) (d g : ℕ) (n
       it = made-held;
       ends = in-place-ends b new k H p d g name kind place.entry (make_claims i (next_of k) null null)
           ((x.block, cell) ∷ (table_block i, table) ∷ []) is_b tells o made-held x writes-held;
-      needs = needs-are ∙ ap blocks_needed slot-is;
+      needs = needs-are ∙ ap slot_blocks slot-is;
     }

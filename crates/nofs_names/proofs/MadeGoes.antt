@@ -13,7 +13,7 @@ use Rattle.nofs_state.specs.Steps.{Goes}
 use Rattle.nofs_state.specs.declared.books.Books.{Books}
 use Rattle.nofs_names.specs.Entering.{Enters, table_block}
 use Rattle.nofs_names.specs.Makes.{MayMake, made_answer, made_record}
-use Rattle.nofs_names.specs.Placing.{AreFree, FitsSlot, blocks_needed}
+use Rattle.nofs_names.specs.Placing.{AreFree, FitsSlot, slot_blocks}
 use Rattle.nofs_state.specs.Owing.{RowsPass}
 use Rattle.nofs_names.specs.declared.ending.Ended.{Ended}
 use Rattle.nofs_names.specs.declared.entering.EntryPlace.{EntryPlace}
@@ -47,7 +47,7 @@ module _ (b new : DiskState) (k l : Books) (d g : ℕ) (name : List ℕ) (kind :
   first-safe : IsSafe b (made_books k i)
   first-safe = inode-safe b k i one-left safe
 
-  module _ (n : ℕ) (blocks-are : blocks_needed place.slot ≡ n) (one : 1 ≤ n) where
+  module _ (n : ℕ) (blocks-are : slot_blocks place.slot ≡ n) (one : 1 ≤ n) where
     cell-free : is_set k.free_blocks place.blocks.cell ≡ true
     cell-free = (may.blocks.cell (let e = blocks-are in omega (arith, e, one))).0
 
@@ -74,37 +74,37 @@ module _ (b new : DiskState) (k l : Books) (d g : ℕ) (name : List ℕ) (kind :
       pass w.stores)
   entered-goes entry.Direct is w = subst IsEnd (sym w.claims)
       (made-goes b new k (claimed_books (made_books k i) place.blocks.cell) l d g name kind place.entry _ _ 1 ended.result is_b is_new safe
-      (cell-safe 1 (ap blocks_needed is) (omega arith)) going
-      (free-above b k place.blocks.cell safe (cell-free 1 (ap blocks_needed is) (omega arith)), (no-table d, (no-table i, tt)))
-      (taken-one k i (next_of k) may.above high (claimed_pointer (made_books k i) place.blocks.cell) (cell-range 1 (ap blocks_needed is) (omega arith))
-      (cell-named 1 (ap blocks_needed is) (omega arith)))
+      (cell-safe 1 (ap slot_blocks is) (omega arith)) going
+      (free-above b k place.blocks.cell safe (cell-free 1 (ap slot_blocks is) (omega arith)), (no-table d, (no-table i, tt)))
+      (taken-one k i (next_of k) may.above high (claimed_pointer (made_books k i) place.blocks.cell) (cell-range 1 (ap slot_blocks is) (omega arith))
+      (cell-named 1 (ap slot_blocks is) (omega arith)))
       (λ tells H p o. direct-made b k H p d g name kind dr place i tells safe o may new is_b w.cell w.filled is t w.after w.tables (was_d tells) (was_i tells))
       pass w.stores)
   entered-goes (entry.UnderLeaf y) is w = subst IsEnd (sym w.claims)
       (made-goes b new k (claimed_books (made_books k i) place.blocks.cell) l d g name kind place.entry _ _ 1 ended.result is_b is_new safe
-      (cell-safe 1 (ap blocks_needed is) (omega arith)) going (
-        free-above b k place.blocks.cell safe (cell-free 1 (ap blocks_needed is) (omega arith)),
+      (cell-safe 1 (ap slot_blocks is) (omega arith)) going (
+        free-above b k place.blocks.cell safe (cell-free 1 (ap slot_blocks is) (omega arith)),
         (in-data k.at y (subst (λ (q : EntrySlot). FitsSlot k.at (place.entry / 16) q) is may.fits).1, (no-table i, tt)),
       )
-      (taken-one k i (next_of k) may.above high (claimed_pointer (made_books k i) place.blocks.cell) (cell-range 1 (ap blocks_needed is) (omega arith))
-      (cell-named 1 (ap blocks_needed is) (omega arith)))
+      (taken-one k i (next_of k) may.above high (claimed_pointer (made_books k i) place.blocks.cell) (cell-range 1 (ap slot_blocks is) (omega arith))
+      (cell-named 1 (ap slot_blocks is) (omega arith)))
       (λ tells H p o. under-made b k H p d g name kind dr place i tells safe o may new is_b w.cell w.filled y is w.leaf w.table t.inode w.above w.written
       (was_i tells)) pass w.stores)
   entered-goes entry.WithLeaf is w =
-      let f = may.blocks.leaf (let e = ap blocks_needed is in omega (arith, e)) in
+      let f = may.blocks.leaf (let e = ap slot_blocks is in omega (arith, e)) in
       let n : place.blocks.leaf < k.at.blocks = (let r = f.1 in let m = safe.free_blocks in omega (arith, r, m)) in
       let z : eqb place.blocks.leaf 0 ≡ false = ne_eqb place.blocks.leaf 0 (λ e. free-above b k place.blocks.leaf safe f.0 (sym e)) in
       subst IsEnd (sym w.claims)
       (made-goes b new k (claimed_books (claimed_books (made_books k i) place.blocks.cell) place.blocks.leaf) l d g name kind place.entry _ _ 2 ended.result
       is_b is_new safe
       (block-safe b (claimed_books (made_books k i) place.blocks.cell) place.blocks.leaf n
-      (let s = may.stamps in let e = ap blocks_needed is in omega (arith, s, e)) (cell-safe 2 (ap blocks_needed is) (omega arith))) going (
-        free-above b k place.blocks.cell safe (cell-free 2 (ap blocks_needed is) (omega arith)),
+      (let s = may.stamps in let e = ap slot_blocks is in omega (arith, s, e)) (cell-safe 2 (ap slot_blocks is) (omega arith))) going (
+        free-above b k place.blocks.cell safe (cell-free 2 (ap slot_blocks is) (omega arith)),
         (free-above b k place.blocks.leaf safe f.0, (no-table d, (no-table i, tt))),
       )
       (taken-two k i (next_of k) may.above high (claimed_pointer (made_books k i) place.blocks.cell)
       (claimed_pointer (claimed_books (made_books k i) place.blocks.cell) place.blocks.leaf)
-      (cell-range 2 (ap blocks_needed is) (omega arith)) f.1 (cell-named 2 (ap blocks_needed is) (omega arith)) (ap not z))
+      (cell-range 2 (ap slot_blocks is) (omega arith)) f.1 (cell-named 2 (ap slot_blocks is) (omega arith)) (ap not z))
       (λ tells H p o. with-made b k H p d g name kind dr place i tells safe o may new is_b w.cell w.filled is w.leaf t w.after w.above w.tables (was_d tells)
       (was_i tells)) pass w.stores)
 

@@ -31,7 +31,7 @@ use Rattle.nofs_state.proofs.Machine.{agreed-live, world-numbers}
 use Rattle.nofs_state.proofs.Replies.{open-files}
 use Rattle.nofs_names.specs.Entering.{AreTables, IsMoreLeaf, IsNewCell, IsNewLeaf, IsTable, with_direct, with_leaf, table_block}
 use Rattle.nofs_names.specs.Makes.{MayMake, made_record}
-use Rattle.nofs_names.specs.Placing.{FitsSlot, IsEntrySlot, IsSlotCell, blocks_needed}
+use Rattle.nofs_names.specs.Placing.{FitsSlot, IsEntrySlot, IsSlotCell, slot_blocks}
 use Rattle.nofs_names.specs.declared.entering.EntryPlace.{EntryPlace}
 use Rattle.nofs_names.specs.declared.entering.Tables.{Tables}
 use Rattle.nofs_names.specs.declared.placing.EntrySlot.{EntrySlot}
@@ -132,14 +132,14 @@ module _ (b : DiskState) (k : Books) (H : List Entry1) (p : Past) (d g : ℕ) (n
 
   -- the blocks that are claimed
 
-  cell-set : (n : ℕ) → blocks_needed place.slot ≡ n → 1 ≤ n → (is_set k.free_blocks place.blocks.cell ≡ true) × (place.blocks.cell < k.at.blocks)
+  cell-set : (n : ℕ) → slot_blocks place.slot ≡ n → 1 ≤ n → (is_set k.free_blocks place.blocks.cell ≡ true) × (place.blocks.cell < k.at.blocks)
   cell-set n e le = let f = may.blocks.cell (omega (arith, e, le)) in (f.0, (let l = f.1 in let m = safe.free_blocks in omega (arith, l, m)))
 
-  cell-picked : (n : ℕ) → blocks_needed place.slot ≡ n → 1 ≤ n → IsPicked p.world (next_stamp p.world + 1) (claimed_pointer (made_books k i) place.blocks.cell)
+  cell-picked : (n : ℕ) → slot_blocks place.slot ≡ n → 1 ≤ n → IsPicked p.world (next_stamp p.world + 1) (claimed_pointer (made_books k i) place.blocks.cell)
   cell-picked n e le = let f = cell-set n e le in block-picked b k H p safe o place.blocks.cell 1 f.1 f.0
 
-  needs : (s : EntrySlot) → place.slot ≡ s → blocks_needed p.world.files (step.Make d g name kind) ≡ blocks_needed s
-  needs s e = needs-are b k H p d g name kind dr place i tells safe o may ∙ ap blocks_needed e
+  needs : (s : EntrySlot) → place.slot ≡ s → blocks_needed p.world.files (step.Make d g name kind) ≡ slot_blocks s
+  needs s e = needs-are b k H p d g name kind dr place i tells safe o may ∙ ap slot_blocks e
 
   module _ (new : DiskState) (is_b : IsDisk b) (cell : Cell) (filled : IsNewCell d dr.generation place.entry
       (record { inode = i; generation = next_of k; name = name }) (claimed_pointer (made_books k i) place.blocks.cell).stamp cell) where
@@ -173,7 +173,7 @@ module _ (b : DiskState) (k : Books) (H : List Entry1) (p : Past) (d g : ℕ) (n
       ws1 = (place.blocks.cell, cell) ∷ (table_block d, after.directory) ∷ (table_block i, after.inode) ∷ []
 
       picked1 : IsPicked p.world (next_stamp p.world + 1) (claimed_pointer (made_books k i) place.blocks.cell)
-      picked1 = cell-picked 1 (ap blocks_needed slot-is) (omega arith)
+      picked1 = cell-picked 1 (ap slot_blocks slot-is) (omega arith)
 
       claim1 : IsClaim p.world (step.Make d g name kind) (make_claims i (next_of k) (claimed_pointer (made_books k i) place.blocks.cell) null)
       claim1 = claim-one (needs entry.Direct slot-is) picked1
@@ -232,7 +232,7 @@ module _ (b : DiskState) (k : Books) (H : List Entry1) (p : Past) (d g : ℕ) (n
       ws2 = (place.blocks.cell, cell) ∷ (y.block, u) ∷ (table_block i, t) ∷ []
 
       picked2 : IsPicked p.world (next_stamp p.world + 1) (claimed_pointer (made_books k i) place.blocks.cell)
-      picked2 = cell-picked 1 (ap blocks_needed slot-is) (omega arith)
+      picked2 = cell-picked 1 (ap slot_blocks slot-is) (omega arith)
 
       claim2 : IsClaim p.world (step.Make d g name kind) (make_claims i (next_of k) (claimed_pointer (made_books k i) place.blocks.cell) null)
       claim2 = claim-one (needs (entry.UnderLeaf y) slot-is) picked2
@@ -305,10 +305,10 @@ module _ (b : DiskState) (k : Books) (H : List Entry1) (p : Past) (d g : ℕ) (n
       ws3 = (place.blocks.cell, cell) ∷ (place.blocks.leaf, u) ∷ (table_block d, after.directory) ∷ (table_block i, after.inode) ∷ []
 
       leaf-free : (is_set k.free_blocks place.blocks.leaf ≡ true) × (place.blocks.leaf < length k.free_blocks) × (place.blocks.cell < place.blocks.leaf)
-      leaf-free = may.blocks.leaf (let e = ap blocks_needed slot-is in omega (arith, e))
+      leaf-free = may.blocks.leaf (let e = ap slot_blocks slot-is in omega (arith, e))
 
       picked3 : IsPicked p.world (next_stamp p.world + 1) (claimed_pointer (made_books k i) place.blocks.cell)
-      picked3 = cell-picked 2 (ap blocks_needed slot-is) (omega arith)
+      picked3 = cell-picked 2 (ap slot_blocks slot-is) (omega arith)
 
       leaf-picked : IsPicked p.world (next_stamp p.world + 1 + 1) (claimed_pointer (claimed_books (made_books k i) place.blocks.cell) place.blocks.leaf)
       leaf-picked =

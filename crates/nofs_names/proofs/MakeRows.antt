@@ -37,7 +37,7 @@ use Rattle.nofs_state.proofs.Machine.{are-agreed}
 use Rattle.nofs_names.specs.Searching.{Passed}
 use Rattle.nofs_names.specs.Refusing.{Fails, KnownAgreed, IsThere, directory_rows, exists_rows, OpensDirectory, FindsNone, place_of_entry}
 use Rattle.nofs_names.specs.Makes.{FindsInode, MayMake, NoInode, PlaceIs, RowsLeft, RoomLeft, made_answer, room_left}
-use Rattle.nofs_names.specs.Placing.{FindsEntrySlot, FitsSlot, IsEntrySlot, IsPlaceOf, IsSlotCell, LiesInside, SlotFails, TakesBlocks, blocks_needed, room_rows}
+use Rattle.nofs_names.specs.Placing.{FindsEntrySlot, FitsSlot, IsEntrySlot, IsPlaceOf, IsSlotCell, LiesInside, SlotFails, TakesBlocks, slot_blocks, room_rows}
 use Rattle.nofs_names.specs.declared.ending.Ended.{Ended}
 use Rattle.nofs_names.specs.declared.entering.EntryPlace.{EntryPlace}
 use Rattle.nofs_names.proofs.Asking.{make-asks}
@@ -310,7 +310,7 @@ module _ (old new : DiskState) (stays : StaysButFaults old new) (k : Books) wher
 pub slot-needs : (b : DiskState) (k : Books) (d g : ℕ) (name : List ℕ) (kind : FileKind) (e : ℕ) (at : SuperBlock) (s : EntrySlot) → IsSafe b k
     → (IsTrue b.tells → KnownAgreed k b.now → IsThere d b.now) → e < entry_limit → PlaceIs b k d name e → FitsSlot at (e / 16) s
     → (IsTrue b.tells → IsEntrySlot b.now d (e / 16) s)
-    → IsTrue b.tells → (H : List Entry1) (p : Past) → IsOpen b k H p → blocks_needed p.world.files (step.Make d g name kind) ≡ blocks_needed s
+    → IsTrue b.tells → (H : List Entry1) (p : Past) → IsOpen b k H p → blocks_needed p.world.files (step.Make d g name kind) ≡ slot_blocks s
 slot-needs b k d g name kind e at s safe there range place fits slot t H p o = make-asks p.world.files b.now d e (open-files b k H p o)
     (there t (are-agreed b k H p safe o)) range g name kind at s (place t H p o) fits (slot t)
 

@@ -29,7 +29,7 @@ use Rattle.nofs_state.proofs.SafeSteps.{safely-done, safely-fault, safely-read, 
 use Rattle.nofs_state.proofs.TwoWrites.{safe-writes}
 use Rattle.nofs_names.specs.Entering.{Enters, MayEnter}
 use Rattle.nofs_names.specs.Makes.{NoInode, is_raised, made_answer}
-use Rattle.nofs_names.specs.Placing.{AreFree, FitsSlot, SlotFails, blocks_needed}
+use Rattle.nofs_names.specs.Placing.{AreFree, FitsSlot, SlotFails, slot_blocks}
 use Rattle.nofs_names.specs.Refusing.{Fails, ByRow, ByRead}
 use Rattle.nofs_names.proofs.Onward.{directory-on}
 use Rattle.nofs_names.specs.declared.ending.Ended.{Ended}
@@ -94,8 +94,8 @@ pub no-table : (i : ℕ) → 0 ≢ 1 + (i - 1) / 4
 no-table i e = omega (arith, e)
 
 pub entered-safely : (old new : DiskState) (k l : Books) (i d : ℕ) (dr : Record) (p : EntryPlace) (it : Entry) (r : Record) (t : Tables) (s : EntrySlot)
-    (ended : Ended) (claims : Claims) → IsSafe old k → k.stopped ≡ false → FitsSlot k.at (p.entry / 16) s → AreFree k.free_blocks (blocks_needed s) p.blocks
-    → k.serial + 1 + blocks_needed s ≤ 2 ^ 40 → Enters old (made_books k i) new l d dr p it r t s ended → IsSafeStep old k new l (made_answer claims ended.result)
+    (ended : Ended) (claims : Claims) → IsSafe old k → k.stopped ≡ false → FitsSlot k.at (p.entry / 16) s → AreFree k.free_blocks (slot_blocks s) p.blocks
+    → k.serial + 1 + slot_blocks s ≤ 2 ^ 40 → Enters old (made_books k i) new l d dr p it r t s ended → IsSafeStep old k new l (made_answer claims ended.result)
 entered-safely old new k l i d dr p it r t (entry.Held x) ended claims safe going fits free stamps e =
     stores-safely old new k (made_books k i) l claims _ ended.result going refl refl refl (inode-safe old k i (omega (arith, stamps)) safe)
     (in-data k.at x fits, (no-table it.inode, tt)) e.stores
@@ -163,7 +163,7 @@ inode-fails-safely old new k why safe going stays (inl ((next, is-why, small, sa
 inode-fails-safely old new k why safe going stays (inr (is-why, low)) = subst (λ (w : Refusal). IsSafeStep old k new k (reply.Refused w)) (sym is-why)
     (safely-row old new k safe stays refusal.SerialsSpent refl tt going)
 
-pub few-blocks : (s : EntrySlot) → blocks_needed s ≤ 2
+pub few-blocks : (s : EntrySlot) → slot_blocks s ≤ 2
 few-blocks (entry.Held x) = omega arith
 few-blocks entry.Direct = omega arith
 few-blocks (entry.UnderLeaf y) = omega arith
@@ -171,8 +171,8 @@ few-blocks entry.WithLeaf = omega arith
 
 -- what the inode's claim leaves for the entry
 pub may-enter : (old mid : DiskState) (k : Books) (d : ℕ) (dr : Record) (p : EntryPlace) (i : ℕ) (name : List ℕ) (new : Record) → StaysButFaults old mid
-    → KnowsDirectory old k.at d dr.generation dr → p.entry < entry_limit → FitsSlot k.at (p.entry / 16) p.slot → AreFree k.free_blocks (blocks_needed p.slot) p.blocks
-    → k.serial + 1 + blocks_needed p.slot ≤ 2 ^ 40 → is_raised k ≡ true → 1 ≤ i → i ≤ k.at.inodes → NameOk name → HasRecordSpelling new
+    → KnowsDirectory old k.at d dr.generation dr → p.entry < entry_limit → FitsSlot k.at (p.entry / 16) p.slot → AreFree k.free_blocks (slot_blocks p.slot) p.blocks
+    → k.serial + 1 + slot_blocks p.slot ≤ 2 ^ 40 → is_raised k ≡ true → 1 ≤ i → i ≤ k.at.inodes → NameOk name → HasRecordSpelling new
     → MayEnter mid (made_books k i) d dr p.entry p.slot p.blocks (record { inode = i; generation = k.at.mount * 2 ^ 40 + k.serial; name = name }) new
 may-enter old mid k d dr p i name new stays directory range fits free stamps raised above within ok spelling = record {
   directory = directory-on old mid stays k.at d dr.generation dr directory;

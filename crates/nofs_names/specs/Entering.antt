@@ -15,7 +15,7 @@ use Rattle.nofs_state.specs.Books.{claimed_books, claimed_pointer}
 use Rattle.nofs_state.specs.Writing.{Stores}
 use Rattle.nofs_state.specs.declared.books.Books.{Books}
 use Rattle.nofs_state.specs.Owing.{RecordIn}
-use Rattle.nofs_names.specs.Placing.{AreFree, FitsSlot, blocks_needed}
+use Rattle.nofs_names.specs.Placing.{AreFree, FitsSlot, slot_blocks}
 use Rattle.nofs_names.specs.declared.ending.Ended.{Ended}
 use Rattle.nofs_names.specs.declared.entering.EntryPlace.{EntryPlace}
 use Rattle.nofs_names.specs.declared.entering.Tables.{Tables}
@@ -48,8 +48,8 @@ pub record MayEnter (d : DiskState) (k : Books) (i : ℕ) (r : Record) (n : ℕ)
     pub directory : KnowsDirectory d k.at i r.generation r
     pub range : n < entry_limit
     pub fits : FitsSlot k.at (n / 16) slot
-    pub free : AreFree k.free_blocks (blocks_needed slot) b
-    pub stamps : k.serial + blocks_needed slot ≤ 2 ^ 40
+    pub free : AreFree k.free_blocks (slot_blocks slot) b
+    pub stamps : k.serial + slot_blocks slot ≤ 2 ^ 40
     pub one : 1 ≤ named.inode
     pub most : named.inode ≤ k.at.inodes
     pub spelling : HasEntrySpelling named

@@ -23,7 +23,7 @@ use Rattle.nofs_state.specs.Books.{InodesFit, Says}
 use Rattle.nofs_state.specs.Standing.{IsOpen, Past}
 use Rattle.nofs_state.specs.declared.books.Books.{Books}
 use Rattle.nofs_names.specs.Refusing.{IsThere, KnownAgreed}
-use Rattle.nofs_names.specs.Placing.{AreFree, FitsSlot, IsEntrySlot, IsSlotCell, blocks_needed}
+use Rattle.nofs_names.specs.Placing.{AreFree, FitsSlot, IsEntrySlot, IsSlotCell, slot_blocks}
 use Rattle.nofs_names.specs.declared.entering.EntryPlace.{EntryPlace}
 
 -- the record of a new inode
@@ -86,8 +86,8 @@ pub record MayMake (d : DiskState) (k : Books) (i g : ℕ) (name : List ℕ) (r 
   pub fits : FitsSlot k.at (p.entry / 16) p.slot
   pub slot : IsTrue d.tells → IsEntrySlot d.now i (p.entry / 16) p.slot
   pub cell : IsTrue d.tells → IsSlotCell d.now p.slot p.cell
-  pub blocks : AreFree k.free_blocks (blocks_needed p.slot) p.blocks
-  pub stamps : k.serial + 1 + blocks_needed p.slot ≤ 2 ^ 40
+  pub blocks : AreFree k.free_blocks (slot_blocks p.slot) p.blocks
+  pub stamps : k.serial + 1 + slot_blocks p.slot ≤ 2 ^ 40
   pub raised : is_raised k ≡ true
   pub above : 1 ≤ made
   pub within : made ≤ k.at.inodes

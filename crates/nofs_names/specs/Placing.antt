@@ -40,11 +40,11 @@ abbrev pub IsPlaceOf : Unfound → Result ℕ Refusal → Type 0
 IsPlaceOf u result = LiesInside u → result ≡ place_or_full (place_of_entry u)
 
 -- how many blocks a new entry takes
-abbrev pub blocks_needed : EntrySlot → ℕ
-blocks_needed (entry.Held x) = 0
-blocks_needed entry.Direct = 1
-blocks_needed (entry.UnderLeaf y) = 1
-blocks_needed entry.WithLeaf = 2
+abbrev pub slot_blocks : EntrySlot → ℕ
+slot_blocks (entry.Held x) = 0
+slot_blocks entry.Direct = 1
+slot_blocks (entry.UnderLeaf y) = 1
+slot_blocks entry.WithLeaf = 2
 
 -- what stands in slot k of a directory
 abbrev pub IsEntrySlot : Image → ℕ → ℕ → EntrySlot → Type 0

@@ -6,7 +6,7 @@ ghost use Rattle.nofs_model.specs.Slots as slots;
 ghost use Rattle.nofs_model.specs.declared.path.PathAnswer.TheVariants as answer;
 ghost use Rattle.nofs_agree.specs.Reading.{IsLast, KnowsInode};
 ghost use Rattle.nofs_state.specs.Books.{IsSafe};
-ghost use Rattle.nofs_names.specs.Placing.{AreFree, FindsEntrySlot, IsPlaceOf, IsUnderLeaf, TakesBlocks, blocks_needed};
+ghost use Rattle.nofs_names.specs.Placing.{AreFree, FindsEntrySlot, IsPlaceOf, IsUnderLeaf, TakesBlocks, slot_blocks};
 
 use crate::opening::place_of_new;
 use crate::searching::Unfound;
@@ -34,7 +34,7 @@ pub enum EntrySlot {
 impl EntrySlot {
     /// How many blocks a new entry takes in this slot: one for its cell and one for the leaf.
     pub(crate) fn blocks(self) -> u64
-        ensures { result ≡ blocks_needed self }
+        ensures { result ≡ slot_blocks self }
     {
         match self {
             EntrySlot::Held(_) => 0,

@@ -7,7 +7,7 @@ use Rattle.nofs_machine.specs.declared.replies.Reply.TheVariants as reply
 use Rattle.nofs_machine.specs.declared.replies.Refusal.{Refusal}
 use Rattle.nofs_state.proofs.Keeping.{goes-after, reads-keep, safe-keeps}
 use Rattle.nofs_names.specs.Makes.{made_answer}
-use Rattle.nofs_names.specs.Placing.{AreFree, IsEntrySlot, IsSlotCell, TakesBlocks, blocks_needed}
+use Rattle.nofs_names.specs.Placing.{AreFree, IsEntrySlot, IsSlotCell, TakesBlocks, slot_blocks}
 use Rattle.nofs_names.specs.declared.placing.EntryBlocks.{EntryBlocks}
 use Rattle.nofs_names.proofs.MakeRows.{left-on, make-inode, make-no-blocks, make-no-inode, make-no-slot, make-passes, place-on, refused-goes, slot-needs}
 use Rattle.nofs_names.proofs.Onward.{directory-on, there-on}
@@ -90,7 +90,7 @@ make_at-requires-clause-rows g c = make-passes (g.D.Disk.state c.find_entry_slot
     c.args.directory c.args.name c.args.entry c.requires.place) c.in-Ok.ensures.fits
     (λ t. subst (λ (X : Image). IsEntrySlot X c.args.directory (c.args.entry / 16) c.in-Ok.slot) (sym (c.find_entry_slot.ensures.stays.cells.now))
     (c.in-Ok.ensures.found (subst (λ (b : Bool). IsTrue b) c.find_entry_slot.ensures.stays.disk.tells t)))) c.in-Ok-take_blocks.blocks
-    (subst (λ (r : Result EntryBlocks Refusal). TakesBlocks c.args.core.now.books (blocks_needed c.in-Ok.slot) 1 r) c.in-Ok-take_blocks.is
+    (subst (λ (r : Result EntryBlocks Refusal). TakesBlocks c.args.core.now.books (slot_blocks c.in-Ok.slot) 1 r) c.in-Ok-take_blocks.is
     (subst (λ (n : ℕ). TakesBlocks c.args.core.now.books n 1 c.take_blocks.result) c.blocks-2.ensures c.take_blocks.ensures))
 
 pub make_at-requires-clause-may : goal.make_at-requires-clause-may
