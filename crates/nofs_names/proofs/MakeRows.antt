@@ -258,12 +258,12 @@ module _ (old : DiskState) (k : Books) (d g : ℕ) (name : List ℕ) (kind : Fil
       Rattle.nofs_machine.specs.Steps.InRange w × ((W : World) → Says k W → first_of (room_rows n 1 W W) ≡ Some w))) e takes.refused in
       goes-row old old k (step.Make d g name kind) is safe (StaysButFaults-refl old) why f.0 f.1 going (λ t H p o. room-is t H p o p.world ∙ f.2 p.world o.says)
 
-  pub make-passes : (b : EntryBlocks) → TakesBlocks k n 1 (Ok b) → Rattle.nofs_names.specs.Renames.RowsPass old k (step.Make d g name kind)
+  pub make-passes : (b : EntryBlocks) → TakesBlocks k n 1 (Ok b) → Rattle.nofs_state.specs.Owing.RowsPass old k (step.Make d g name kind)
   make-passes b takes t H p o V = room-is t H p o V ∙ takes.passes p.world V o.says
 
 -- A read after that which failed
 pub make-unread : (old mid : DiskState) (k : Books) (d g : ℕ) (name : List ℕ) (kind : FileKind) → IsDisk old → IsSafe old k → k.stopped ≡ false
-    → StaysButFaults old mid → Rose old.faults mid.faults → Rattle.nofs_names.specs.Renames.RowsPass old k (step.Make d g name kind)
+    → StaysButFaults old mid → Rose old.faults mid.faults → Rattle.nofs_state.specs.Owing.RowsPass old k (step.Make d g name kind)
     → Goes old k mid k (step.Make d g name kind) no_claims (reply.Refused refusal.ReadFault)
 make-unread old mid k d g name kind is safe going stays rose pass = goes-read old mid k (step.Make d g name kind) is safe stays going rose
     (λ t H p o why e. absurd (let n = pass t H p o p.world in cc (n, e)))
@@ -283,8 +283,8 @@ module _ (old new : DiskState) (stays : StaysButFaults old new) (k : Books) wher
   pub left-on : (d g : ℕ) (name : List ℕ) (kind : FileKind) → RowsLeft old k d g name kind → RowsLeft new k d g name kind
   left-on d g name kind h t H p o V = h (back t) H p (before H p o) V
 
-  pub make-pass-on : (d g : ℕ) (name : List ℕ) (kind : FileKind) → Rattle.nofs_names.specs.Renames.RowsPass old k (step.Make d g name kind)
-      → Rattle.nofs_names.specs.Renames.RowsPass new k (step.Make d g name kind)
+  pub make-pass-on : (d g : ℕ) (name : List ℕ) (kind : FileKind) → Rattle.nofs_state.specs.Owing.RowsPass old k (step.Make d g name kind)
+      → Rattle.nofs_state.specs.Owing.RowsPass new k (step.Make d g name kind)
   make-pass-on d g name kind h t H p o V = h (back t) H p (before H p o) V
 
   pub may-on : (d g : ℕ) (name : List ℕ) (r : Record) (p : EntryPlace) (i : ℕ) → MayMake old k d g name r p i → MayMake new k d g name r p i
