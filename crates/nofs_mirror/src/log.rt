@@ -5,7 +5,7 @@ ghost use Rattle.std.specs.Prelude.{◌≡◌, ◌+◌, ◌*◌, ◌^◌, ◌<�
 ghost use Rattle.nofs_mirror.specs.Asking.{any_done, call_of, counted, counted_if, flush_effect, sides_after};
 ghost use Rattle.nofs_mirror.specs.Past.{past_calls};
 
-use crate::asking::{SideCall, SideAnswer, any_done, lead_stays, other_stays};
+use crate::asking::{SideAnswer, SideCall, any_done, lead_stays, other_stays};
 use crate::past::{Effect, MirrorCall, Past, Span};
 use nofs_disk::Failed;
 use std::alloc::AllocError;

@@ -163,7 +163,13 @@ fn in_directory(entry: Option<u32>) -> Option<u32>
     ensures same { IfSome entry (λ e. e < entry_limit) → result ≡ entry }
 {
     match entry {
-        Some(entry) => { if entry < ENTRY_LIMIT { Some(entry) } else { None } }
+        Some(entry) => {
+            if entry < ENTRY_LIMIT {
+                Some(entry)
+            } else {
+                None
+            }
+        }
         None => None,
     }
 }

@@ -7,7 +7,7 @@ ghost use Rattle.nofs_client.specs.Commands.{AreWellFormed};
 ghost use Rattle.nofs_serve.specs.Served.{TeamServed};
 
 use crate::gather::Gathered;
-use crate::team::{Plan, TeamRoom, Sweeps, run_team};
+use crate::team::{Plan, Sweeps, TeamRoom, run_team};
 use nofs_client::LineList;
 use nofs_shared::{Serves, ShareFault, SharedMount};
 use nofs_workers::Gate;
