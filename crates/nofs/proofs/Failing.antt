@@ -6,9 +6,9 @@ use native.Mathlib.Bridge.{le_prop}
 use Rattle.nofs_disk.specs.Disk.{DiskState, Rose}
 use Rattle.nofs_machine.specs.HistoryState.{HistoryState}
 use Rattle.nofs_machine.specs.declared.history.Entry1.{Entry1}
-use Rattle.nofs_shared.specs.Ends.{Ends}
 use Rattle.nofs_shared.specs.Forms.{is_fault, faults_in}
 use Rattle.nofs.specs.Entries.{has_fault}
+use Rattle.nofs.specs.Whole.{Finished}
 
 -- a fault in some entry is one at least
 pub faults-some : (es : List Entry1) → has_fault es ≡ true → 1 ≤ faults_in es
@@ -20,9 +20,9 @@ faults-some (x ∷ es) e = go (is_fault x.reply) (λ h. faults-some es h) e
     go false more h = let n = more h in omega (arith, n)
 
 -- the device's count rose over a mount whose entries tell of a fault
-pub faults-rose : (found last : DiskState) (first : ℕ) (h : HistoryState) → ∥ Ends found last first h ∥₁ → has_fault h.entries ≡ true
+pub faults-rose : (found last : DiskState) (first : ℕ) (h : HistoryState) → ∥ Finished found last first h ∥₁ → has_fault h.entries ≡ true
     → Rose found.faults last.faults
-faults-rose found last first h ends bad = ∥∥₁_elim ends le_prop (λ e. (let n = faults-some h.entries bad in let m = e.faults in omega (arith, n, m)))
+faults-rose found last first h ends bad = ∥∥₁_elim ends le_prop (λ e. (let n = faults-some h.entries bad in let m = e.ends.faults in omega (arith, n, m)))
 
 -- one more entry was passed that tells of no fault
 pub fault-passed : (es : List Entry1) (at : ℕ) (b : Bool) → at < length es → ((e : Entry1) → slice_get es at ≡ Some e → b ≡ is_fault e.reply) → b ≡ false

@@ -1,3 +1,11 @@
 pub mod Sessions
 pub mod Failing
 pub mod Outcomes
+pub mod Drills
+pub mod Tallies
+pub mod DrillEnds
+pub mod Tasks
+pub mod Headlines
+pub mod Known
+pub mod Whole
+pub mod Counted

@@ -4,15 +4,15 @@ use Rattle.std.specs.declared.option.Option.{Option}
 use Rattle.nofs_disk.specs.Disk.{DiskState, Rose}
 use Rattle.nofs_io.specs.Calls.{SinkState}
 use Rattle.nofs_machine.specs.HistoryState.{HistoryState}
-use Rattle.nofs_shared.specs.Ends.{Ends}
 use Rattle.nofs.specs.Entries.{has_fault}
 use Rattle.nofs.specs.Tool.{MountEnds, SessionEnds}
+use Rattle.nofs.specs.Whole.{Finished}
 use Rattle.nofs.proofs.Failing.{faults-rose}
 
 -- a mount that served, and whose text was written
 pub written-ends : (found new : DiskState) (sink_old sink_new : SinkState) (first status : ℕ) (ran : HistoryState) (h : Option HistoryState)
     → h ≡ Some ran
-    → ∥ Ends found new first ran ∥₁
+    → ∥ Finished found new first ran ∥₁
     → (status ≡ 0) ⊎ (status ≡ 3) ⊎ (status ≡ 5) ⊎ (status ≡ 7)
     → (status ≡ 3 → has_fault ran.entries ≡ true)
     → (status ≡ 5 → Rose sink_old.faults sink_new.faults × (has_fault ran.entries ≡ false))

@@ -2,4 +2,8 @@ pub mod Words
 pub mod Entries
 pub mod Serving
 pub mod Begin
+pub mod Drill
+pub mod Whole
+pub mod Counts
 pub mod Tool
+pub mod Headline

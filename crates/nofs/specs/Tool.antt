@@ -6,15 +6,17 @@ use Rattle.nofs_io.specs.Calls.{SourceState, SinkState}
 use Rattle.nofs_io.specs.Texts.{IsWhole, AppendsAll}
 use Rattle.nofs_machine.specs.HistoryState.{HistoryState}
 use Rattle.nofs_client.specs.declared.commands.Command.{Command}
-use Rattle.nofs_client.specs.declared.lines.Line.{Line}
 use Rattle.nofs_script.specs.declared.faults.ScriptFault.{ScriptFault}
 use Rattle.nofs_script.specs.Sessions.{session_of}
 use Rattle.nofs.specs.declared.words.Request.{Request}
-use Rattle.nofs.specs.declared.words.Request.TheVariants.{New, Run, Scan}
+use Rattle.nofs.specs.declared.words.Request.TheVariants.{New, Run, Scan, Drill}
 use Rattle.nofs.specs.declared.begin.Numbers.{Numbers}
 use Rattle.nofs.specs.Begin.{IsRefusedFormat}
 use Rattle.nofs.specs.Entries.{session_text, has_fault}
-use Rattle.nofs.specs.Serving.{IsSessionRun}
+use Rattle.nofs_state.specs.declared.books.Counts.{Counts}
+use Rattle.nofs.specs.Counts.{CountsDisk, counts_line}
+use Rattle.nofs.specs.Whole.{IsMet}
+use Rattle.nofs.specs.Drill.{IsDrillDone}
 
 -- all that the source had left was read, within the limit, and it has P
 abbrev pub WithText : SourceState → SourceState → ℕ → (List ℕ → Type 0) → Type 0
@@ -32,14 +34,14 @@ WithSession text P = (session : List (List Command)) × (session_of text ≡ Ok 
 abbrev pub HasSession : Option Request → SourceState → SourceState → ℕ → Type 0
 HasSession None old new limit = ⊥
 HasSession (Some Scan) old new limit = Unit {0}
+HasSession (Some (Drill start steps)) old new limit = Unit {0}
 HasSession (Some Run) old new limit = WithText old new limit (λ text. WithSession text (λ _. Unit {0}))
 HasSession (Some (New blocks inodes)) old new limit = WithText old new limit (λ text. WithSession text (λ _. Unit {0}))
 
--- a session was served: no call of the device failed, each user made the steps of its commands, each element was examined, and
--- the sink took the whole text that follows from the replies in the history
+-- a session was served: no call of the device failed, and the sink took the whole text that follows from the replies in the history
 abbrev pub IsAnswered : List (List Command) → Option HistoryState → SinkState → SinkState → Type 0
 IsAnswered session None old new = ⊥
-IsAnswered session (Some h) old new = AppendsAll old new (session_text session h.entries) × (has_fault h.entries ≡ false) × ((inodes : ℕ) × (blocks : ℕ) × (lines : List (List Line)) × IsSessionRun session inodes blocks false lines h.entries)
+IsAnswered session (Some h) old new = AppendsAll old new (session_text session h.entries) × (has_fault h.entries ≡ false)
 
 -- the mount stood, and no entry has a fault of the device
 abbrev pub IsFaultless : Option HistoryState → Type 0
@@ -79,15 +81,20 @@ IsRefusedTask None old new = ⊥
 IsRefusedTask (Some (New blocks inodes)) old new = IsRefusedBy (Some (record { blocks = blocks; inodes = inodes })) old new
 IsRefusedTask (Some Run) old new = IsRefusedBy None old new
 IsRefusedTask (Some Scan) old new = IsRefusedBy None old new
+IsRefusedTask (Some (Drill start steps)) old new = IsRefusedBy (Some (record { blocks = 4096; inodes = 256 })) old new
 
--- each element of the device was examined once, and no call of it failed
-abbrev pub IsScanned : Option HistoryState → Type 0
-IsScanned None = ⊥
-IsScanned (Some h) = (has_fault h.entries ≡ false) × ((inodes : ℕ) × (blocks : ℕ) × (lines : List (List Line)) × IsSessionRun [] inodes blocks false lines h.entries)
+-- a scan was made: no call of the device failed, and the sink took the line of these counts. Where the premises are met, they are
+-- those of the full scan of the disk handed back
+abbrev pub IsScanned : DiskState → DiskState → Option HistoryState → SinkState → SinkState → Type 0
+IsScanned found last None old new = ⊥
+IsScanned found last (Some h) old new = (has_fault h.entries ≡ false) × ((c : Counts) × AppendsAll old new (counts_line c) × ∥ (IsMet found → CountsDisk last.now c) ∥₁)
 
 -- a session was read and served, or the device was scanned
-abbrev pub IsDone : Option Request → SourceState → SourceState → ℕ → SinkState → SinkState → Option HistoryState → Type 0
-IsDone None source_old source_new limit old new h = ⊥
-IsDone (Some Scan) source_old source_new limit old new h = IsScanned h
-IsDone (Some Run) source_old source_new limit old new h = WithText source_old source_new limit (λ text. WithSession text (λ session. IsAnswered session h old new))
-IsDone (Some (New blocks inodes)) source_old source_new limit old new h = WithText source_old source_new limit (λ text. WithSession text (λ session. IsAnswered session h old new))
+abbrev pub IsDone : Option Request → SourceState → SourceState → ℕ → SinkState → SinkState → DiskState → DiskState → Option HistoryState → Type 0
+IsDone None source_old source_new limit old new found last h = ⊥
+IsDone (Some Scan) source_old source_new limit old new found last h = IsScanned found last h old new
+IsDone (Some (Drill start steps)) source_old source_new limit old new found last h = IsDrillDone start steps h old new
+IsDone (Some Run) source_old source_new limit old new found last h = WithText source_old source_new limit (λ text.
+    WithSession text (λ session. IsAnswered session h old new))
+IsDone (Some (New blocks inodes)) source_old source_new limit old new found last h = WithText source_old source_new limit (λ text.
+    WithSession text (λ session. IsAnswered session h old new))

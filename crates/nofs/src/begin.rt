@@ -3,7 +3,9 @@
 //! Promise: a mount that begins has raised the mount number, durably. A fault of the device is answered only where the
 //! device's count of faults rose.
 
-ghost use Rattle.std.specs.Prelude.{◌≡◌, ◌≤◌, [], IfErr, IfOk};
+ghost use Rattle.std.specs.Prelude.{◌≡◌, ◌≤◌, [], IfErr, IfOk, IsTrue};
+ghost use Rattle.nofs_super.specs.Format.{IsFormatted};
+ghost use Rattle.nofs.specs.Whole.{IsMet};
 ghost use Rattle.nofs.specs.Begin.{IsUnformatted, IsUnmounted, format_cause as format_cause_in, mount_cause as mount_cause_in, status_of as status_in};
 
 use nofs_disk::Disk;
@@ -93,6 +95,8 @@ pub fn format_and_mount<D: Disk + Drop>(
     numbers: Numbers,
 ) -> Result<Mount<D>, Refused<D>>
     ensures mount { IfOk result (λ m. (m.first ≡ 0) × (m.core.books.history.entries ≡ []) × ((D.state disk).faults ≤ (D.state m.found.value).faults)) }
+    ensures formatted { IfOk result (λ m. IsFormatted numbers.blocks numbers.inodes (D.state disk) (D.state m.found.value)) }
+    ensures met { IfOk result (λ m. IsTrue (D.state disk).tells → IsMet (D.state m.found.value)) }
     ensures refused { IfErr result (λ r. IsUnformatted (D.state disk) (D.state r.disk) numbers.blocks numbers.inodes r.cause) }
 {
     let mut disk = disk;

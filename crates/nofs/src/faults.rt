@@ -6,7 +6,7 @@ use nofs_super::{FormatFault, MountFault};
 use std::alloc::{AllocError, Global};
 
 /// The line of words that are no command.
-pub const USAGE: &str = "usage: nofs IMAGE new BLOCKS INODES | run | scan\n";
+pub const USAGE: &str = "usage: nofs IMAGE new BLOCKS INODES | run | scan | drill START STEPS\n";
 
 /// The line of a source that failed.
 pub const SOURCE_FAULT: &str = "source fault\n";

@@ -5,9 +5,14 @@
 #![tactic(auto)]
 
 mod begin;
+mod drill;
 mod faults;
+#[cfg(test)]
+mod instance;
+mod reads;
 mod scan;
 mod serve;
+mod tally;
 #[cfg(test)]
 mod tests;
 mod tool;

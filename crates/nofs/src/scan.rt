@@ -1,4 +1,10 @@
 //! The line of a scan (docs/FORMAT.md, "Other lines of the program").
+//!
+//! Promise: the line spells the counts that it is given.
+
+ghost use Rattle.std.specs.Prelude.{◌≡◌, ◌++◌, IfOk, OnOk};
+ghost use Rattle.std.specs.Fmt.{decimal};
+ghost use Rattle.nofs.specs.Counts.{counts_line, kind_text};
 
 use nofs_lists::Content;
 use nofs_state::Counts;
@@ -9,7 +15,9 @@ fn push_number(
     text: &mut Vec<u8>,
     words: &str,
     number: u64,
-) -> Result<(), AllocError> {
+) -> Result<(), AllocError>
+    ensures { OnOk result (text.new.items ≡ text.old.items ++ (words.now ++ decimal number)) }
+{
     text.extend_from_slice(words.as_bytes())?;
     text.extend_from_slice(number.to_string(alloc)?.as_bytes())
 }
@@ -22,14 +30,18 @@ fn push_counts(
     used: u64,
     free: u64,
     unchecked: u64,
-) -> Result<(), AllocError> {
+) -> Result<(), AllocError>
+    ensures { OnOk result (text.new.items ≡ text.old.items ++ kind_text kind.now used free unchecked) }
+{
     push_number(alloc, text, kind, used)?;
     push_number(alloc, text, " free ", free)?;
     push_number(alloc, text, " unchecked ", unchecked)
 }
 
 /// The line that says how many inodes and blocks are used.
-pub fn counts_text(alloc: Global, counts: &Counts) -> Result<Content, AllocError> {
+pub fn counts_text(alloc: Global, counts: &Counts) -> Result<Content, AllocError>
+    ensures { IfOk result (λ text. text ≡ counts_line counts.now) }
+{
     let mut text = Vec::new(alloc);
     push_counts(
         alloc,

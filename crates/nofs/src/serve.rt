@@ -13,10 +13,13 @@ ghost use Rattle.nofs_client.specs.declared.lines.Line.{Line};
 ghost use Rattle.nofs_script.specs.Sessions.{IsSession};
 ghost use Rattle.nofs_script.specs.Text.{text_of};
 ghost use Rattle.nofs_shared.specs.Added.{AddsStep};
-ghost use Rattle.nofs_shared.specs.Ends.{Ends};
 ghost use Rattle.nofs_shared.specs.Forms.{is_fault as is_fault_in};
+ghost use Rattle.nofs_state.specs.declared.books.Counts.{Counts};
 ghost use Rattle.nofs.specs.Entries.{has_fault, session_text};
+ghost use Rattle.nofs.specs.Counts.{CountsDisk, counts_line};
+ghost use Rattle.nofs.specs.Headline.{IsFollowed};
 ghost use Rattle.nofs.specs.Serving.{IsSessionRun};
+ghost use Rattle.nofs.specs.Whole.{Finished, IsMet};
 
 use crate::scan::counts_text;
 use nofs_client::{Line, LineList};
@@ -62,8 +65,8 @@ fn lines_text(alloc: Global, users: &[LineList]) -> Result<Content, AllocError>
     Ok(Content::from_vec(text))
 }
 
-// Makes all durable; false where memory was wanting.
-fn close<D: Disk + Drop>(alloc: Global, mount: &mut Mount<D>) -> bool
+/// Makes all durable; false where memory was wanting.
+pub fn close<D: Disk + Drop>(alloc: Global, mount: &mut Mount<D>) -> bool
     ensures adds { (reply : Reply) × AddsStep 0 (step.Flush 0 0) reply mount.old.core.books.history.entries mount.new.core.books.history.entries × (result ≡ not (is_out_of_memory reply)) }
     ensures same { (mount.new.found ≡ mount.old.found) × (mount.new.first ≡ mount.old.first) }
 {
@@ -157,11 +160,12 @@ fn serve_and_close<R: Threads + Wait + Sync, D: Disk + Drop + Send>(
     }
 }
 
-// A mount at its end with a text.
-fn ended<D: Disk + Drop>(mount: Mount<D>, text: Option<Content>) -> Ran<D>
+/// A mount at its end with a text.
+pub fn ended<D: Disk + Drop>(mount: Mount<D>, text: Option<Content>) -> Ran<D>
     ensures text { result.text ≡ text }
     ensures history { result.history ≡ mount.core.books.history }
-    ensures ends { ∥ Ends (D.state mount.found.value) (D.state result.disk) mount.first result.history ∥₁ }
+    ensures disk { result.disk ≡ mount.core.disk }
+    ensures ends { ∥ Finished (D.state mount.found.value) (D.state result.disk) mount.first result.history ∥₁ }
 {
     let (disk, history) = mount.end();
     Ran {
@@ -180,7 +184,8 @@ pub fn run_session<R: Threads + Wait + Sync, D: Disk + Drop + Send>(
 ) -> Ran<D>
     requires session { IsSession session }
     requires new { mount.core.books.history.entries ≡ [] }
-    ensures ends { ∥ Ends (D.state mount.found.value) (D.state result.disk) mount.first result.history ∥₁ }
+    ensures ends { ∥ Finished (D.state mount.found.value) (D.state result.disk) mount.first result.history ∥₁ }
+    ensures follows { IsFollowed session mount.core.books.at result.text result.history.entries }
     ensures ran { IfSome result.text (λ text. (lines : List (List Line)) × IsSessionRun session mount.core.books.at.inodes mount.core.books.at.blocks false lines result.history.entries × (text ≡ session_text session result.history.entries)) }
 {
     let Ok(plans) = plans_of(alloc, session) else {
@@ -204,8 +209,10 @@ pub fn run_scan<R: Threads + Wait + Sync, D: Disk + Drop + Send>(
     mount: Mount<D>,
 ) -> Ran<D>
     requires { mount.core.books.history.entries ≡ [] }
-    ensures ends { ∥ Ends (D.state mount.found.value) (D.state result.disk) mount.first result.history ∥₁ }
-    ensures ran { IfSome result.text (λ text. (lines : List (List Line)) × IsSessionRun [] mount.core.books.at.inodes mount.core.books.at.blocks false lines result.history.entries) }
+    ensures ends { ∥ Finished (D.state mount.found.value) (D.state result.disk) mount.first result.history ∥₁ }
+    ensures follows { IsFollowed [] mount.core.books.at result.text result.history.entries }
+    ensures counted { IfSome result.text (λ text. (c : Counts) × (text ≡ counts_line c)
+        × ∥ (IsMet (D.state mount.found.value) → has_fault result.history.entries ≡ false → CountsDisk (D.state result.disk).now c) ∥₁) }
 {
     let Served {
         mount,

@@ -1,6 +1,12 @@
 //! Whole runs over a disk in memory, with the texts and statuses that a user sees.
 
 mod days;
+mod disks;
+mod drills;
+mod files;
+mod images;
+mod statuses;
+mod unready;
 
 use crate::tool::{Outcome, tool};
 use byteorder::ByteOrder;
@@ -24,25 +30,38 @@ pub fn words(alloc: Global, text: &str) -> Result<Vec<String>, AllocError> {
 }
 
 // A run over a disk: its status, what the sink took, and the disk.
-pub fn run_on<R: Threads + Wait + Sync>(
+pub fn run_on<R: Threads + Wait + Sync, D: Disk + Drop + Send>(
     rt: &R,
     alloc: Global,
     command: &str,
     session: &[u8],
-    disk: MemDisk,
-) -> Result<(u8, MemSink, MemDisk), AllocError> {
+    disk: D,
+) -> Result<(u8, MemSink, D), AllocError> {
     let mut source = MemSource::new(alloc, session, 65_536, &NO_CALLS)?;
     let mut sink = MemSink::new(alloc, 65_536, &NO_CALLS)?;
+    let (status, disk) = run_with(rt, alloc, command, &mut source, &mut sink, disk)?;
+    Ok((status, sink, disk))
+}
+
+// A run with a source and a sink: its status, and the disk.
+pub fn run_with<R: Threads + Wait + Sync, D: Disk + Drop + Send>(
+    rt: &R,
+    alloc: Global,
+    command: &str,
+    source: &mut MemSource,
+    sink: &mut MemSink,
+    disk: D,
+) -> Result<(u8, D), AllocError> {
     let words = words(alloc, command)?;
     let Outcome {
         status,
         disk,
         history: _,
-    } = tool(rt, alloc, &words, &mut source, &mut sink, disk);
-    Ok((status, sink, disk))
+    } = tool(rt, alloc, &words, source, sink, disk);
+    Ok((status, disk))
 }
 
-const USAGE: &str = "usage: nofs IMAGE new BLOCKS INODES | run | scan\n";
+const USAGE: &str = "usage: nofs IMAGE new BLOCKS INODES | run | scan | drill START STEPS\n";
 
 #[test]
 fn each_run_prints_its_lines_and_ends_with_its_status(rt: HostRuntime) -> Result<(), Fail> {
@@ -216,37 +235,6 @@ fn a_flush_that_fails_at_the_end_is_told_by_the_status(rt: HostRuntime) -> Resul
     assert_eq!(rt; sink.bytes(), b"put 3\n".as_slice());
     assert_eq!(rt; status, 3);
     assert!(rt; has_choice(&disk));
-    Ok(())
-}
-
-#[test]
-fn a_source_or_a_sink_that_fails_is_told_apart(rt: HostRuntime) -> Result<(), Fail> {
-    let alloc = rt.alloc();
-    let words = words(alloc, "new 64 16")?;
-    let mut source = MemSource::new(alloc, b"fsync @".as_slice(), 7, &NO_CALLS)?;
-    let mut sink = MemSink::new(alloc, 100, &[1])?;
-    let disk = MemDisk::new(alloc, 64)?;
-    let Outcome { status, disk, .. } = tool(&rt, alloc, &words, &mut source, &mut sink, disk);
-    assert!(rt; status == 5 && sink.bytes().is_empty());
-    let mut source = MemSource::new(alloc, b"fsync @".as_slice(), 7, &[1])?;
-    let mut sink = MemSink::new(alloc, 100, &NO_CALLS)?;
-    let Outcome { status, .. } = tool(&rt, alloc, &words, &mut source, &mut sink, disk);
-    assert_eq!(rt; status, 6);
-    assert_eq!(rt; sink.bytes(), b"source fault\n".as_slice());
-    Ok(())
-}
-
-#[test]
-fn a_session_that_is_too_long_is_refused(rt: HostRuntime) -> Result<(), Fail> {
-    let alloc = rt.alloc();
-    let text = vec![in alloc; b'\n'; 16_777_217]?;
-    let disk = MemDisk::new(alloc, 64)?;
-    let (status, sink, _) = run_on(&rt, alloc, "new 64 16", &text, disk)?;
-    assert_eq!(rt; status, 8);
-    assert_eq!(rt;
-        sink.bytes(),
-        b"session longer than 16777216 bytes\n".as_slice()
-    );
     Ok(())
 }
 

@@ -1,7 +1,8 @@
 //! The program's call: words, a source, a sink and a device in; a status, the device and the history out.
 //!
 //! Promise: each status says what came of the run, in the order 1, 6, 8, 2, 4, 7, 3, 5, 0 of what is found first. At status 0
-//! the sink took the whole text of the session, as it follows from the replies in the history.
+//! the sink took the whole text of the session, as it follows from the replies in the history. Wherever there is a history, the
+//! headline holds of it.
 
 ghost use Rattle.std.specs.Prelude.{◌≡◌, ◌≢◌, ◌+◌, ◌≤◌, ◌↔◌, ◌⊎◌, [], None, Some, true, false, map, ℕ, List, IfSome, string_bytes};
 ghost use Rattle.nofs_disk.specs.Disk.{KeepsCells, Rose};
@@ -10,9 +11,12 @@ ghost use Rattle.nofs_script.specs.Sessions.{IsSession};
 ghost use Rattle.nofs.specs.Begin.{status_of as status_in};
 ghost use Rattle.nofs.specs.Words.{task_in};
 ghost use Rattle.nofs.specs.Entries.{has_fault};
+ghost use Rattle.nofs.specs.Drill.{IsDrillDone};
+ghost use Rattle.nofs.specs.Headline.{HeadlineIn, HeadlineOf, IsDrillHeadline, IsHeadline};
 ghost use Rattle.nofs.specs.Tool.{HasSession, IsBad, IsDone, IsFaulty, IsRefusedBy, IsRefusedTask, IsScanned, IsAnswered, IsFaultless, IsStatus, MountEnds, SessionEnds, WithSession, WithText};
 
 use crate::begin::{Numbers, Refused, format_and_mount, mount, status_of};
+use crate::drill::run_drill;
 use crate::faults::{SOURCE_FAULT, TOO_LONG, USAGE, cause_text, script_text};
 use crate::serve::{Ran, has_fault_in, run_scan, run_session};
 use crate::words::{Request, task_of};
@@ -86,6 +90,7 @@ fn written<K: Sink, D: Disk>(sink: &mut K, ran: Ran<D>) -> Outcome<D>
     ensures sink { result.status ≡ 5 → Rose (K.state sink.old).faults (K.state sink.new).faults × (has_fault ran.history.entries ≡ false) }
     ensures done { result.status ≡ 0 → (has_fault ran.history.entries ≡ false) × (ran.text ≢ None) × IfSome ran.text (AppendsAll (K.state sink.old) (K.state sink.new)) }
     ensures named { (result.status ≡ 0) ⊎ (result.status ≡ 3) ⊎ (result.status ≡ 5) ⊎ (result.status ≡ 7) }
+    ensures unsaid { ran.text ≡ None → result.status ≡ 7 }
 {
     let Ran {
         disk,
@@ -121,6 +126,8 @@ fn mounted<R: Threads + Wait + Sync, K: Sink, D: Disk + Drop + Send>(
 ) -> Outcome<D>
     requires session { IsSession session }
     requires new { mount.core.books.history.entries ≡ [] }
+    requires first { mount.first ≡ 0 }
+    ensures headline { IfSome result.history (λ h. ∥ IsHeadline session (D.state mount.found.value) (D.state result.disk) result.status h ∥₁) }
     ensures ends { MountEnds (D.state mount.found.value) (D.state result.disk) (K.state sink.old) (K.state sink.new) result.status result.history }
     ensures done { result.status ≡ 0 → IsAnswered session result.history (K.state sink.old) (K.state sink.new) }
 {
@@ -137,6 +144,7 @@ fn new_outcome<R: Threads + Wait + Sync, K: Sink, D: Disk + Drop + Send>(
     session: Session,
 ) -> Outcome<D>
     requires { IsSession session }
+    ensures headline { IfSome result.history (HeadlineOf D.state (Some numbers) session disk (D.state result.disk) result.status) }
     ensures ends { SessionEnds (IsRefusedBy (Some numbers) (D.state disk) (D.state result.disk)) (D.state disk) (D.state result.disk) (K.state sink.old) (K.state sink.new) result.status result.history }
     ensures done { result.status ≡ 0 → IsAnswered session result.history (K.state sink.old) (K.state sink.new) }
 {
@@ -155,6 +163,7 @@ fn run_outcome<R: Threads + Wait + Sync, K: Sink, D: Disk + Drop + Send>(
     session: Session,
 ) -> Outcome<D>
     requires { IsSession session }
+    ensures headline { IfSome result.history (HeadlineOf D.state None session disk (D.state result.disk) result.status) }
     ensures ends { SessionEnds (IsRefusedBy None (D.state disk) (D.state result.disk)) (D.state disk) (D.state result.disk) (K.state sink.old) (K.state sink.new) result.status result.history }
     ensures done { result.status ≡ 0 → IsAnswered session result.history (K.state sink.old) (K.state sink.new) }
 {
@@ -174,6 +183,7 @@ fn session_outcome<R: Threads + Wait + Sync, K: Sink, D: Disk + Drop + Send>(
     session: Session,
 ) -> Outcome<D>
     requires { IsSession session }
+    ensures headline { IfSome result.history (HeadlineOf D.state numbers session disk (D.state result.disk) result.status) }
     ensures ends { SessionEnds (IsRefusedBy numbers (D.state disk) (D.state result.disk)) (D.state disk) (D.state result.disk) (K.state sink.old) (K.state sink.new) result.status result.history }
     ensures done { result.status ≡ 0 → IsAnswered session result.history (K.state sink.old) (K.state sink.new) }
 {
@@ -192,6 +202,7 @@ fn text_outcome<R: Threads + Wait + Sync, K: Sink, D: Disk + Drop + Send>(
     numbers: Option<Numbers>,
     text: &[u8],
 ) -> Outcome<D>
+    ensures headline { IfSome result.history (λ h. WithSession text.now (λ session. HeadlineOf D.state numbers session disk (D.state result.disk) result.status h)) }
     ensures script { result.status ≡ 2 → IsBad text.now × (result.disk ≡ disk) × (result.history ≡ None) }
     ensures ends { result.status ≢ 2 → SessionEnds (IsRefusedBy numbers (D.state disk) (D.state result.disk)) (D.state disk) (D.state result.disk) (K.state sink.old) (K.state sink.new) result.status result.history }
     ensures session { (result.status ≡ 0) ⊎ (result.status ≡ 3) ⊎ (result.status ≡ 4) ⊎ (result.status ≡ 5) → WithSession text.now (λ _. Unit {0}) }
@@ -213,6 +224,8 @@ fn source_outcome<R: Threads + Wait + Sync, S: Source, K: Sink, D: Disk + Drop +
     disk: D,
     numbers: Option<Numbers>,
 ) -> Outcome<D>
+    ensures headline { IfSome result.history (λ h. WithText (S.state source.old) (S.state source.new) TEXT_LIMIT (λ text.
+        WithSession text (λ session. HeadlineOf D.state numbers session disk (D.state result.disk) result.status h))) }
     ensures named { IsStatus result.status × (result.status ≢ 1) }
     ensures source { result.status ≡ 6 → Rose (S.state source.old).faults (S.state source.new).faults }
     ensures too_long { result.status ≡ 8 → TakesJust (S.state source.old) (S.state source.new) (TEXT_LIMIT + 1) }
@@ -241,11 +254,38 @@ fn scan_outcome<R: Threads + Wait + Sync, K: Sink, D: Disk + Drop + Send>(
     sink: &mut K,
     disk: D,
 ) -> Outcome<D>
+    ensures headline { IfSome result.history (HeadlineOf D.state None [] disk (D.state result.disk) result.status) }
     ensures ends { SessionEnds (IsRefusedBy None (D.state disk) (D.state result.disk)) (D.state disk) (D.state result.disk) (K.state sink.old) (K.state sink.new) result.status result.history }
-    ensures done { result.status ≡ 0 → IsScanned result.history }
+    ensures done { result.status ≡ 0 → IsScanned (D.state disk) (D.state result.disk) result.history (K.state sink.old) (K.state sink.new) }
 {
     match mount(alloc, disk) {
         Ok(mount) => written(sink, run_scan(rt, alloc, mount)),
+        Err(why) => refused(alloc, sink, why),
+    }
+}
+
+// The numbers of the file system of a drill.
+const DRILL: Numbers = Numbers {
+    blocks: 4096,
+    inodes: 256,
+};
+
+// What comes of a drill.
+fn drill_outcome<R: Threads + Wait + Sync, K: Sink, D: Disk + Drop + Send>(
+    rt: &R,
+    alloc: Global,
+    sink: &mut K,
+    disk: D,
+    start: u64,
+    steps: u64,
+) -> Outcome<D>
+    requires { steps ≤ 4000 }
+    ensures headline { IfSome result.history (IsDrillHeadline D.state disk (D.state result.disk)) }
+    ensures ends { SessionEnds (IsRefusedBy (Some (record { blocks = 4096; inodes = 256 })) (D.state disk) (D.state result.disk)) (D.state disk) (D.state result.disk) (K.state sink.old) (K.state sink.new) result.status result.history }
+    ensures done { result.status ≡ 0 → IsDrillDone start steps result.history (K.state sink.old) (K.state sink.new) }
+{
+    match format_and_mount(alloc, disk, DRILL) {
+        Ok(mount) => written(sink, run_drill(rt, alloc, mount, start, steps)),
         Err(why) => refused(alloc, sink, why),
     }
 }
@@ -265,6 +305,10 @@ fn scan_outcome<R: Threads + Wait + Sync, K: Sink, D: Disk + Drop + Send>(
 /// | 0 | where none of these came |
 ///
 /// At status 1, 2, 6 and 8 no call of the device was made. At 0, 3, 4 and 5 of `new` and `run` the text is a session.
+///
+/// Where there is a history, the headline holds of it (`IsHeadline` in specs/Headline.antt): its entries are the steps that the
+/// session asks for; and where the premises are met, it is a run of the machine, and at every moment a crash leaves only
+/// what it allows.
 pub fn tool<R: Threads + Wait + Sync, S: Source, K: Sink, D: Disk + Drop + Send>(
     rt: &R,
     alloc: Global,
@@ -273,6 +317,7 @@ pub fn tool<R: Threads + Wait + Sync, S: Source, K: Sink, D: Disk + Drop + Send>
     sink: &mut K,
     disk: D,
 ) -> Outcome<D>
+    ensures headline { IfSome result.history (HeadlineIn D.state (task_in (map string_bytes words.now)) (S.state source.old) (S.state source.new) TEXT_LIMIT disk (D.state result.disk) result.status) }
     ensures usage { result.status ≡ 1 ↔ task_in (map string_bytes words.now) ≡ None }
     ensures named { IsStatus result.status }
     ensures source { result.status ≡ 6 → Rose (S.state source.old).faults (S.state source.new).faults }
@@ -282,7 +327,7 @@ pub fn tool<R: Threads + Wait + Sync, S: Source, K: Sink, D: Disk + Drop + Send>
         HasSession (task_in (map string_bytes words.now)) (S.state source.old) (S.state source.new) TEXT_LIMIT }
     ensures device { result.status ≡ 3 → IsFaulty result.history × Rose (D.state disk).faults (D.state result.disk).faults }
     ensures sink { result.status ≡ 5 → Rose (K.state sink.old).faults (K.state sink.new).faults × IsFaultless result.history }
-    ensures done { result.status ≡ 0 → IsDone (task_in (map string_bytes words.now)) (S.state source.old) (S.state source.new) TEXT_LIMIT (K.state sink.old) (K.state sink.new) result.history }
+    ensures done { result.status ≡ 0 → IsDone (task_in (map string_bytes words.now)) (S.state source.old) (S.state source.new) TEXT_LIMIT (K.state sink.old) (K.state sink.new) (D.state disk) (D.state result.disk) result.history }
     ensures untouched { (result.status ≡ 1) ⊎ (result.status ≡ 2) ⊎ (result.status ≡ 6) ⊎ (result.status ≡ 8) → (result.disk ≡ disk) × (result.history ≡ None) }
     ensures refused { result.status ≡ 4 → (result.history ≡ None) × IsRefusedTask (task_in (map string_bytes words.now)) (D.state disk) (D.state result.disk) }
 {
@@ -294,5 +339,6 @@ pub fn tool<R: Threads + Wait + Sync, S: Source, K: Sink, D: Disk + Drop + Send>
         }
         Some(Request::Run) => source_outcome(rt, alloc, source, sink, disk, None),
         Some(Request::Scan) => scan_outcome(rt, alloc, sink, disk),
+        Some(Request::Drill { start, steps }) => drill_outcome(rt, alloc, sink, disk, start, steps),
     }
 }

@@ -3,8 +3,9 @@
 //! Promise: words are a command exactly where they have a shape of one.
 
 ghost use Rattle.std.specs.Prelude.{◌≡◌, map, string_bytes};
-ghost use Rattle.nofs.specs.Words.{new_in, plain_in, task_in};
+ghost use Rattle.nofs.specs.Words.{drill_in, new_in, plain_in, task_in};
 
+use nofs_gen::MOST_STEPS;
 use nofs_script::number_of;
 
 /// What the program is asked for.
@@ -16,6 +17,8 @@ pub enum Request {
     Run,
     /// Mounts the device, examines all of it, and prints what is used.
     Scan,
+    /// Formats the device, mounts it, serves four users with drawn scripts, and tells whether their files have what was accepted.
+    Drill { start: u64, steps: u64 },
 }
 
 fn new_task(blocks: &str, inodes: &str) -> Option<Request>
@@ -24,6 +27,19 @@ fn new_task(blocks: &str, inodes: &str) -> Option<Request>
     let blocks = number_of(blocks.as_bytes())?;
     let inodes = number_of(inodes.as_bytes())?;
     Some(Request::New { blocks, inodes })
+}
+
+// At most 4,000 commands are drawn for a user.
+fn drill_task(start: &str, steps: &str) -> Option<Request>
+    ensures { result ≡ drill_in start.now steps.now }
+{
+    let start = number_of(start.as_bytes())?;
+    let steps = number_of(steps.as_bytes())?;
+    if steps <= MOST_STEPS {
+        Some(Request::Drill { start, steps })
+    } else {
+        None
+    }
 }
 
 fn plain_task(word: &str) -> Option<Request>
@@ -44,9 +60,11 @@ pub fn task_of(words: &[String]) -> Option<Request>
 {
     match words {
         [word] => plain_task(word),
-        [first, blocks, inodes] => {
+        [first, one, two] => {
             if first.as_bytes() == b"new".as_slice() {
-                new_task(blocks, inodes)
+                new_task(one, two)
+            } else if first.as_bytes() == b"drill".as_slice() {
+                drill_task(one, two)
             } else {
                 None
             }

@@ -1,4 +1,7 @@
 pub mod Seen
 pub mod Elements
+pub mod Sights
+pub mod Seeing
+pub mod Scanned
 pub mod Late
 pub mod Looking

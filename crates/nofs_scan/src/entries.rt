@@ -40,10 +40,7 @@ pub fn commit_step<D: Disk + Drop>(
 {
     let from = core.disk.moment();
     let stands = commit(core, evidence, at, used);
-    let step = step_of(
-        evidence.kind,
-        evidence.verdicts.as_slice()[at as usize].item,
-    );
+    let step = step_of(evidence.kind, evidence.verdicts.item(at));
     core.keep_step(caller, from, step, Reply::Seen { used: stands }, NO_CLAIMS);
     stands
 }

@@ -5,13 +5,16 @@ ghost use Rattle.nofs_disk.specs.Disk.{StaysButFaults};
 ghost use Rattle.nofs_agree.specs.Reading.{IsAt};
 ghost use Rattle.nofs_state.specs.Books.{IsSafe};
 ghost use Rattle.nofs_scan.specs.Elements.{HasElement, items_of};
+ghost use Rattle.nofs_machine.specs.declared.steps.ElementKind.TheVariants as element;
 ghost use Rattle.nofs_scan.specs.Looking.{LookFails, LooksAll, LooksAt};
 
-use crate::evidence::{Evidence, Verdict};
+use crate::evidence::{Evidence, Verdicts};
+use crate::reading::{read_block_sight, read_inode_sight};
+use crate::sights::Sight;
 use nofs_disk::{Disk, Failed};
 use nofs_lists::ListOf;
 use nofs_machine::{ElementKind, Refusal};
-use nofs_state::{Books, Core, check_block, check_inode};
+use nofs_state::{Books, Core};
 use std::alloc::Global;
 use std::snapshot::Snapshot;
 
@@ -44,52 +47,54 @@ pub fn look_batch<D: Disk + Drop>(
         return Err(Refusal::Stopped);
     }
     let early = Snapshot::of(&*core);
-    let verdicts = match look_at_all(alloc, &mut core.disk, &core.books, kind, items) {
-        Ok(verdicts) => verdicts,
+    let sights = match look_at_all(alloc, &mut core.disk, &core.books, kind, items) {
+        Ok(sights) => sights,
         Err(why) => return Err(why),
     };
     Ok(Evidence {
         core: early,
         kind,
-        verdicts,
+        verdicts: Verdicts { sights },
     })
 }
 
-// The verdicts of these elements, in their order.
+// What is read of these elements, in their order. It takes memory once.
 fn look_at_all<D: Disk>(
     alloc: Global,
     disk: &mut D,
     books: &Books,
     kind: ElementKind,
     items: &[u64],
-) -> Result<ListOf<Verdict>, Refusal>
+) -> Result<ListOf<Sight>, Refusal>
     requires safe { IsSafe (D.state disk.old) books.now }
     requires going { books.now.stopped ≡ false }
     requires range { All (HasElement kind books.now.at) items.now }
     ensures { LooksAll (D.state disk.old) books.now (D.state disk.new) kind items.now result }
 {
-    let mut verdicts = ListOf::new(alloc);
+    let mut sights = match Vec::with_capacity(alloc, items.len()) {
+        Ok(room) => ListOf::from_vec(room),
+        Err(_) => return Err(Refusal::OutOfMemory),
+    };
     for place in 0..items.len() {
-        let item = items[place];
-        let used = match look_at(disk, books, kind, item) {
-            Ok(used) => used,
+        let sight = match look_at(disk, books, kind, items[place]) {
+            Ok(sight) => sight,
             Err(_) => return Err(Refusal::ReadFault),
         };
-        match verdicts.push(Verdict { item, used }) {
+        match sights.push(sight) {
             Ok(()) => {}
             Err(_) => return Err(Refusal::OutOfMemory),
         }
     }
-    Ok(verdicts)
+    Ok(sights)
 }
 
-// Whether the disk has an element as used.
+// What is read of an element.
 fn look_at<D: Disk>(
     disk: &mut D,
     books: &Books,
     kind: ElementKind,
     item: u64,
-) -> Result<bool, Failed>
+) -> Result<Sight, Failed>
     requires numbers { IsAt (D.state disk.old) books.now.at }
     requires agreed { length books.now.agreed_inodes ≡ books.now.at.inodes }
     requires range { HasElement kind books.now.at item }
@@ -97,7 +102,31 @@ fn look_at<D: Disk>(
     ensures { LooksAt (D.state disk.old) books.now (D.state disk.new) kind item result }
 {
     match kind {
-        ElementKind::Inode => check_inode(disk, &books.at, &books.agreed_inodes, item as u32),
-        ElementKind::Block => check_block(disk, &books.at, &books.agreed_inodes, item),
+        ElementKind::Inode => look_at_inode(disk, books, item as u32),
+        ElementKind::Block => look_at_block(disk, books, item),
     }
+}
+
+fn look_at_inode<D: Disk>(disk: &mut D, books: &Books, inode: u32) -> Result<Sight, Failed>
+    requires numbers { IsAt (D.state disk.old) books.now.at }
+    requires agreed { length books.now.agreed_inodes ≡ books.now.at.inodes }
+    requires range { HasElement element.Inode books.now.at inode }
+    ensures { LooksAt (D.state disk.old) books.now (D.state disk.new) element.Inode inode result }
+{
+    let sight = read_inode_sight(disk, &books.at, &books.agreed_inodes, inode)?;
+    Ok(Sight::Inode(sight))
+}
+
+// A block of the superblock or the inode table is not read.
+fn look_at_block<D: Disk>(disk: &mut D, books: &Books, block: u64) -> Result<Sight, Failed>
+    requires numbers { IsAt (D.state disk.old) books.now.at }
+    requires agreed { length books.now.agreed_inodes ≡ books.now.at.inodes }
+    requires range { HasElement element.Block books.now.at block }
+    ensures { LooksAt (D.state disk.old) books.now (D.state disk.new) element.Block block result }
+{
+    if block <= books.at.inodes / 4 {
+        return Ok(Sight::Fixed(block));
+    }
+    let sight = read_block_sight(disk, &books.at, &books.agreed_inodes, block)?;
+    Ok(Sight::Block(sight))
 }

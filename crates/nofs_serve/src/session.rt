@@ -44,6 +44,8 @@ pub fn serve<R: Threads + Wait + Sync, V: Serves + Send, T: Gate + Send + Drop>(
     plans: Vec<Plan<T>>,
     sweeps: Sweeps<T>,
 ) -> Served<V>
+where
+    V::Evidence: Send,
     requires few { vec_len plans ≤ 8 }
     requires formed { All (λ p. AreWellFormed p.commands) plans.items }
     requires small { sweeps.inodes < 2 ^ 32 }

@@ -106,6 +106,8 @@ pub fn run_team<'a, R: Threads + Wait + Sync, V: Serves + Send, T: Gate + Send +
     sweeps: Sweeps<T>,
     room: TeamRoom<'a, R, V, T>,
 ) -> Gathered<V>
+where
+    V::Evidence: Send,
     requires few { vec_len plans ≤ 8 }
     requires formed { All (λ p. AreWellFormed p.commands) plans.items }
     requires small { sweeps.inodes < 2 ^ 32 }

@@ -1,6 +1,7 @@
 //! The way of a worker to a mount that several workers share.
 //!
-//! Promise: its steps are those of the pass behind it.
+//! Promise: its steps are those of the pass behind it. A batch is looked at under one turn, and each of its verdicts is
+//! committed under a later one.
 ghost use Rattle.std.specs.Prelude.{◌≡◌, true};
 ghost use Rattle.nofs_turn.specs.Turns.{view_of, IsPassOf};
 ghost use Rattle.nofs_shared.specs.Owned.{all_by};
@@ -49,34 +50,25 @@ impl<R: Wait, V: Serves> Steps for Way<'_, R, V> {
     }
 }
 
-/// An inode that was not looked at: its verdict is taken when it is committed.
-#[derive(Drop)]
-pub struct Unseen {
-    pub inode: u32,
-}
-
-/// No batch is looked at: a sweep then examines each element by a step of its own.
 impl<R: Wait, V: Serves> Batches for Way<'_, R, V> {
-    ghost use Rattle.std.specs.Prelude.{[], ◌∷◌, false};
-    ghost use Rattle.nofs_machine.specs.declared.steps.ElementKind.TheVariants.{Inode};
+    ghost use Rattle.nofs_turn.specs.Turns.{view_of};
+    ghost use Rattle.nofs_turn.specs.Passes.{MayRun};
 
-    type Evidence = Unseen;
+    type Evidence = V::Evidence;
 
-    ghost looked = { λ e. record { kind = Inode; items = e.inode ∷ []; verdict = λ _. false } };
+    ghost looked = { λ e. record { kind = V.kind_of e; items = V.items_in e; verdict = V.verdict_in e } };
 
-    ghost owns = { λ _ _. Unit {0} };
+    ghost owns = { λ w e. MayRun (V.is_of e) (view_of w.pass.pass) };
 
-    fn look_batch(&mut self, _kind: ElementKind, _items: &[u64]) -> Result<Unseen, Refusal> {
-        Err(Refusal::BadRange)
+    fn look_batch(&mut self, kind: ElementKind, items: &[u64]) -> Result<V::Evidence, Refusal> {
+        self.pass.look_batch(kind, items)
     }
 
-    fn judge(_evidence: &Unseen, _at: u32) -> bool {
-        false
+    fn judge(evidence: &V::Evidence, at: u32) -> bool {
+        V::judge(evidence, at)
     }
 
-    fn commit(&mut self, evidence: &Unseen, _at: u32, _used: bool) -> Reply {
-        self.pass.step(Step::SeeInode {
-            inode: evidence.inode,
-        })
+    fn commit(&mut self, evidence: &V::Evidence, at: u32, used: bool) -> Reply {
+        self.pass.commit(evidence, at, used)
     }
 }

@@ -12,14 +12,18 @@ use Rattle.nofs_machine.specs.declared.history.Entry1.{Entry1}
 use Rattle.nofs_machine.specs.declared.steps.ElementKind.{ElementKind}
 use Rattle.nofs_machine.specs.declared.steps.ElementKind.TheVariants as element
 use Rattle.nofs_machine.specs.declared.steps.Step.{Step}
+use Rattle.nofs_machine.specs.declared.replies.Reply.{Reply}
 use Rattle.nofs_machine.specs.declared.replies.Reply.TheVariants as reply
+use Rattle.nofs_machine.specs.declared.replies.Refusal.TheVariants as refusal
 use Rattle.nofs_machine.specs.Steps.{Fits}
 use Rattle.nofs_state.specs.Books.{with_history}
 use Rattle.nofs_state.specs.Standing.{IsOpen, IsStopped, Past, Sounds}
 use Rattle.nofs_state.specs.Steps.{IsSafeStep, entry}
 use Rattle.nofs_state.specs.declared.books.Books.{Books}
-use Rattle.nofs_scan.specs.Elements.{HasElement, see_step}
+use Rattle.nofs_state.specs.Verdicts.{LearnsIt, Settles, StaysSo}
+use Rattle.nofs_scan.specs.Elements.{HasElement, is_used, learned, see_step, verdict_of}
 use Rattle.nofs_scan.specs.Late.{Commits, WasOpen}
+use Rattle.nofs_shared.specs.Commits.{IsCommit, SeesVerdict}
 use Rattle.nofs_shared.specs.Sees.{is_see}
 use Rattle.nofs_shared.specs.Mounts.{IsMount, IsSoundDisk, MountStands}
 use Rattle.nofs_shared.proofs.Mounting.{Leads, mount-more}
@@ -72,6 +76,65 @@ module _ (found early d : DiskState) (first : ℕ) (before k l : Books) (then : 
     mount-kept from to spare s same begin end =
         mount-commits (record { start = l.history.start; entries = l.history.entries ++ record { caller = caller; from = from; to = to; step = s; reply = reply.Seen result; claims = no_claims } ∷ []; spare = spare }) refl
         (λ j. l.history.entries ++ record { caller = caller; from = begin j; to = end j; step = same j; reply = reply.Seen result; claims = no_claims } ∷ [])
+
+    -- the answer is the verdict that stands, and right
+    pub mount-answers : (h : HistoryState) → IsCommit found d k (with_history l h) kind item used (reply.Seen result)
+    mount-answers h = record {
+      stopped = λ stopped memory. absurd (cc (stopped, going));
+      seen = λ running memory. record { verdict = result; is = refl; settled = l; settles = cm.settles; books = refl };
+      right = λ q v e. let st = m.stands q in let same : result ≡ v = cc e in sym same ∙ right q st.past st.base st.serial st.now;
+    }
+      where
+        right : IsSoundDisk found → (p : Past) → p.base ≡ d.was k.history.start → p.first ≡ first → IsOpen d k k.history.entries p ⊎ IsStopped d k k.history.entries p → result ≡ is_used kind d.now item
+        right q p eb ef (inr s) = absurd (let t = s.stopped in cc (t, going))
+        right q p eb ef (inl o) = cm.right (subst (λ (b : Bool). IsTrue b) (sym m.disk.tells) q.tells) k.history.entries p o (was-open q p eb ef)
+
+-- a mount that is stopped commits nothing
+pub commit-stopped : (found d : DiskState) (k l : Books) (kind : ElementKind) (item : ℕ) (used : Bool) (r : Reply) → k.stopped ≡ true → r ≡ reply.Refused refusal.Stopped → IsCommit found d k l kind item used r
+commit-stopped found d k l kind item used r is answer = record {
+  stopped = λ stopped memory. answer;
+  seen = λ running memory. absurd (cc (is, running));
+  right = λ q v e. absurd (let z = sym answer ∙ e in cc z);
+}
+
+-- nor does one that finds no memory
+pub commit-unmade : (found d : DiskState) (k l : Books) (kind : ElementKind) (item : ℕ) (used : Bool) → IsCommit found d k l kind item used (reply.Refused refusal.OutOfMemory)
+commit-unmade found d k l kind item used = record {
+  stopped = λ stopped memory. absurd (cc memory);
+  seen = λ running memory. absurd (cc memory);
+  right = λ q v e. absurd (cc e);
+}
+
+learned-beside : (k : Books) (h g : HistoryState) (kind : ElementKind) (item : ℕ) (used : Bool) → with_history (learned kind (with_history k h) item used) g ≡ with_history (learned kind k item used) g
+learned-beside k h g element.Inode item used = refl
+learned-beside k h g element.Block item used = refl
+
+stood-beside : (k : Books) (h : HistoryState) (kind : ElementKind) (item : ℕ) → verdict_of kind (with_history k h) item ≡ verdict_of kind k item
+stood-beside k h element.Inode item = refl
+stood-beside k h element.Block item = refl
+
+sees-beside : (k l : Books) (h : HistoryState) (kind : ElementKind) (item : ℕ) (used : Bool) (r : Reply) → SeesVerdict (with_history k h) l kind item used r → SeesVerdict k l kind item used r
+sees-beside k l h kind item used r s = go s.settles
+  where
+    go : Settles (with_history k h) s.settled (verdict_of kind (with_history k h) item) (learned kind (with_history k h) item) used s.verdict → SeesVerdict k l kind item used r
+    go (StaysSo stood e) = record {
+      verdict = s.verdict;
+      is = s.is;
+      settled = k;
+      settles = StaysSo (sym (stood-beside k h kind item) ∙ stood) refl;
+      books = s.books ∙ ap (λ (m : Books). with_history m l.history) e;
+    }
+    go (LearnsIt none e is) = record {
+      verdict = s.verdict;
+      is = s.is;
+      settled = learned kind k item used;
+      settles = LearnsIt (sym (stood-beside k h kind item) ∙ none) refl is;
+      books = s.books ∙ ap (λ (m : Books). with_history m l.history) e ∙ learned-beside k h l.history kind item used;
+    }
+
+-- room that was taken for the entry changes nothing of it
+pub commit-beside : (found d : DiskState) (k l : Books) (h : HistoryState) (kind : ElementKind) (item : ℕ) (used : Bool) (r : Reply) → IsCommit found d (with_history k h) l kind item used r → IsCommit found d k l kind item used r
+commit-beside found d k l h kind item used r c = record { stopped = c.stopped; seen = λ running memory. sees-beside k l h kind item used r (c.seen running memory); right = c.right }
 
 -- what a See step's reply may be
 pub fits-seen : (kind : ElementKind) (item : ℕ) (used : Bool) → Fits (see_step kind item) (reply.Seen used)

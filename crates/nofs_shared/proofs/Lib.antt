@@ -12,3 +12,4 @@ pub mod Two
 pub mod Sends
 pub mod Examining
 pub mod Looking
+pub mod Scanning

@@ -9,3 +9,4 @@ pub mod Seats
 pub mod Ends
 pub mod Served
 pub mod Passes
+pub mod Commits

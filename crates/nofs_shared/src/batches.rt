@@ -5,6 +5,7 @@ ghost use Rattle.nofs_state.specs.Books.{IsSafe};
 ghost use Rattle.nofs_scan.specs.Elements.{HasElement, items_of, see_step, verdict_at};
 ghost use Rattle.nofs_shared.specs.Sees.{is_of_sweep};
 ghost use Rattle.nofs_shared.specs.Added.{AddsStep};
+ghost use Rattle.nofs_shared.specs.Commits.{IsCommit};
 ghost use Rattle.nofs_shared.specs.Earlier.{IsEarlier, IsOfBooks};
 ghost use Rattle.nofs_shared.specs.Mounts.{IsMount};
 
@@ -67,6 +68,7 @@ fn commit_in<D: Disk + Drop>(
     requires within { at < length evidence.now.verdicts }
     requires used { used ≡ (verdict_at evidence.now.verdicts at).used }
     ensures keeps { (found : D) (first : ℕ) → IsMount (D.state found) (D.state evidence.now.core.value.disk) first evidence.now.core.value.books → IsMount (D.state found) (D.state core.old.disk) first core.old.books → IsMount (D.state found) (D.state core.new.disk) first core.new.books }
+    ensures commits { (found : D) (first : ℕ) → IsMount (D.state found) (D.state evidence.now.core.value.disk) first evidence.now.core.value.books → IsMount (D.state found) (D.state core.old.disk) first core.old.books → IsCommit (D.state found) (D.state core.old.disk) core.old.books core.new.books evidence.now.kind (verdict_at evidence.now.verdicts at).item used result }
     ensures adds { AddsStep caller (see_step evidence.now.kind (verdict_at evidence.now.verdicts at).item) result core.old.books.history.entries core.new.books.history.entries }
     ensures safe { IsSafe (D.state core.new.disk) core.new.books }
     ensures same { (core.new.books.history.start ≡ core.old.books.history.start) × (core.new.books.at ≡ core.old.books.at) }
@@ -74,7 +76,7 @@ fn commit_in<D: Disk + Drop>(
     ensures fits { Fits (see_step evidence.now.kind (verdict_at evidence.now.verdicts at).item) result }
     ensures sees { is_out_of_memory result ≡ false }
 {
-    let item = evidence.verdicts.as_slice()[at as usize].item;
+    let item = evidence.verdicts.item(at);
     let step = step_of(evidence.kind, item);
     if core.books.stopped {
         return step_in(core, alloc, caller, step);
@@ -109,7 +111,8 @@ impl<D: Disk + Drop> Mount<D> {
     }
 
     /// Commits a verdict of this mount's as one See step: it is set where the element was not examined
-    /// since, and else the one that stands stays and is the answer.
+    /// since, and else the one that stands stays and is the answer. Over a disk that tells and was found
+    /// sound, the answer is the verdict of the disk as it is now.
     pub fn commit(
         &mut self,
         alloc: Global,
@@ -121,6 +124,7 @@ impl<D: Disk + Drop> Mount<D> {
         requires own { IsEarlier (D.state self.old.found.value) (D.state evidence.now.core.value.disk) evidence.now.core.value.books self.old.first self.old.core.books.history.start self.old.core.books.at self.old.core.books.history.entries }
         requires within { at < length evidence.now.verdicts }
         requires used { used ≡ (verdict_at evidence.now.verdicts at).used }
+        ensures commits { ∥ IsCommit (D.state self.old.found.value) (D.state self.old.core.disk) self.old.core.books self.new.core.books evidence.now.kind (verdict_at evidence.now.verdicts at).item used result ∥₁ }
         ensures adds { AddsStep caller (see_step evidence.now.kind (verdict_at evidence.now.verdicts at).item) result self.old.core.books.history.entries self.new.core.books.history.entries }
         ensures same { (self.new.found ≡ self.old.found) × (self.new.first ≡ self.old.first) × (self.new.core.books.history.start ≡ self.old.core.books.history.start) × (self.new.core.books.at ≡ self.old.core.books.at) }
         ensures fits { Fits (see_step evidence.now.kind (verdict_at evidence.now.verdicts at).item) result }
@@ -128,7 +132,7 @@ impl<D: Disk + Drop> Mount<D> {
         ensures others { is_of_sweep caller (see_step evidence.now.kind (verdict_at evidence.now.verdicts at).item) ≡ false → self.new.kept ≡ self.old.kept }
         ensures own { IsEarlier (D.state self.new.found.value) (D.state evidence.now.core.value.disk) evidence.now.core.value.books self.new.first self.new.core.books.history.start self.new.core.books.at self.new.core.books.history.entries }
     {
-        let item = evidence.verdicts.as_slice()[at as usize].item;
+        let item = evidence.verdicts.item(at);
         let step = step_of(evidence.kind, item);
         let history = &mut self.core.books.history;
         match take_room(history, self.kept, caller, &step) {

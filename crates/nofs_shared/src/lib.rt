@@ -4,21 +4,22 @@
 mod acts;
 mod batches;
 mod begin;
-mod examines;
 mod file_acts;
+mod looks;
 mod mount;
 mod name_acts;
 mod numbers;
 mod room;
 mod see_acts;
+mod serves;
 mod sessions;
 mod shared;
 mod sharing;
 mod steps;
 
 pub use begin::Prepared;
-pub use examines::Examines;
 pub use mount::{BeginFault, Mount};
+pub use serves::{Grounds, Serves};
 pub use sessions::{SessionEnd, session};
-pub use shared::{BusyStep, Grounds, Serves, SharedPass};
+pub use shared::{BusyStep, SharedPass};
 pub use sharing::{ShareFault, SharedMount, SharedOut};

@@ -4,6 +4,7 @@ ghost use Rattle.nofs_machine.specs.Steps.{Fits, is_out_of_memory};
 ghost use Rattle.nofs_machine.specs.World.{World};
 ghost use Rattle.nofs_state.specs.Books.{IsSafe, Says};
 ghost use Rattle.nofs_state.specs.Counted.{CountsBlocks, CountsInodes};
+ghost use Rattle.nofs_scan.specs.Scanned.{AreExamined, IsFullScan};
 ghost use Rattle.nofs_shared.specs.Sees.{is_of_sweep};
 ghost use Rattle.nofs_shared.specs.Mounts.{IsMount, IsSoundDisk};
 ghost use Rattle.nofs_shared.specs.Added.{AddsStep, Unowned};
@@ -85,11 +86,14 @@ impl<D: Disk + Drop> Mount<D> {
         }
     }
 
-    /// How many inodes and blocks are known to be used, are known to be free, and were not examined.
+    /// How many inodes and blocks are known to be used, are known to be free, and were not examined. Over
+    /// a disk that tells and was found sound, the maps that it counts are the full scan of the disk
+    /// once the history has a verdict of each element.
     pub fn counts(&self) -> Counts
         ensures inodes { result.inodes_used + result.inodes_free + result.inodes_unchecked ≡ self.now.core.books.at.inodes }
         ensures blocks { result.blocks_used + result.blocks_free + result.blocks_unchecked ≡ self.now.core.books.at.blocks }
         ensures machine { (W : World) → Says self.now.core.books W → CountsInodes W result × CountsBlocks W result }
+        ensures scan { IsSoundDisk (D.state self.now.found.value) → self.now.core.books.stopped ≡ false → AreExamined self.now.core.books.history.entries self.now.core.books.at → ∥ IsFullScan (D.state self.now.core.disk).now self.now.core.books ∥₁ }
     {
         self.core.books.counts()
     }

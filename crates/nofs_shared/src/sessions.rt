@@ -8,7 +8,7 @@ ghost use Rattle.nofs_shared.specs.Begins.{Unmounted};
 ghost use Rattle.nofs_shared.specs.Ends.{Headline};
 
 use crate::mount::{BeginFault, Mount};
-use crate::shared::Serves;
+use crate::serves::Serves;
 use crate::sharing::{ShareFault, SharedMount};
 use crate::steps::wants_memory;
 use nofs_disk::Disk;
@@ -72,6 +72,8 @@ fn both<R: Threads + Wait + Sync, V: Serves + Send>(
     one: Vec<Step>,
     two: Vec<Step>,
 ) -> ((Pass<V>, bool), (Pass<V>, bool))
+where
+    V::Evidence: Send,
     requires of { IsPassOf shared.now.turn first × IsPassOf shared.now.turn second }
     requires new { ((view_of first).mine ≡ []) × ((view_of second).mine ≡ []) }
     ensures of { IsPassOf shared.now.turn result.0.0 × IsPassOf shared.now.turn result.1.0 }
@@ -98,6 +100,8 @@ fn serve_two<R: Threads + Wait + Sync, V: Serves + Send>(
     one: Vec<Step>,
     two: Vec<Step>,
 ) -> (V, bool)
+where
+    V::Evidence: Send,
     ensures fixed { V.fixed result.0 ≡ V.fixed mount }
     ensures served { AllServed (two_users one.items two.items) result.1 (V.entries mount) (V.entries result.0) }
 {

@@ -1,4 +1,4 @@
-//! The mount behind a turn, and passes by which callers make steps at it.
+//! Passes by which callers make steps at a shared mount.
 ghost use Rattle.std.specs.Prelude.{◌≡◌, ◌+◌, ◌*◌, ◌/◌, ◌%◌, ◌<◌, ◌≤◌, true, [], length, vec_len, All, IfOk, IfErr, OnErr};
 ghost use Rattle.nofs_turn.specs.Turns.{view_of, IsPassOf, IsFreshPass};
 ghost use Rattle.nofs_turn.specs.Views.{looked};
@@ -7,52 +7,11 @@ ghost use Rattle.nofs_machine.specs.Steps.{Fits, with_made};
 ghost use Rattle.nofs_shared.specs.Owned.{all_by, own_steps};
 ghost use Rattle.nofs_shared.specs.Seats.{SameSeat};
 
-use crate::mount::Mount;
-use nofs_disk::Disk;
-use nofs_machine::{Entry1, Reply, Step, Steps};
-use nofs_super::SuperBlock;
-use nofs_turn::{Busy, Kept, Pass, Section, Turn};
+use crate::serves::Serves;
+use nofs_machine::{Reply, Step, Steps};
+use nofs_turn::{Busy, Pass, Section, Turn};
 use std::alloc::Global;
 use std::sync::Wait;
-
-/// What no step changes of a mount: the device as it was found, the first serial, the moment at which
-/// the history starts, and the numbers of the disk. No value of it is made.
-pub struct Grounds<D> {
-    pub found: D,
-    pub first: u64,
-    pub start: u64,
-    pub at: SuperBlock,
-}
-
-impl<D: Disk + Drop> Kept for Mount<D> {
-    type Entry = Entry1;
-
-    type Fixed = Grounds<D>;
-
-    ghost entries = { λ m. m.core.books.history.entries };
-
-    ghost fixed = { λ m. record { found = m.found.value; first = m.first; start = m.core.books.history.start; at = m.core.books.at } };
-
-    fn kept(&self) -> u64 {
-        self.core.books.history.len()
-    }
-}
-
-/// A value behind a turn at which callers make steps, one entry each.
-pub trait Serves: Kept<Entry = Entry1> + Drop {
-    ghost use Rattle.nofs_shared.specs.Owned.{TellsStep};
-
-    /// Makes one step of a caller.
-    fn serve(&mut self, alloc: Global, caller: u32, step: Step) -> Reply
-        ensures fixed { Self.fixed self.new ≡ Self.fixed self.old }
-        ensures tells { TellsStep caller step (Self.entries self.old) (Self.entries self.new) result };
-}
-
-impl<D: Disk + Drop> Serves for Mount<D> {
-    fn serve(&mut self, alloc: Global, caller: u32, step: Step) -> Reply {
-        self.step(alloc, caller, step)
-    }
-}
 
 // One step of a caller, under the turn.
 #[derive(Drop)]

@@ -4,7 +4,8 @@ ghost use Rattle.nofs_turn.specs.Turns.{view_of, IsPassOf, IsFreshPass};
 ghost use Rattle.nofs_turn.specs.Views.{joined};
 ghost use Rattle.nofs_turn.specs.Passes.{Closes};
 
-use crate::shared::{Serves, SharedPass};
+use crate::serves::Serves;
+use crate::shared::SharedPass;
 use nofs_turn::{Pass, PassesOut, Turn, TurnFault};
 use std::alloc::Global;
 

@@ -37,6 +37,7 @@ pub(crate) fn step_in<D: Disk + Drop>(
     ensures room { core.old.books.history.spare ≤ core.new.books.history.spare + 1 }
     ensures fits { Fits step result }
     ensures sees { is_see step ≡ true → is_out_of_memory result ≡ false }
+    ensures stopped { core.old.books.stopped ≡ true → is_out_of_memory result ≡ false → result ≡ Reply.Refused Refusal.Stopped }
 {
     let from = core.disk.moment();
     let Acted {

@@ -2,6 +2,7 @@
 
 ghost use Rattle.std.specs.Prelude.{◌<◌};
 
+use crate::tests::disks::{cells_of, scan_line, used};
 use crate::tests::run_on;
 use nofs_memdisk::MemDisk;
 use std::alloc::{AllocError, Global};
@@ -96,8 +97,12 @@ fn an_ordinary_day_is_served_without_a_refusal(rt: HostRuntime) -> Result<(), Fa
     for line in sink.bytes().split(|byte| *byte == b'\n') {
         assert!(rt; !line.starts_with(b"refused".as_slice()));
     }
-    let (status, sink, _) = run_on(&rt, alloc, "scan", b"".as_slice(), disk)?;
+    let (status, sink, mut disk) = run_on(&rt, alloc, "scan", b"".as_slice(), disk)?;
     assert_eq!(rt; status, 0);
-    assert!(rt; sink.bytes().starts_with(b"inodes used ".as_slice()));
+    let Some(counts) = used(alloc, &cells_of(alloc, &mut disk, 4096)?)? else {
+        panic!(rt; "the image can't be mounted")
+    };
+    let want = scan_line(alloc, (64, 4096), counts)?;
+    assert_eq!(rt; sink.bytes(), want.as_bytes());
     Ok(())
 }

@@ -1,6 +1,7 @@
 use Rattle.std.proofs.Common.{◌∙◌, map, ap}
 use Rattle.nofs_machine.specs.HistoryState.{HistoryState}
 use Rattle.nofs_client.proofs.Runs.{lines-follow}
+use Rattle.nofs.proofs.Headlines.{unserved-follows}
 use Rattle.nofs.proofs.Sessions.{session-ends}
 use Rattle.nofs.proofs.serve.run_session.Goals as goal
 
@@ -12,3 +13,8 @@ returns-clause-ran g c =
     served.mount.core.books.history.entries c.ended-2.result.history.entries c.lines_text.result c.ended-2.result.text
     c.in-Ok.ensures.scripts c.if-out_of_memory.false c.deref.ensures.value (ap (λ (h : HistoryState). h.entries) c.ended-2.ensures.history)
     (c.ended-2.ensures.text ∙ c.ok.ensures.value) lines-follow c.serve_and_close-mount.ensures.ran c.lines_text.ensures
+
+pub returns-in_default-clause-follows : goal.returns-in_default-clause-follows
+returns-in_default-clause-follows g c =
+    unserved-follows c.args.session c.args.mount.core.books.at c.ended.result.text c.ended.result.history.entries
+    (ap (λ (h : HistoryState). h.entries) c.ended.ensures.history ∙ c.requires.new) c.ended.ensures.text

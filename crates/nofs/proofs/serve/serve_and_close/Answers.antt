@@ -4,7 +4,7 @@ use denote.Exit.{no}
 use mir.Syntax.{of_param}
 use denote.Param.Send.{Quiet-if}
 use Rattle.nofs_model.specs.Cells.{SuperBlock}
-use Rattle.nofs_shared.proofs.Sends.{mount-send}
+use Rattle.nofs_shared.proofs.Sends.{evidence-send, mount-send}
 use Rattle.nofs_serve.specs.Served.{TeamServed}
 use Rattle.nofs.specs.Serving.{IsSessionRun}
 use Rattle.nofs.proofs.Sessions.{run-closed}
@@ -15,6 +15,11 @@ pub serve-mount-requires-send-V : goal.serve-mount-requires-send-V
 serve-mount-requires-send-V g c κs within =
     let m = mount-send (param 1 g.row.D) g.D.Disk c.type_bounds.send-D in
     record { owned = m.owned; leaving = λ k. Quiet-if (k (of_param 1)) _ _ (m.leaving no) (λ x w. tt) }
+
+pub serve-mount-requires-send-V-Evidence : goal.serve-mount-requires-send-V-Evidence
+serve-mount-requires-send-V-Evidence g c κs within =
+    let m = evidence-send (param 1 g.row.D) g.D.Disk in
+    record { owned = m.owned; leaving = λ k. Quiet-if (k (of_param 3)) _ _ (m.leaving no) (λ x w. tt) }
 
 pub returns-clause-ran : goal.returns-clause-ran
 returns-clause-ran g c =

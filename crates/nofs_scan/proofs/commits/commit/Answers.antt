@@ -1,8 +1,7 @@
-use Rattle.std.proofs.Common.{List, false, subst}
+use Rattle.std.proofs.Common.{ℕ, false, subst}
 use Rattle.std.proofs.lemmas.List.Elements.{All-get_or}
 use Rattle.nofs_state.specs.Verdicts.{Settles}
 use Rattle.nofs_scan.specs.Elements.{IsRight, learned, verdict_at, verdict_of}
-use Rattle.nofs_scan.specs.declared.evidence.Verdict.{Verdict}
 use Rattle.nofs_scan.proofs.Committing.{commits}
 use Rattle.nofs_scan.proofs.commits.commit.Goals as goal
 
@@ -11,4 +10,4 @@ returns-clause-commits g c = commits (g.D.Disk.state c.args.evidence.now.core.va
     (g.met.D.Disk.is_disk c.args.core.now.disk) c.args.evidence.now.safe c.requires.safe c.requires.going
     (All-get_or (IsRight (g.D.Disk.state c.args.evidence.now.core.value.disk) c.args.evidence.now.core.value.books c.args.evidence.now.kind) c.args.evidence.now.verdicts c.args.at (record { item = 0; used = false }) c.requires.within c.args.evidence.now.right)
     c.requires.used c.requires.numbers c.settle.new.books c.settle.result
-    (subst (λ (vs : List Verdict). Settles c.args.core.now.books c.settle.new.books (verdict_of c.args.evidence.now.kind c.args.core.now.books (verdict_at vs c.args.at).item) (learned c.args.evidence.now.kind c.args.core.now.books (verdict_at vs c.args.at).item) c.args.used c.settle.result) c.as_slice.ensures c.settle.ensures)
+    (subst (λ (i : ℕ). Settles c.args.core.now.books c.settle.new.books (verdict_of c.args.evidence.now.kind c.args.core.now.books i) (learned c.args.evidence.now.kind c.args.core.now.books i) c.args.used c.settle.result) c.item-item.ensures c.settle.ensures)

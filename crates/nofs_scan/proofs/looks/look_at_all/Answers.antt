@@ -2,5 +2,5 @@ use Rattle.nofs_scan.proofs.Lookups.{looked-goes}
 use Rattle.nofs_scan.proofs.looks.look_at_all.Goals as goal
 
 pub loop-place-preserved : goal.loop-place-preserved
-loop-place-preserved g c = looked-goes (g.D.Disk.state c.args.disk.now) (g.D.Disk.state c.loop-place.disk) (g.D.Disk.state c.look_at.new.disk) c.args.books.now c.args.kind c.args.items.now c.loop-place.place 0 c.loop-place.verdicts c.push.new.self c.in-Ok.used
-    c.loop-place.invariant c.loop-place-test.true c.in-Ok.ensures c.in-Ok-push.ensures.appended
+loop-place-preserved g c = looked-goes (g.D.Disk.state c.args.disk.now) (g.D.Disk.state c.loop-place.disk) (g.D.Disk.state c.look_at.new.disk) c.args.books.now c.args.kind c.args.items.now c.loop-place.place 0 c.loop-place.sights c.push.new.self c.in-Ok-look_at.sight
+    c.loop-place.invariant c.loop-place-test.true c.in-Ok-look_at.ensures c.in-Ok-push.ensures.appended

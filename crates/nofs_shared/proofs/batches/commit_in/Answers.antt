@@ -5,11 +5,13 @@ use Rattle.nofs_state.specs.declared.books.Books.{Books}
 use Rattle.nofs_machine.specs.Steps.{Fits}
 use Rattle.nofs_machine.specs.declared.steps.Step.{Step}
 use Rattle.nofs_scan.specs.Elements.{see_step, verdict_at}
-use Rattle.nofs_scan.specs.declared.evidence.Verdict.{Verdict}
 use Rattle.nofs_shared.specs.Added.{AddsStep}
 use Rattle.nofs_shared.specs.Mounts.{IsMount}
 use Rattle.nofs_shared.proofs.Mounting.{safe-history}
-use Rattle.nofs_shared.proofs.Committing.{mount-kept, fits-seen, see-is}
+use Rattle.nofs_machine.specs.declared.replies.Reply.TheVariants as reply
+use Rattle.nofs_shared.specs.Commits.{IsCommit}
+use Rattle.nofs_shared.specs.Sees.{is_see}
+use Rattle.nofs_shared.proofs.Committing.{commit-stopped, fits-seen, mount-answers, mount-kept, see-is}
 use Rattle.nofs_shared.proofs.batches.commit_in.Goals as goal
 
 pub returns-clause-keeps : goal.returns-clause-keeps
@@ -19,7 +21,19 @@ returns-clause-keeps g c = λ found first then m.
     c.requires.earlier.going c.if-core.false c.requires.earlier.begun c.requires.earlier.numbers c.requires.earlier.begins
     c.args.evidence.now.kind (verdict_at c.args.evidence.now.verdicts c.args.at).item c.args.used c.commit-stands.result c.commit-stands.ensures.commits c.args.caller
     c.moment-from.result (g.D.Disk.state c.commit-stands.new.core.disk).moment (c.commit-stands.new.core.books.history.spare - 1) c.step_of-step.result
-    (c.step_of-step.ensures ∙ ap (λ (vs : List Verdict). see_step c.args.evidence.now.kind (verdict_at vs c.args.at).item) c.as_slice.ensures) c.moment-from.ensures (λ j. (g.D.Disk.state (c.commit-stands.ensures.disk j)).moment))
+    (c.step_of-step.ensures ∙ ap (see_step c.args.evidence.now.kind) c.item-item.ensures) c.moment-from.ensures (λ j. (g.D.Disk.state (c.commit-stands.ensures.disk j)).moment))
+
+pub returns-clause-commits : goal.returns-clause-commits
+returns-clause-commits g c = λ found first then m.
+    subst (λ (l : Books). IsCommit (g.D.Disk.state found) (g.D.Disk.state c.args.core.now.disk) c.args.core.now.books l c.args.evidence.now.kind (verdict_at c.args.evidence.now.verdicts c.args.at).item c.args.used (reply.Seen c.commit-stands.result)) (sym c.keep_step.ensures.books)
+    (mount-answers (g.D.Disk.state found) (g.D.Disk.state c.args.evidence.now.core.value.disk) (g.D.Disk.state c.args.core.now.disk) first c.args.evidence.now.core.value.books c.args.core.now.books c.commit-stands.new.core.books then m
+    c.requires.earlier.going c.if-core.false c.requires.earlier.begun c.requires.earlier.numbers c.requires.earlier.begins
+    c.args.evidence.now.kind (verdict_at c.args.evidence.now.verdicts c.args.at).item c.args.used c.commit-stands.result c.commit-stands.ensures.commits c.args.caller _)
+
+pub returns-then-core-clause-commits : goal.returns-then-core-clause-commits
+returns-then-core-clause-commits g c = λ found first then m.
+    commit-stopped (g.D.Disk.state found) (g.D.Disk.state c.args.core.now.disk) c.args.core.now.books c.step_in.new.core.books c.args.evidence.now.kind (verdict_at c.args.evidence.now.verdicts c.args.at).item c.args.used c.step_in.result c.if-core.true
+    (c.step_in.ensures.stopped c.if-core.true (c.step_in.ensures.sees (ap is_see (c.step_of-step.ensures ∙ ap (see_step c.args.evidence.now.kind) c.item-item.ensures) ∙ see-is c.args.evidence.now.kind (verdict_at c.args.evidence.now.verdicts c.args.at).item)))
 
 pub returns-clause-safe : goal.returns-clause-safe
 returns-clause-safe g c =

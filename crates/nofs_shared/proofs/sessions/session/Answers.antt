@@ -7,7 +7,7 @@ use denote.Param.{param}
 use denote.Exit.{no}
 use mir.Syntax.{of_param}
 use denote.Param.Send.{IsSend, Quiet-if}
-use Rattle.nofs_shared.proofs.Sends.{mount-send}
+use Rattle.nofs_shared.proofs.Sends.{evidence-send, mount-send}
 use Rattle.nofs_shared.proofs.Two.{all-follow}
 use Rattle.nofs_shared.proofs.sessions.session.Goals as goal
 
@@ -30,3 +30,8 @@ pub serve_two-mount-requires-send-V : goal.serve_two-mount-requires-send-V
 serve_two-mount-requires-send-V g c κs within =
     let m = mount-send (param 1 g.row.D) g.D.Disk c.type_bounds.send-D in
     record { owned = m.owned; leaving = λ k. Quiet-if (k (of_param 1)) _ _ (m.leaving no) (λ x w. tt) }
+
+pub serve_two-mount-requires-send-V-Evidence : goal.serve_two-mount-requires-send-V-Evidence
+serve_two-mount-requires-send-V-Evidence g c κs within =
+    let m = evidence-send (param 1 g.row.D) g.D.Disk in
+    record { owned = m.owned; leaving = λ k. Quiet-if (k (of_param 2)) _ _ (m.leaving no) (λ x w. tt) }

@@ -4,12 +4,12 @@ use mathlib.Core.List.{IsPrefix}
 use Rattle.nofs_machine.specs.declared.history.Entry1.{Entry1}
 use Rattle.nofs_machine.specs.declared.steps.Step.{Step}
 use Rattle.nofs_scan.specs.Elements.{see_step, verdict_at}
-use Rattle.nofs_scan.specs.declared.evidence.Verdict.{Verdict}
 use Rattle.nofs_shared.specs.Sees.{is_of_sweep}
 use Rattle.nofs_shared.specs.Added.{AddsStep}
 use Rattle.nofs_turn.proofs.Words.{prefix_self}
 use Rattle.nofs_shared.specs.Earlier.{earlier-on}
 use Rattle.nofs_shared.proofs.Owning.{adds-prefix}
+use Rattle.nofs_shared.proofs.Committing.{commit-beside, commit-unmade}
 use Rattle.nofs_shared.proofs.Mounting.{mount-history, safe-history}
 use Rattle.nofs_shared.proofs.Rooming.{adds-none, few-left, sweep-served}
 use Rattle.nofs_shared.proofs.mount.Mount.commit.Goals as goal
@@ -40,6 +40,15 @@ invariant_of-self-in-Some g c = record {
       (mount-history (g.D.Disk.state c.args.self.now.found.value) (g.D.Disk.state c.args.self.now.core.disk) c.args.self.now.first c.args.self.now.core.books c.take_room.new.history c.take_room.ensures.stays.1 c.take_room.ensures.stays.0 m) ∣₁));
 }
 
+pub returns-in-None-clause-commits : goal.returns-in-None-clause-commits
+returns-in-None-clause-commits g c = ∣ commit-unmade (g.D.Disk.state c.args.self.now.found.value) (g.D.Disk.state c.args.self.now.core.disk) c.args.self.now.core.books _ c.args.evidence.now.kind (verdict_at c.args.evidence.now.verdicts c.args.at).item c.args.used ∣₁
+
+pub returns-clause-commits : goal.returns-clause-commits
+returns-clause-commits g c = ∥∥₁_elim c.requires.own.stood ∥∥₁_prop (λ then. ∥∥₁_elim c.args.self.now.stands ∥∥₁_prop (λ m.
+    ∣ commit-beside (g.D.Disk.state c.args.self.now.found.value) (g.D.Disk.state c.args.self.now.core.disk) c.args.self.now.core.books c.commit_in.new.core.books c.take_room.new.history c.args.evidence.now.kind (verdict_at c.args.evidence.now.verdicts c.args.at).item c.args.used c.commit_in.result
+    (c.commit_in.ensures.commits c.args.self.now.found.value c.args.self.now.first then
+    (mount-history (g.D.Disk.state c.args.self.now.found.value) (g.D.Disk.state c.args.self.now.core.disk) c.args.self.now.first c.args.self.now.core.books c.take_room.new.history c.take_room.ensures.stays.1 c.take_room.ensures.stays.0 m)) ∣₁))
+
 pub returns-in-None-clause-adds : goal.returns-in-None-clause-adds
 returns-in-None-clause-adds g c = adds-none c.args.caller (see_step c.args.evidence.now.kind (verdict_at c.args.evidence.now.verdicts c.args.at).item) c.args.self.now.core.books.history.entries c.take_room.new.history.entries c.take_room.ensures.stays.0
 
@@ -48,18 +57,18 @@ returns-clause-adds g c = subst (λ (H : List Entry1). AddsStep c.args.caller (s
 
 pub returns-in-None-clause-sweeps : goal.returns-in-None-clause-sweeps
 returns-in-None-clause-sweeps g c = λ e some.
-    let same = c.step_of-step.ensures ∙ ap (λ (vs : List Verdict). see_step c.args.evidence.now.kind (verdict_at vs c.args.at).item) c.as_slice.ensures in
+    let same = c.step_of-step.ensures ∙ ap (see_step c.args.evidence.now.kind) c.item-item.ensures in
     absurd (let t = c.take_room.ensures.sweep (ap (λ (s : Step). is_of_sweep c.args.caller s) same ∙ e) some in let n = c.in-None.is in cc (t, n))
 
 pub returns-clause-sweeps : goal.returns-clause-sweeps
 returns-clause-sweeps g c =
-    let same = c.step_of-step.ensures ∙ ap (λ (vs : List Verdict). see_step c.args.evidence.now.kind (verdict_at vs c.args.at).item) c.as_slice.ensures in
+    let same = c.step_of-step.ensures ∙ ap (see_step c.args.evidence.now.kind) c.item-item.ensures in
     sweep-served c.args.caller (see_step c.args.evidence.now.kind (verdict_at c.args.evidence.now.verdicts c.args.at).item) c.commit_in.result c.args.self.now.kept c.in-Some.left
     (λ e some. sym c.in-Some.is ∙ c.take_room.ensures.sweep (ap (λ (s : Step). is_of_sweep c.args.caller s) same ∙ e) some) (λ e. c.commit_in.ensures.sees)
 
 pub returns-clause-others : goal.returns-clause-others
 returns-clause-others g c = λ e.
-    let same = c.step_of-step.ensures ∙ ap (λ (vs : List Verdict). see_step c.args.evidence.now.kind (verdict_at vs c.args.at).item) c.as_slice.ensures in
+    let same = c.step_of-step.ensures ∙ ap (see_step c.args.evidence.now.kind) c.item-item.ensures in
     c.in-Some.ensures.others (ap (λ (s : Step). is_of_sweep c.args.caller s) same ∙ e)
 
 pub returns-in-None-clause-own : goal.returns-in-None-clause-own

@@ -20,4 +20,4 @@ pub returns-clause-asked : goal.returns-clause-asked
 returns-clause-asked g c = c.with.ensures.ran.told.1
 
 pub returns-clause-own : goal.returns-clause-own
-returns-clause-own g c = knows-looked _ g.V.Examines.is_of _ _ _ c.with.ensures.ran c.with.ensures.ran.told.2
+returns-clause-own g c = knows-looked _ g.V.Serves.is_of _ _ _ c.with.ensures.ran c.with.ensures.ran.told.2

@@ -1,0 +1,155 @@
+-- What is promised of one history: from the parts of a run to the headline.
+use Rattle.std.proofs.Common.{◌≡◌, ℕ, ◌<◌, Bool, true, false, List, [], length, map, Option, Some, None, Result, Ok, Err, IsTrue, refl, sym, ap, ◌∙◌, subst, arith}
+use Rattle.std.specs.Prelude.{IfOk, IfSome, is_none}
+use Rattle.std.proofs.Math.Logic.{∥∥₁_elim, ∥∥₁_prop}
+use Rattle.nofs_disk.specs.Adds.{Adds}
+use Rattle.nofs_disk.specs.Disk.{DiskState, IsSameDisk, Picks, cell_at}
+use Rattle.nofs_super.specs.Format.{IsFormatted, IsFreshCell, formatted_cell}
+use Rattle.nofs_super.specs.Raise.{raised}
+use Rattle.nofs_super.specs.Geometry.{IsGeometry, format_fault, is_geometry, is_geometry-parts}
+use Rattle.nofs_super.specs.declared.geometry.FormatFault.{FormatFault}
+use Rattle.nofs_model.specs.Cells.{SuperBlock}
+use Rattle.nofs_model.specs.Image.{Image, IsSound, super_at}
+use Rattle.nofs_model.proofs.Formatted.{formatted-law}
+use Rattle.nofs_io.specs.Calls.{SourceState}
+use Rattle.nofs_io.specs.Texts.{IsWhole}
+use Rattle.nofs_machine.specs.HistoryState.{HistoryState}
+use Rattle.nofs_machine.specs.Steps.{is_out_of_memory}
+use Rattle.nofs_machine.specs.declared.history.Entry1.{Entry1}
+use Rattle.nofs_machine.specs.declared.steps.Step.TheVariants as step
+use Rattle.nofs_machine.specs.declared.replies.Reply.{Reply}
+use Rattle.nofs_machine.specs.declared.replies.Reply.TheVariants as reply
+use Rattle.nofs_machine.specs.declared.replies.Refusal.TheVariants as refusal
+use Rattle.nofs_client.specs.declared.commands.Command.{Command}
+use Rattle.nofs_client.specs.declared.lines.Line.{Line}
+use Rattle.nofs_script.specs.Sessions.{session_of}
+use Rattle.nofs_state.specs.declared.books.Books.{Books}
+use Rattle.nofs_shared.specs.Added.{AddsStep}
+use Rattle.nofs_shared.specs.Mounts.{IsMount}
+use Rattle.nofs_serve.proofs.Teaming.{team-unserved}
+use Rattle.nofs.specs.declared.begin.Numbers.{Numbers}
+use Rattle.nofs.specs.Headline.{HeadlineOf, IsDrillHeadline, IsFollowed, IsHeadline, IsNewHeadline}
+use Rattle.nofs.specs.Serving.{IsSessionRun}
+use Rattle.nofs.specs.Tool.{WithSession, WithText}
+use Rattle.nofs.specs.Entries.{has_fault}
+use Rattle.nofs.specs.Whole.{Finished, IsMet}
+use Rattle.nofs.proofs.Sessions.{run-closed}
+use Rattle.nofs.proofs.Whole.{whole-scan}
+
+-- a format leaves a disk on which the premises are met, where it tells
+pub formatted_met : (blocks inodes : ℕ) (old new : DiskState) → IsFormatted blocks inodes old new → Adds (IsFreshCell blocks inodes) old new
+    → (IsTrue old.tells → (b : ℕ) → b < blocks → cell_at new.now b ≡ formatted_cell blocks inodes b) → IsTrue old.tells → IsMet new
+unfolding is_geometry
+formatted_met blocks inodes old new f adds cells tells = record {
+  tells = subst IsTrue (sym adds.disk.tells) tells;
+  sound = λ X picks. formatted-law X blocks inodes (subst (λ n. IsGeometry n blocks inodes) (sym (picks.len ∙ adds.disk.blocks)) numbers)
+      (λ b low. (f.settled b (cell_at X b) (in_disk b low) (picks.each b (in_disk b low))) ∙ cells tells b low);
+}
+  where
+    numbers : IsGeometry old.blocks blocks inodes
+    numbers = is_geometry-parts old.blocks blocks inodes (ap (λ (o : Option FormatFault). is_none o) f.accepted)
+
+    in_disk : (b : ℕ) → b < blocks → b < new.blocks
+    in_disk b low = let e = adds.disk.blocks in let n = numbers.fits in omega (arith, low, e, n)
+
+-- nobody was served, and nothing said
+pub unserved-follows : (scripts : List (List Command)) (at : SuperBlock) (text : Option (List ℕ)) (H : List Entry1) → H ≡ [] → text ≡ None
+    → IsFollowed scripts at text H
+unserved-follows scripts at text H none said = record {
+  short = true;
+  early = λ e. said;
+  follows = (
+    [],
+    run-closed scripts at.inodes at.blocks true false [] [] [] H (reply.Refused refusal.OutOfMemory) refl
+        (team-unserved scripts at.inodes at.blocks true [] [] [] refl refl) (record { none = λ e. none; one = λ e. cc }) refl,
+  );
+}
+
+-- a team was served, and where memory was wanting nothing said
+pub served-follows : (session scripts : List (List Command)) (at : SuperBlock) (out : Bool) (lines : List (List Line)) (all H : List Entry1)
+    (text : Option (List ℕ)) → scripts ≡ session → H ≡ all → (out ≡ true → text ≡ None) → IsSessionRun scripts at.inodes at.blocks out lines all
+    → IsFollowed session at text H
+served-follows session scripts at out lines all H text same is said run =
+    let named : IsSessionRun session at.inodes at.blocks out lines all = subst (λ (s : List (List Command)). IsSessionRun s at.inodes at.blocks out lines all) same run in
+    record {
+      short = out;
+      early = said;
+      follows = (lines, subst (λ (h : List Entry1). IsSessionRun session at.inodes at.blocks out lines h) (sym is) named);
+    }
+
+-- the headline of a mount, from its state before it served and what it gave at its end
+pub headline-of : (scripts : List (List Command)) (found before last : DiskState) (first status : ℕ) (k : Books) (text : Option (List ℕ)) (ran : HistoryState)
+    (h : Option HistoryState) → first ≡ 0 → h ≡ Some ran → ∥ IsMount found before first k ∥₁ → ∥ Finished found last first ran ∥₁
+    → IsFollowed scripts k.at text ran.entries → (text ≡ None → status ≡ 7) → (status ≡ 0 → has_fault ran.entries ≡ false)
+    → IfSome h (λ x. ∥ IsHeadline scripts found last status x ∥₁)
+headline-of scripts found before last first status k text ran h zero some stands ends f unsaid sound =
+    subst (λ (o : Option HistoryState). IfSome o (λ x. ∥ IsHeadline scripts found last status x ∥₁)) (sym some)
+    (∥∥₁_elim stands ∥∥₁_prop (λ m. ∥∥₁_elim ends ∥∥₁_prop (λ e. ∣ made m (subst (λ (n : ℕ). Finished found last n ran) zero e) ∣₁)))
+  where
+    not-short : (b : Bool) → f.short ≡ b → status ≡ 0 → f.short ≡ false
+    not-short true e done = absurd (let s = unsaid (f.early e) in omega (arith, done, s))
+    not-short false e done = e
+
+    made : IsMount found before first k → Finished found last 0 ran → IsHeadline scripts found last status ran
+    made m e = record {
+      at = k.at;
+      numbers = λ q. (m.stands q).raised;
+      short = f.short;
+      early = λ s. unsaid (f.early s);
+      follows = f.follows;
+      ends = e.ends;
+      whole = λ q done.
+          let same : k.at ≡ raised (super_at found.now) = (m.stands q).raised in
+          let (lines, run) = f.follows in
+          let run_whole : IsSessionRun scripts k.at.inodes k.at.blocks false lines ran.entries = subst
+          (λ (b : Bool). IsSessionRun scripts k.at.inodes k.at.blocks b lines ran.entries) (not-short f.short refl done) run in
+          let run_at : IsSessionRun scripts (raised (super_at found.now)).inodes (raised (super_at found.now)).blocks false lines ran.entries = subst
+          (λ (a : SuperBlock). IsSessionRun scripts a.inodes a.blocks false lines ran.entries) same run_whole in
+          let c = e.ends.contents q in
+          whole-scan scripts (raised (super_at found.now)) lines ran.entries ran.start 0 c.base c.world last.now run_at c.run (sound done) (e.shows q (sound done));
+    }
+
+module _ {D : Type 0} (state : D → DiskState) where
+  pub new-headline : (numbers : Numbers) (scripts : List (List Command)) (old found : D) (last : DiskState) (status : ℕ) (h : Option HistoryState)
+      → IsFormatted numbers.blocks numbers.inodes (state old) (state found) → (IsTrue (state old).tells → IsMet (state found))
+      → IfSome h (λ x. ∥ IsHeadline scripts (state found) last status x ∥₁) → IfSome h (HeadlineOf state (Some numbers) scripts old last status)
+  new-headline numbers scripts old found last status None formatted met i = tt
+  new-headline numbers scripts old found last status (Some h) formatted met i = record { found = found; formatted = formatted; met = met; headline = i }
+
+  pub old-headline : (scripts : List (List Command)) (old found : D) (last : DiskState) (status : ℕ) (h : Option HistoryState) → found ≡ old
+      → IfSome h (λ x. ∥ IsHeadline scripts (state found) last status x ∥₁) → IfSome h (HeadlineOf state None scripts old last status)
+  old-headline scripts old found last status h is i =
+      subst (λ (d : D). IfSome h (λ x. ∥ IsHeadline scripts (state d) last status x ∥₁)) is i
+
+module _ {D : Type 0} (state : D → DiskState) where
+  pub drill-headline : (old found left last : D) (first : ℕ) (ran : HistoryState) (h : Option HistoryState)
+      → IsFormatted 4096 256 (state old) (state found) → (IsTrue (state old).tells → IsMet (state found)) → first ≡ 0 → last ≡ left → h ≡ Some ran
+      → ∥ Finished (state found) (state left) first ran ∥₁ → IfSome h (IsDrillHeadline state old (state last))
+  drill-headline old found left last first ran h formatted met zero same some ends =
+      subst (λ (o : Option HistoryState). IfSome o (IsDrillHeadline state old (state last))) (sym some) (record {
+        found = found;
+        formatted = formatted;
+        met = met;
+        finished = subst (λ (n : ℕ). ∥ Finished (state found) (state last) n ran ∥₁) zero
+            (subst (λ (d : D). ∥ Finished (state found) (state d) first ran ∥₁) (sym same) ends);
+      })
+
+-- without a history nothing is owed
+pub none-owed : (P : HistoryState → Type 0) (h : Option HistoryState) → h ≡ None → IfSome h P
+none-owed P h e = subst (λ (o : Option HistoryState). IfSome o P) (sym e) tt
+
+-- of the session that a text spells, and of the text that was read
+pub in-session : (P : List (List Command) → HistoryState → Type 0) (text : List ℕ) (session : List (List Command)) (h : Option HistoryState)
+    → session_of text ≡ Ok session → IfSome h (P session) → IfSome h (λ x. WithSession text (λ s. P s x))
+in-session P text session None e i = tt
+in-session P text session (Some h) e i = (session, e, i)
+
+pub in-text : (P : List ℕ → HistoryState → Type 0) (old new : SourceState) (limit : ℕ) (text : List ℕ) (h : Option HistoryState)
+    → IsWhole old new text limit → IfSome h (P text) → IfSome h (λ x. WithText old new limit (λ t. P t x))
+in-text P old new limit text None whole i = tt
+in-text P old new limit text (Some h) whole i = (text, whole, i)
+
+-- what follows of a result's value
+pub if-ok : {T E : Type 0} (r : Result T E) (P Q : T → Type 0) → IfOk r P → ((t : T) → P t → Q t) → IfOk r Q
+if-ok (Ok t) P Q p f = f t p
+if-ok (Err e) P Q p f = tt

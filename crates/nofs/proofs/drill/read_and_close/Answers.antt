@@ -1,0 +1,17 @@
+use Rattle.std.proofs.Common.{rules, ◌≡◌, ◌∙◌, ap, true, List}
+use Rattle.std.specs.Prelude.{count_by, sum_by}
+use Rattle.nofs_machine.specs.HistoryState.{HistoryState}
+use Rattle.nofs_client.specs.declared.lines.Line.{Line}
+use Rattle.nofs.specs.Drill.{is_refused_line}
+use Rattle.nofs.proofs.DrillEnds.{read-out}
+use Rattle.nofs.proofs.drill.read_and_close.Goals as goal
+
+pub returns-clause-out : goal.returns-clause-out
+returns-clause-out g c =
+    let served = c.args.served in
+    let done : c.close-closed.result ≡ true = search rules in
+    read-out c.args.start c.args.steps (sum_by (count_by is_refused_line) served.lines.items) _ served.mount.core.books.history.entries _ _ _ _ _ _
+    served.out_of_memory c.close-closed.result c.line_of.result _ (ap (λ (h : HistoryState). h.entries) c.ended-2.ensures.history)
+    (c.ended-2.ensures.text ∙ c.ok-text.ensures.value) c.if-out_of_memory.false done
+    (ap (λ (l : List (List Line)). sum_by (count_by is_refused_line) l) c.deref.ensures.value) c.deref-2.ensures.value
+    (ap (λ (h : HistoryState). h.entries) c.history.ensures) c.in-Ok.ensures.reads c.close-closed.ensures.adds c.line_of.ensures

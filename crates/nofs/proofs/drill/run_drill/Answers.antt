@@ -1,0 +1,13 @@
+use Rattle.std.proofs.Common.{map}
+use Rattle.nofs_client.proofs.Runs.{lines-follow}
+use Rattle.nofs.proofs.DrillEnds.{drill-ends}
+use Rattle.nofs.proofs.drill.run_drill.Goals as goal
+
+pub returns-in-Ok-clause-drilled : goal.returns-in-Ok-clause-drilled
+returns-in-Ok-clause-drilled g c =
+    let at = c.args.mount.core.books.at in
+    let served = c.serve_users.result in
+    let ran = c.read_and_close.result in
+    drill-ends c.args.start c.args.steps at.inodes at.blocks served.out_of_memory served.lines.items (map (λ p. p.commands) c.in-Ok.plans.items)
+    c.args.mount.core.books.history.entries served.mount.core.books.history.entries ran.history.entries ran.text lines-follow c.in-Ok.ensures.scripts
+    c.requires.new c.serve_users.ensures.served c.read_and_close.ensures.out

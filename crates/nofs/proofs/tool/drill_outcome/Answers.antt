@@ -1,0 +1,31 @@
+use Rattle.std.proofs.Common.{sym, subst}
+use Rattle.nofs.specs.Tool.{MountEnds}
+use Rattle.nofs.proofs.DrillEnds.{drill-taken}
+use Rattle.nofs.proofs.Headlines.{drill-headline}
+use Rattle.nofs.proofs.Outcomes.{mounted-ends, written-ends}
+use Rattle.nofs.proofs.tool.drill_outcome.Goals as goal
+
+pub returns-in-Ok-clause-ends : goal.returns-in-Ok-clause-ends
+returns-in-Ok-clause-ends g c =
+    let disk = g.D.Disk.state in
+    let sink = g.K.Sink.state in
+    let found = disk c.in-Ok.mount.found.value in
+    let ran = c.run_drill.result in
+    let w = c.written in
+    let e = w.ensures in
+    mounted-ends (disk c.args.disk) found _ _ _ w.result.status _ c.in-Ok.ensures.mount.2
+    (subst (λ d. MountEnds found (disk d) (sink c.args.sink.now) (sink w.new.sink) w.result.status w.result.history) (sym e.disk.0)
+    (written-ends found (disk ran.disk) _ _ c.in-Ok.mount.first w.result.status ran.history _ e.disk.1 c.run_drill.ensures.ends e.named e.device e.sink))
+
+pub returns-in-Ok-clause-headline : goal.returns-in-Ok-clause-headline
+returns-in-Ok-clause-headline g c =
+    let m = c.in-Ok.mount in
+    let e = c.written.ensures in
+    drill-headline g.D.Disk.state c.args.disk m.found.value c.run_drill.result.disk c.written.result.disk m.first c.run_drill.result.history
+    c.written.result.history c.in-Ok.ensures.formatted c.in-Ok.ensures.met c.in-Ok.ensures.mount.0 e.disk.0 e.disk.1 c.run_drill.ensures.ends
+
+pub returns-in-Ok-clause-done : goal.returns-in-Ok-clause-done
+returns-in-Ok-clause-done g c =
+    let e = c.written.ensures in
+    λ fine. drill-taken c.args.start c.args.steps c.run_drill.result.history _ c.run_drill.result.text _ _ e.disk.1 (e.done fine).0 (e.done fine).1
+    (e.done fine).2 c.run_drill.ensures.drilled

@@ -1,0 +1,78 @@
+-- The headline: what the one history of a session says of its users, of the machine, and of every moment of the disk.
+use Rattle.std.specs.Prelude.{◌≡◌, ℕ, Bool, true, List, [], IsTrue, Some, None}
+use Rattle.std.specs.declared.option.Option.{Option}
+use Rattle.nofs_disk.specs.Disk.{DiskState}
+use Rattle.nofs_super.specs.Format.{IsFormatted}
+use Rattle.nofs_super.specs.Raise.{raised}
+use Rattle.nofs_model.specs.Cells.{SuperBlock}
+use Rattle.nofs_model.specs.Image.{super_at}
+use Rattle.nofs_io.specs.Calls.{SourceState}
+use Rattle.nofs_machine.specs.HistoryState.{HistoryState}
+use Rattle.nofs_machine.specs.declared.history.Entry1.{Entry1}
+use Rattle.nofs_client.specs.declared.commands.Command.{Command}
+use Rattle.nofs_client.specs.declared.lines.Line.{Line}
+use Rattle.nofs_shared.specs.Ends.{Ends}
+use Rattle.nofs.specs.declared.begin.Numbers.{Numbers}
+use Rattle.nofs.specs.declared.words.Request.{Request}
+use Rattle.nofs.specs.declared.words.Request.TheVariants.{New, Run, Scan, Drill}
+use Rattle.nofs.specs.Serving.{IsSessionRun}
+use Rattle.nofs.specs.Tool.{WithText, WithSession}
+use Rattle.nofs.specs.Whole.{Finished, IsMet, IsWholeScan}
+
+-- The entries of a history are just the steps that a session asks for: of each user those of its commands, in order, by the replies
+-- before; of the sweeps one for each element, the inodes upwards and the blocks downwards; then caller 0's flush of the
+-- whole disk; and no other caller has any. Where memory was wanting (`short`), each may have ended early
+abbrev pub FollowsScripts : List (List Command) → SuperBlock → Bool → List Entry1 → Type 0
+FollowsScripts scripts at short H = (lines : List (List Line)) × IsSessionRun scripts at.inodes at.blocks short lines H
+
+-- What a serving leaves: its history, and whether there is a text of it
+pub record IsFollowed (scripts : List (List Command)) (at : SuperBlock) (text : Option (List ℕ)) (H : List Entry1) : Type 0 where
+  pub short : Bool
+  pub early : short ≡ true → text ≡ None
+  pub follows : FollowsScripts scripts at short H
+
+-- THE HEADLINE, of one history over the disk that the mount found. Its entries follow the session; a user ends early at status 7
+-- alone. Where the premises are met, `Ends` says further: the history is a run of the machine with its replies; at each moment, in
+-- mid-step too, every image that a crash may leave is allowed; what is claimed was free; and each image is one on which the
+-- premises are met again. At status 0 the machine knows every inode and every block, and says of each what the full scan of the
+-- disk handed back says
+pub record IsHeadline (scripts : List (List Command)) (found last : DiskState) (status : ℕ) (h : HistoryState) : Type 0 where
+  -- the numbers of the mount
+  pub at : SuperBlock
+  pub numbers : IsMet found → at ≡ raised (super_at found.now)
+  pub short : Bool
+  pub early : short ≡ true → status ≡ 7
+  pub follows : FollowsScripts scripts at short h.entries
+  pub ends : Ends found last 0 h
+  pub whole : (q : IsMet found) → status ≡ 0 → IsWholeScan (ends.contents q).world last.now
+
+module _ {D : Type 0} (state : D → DiskState) where
+  -- on a device that was formatted first: the mount found it as the format left it, and the premises are met where it tells
+  pub record IsNewHeadline (blocks inodes : ℕ) (scripts : List (List Command)) (old : D) (last : DiskState) (status : ℕ) (h : HistoryState) : Type 0 where
+    pub found : D
+    pub formatted : IsFormatted blocks inodes (state old) (state found)
+    pub met : IsTrue (state old).tells → IsMet (state found)
+    pub headline : ∥ IsHeadline scripts (state found) last status h ∥₁
+
+  -- of a session: where there are numbers, the device was formatted with them
+  abbrev pub HeadlineOf : Option Numbers → List (List Command) → D → DiskState → ℕ → HistoryState → Type 0
+  HeadlineOf None scripts old last status h = ∥ IsHeadline scripts (state old) last status h ∥₁
+  HeadlineOf (Some numbers) scripts old last status h = IsNewHeadline numbers.blocks numbers.inodes scripts old last status h
+
+  -- of a drill: the mount found its device as the format left it, and `Finished` says of its history what `Ends` says of every other; what
+  -- its entries are is said at status 0 (`IsDrillDone`)
+  pub record IsDrillHeadline (old : D) (last : DiskState) (h : HistoryState) : Type 0 where
+    pub found : D
+    pub formatted : IsFormatted 4096 256 (state old) (state found)
+    pub met : IsTrue (state old).tells → IsMet (state found)
+    pub finished : ∥ Finished (state found) last 0 h ∥₁
+
+  -- of a task: the session is the one that its source spells, and a scan has no users
+  abbrev pub HeadlineIn : Option Request → SourceState → SourceState → ℕ → D → DiskState → ℕ → HistoryState → Type 0
+  HeadlineIn None source_old source_new limit old last status h = ⊥
+  HeadlineIn (Some Scan) source_old source_new limit old last status h = HeadlineOf None [] old last status h
+  HeadlineIn (Some (Drill start steps)) source_old source_new limit old last status h = IsDrillHeadline old last h
+  HeadlineIn (Some Run) source_old source_new limit old last status h = WithText source_old source_new limit (λ text.
+      WithSession text (λ session. HeadlineOf None session old last status h))
+  HeadlineIn (Some (New blocks inodes)) source_old source_new limit old last status h = WithText source_old source_new limit (λ text.
+      WithSession text (λ session. HeadlineOf (Some (record { blocks = blocks; inodes = inodes })) session old last status h))

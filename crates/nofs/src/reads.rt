@@ -1,0 +1,210 @@
+//! What caller 0 reads of the files of a drill.
+//!
+//! Promise: it looks up each file in its directory, asks for its size, and gets each slot below it, in order. A refused look or
+//! stat ends that file.
+
+ghost use Rattle.std.specs.Prelude.{◌≡◌, ◌≤◌, ◌∷◌, ◌++◌, [], List, length, IfOk, OnOk};
+ghost use Rattle.std.specs.declared.option.Option.{Option};
+ghost use Rattle.nofs_machine.specs.Machine as machine;
+ghost use Rattle.nofs_machine.specs.Steps.{Made, is_out_of_memory};
+ghost use Rattle.nofs_machine.specs.declared.steps.Step.TheVariants as step;
+ghost use Rattle.nofs.specs.declared.reads.FileRead.{FileRead as ReadOf};
+ghost use Rattle.nofs.specs.Drill.{AddsOwn, AreRead, IsRead, IsReadAt, IsReadIn, IsWhole, GoesOn, found_in as found_by, gets_from, stat_in as stat_by};
+
+use nofs_disk::Disk;
+use nofs_lists::Name;
+use nofs_machine::{Found, Refusal, Reply, Stat, Step};
+use nofs_shared::Mount;
+use std::alloc::{AllocError, Global};
+
+/// A file of a drill as it was read: what led to it, its size in bytes, and what was got of each slot below its size.
+#[derive(Drop)]
+pub struct FileRead {
+    pub found: Found,
+    pub size: u64,
+    pub slots: Vec<Reply>,
+}
+
+const READER: u32 = 0;
+
+fn is_memory_wanting(reply: &Reply) -> bool
+    ensures { result ≡ is_out_of_memory reply.now }
+{
+    matches!(reply, Reply::Refused(Refusal::OutOfMemory))
+}
+
+// One step of caller 0.
+fn ask<D: Disk + Drop>(
+    alloc: Global,
+    mount: &mut Mount<D>,
+    asked: Step,
+) -> Result<Reply, AllocError>
+    ensures adds { IfOk result (λ r. AddsOwn ((asked, r) ∷ []) mount.old.core.books.history.entries mount.new.core.books.history.entries) }
+    ensures same { (mount.new.found ≡ mount.old.found) × (mount.new.first ≡ mount.old.first) }
+{
+    let reply = mount.step(alloc, READER, asked);
+    if is_memory_wanting(&reply) {
+        return Err(AllocError);
+    }
+    Ok(reply)
+}
+
+fn found_in(reply: &Reply) -> Option<Found>
+    ensures { result ≡ found_by reply.now }
+{
+    match reply {
+        Reply::Found(found) => Some(*found),
+        _ => None,
+    }
+}
+
+fn stat_in(reply: &Reply) -> Option<Stat>
+    ensures { result ≡ stat_by reply.now }
+{
+    match reply {
+        Reply::Stat(stat) => Some(*stat),
+        _ => None,
+    }
+}
+
+// How many slots a size reaches into.
+fn slots_in(size: u64) -> u64
+    ensures { result ≡ machine.slots_in size }
+{
+    size / 1024 + u64::from(size % 1024 != 0)
+}
+
+// Gets every slot of a file.
+fn read_slots<D: Disk + Drop>(
+    alloc: Global,
+    mount: &mut Mount<D>,
+    found: Found,
+    count: u64,
+) -> Result<Vec<Reply>, AllocError>
+    ensures whole { IfOk result (λ replies. length replies.items ≡ count) }
+    ensures adds { IfOk result (λ replies. AddsOwn (gets_from found 0 replies.items) mount.old.core.books.history.entries mount.new.core.books.history.entries) }
+    ensures same { (mount.new.found ≡ mount.old.found) × (mount.new.first ≡ mount.old.first) }
+{
+    let mut replies = Vec::new(alloc);
+    for slot in 0..count {
+        let get = Step::Get {
+            inode: found.inode,
+            generation: found.generation,
+            slot,
+        };
+        replies.push(ask(alloc, mount, get)?)?;
+    }
+    Ok(replies)
+}
+
+// Reads the file, whose size was told.
+fn read_whole<D: Disk + Drop>(
+    alloc: Global,
+    mount: &mut Mount<D>,
+    found: Found,
+    stat: Stat,
+) -> Result<Option<FileRead>, AllocError>
+    ensures reads { IfOk result (λ read. (made : List Made) × AddsOwn made mount.old.core.books.history.entries mount.new.core.books.history.entries × IsWhole found stat read made) }
+    ensures same { (mount.new.found ≡ mount.old.found) × (mount.new.first ≡ mount.old.first) }
+{
+    let slots = read_slots(alloc, mount, found, slots_in(stat.size))?;
+    Ok(Some(FileRead {
+        found,
+        size: stat.size,
+        slots,
+    }))
+}
+
+// Reads the file that was found.
+fn read_found<D: Disk + Drop>(
+    alloc: Global,
+    mount: &mut Mount<D>,
+    found: Found,
+) -> Result<Option<FileRead>, AllocError>
+    ensures reads { IfOk result (λ read. (made : List Made) × AddsOwn made mount.old.core.books.history.entries mount.new.core.books.history.entries × IsReadAt found read made) }
+    ensures same { (mount.new.found ≡ mount.old.found) × (mount.new.first ≡ mount.old.first) }
+{
+    let stat = Step::Stat {
+        inode: found.inode,
+        generation: found.generation,
+    };
+    let reply = ask(alloc, mount, stat)?;
+    match stat_in(&reply) {
+        None => Ok(None),
+        Some(stat) => read_whole(alloc, mount, found, stat),
+    }
+}
+
+// Looks up the file in its directory and reads it.
+fn read_in<D: Disk + Drop>(
+    alloc: Global,
+    mount: &mut Mount<D>,
+    directory: Found,
+) -> Result<Option<FileRead>, AllocError>
+    ensures reads { IfOk result (λ read. (made : List Made) × AddsOwn made mount.old.core.books.history.entries mount.new.core.books.history.entries × IsReadIn directory read made) }
+    ensures same { (mount.new.found ≡ mount.old.found) × (mount.new.first ≡ mount.old.first) }
+{
+    let look = Step::Look {
+        directory: directory.inode,
+        generation: directory.generation,
+        name: Name::from_slice(alloc, b"f")?,
+    };
+    let reply = ask(alloc, mount, look)?;
+    match found_in(&reply) {
+        None => Ok(None),
+        Some(found) => read_found(alloc, mount, found),
+    }
+}
+
+// Looks up the directory of a user and reads the file in it.
+fn read_file<D: Disk + Drop>(
+    alloc: Global,
+    mount: &mut Mount<D>,
+    user: u32,
+) -> Result<Option<FileRead>, AllocError>
+    requires { user ≤ 4 }
+    ensures reads { IfOk result (λ read. (made : List Made) × AddsOwn made mount.old.core.books.history.entries mount.new.core.books.history.entries × IsRead user read made) }
+    ensures same { (mount.new.found ≡ mount.old.found) × (mount.new.first ≡ mount.old.first) }
+{
+    let look = Step::Look {
+        directory: 1,
+        generation: 1,
+        name: Name::from_slice(alloc, &[b'0' + user as u8])?,
+    };
+    let reply = ask(alloc, mount, look)?;
+    match found_in(&reply) {
+        None => Ok(None),
+        Some(directory) => read_in(alloc, mount, directory),
+    }
+}
+
+// Reads the file of a user and keeps what was read.
+fn push_read<D: Disk + Drop>(
+    alloc: Global,
+    mount: &mut Mount<D>,
+    user: u32,
+    reads: &mut Vec<Option<FileRead>>,
+) -> Result<(), AllocError>
+    requires { user ≤ 4 }
+    ensures reads { OnOk result ((made : List Made) × (read : Option ReadOf) × AddsOwn made mount.old.core.books.history.entries mount.new.core.books.history.entries × (reads.new.items ≡ reads.old.items ++ read ∷ []) × IsRead user read made) }
+    ensures same { (mount.new.found ≡ mount.old.found) × (mount.new.first ≡ mount.old.first) }
+{
+    reads.push(read_file(alloc, mount, user)?)?;
+    Ok(())
+}
+
+/// Reads the files of the four users, one after the other. None stands for a file of which a look or the stat was refused.
+pub fn read_files<D: Disk + Drop>(
+    alloc: Global,
+    mount: &mut Mount<D>,
+) -> Result<Vec<Option<FileRead>>, AllocError>
+    ensures reads { IfOk result (λ reads. (made : List Made) × AddsOwn made mount.old.core.books.history.entries mount.new.core.books.history.entries × AreRead 1 reads.items made) }
+    ensures same { (mount.new.found ≡ mount.old.found) × (mount.new.first ≡ mount.old.first) }
+{
+    let mut reads = Vec::new(alloc);
+    push_read(alloc, mount, 1, &mut reads)?;
+    push_read(alloc, mount, 2, &mut reads)?;
+    push_read(alloc, mount, 3, &mut reads)?;
+    push_read(alloc, mount, 4, &mut reads)?;
+    Ok(reads)
+}

@@ -1,0 +1,96 @@
+//! Disks that hold given cells, the cells that a disk holds, and the line that a scan of them prints.
+ghost use Rattle.nofs_disk.specs.Disk.{IsSettled};
+ghost use Rattle.nofs_memdisk.specs.Parts.{memory_state};
+
+use nofs_disk::{Cell, Disk};
+use nofs_memdisk::MemDisk;
+use nofs_model::{ScanResult, full_scan, is_mountable};
+use std::alloc::{AllocError, Global};
+
+/// A disk of so many blocks that holds these cells first, and zeros after them.
+pub fn disk_of(alloc: Global, blocks: u64, cells: &[Cell]) -> Result<MemDisk, AllocError> {
+    let mut disk = MemDisk::new(alloc, blocks)?;
+    for (block, cell) in cells.iter().enumerate() {
+        lay(&mut disk, block as u64, cell);
+    }
+    Ok(disk)
+}
+
+fn lay(disk: &mut MemDisk, block: u64, cell: &Cell)
+    requires { IsSettled (memory_state disk.old) }
+    ensures { IsSettled (memory_state disk.new) }
+{
+    if block < disk.blocks() {
+        disk.put_cell(block, cell);
+    }
+}
+
+/// The first cells of a disk, up to one that can't be read.
+pub fn cells_of<D: Disk>(
+    alloc: Global,
+    disk: &mut D,
+    blocks: u64,
+) -> Result<Vec<Cell>, AllocError> {
+    let mut cells = Vec::new(alloc);
+    for block in 0..blocks {
+        match cell_of(disk, block) {
+            Some(cell) => cells.push(cell)?,
+            None => return Ok(cells),
+        }
+    }
+    Ok(cells)
+}
+
+fn cell_of<D: Disk>(disk: &mut D, block: u64) -> Option<Cell> {
+    if block >= disk.blocks() {
+        return None;
+    }
+    let mut cell = Cell::ZERO;
+    match disk.read(block, &mut cell) {
+        Ok(()) => Some(cell),
+        Err(_) => None,
+    }
+}
+
+/// The bytes of cells one after another, the payload of each before its tag.
+pub fn bytes_of(alloc: Global, cells: &[Cell]) -> Result<Vec<u8>, AllocError> {
+    let mut bytes = Vec::new(alloc);
+    for cell in cells {
+        bytes.extend_from_slice(&cell.payload)?;
+        bytes.extend_from_slice(&cell.tag)?;
+    }
+    Ok(bytes)
+}
+
+/// How many inodes and how many blocks the definitions say are used; `None` where the cells are no
+/// image that can be mounted.
+pub fn used(alloc: Global, cells: &[Cell]) -> Result<Option<(u64, u64)>, AllocError> {
+    if !is_mountable(cells) {
+        return Ok(None);
+    }
+    let ScanResult { inodes, blocks } = full_scan(alloc, cells)?;
+    Ok(Some((inodes.count(), blocks.count())))
+}
+
+/// The line of a scan that finds so many of all inodes and blocks used.
+pub fn scan_line(alloc: Global, all: (u64, u64), used: (u64, u64)) -> Result<String, AllocError> {
+    let mut line = String::new(alloc);
+    push_counts(alloc, &mut line, "inodes", all.0, used.0)?;
+    line.push_str(", ")?;
+    push_counts(alloc, &mut line, "blocks", all.1, used.1)?;
+    line.push_str("\n")?;
+    Ok(line)
+}
+
+fn push_counts(
+    alloc: Global,
+    line: &mut String,
+    what: &str,
+    all: u64,
+    used: u64,
+) -> Result<(), AllocError> {
+    let free = all.saturating_sub(used);
+    line.push_str(what)?;
+    line.push_str(format!(in alloc; " used {used} free {free}")?.as_str())?;
+    line.push_str(" unchecked 0")
+}

@@ -1,0 +1,3 @@
+pub mod Formatting
+pub mod Maps
+pub mod Opening

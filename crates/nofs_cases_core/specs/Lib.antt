@@ -1,0 +1,2 @@
+pub mod OpenMount
+pub mod Replies

@@ -1,0 +1,13 @@
+//! An instance of the invariant of a mount: a disk that is formatted and mounted, on which a block is
+//! examined and one Put is stored.
+//!
+//! Promise: the mount is open then, its maps are right for the disk, and each image that a crash may
+//! leave is sound. Nothing of the disk is assumed: a disk in memory tells what it holds, and what a
+//! format leaves is sound.
+#![tactic(auto)]
+
+mod mounts;
+#[cfg(test)]
+mod tests;
+
+pub use mounts::{Unmade, format_disk, formatted_mount, formatted_put, new_disk};

@@ -1,0 +1,119 @@
+//! A core over a disk in memory, that is asked step by step.
+//!
+//! Promise: each call leaves the core as the next one needs it.
+ghost use Rattle.std.specs.Prelude.{◌≡◌, ◌<◌, ◌≤◌, ◌^◌, IfOk};
+ghost use Rattle.nofs_memdisk.specs.Parts.{memory_state};
+ghost use Rattle.nofs_super.specs.Geometry.{IsGeometry};
+ghost use Rattle.nofs_agree.specs.Reading.{IsAt};
+ghost use Rattle.nofs_state.specs.Books.{IsSafe};
+
+use crate::tests::file_asks::{
+    ask_flush, ask_get, ask_put, ask_resize, ask_see_block, ask_see_inode, ask_stat, free,
+};
+use crate::tests::name_asks::{ask_drop, ask_link, ask_list, ask_look, ask_make, ask_rename};
+use crate::tests::steps::{Ask, Said};
+use nofs_disk::Disk;
+use nofs_inode::FileKind;
+use nofs_memdisk::MemDisk;
+use nofs_state::{Core, Room};
+use nofs_super::{SuperBlock, raise_mount, read_super};
+use std::alloc::Global;
+use std::test::Fail;
+
+/// A mounted disk in memory.
+#[derive(Drop)]
+pub struct Bench {
+    pub core: Core<MemDisk>,
+    ghost safe: { IsSafe (memory_state core.disk) core.books },
+}
+
+// Raises the mount number; the superblock as it is then read.
+fn raised(disk: &mut MemDisk) -> Result<SuperBlock, Fail>
+    ensures at { IfOk result (IsAt (memory_state disk.new)) }
+    ensures mount { IfOk result (λ at. at.mount < 2 ^ 24) }
+    ensures geometry { IfOk result (λ at. IsGeometry at.blocks at.blocks at.inodes) }
+{
+    let old = read_super(disk).map_err(|_| "no superblock")?;
+    disk.ready(2)?;
+    match raise_mount(disk, &old) {
+        Ok(_) => {}
+        Err(_) => return Err("no mount".into()),
+    }
+    read_again(disk)
+}
+
+fn read_again(disk: &mut MemDisk) -> Result<SuperBlock, Fail>
+    ensures at { IfOk result (IsAt (memory_state disk.new)) }
+    ensures mount { IfOk result (λ at. at.mount < 2 ^ 24) }
+    ensures geometry { IfOk result (λ at. IsGeometry at.blocks at.blocks at.inodes) }
+{
+    match read_super(disk) {
+        Ok(at) => Ok(at),
+        Err(_) => Err("no superblock".into()),
+    }
+}
+
+impl Bench {
+    /// Mounts a disk. Its stamps begin at this serial.
+    pub fn over(alloc: Global, disk: MemDisk, first: u64) -> Result<Bench, Fail>
+        requires { first ≤ 2 ^ 40 }
+    {
+        let mut disk = disk;
+        let at = raised(&mut disk)?;
+        let room = Room::new(alloc, &at)?;
+        Ok(Bench {
+            core: Core::over(disk, at, first, room),
+        })
+    }
+
+    /// Makes a step.
+    pub fn ask(&mut self, alloc: Global, ask: Ask) -> Said
+        ensures { self.new.core.books.at ≡ self.old.core.books.at }
+    {
+        let core = &mut self.core;
+        match ask {
+            Ask::Look(on, name) => ask_look(core, on, name),
+            Ask::Make(on, name) => ask_make(core, alloc, on, name, FileKind::File),
+            Ask::MakeDirectory(on, name) => ask_make(core, alloc, on, name, FileKind::Directory),
+            Ask::Link(on, name, file) => ask_link(core, alloc, on, name, file),
+            Ask::Drop(on, name) => ask_drop(core, alloc, on, name),
+            Ask::Rename(on, old, new) => ask_rename(core, alloc, on, old, new),
+            Ask::List(on, slot) => ask_list(core, alloc, on, slot),
+            Ask::Get(on, slot, at) => ask_get(core, on, slot, at),
+            Ask::Put(on, slot, at, length, byte) => ask_put(core, on, slot, at, length, byte),
+            Ask::Resize(on, size) => ask_resize(core, alloc, on, size),
+            Ask::Stat(on) => ask_stat(core, on),
+            Ask::Flush(on) => ask_flush(core, on),
+            Ask::SeeInode(inode) => ask_see_inode(core, inode),
+            Ask::SeeBlock(block) => ask_see_block(core, block),
+            Ask::Free => free(core),
+        }
+    }
+
+    /// Examines these blocks.
+    pub fn see_blocks(&mut self, alloc: Global, from: u64, to: u64) {
+        for block in from..to {
+            self.ask(alloc, Ask::SeeBlock(block));
+        }
+    }
+
+    /// Makes these steps.
+    pub fn ask_all(&mut self, alloc: Global, asks: &[Ask])
+        ensures { self.new.core.books.at ≡ self.old.core.books.at }
+    {
+        for ask in asks {
+            self.ask(alloc, *ask);
+        }
+    }
+
+    /// Makes these steps: the first that is answered otherwise, with its answer.
+    pub fn first_wrong(&mut self, alloc: Global, cases: &[(Ask, Said)]) -> Option<(usize, Said)> {
+        for (place, (ask, want)) in cases.iter().enumerate() {
+            let said = self.ask(alloc, *ask);
+            if said != *want {
+                return Some((place, said));
+            }
+        }
+        None
+    }
+}

@@ -1,0 +1,14 @@
+//! What a drill does: the drawn scripts of its four users, and the values that the steps on a file give.
+//!
+//! Promise: a script is that of the definition for its start, and a replay has the values that the accepted puts and resizes of
+//! a file give one after the other, and nothing of a step that was refused.
+#![tactic(auto)]
+
+mod file;
+mod replays;
+mod script;
+#[cfg(test)]
+mod tests;
+
+pub use replays::{ValueList, replay};
+pub use script::{MOST_STEPS, USERS, script_of};

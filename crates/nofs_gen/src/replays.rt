@@ -1,0 +1,126 @@
+//! The values that a history gave to a file, in a plain way: step by step, from nothing.
+//!
+//! Promise: they are those of the definition. A step that was refused gives nothing.
+ghost use Rattle.std.specs.Prelude.{◌≡◌, ◌<◌, ◌+◌, length, IfOk, fold, drop};
+ghost use Rattle.nofs_machine.specs.Machine as machine;
+ghost use Rattle.nofs_gen.specs.Replay.{after_entry as entry_after, after_step as step_after, empty_file, kept_file, replay_of};
+
+use crate::file::Replayed;
+use nofs_lists::ListOf;
+use nofs_machine::{Entry1, History, Reply, Step};
+use nofs_model::Value;
+use std::alloc::{AllocError, Global};
+
+/// Values of slots, in order.
+pub type ValueList = ListOf<Value>;
+
+// A file by its inode and generation.
+#[derive(Clone, Copy)]
+struct Wanted {
+    inode: u32,
+    generation: u64,
+}
+
+impl Wanted {
+    fn is(&self, inode: u32, generation: u64) -> bool
+        ensures { result ≡ machine.is_at self.now.inode self.now.generation inode generation }
+    {
+        self.inode == inode && self.generation == generation
+    }
+}
+
+// The file after a step that was accepted.
+fn after_step(
+    alloc: Global,
+    wanted: &Wanted,
+    file: Replayed,
+    step: &Step,
+) -> Result<Replayed, AllocError>
+    ensures { IfOk result (λ next. kept_file next ≡ step_after wanted.now.inode wanted.now.generation (kept_file file) step.now) }
+{
+    match step {
+        Step::Put {
+            inode,
+            generation,
+            slot,
+            at,
+            bytes,
+        } => {
+            if wanted.is(*inode, *generation) {
+                file.with_put(alloc, *slot, *at, bytes.as_slice())
+            } else {
+                Ok(file)
+            }
+        }
+        Step::Resize {
+            inode,
+            generation,
+            size,
+        } => {
+            if wanted.is(*inode, *generation) {
+                file.resized(alloc, *size)
+            } else {
+                Ok(file)
+            }
+        }
+        _ => Ok(file),
+    }
+}
+
+fn is_refused(reply: &Reply) -> bool
+    ensures { result ≡ machine.is_refused reply.now }
+{
+    matches!(reply, Reply::Refused(_))
+}
+
+// The file after an entry.
+fn after_entry(
+    alloc: Global,
+    wanted: &Wanted,
+    file: Replayed,
+    entry: &Entry1,
+) -> Result<Replayed, AllocError>
+    ensures { IfOk result (λ next. kept_file next ≡ entry_after wanted.now.inode wanted.now.generation (kept_file file) entry.now) }
+{
+    if is_refused(&entry.reply) {
+        Ok(file)
+    } else {
+        after_step(alloc, wanted, file, &entry.step)
+    }
+}
+
+// The file after the entry at a place.
+fn after_place(
+    alloc: Global,
+    wanted: &Wanted,
+    file: Replayed,
+    history: &History,
+    at: u64,
+) -> Result<Replayed, AllocError>
+    requires { at < length history.now.entries }
+    ensures { IfOk result (λ next. fold (entry_after wanted.now.inode wanted.now.generation) (kept_file next) (drop (at + 1) history.now.entries)
+        ≡ fold (entry_after wanted.now.inode wanted.now.generation) (kept_file file) (drop at history.now.entries)) }
+{
+    match history.entry(at) {
+        Some(entry) => after_entry(alloc, wanted, file, entry),
+        None => Ok(file),
+    }
+}
+
+/// The 72 values that the accepted puts and resizes of a file give one after the other, beginning with 72 holes and size 0.
+#[tactic(auto, unfolding(crate::specs::Replay::replay_of))]
+pub fn replay(
+    alloc: Global,
+    history: &History,
+    inode: u32,
+    generation: u64,
+) -> Result<ValueList, AllocError>
+    ensures { IfOk result (λ values. values ≡ replay_of history.now.entries inode generation) }
+{
+    let wanted = Wanted { inode, generation };
+    let mut file = Replayed::empty(alloc)?;
+    for at in 0..history.len() {
+        file = after_place(alloc, &wanted, file, history, at)?;
+    }
+    Ok(ValueList::from_vec(file.into_values(alloc)?))
+}

@@ -1,0 +1,365 @@
+//! What an element has on the disk, read block by block.
+//!
+//! Promise: each sight is that of the disk's image, whatever the bytes are. A read changes nothing,
+//! takes no memory, and fails only where the disk's count of faults rose.
+ghost use Rattle.std.specs.Prelude.{◌≡◌, ◌<◌, IfOk, IsTrue, length};
+ghost use Rattle.nofs_inode.specs.declared.inode.FileKind.TheVariants as kind;
+ghost use Rattle.nofs_dirent.specs.Entries.{entry_bytes, entry_in};
+ghost use Rattle.nofs_model.specs.Files as files;
+ghost use Rattle.nofs_model.specs.Geometry as image;
+ghost use Rattle.nofs_model.specs.Places.{IsPlace, place_path};
+ghost use Rattle.nofs_model.specs.Slots as slots;
+ghost use Rattle.nofs_model.specs.Cells as cells;
+ghost use Rattle.nofs_agree.specs.Reading.{IsAt, IsLast, KnowsDirectory};
+ghost use Rattle.nofs_scan.specs.Seeing.{Reads, Sees};
+ghost use Rattle.nofs_scan.specs.Sights as sights;
+
+use crate::judging::is_slot;
+use crate::sights::{Above, BlockSight, InodeSight, LinkSight, Named, TagSight, Way};
+use nofs_agree::{LastRead, PathAnswer, check_chain, find_slot, read_block, read_inode};
+use nofs_bits::Bits;
+use nofs_disk::{Disk, Failed, Tag, read_tag, read_u32_at, read_u64_at};
+use nofs_inode::{BackLink, FileKind, Record};
+use nofs_model::{Place, names_inode, place_of, record_pointer};
+use nofs_ptrs::read_pointer;
+use nofs_super::SuperBlock;
+
+/// Reads an inode's record, and what each of its back links leads to.
+///
+/// # Errors
+///
+/// `Failed` where a read failed.
+pub fn read_inode_sight<D: Disk>(
+    disk: &mut D,
+    at: &SuperBlock,
+    known: &Bits,
+    inode: u32,
+) -> Result<InodeSight, Failed>
+    requires numbers { IsAt (D.state disk.old) at.now }
+    requires known { length known.now ≡ at.now.inodes }
+    ensures sees { Sees (D.state disk.old) (D.state disk.new) known.now (λ X. sights.inode_sight X inode) result }
+    ensures inode { IfOk result (λ sight. sight.inode ≡ inode) }
+{
+    let in_table = read_record(disk, at, inode)?;
+    let links = read_links(disk, at, known, &in_table.links)?;
+    Ok(InodeSight {
+        inode,
+        in_table,
+        links,
+    })
+}
+
+fn read_record<D: Disk>(disk: &mut D, at: &SuperBlock, inode: u32) -> Result<Record, Failed>
+    requires { IsAt (D.state disk.old) at.now }
+    ensures { Reads (D.state disk.old) (D.state disk.new) (λ X. image.inode X inode) result }
+{
+    let mut last = LastRead::NONE;
+    read_inode(disk, at, inode, &mut last)
+}
+
+// What four back links lead to.
+fn read_links<D: Disk>(
+    disk: &mut D,
+    at: &SuperBlock,
+    known: &Bits,
+    links: &[BackLink; 4],
+) -> Result<[LinkSight; 4], Failed>
+    requires numbers { IsAt (D.state disk.old) at.now }
+    requires known { length known.now ≡ at.now.inodes }
+    ensures { Sees (D.state disk.old) (D.state disk.new) known.now (λ X. sights.link_sights X links.now) result }
+{
+    let low = read_two(disk, at, known, &links[0], &links[1])?;
+    let high = read_two(disk, at, known, &links[2], &links[3])?;
+    Ok([low.0, low.1, high.0, high.1])
+}
+
+fn read_two<D: Disk>(
+    disk: &mut D,
+    at: &SuperBlock,
+    known: &Bits,
+    one: &BackLink,
+    two: &BackLink,
+) -> Result<(LinkSight, LinkSight), Failed>
+    requires numbers { IsAt (D.state disk.old) at.now }
+    requires known { length known.now ≡ at.now.inodes }
+    ensures { Sees (D.state disk.old) (D.state disk.new) known.now (λ X. (sights.link_sight X one.now, sights.link_sight X two.now)) result }
+{
+    let first = read_link(disk, at, known, one)?;
+    let second = read_link(disk, at, known, two)?;
+    Ok((first, second))
+}
+
+// What a back link leads to.
+fn read_link<D: Disk>(
+    disk: &mut D,
+    at: &SuperBlock,
+    known: &Bits,
+    link: &BackLink,
+) -> Result<LinkSight, Failed>
+    requires numbers { IsAt (D.state disk.old) at.now }
+    requires known { length known.now ≡ at.now.inodes }
+    ensures { Sees (D.state disk.old) (D.state disk.new) known.now (λ X. sights.link_sight X link.now) result }
+{
+    let entry = read_link_entry(disk, at, link)?;
+    let agreed = read_agreed(disk, at, known, link.directory)?;
+    Ok(LinkSight { entry, agreed })
+}
+
+// Whether an inode is agreed.
+fn read_agreed<D: Disk>(
+    disk: &mut D,
+    at: &SuperBlock,
+    known: &Bits,
+    inode: u32,
+) -> Result<bool, Failed>
+    requires numbers { IsAt (D.state disk.old) at.now }
+    requires known { length known.now ≡ at.now.inodes }
+    ensures { Sees (D.state disk.old) (D.state disk.new) known.now (λ X. files.agreed (files.files_in X) inode) result }
+{
+    check_chain(disk, at, known, inode)
+}
+
+// The entry that a back link names, in a directory of its generation.
+fn read_link_entry<D: Disk>(
+    disk: &mut D,
+    at: &SuperBlock,
+    link: &BackLink,
+) -> Result<Option<Named>, Failed>
+    requires { IsAt (D.state disk.old) at.now }
+    ensures { Reads (D.state disk.old) (D.state disk.new) (λ X. sights.link_entry (files.files_in X) link.now) result }
+{
+    let mut last = LastRead::NONE;
+    let directory = read_inode(disk, at, link.directory, &mut last)?;
+    if !is_directory(&directory, link.generation) {
+        return Ok(None);
+    }
+    read_entry_of(disk, at, link, &directory, &mut last)
+}
+
+// Whether this is the record of a live directory of this generation.
+fn is_directory(it: &Record, generation: u64) -> bool
+    ensures { result ≡ files.is_record kind.Directory generation it.now }
+{
+    it.kind == Some(FileKind::Directory) && it.generation == generation
+}
+
+// The entry that a back link names in this directory.
+fn read_entry_of<D: Disk>(
+    disk: &mut D,
+    at: &SuperBlock,
+    link: &BackLink,
+    directory: &Record,
+    last: &mut LastRead,
+) -> Result<Option<Named>, Failed>
+    requires directory { KnowsDirectory (D.state disk.old) at.now link.now.directory link.now.generation directory.now }
+    requires last { IsLast (D.state disk.old) last.old }
+    ensures { Reads (D.state disk.old) (D.state disk.new) (λ X. sights.named (files.entry_at (files.files_in X) link.now.directory link.now.entry)) result }
+{
+    if link.entry >= 1152 {
+        return Ok(None);
+    }
+    let place = place_of(u64::from(link.entry / 16));
+    match find_slot(disk, at, link.directory, directory, place, last)? {
+        PathAnswer::Holds(_) => Ok(named_at(&last.cell.payload, link.entry % 16)),
+        PathAnswer::Hole => Ok(None),
+        PathAnswer::Lost => Ok(None),
+    }
+}
+
+// Whom the entry at a place of a directory cell names.
+fn named_at(payload: &[u8; 1024], at: u32) -> Option<Named>
+    requires { at < 16 }
+    ensures { result ≡ sights.named (entry_in payload.now at) }
+{
+    let bytes = bytes_of(payload, at);
+    let inode = read_u32_at(bytes, 0);
+    let generation = read_u64_at(bytes, 8);
+    if names_inode(payload, at, inode, generation) {
+        Some(Named { inode, generation })
+    } else {
+        None
+    }
+}
+
+// The 64 bytes at a place.
+fn bytes_of(payload: &[u8; 1024], at: u32) -> &[u8]
+    requires { at < 16 }
+    ensures bytes { result.now ≡ entry_bytes payload.now at }
+    ensures len { length result.now ≡ 64 }
+{
+    let at = 64 * at as usize;
+    &payload[at..at + 64]
+}
+
+/// Reads what a block of the data area has: its tag, and what stands in the slot that the tag names.
+///
+/// # Errors
+///
+/// `Failed` where a read failed.
+pub fn read_block_sight<D: Disk>(
+    disk: &mut D,
+    at: &SuperBlock,
+    known: &Bits,
+    block: u64,
+) -> Result<BlockSight, Failed>
+    requires numbers { IsAt (D.state disk.old) at.now }
+    requires known { length known.now ≡ at.now.inodes }
+    requires block { block < at.now.blocks }
+    ensures sees { Sees (D.state disk.old) (D.state disk.new) known.now (λ X. sights.block_sight X block) result }
+    ensures block { IfOk result (λ sight. sight.block ≡ block) }
+{
+    let tag = read_own_tag(disk, at, block)?;
+    let tagged = read_tagged(disk, at, known, tag)?;
+    Ok(BlockSight { block, tagged })
+}
+
+// The tag of a block.
+fn read_own_tag<D: Disk>(disk: &mut D, at: &SuperBlock, block: u64) -> Result<Option<Tag>, Failed>
+    requires numbers { IsAt (D.state disk.old) at.now }
+    requires block { block < at.now.blocks }
+    ensures { Reads (D.state disk.old) (D.state disk.new) (λ X. cells.tag_of (image.cell_at X block).tag) result }
+{
+    let mut last = LastRead::NONE;
+    read_block(disk, block, &mut last)?;
+    Ok(read_tag(&last.cell.tag))
+}
+
+fn read_tagged<D: Disk>(
+    disk: &mut D,
+    at: &SuperBlock,
+    known: &Bits,
+    tag: Option<Tag>,
+) -> Result<Option<TagSight>, Failed>
+    requires numbers { IsAt (D.state disk.old) at.now }
+    requires known { length known.now ≡ at.now.inodes }
+    ensures { Sees (D.state disk.old) (D.state disk.new) known.now (λ X. sights.tagged_in X tag) result }
+{
+    match tag {
+        None => Ok(None),
+        Some(tag) => {
+            if is_slot(tag.slot) {
+                Ok(Some(read_slot(disk, at, known, tag)?))
+            } else {
+                Ok(None)
+            }
+        }
+    }
+}
+
+// What stands in the slot that a tag names.
+fn read_slot<D: Disk>(
+    disk: &mut D,
+    at: &SuperBlock,
+    known: &Bits,
+    tag: Tag,
+) -> Result<TagSight, Failed>
+    requires numbers { IsAt (D.state disk.old) at.now }
+    requires known { length known.now ≡ at.now.inodes }
+    requires slot { IsTrue (slots.is_slot tag.slot) }
+    ensures { Sees (D.state disk.old) (D.state disk.new) known.now (λ X. sights.tag_sight X tag) result }
+{
+    let found = read_slot_way(disk, at, tag.inode, place_of(tag.slot))?;
+    let agreed = read_agreed(disk, at, known, tag.inode)?;
+    Ok(TagSight {
+        tag,
+        in_table: found.0,
+        way: found.1,
+        agreed,
+    })
+}
+
+// The record of an inode, and the blocks above the slot at a place.
+fn read_slot_way<D: Disk>(
+    disk: &mut D,
+    at: &SuperBlock,
+    inode: u32,
+    place: Place,
+) -> Result<(Record, Way), Failed>
+    requires numbers { IsAt (D.state disk.old) at.now }
+    requires place { IsPlace place }
+    ensures { Reads (D.state disk.old) (D.state disk.new) (λ X. (image.inode X inode, sights.way_in X (image.inode X inode) (place_path place))) result }
+{
+    let it = read_record(disk, at, inode)?;
+    let way = read_way(disk, at, &it, place)?;
+    Ok((it, way))
+}
+
+// The blocks above the slot at a place of an inode with this record.
+fn read_way<D: Disk>(
+    disk: &mut D,
+    at: &SuperBlock,
+    it: &Record,
+    place: Place,
+) -> Result<Way, Failed>
+    requires numbers { IsAt (D.state disk.old) at.now }
+    requires place { IsPlace place }
+    ensures { Reads (D.state disk.old) (D.state disk.new) (λ X. sights.way_in X it.now (place_path place)) result }
+{
+    match place {
+        Place::InRecord(_) => Ok(Way::NONE),
+        Place::UnderRecord { at: above, place } => {
+            read_under_record(disk, at, record_pointer(it, above).block, place)
+        }
+        Place::UnderChild { child, place } => {
+            read_under_top(disk, at, it.top.block, child, place)
+        }
+    }
+}
+
+// The leaf or the top alone.
+fn read_under_record<D: Disk>(
+    disk: &mut D,
+    at: &SuperBlock,
+    block: u64,
+    place: u64,
+) -> Result<Way, Failed>
+    requires numbers { IsAt (D.state disk.old) at.now }
+    requires place { place < 64 }
+    ensures { Reads (D.state disk.old) (D.state disk.new) (λ X. sights.under_record X block place) result }
+{
+    let upper = read_above(disk, at, block, place)?;
+    Ok(Way {
+        upper,
+        lower: Above::NONE,
+    })
+}
+
+// The top, and a child of it.
+fn read_under_top<D: Disk>(
+    disk: &mut D,
+    at: &SuperBlock,
+    block: u64,
+    child: u64,
+    place: u64,
+) -> Result<Way, Failed>
+    requires numbers { IsAt (D.state disk.old) at.now }
+    requires child { child < 64 }
+    requires place { place < 64 }
+    ensures { Reads (D.state disk.old) (D.state disk.new) (λ X. sights.under_top X block child place) result }
+{
+    let upper = read_above(disk, at, block, child)?;
+    let lower = read_above(disk, at, upper.pointer.block, place)?;
+    Ok(Way { upper, lower })
+}
+
+// The tag of a block and the pointer at a place in it, where it is a block of the data area.
+fn read_above<D: Disk>(
+    disk: &mut D,
+    at: &SuperBlock,
+    block: u64,
+    place: u64,
+) -> Result<Above, Failed>
+    requires numbers { IsAt (D.state disk.old) at.now }
+    requires place { place < 64 }
+    ensures { Reads (D.state disk.old) (D.state disk.new) (λ X. sights.above_in X block place) result }
+{
+    if block <= at.inodes / 4 || block >= at.blocks {
+        return Ok(Above::NONE);
+    }
+    let mut last = LastRead::NONE;
+    read_block(disk, block, &mut last)?;
+    Ok(Above {
+        tag: read_tag(&last.cell.tag),
+        pointer: read_pointer(&last.cell.payload, place as u32),
+    })
+}
