@@ -11,7 +11,7 @@ use Rattle.nofs_machine.specs.declared.replies.Reply.{Reply}
 use Rattle.nofs_shared.specs.Added.{AddsStep}
 use Rattle.nofs_shared.specs.Owned.{done_of, is_by, steps_by}
 use Rattle.nofs.specs.declared.reads.FileRead.{FileRead}
-use Rattle.nofs.specs.Drill.{AddsOwn, AreRead, GoesOn, IsRead, gets_from}
+use Rattle.nofs.specs.Drill.{AddsOwn, AreRead, GoesOn, IsFileRead, gets_from}
 use Rattle.nofs.proofs.Sessions.{adds-others}
 
 -- an entry of caller 0 is its last step
@@ -95,7 +95,7 @@ reads-more f Next s r H K L it (Err e) adds some more = tt
 
 -- the file of a user was read, and kept at the end of these
 abbrev pub Pushed : ℕ → List Entry1 → List Entry1 → List (Option FileRead) → List (Option FileRead) → Type 0
-Pushed user H K old new = (made : List Made) × (read : Option FileRead) × AddsOwn made H K × (new ≡ old ++ read ∷ []) × IsRead user read made
+Pushed user H K old new = (made : List Made) × (read : Option FileRead) × AddsOwn made H K × (new ≡ old ++ read ∷ []) × IsFileRead user read made
 
 pub four-read : (H H1 H2 H3 H4 : List Entry1) (l l1 l2 l3 l4 : List (Option FileRead))
     → Pushed 1 H H1 l l1 → Pushed 2 H1 H2 l1 l2 → Pushed 3 H2 H3 l2 l3 → Pushed 4 H3 H4 l3 l4 → l ≡ []

@@ -11,7 +11,7 @@ use Rattle.nofs_machine.specs.declared.replies.Reply.{Reply}
 use Rattle.nofs_client.specs.declared.commands.Command.{Command}
 use Rattle.nofs_client.specs.declared.lines.Line.{Line}
 use Rattle.nofs_client.specs.Runs.{LinesFollow, lines_of, made_reply}
-use Rattle.nofs_gen.specs.Replay.{value_in}
+use Rattle.nofs_gen.specs.Replay.{slot_value}
 use Rattle.nofs_shared.specs.Owned.{steps_by}
 use Rattle.nofs_serve.specs.Teams.{UsersServed}
 use Rattle.nofs.specs.Entries.{session_lines}
@@ -34,7 +34,7 @@ sum-end size k total whole rs high e =
     omega (arith, e, none)
 
 pub wrong-next : (values : List Value) (k total new whole one : ℕ) (rs : List Reply) (r : Reply) → k < length rs → r ≡ get_or rs k r
-    → one ≡ (if is_value_read (value_in values k) r then 0 else 1) → new ≡ total + one
+    → one ≡ (if is_value_read (slot_value values k) r then 0 else 1) → new ≡ total + one
     → total + slots_wrong values k (drop k rs) ≡ whole → new + slots_wrong values (k + 1) (drop (k + 1) rs) ≡ whole
 wrong-next values k total new whole one rs r low is one_is new_is e =
     let here : slots_wrong values k (drop k rs) ≡ one + slots_wrong values (k + 1) (drop (k + 1) rs) = ap (slots_wrong values k) (next-slot rs k r low is)

@@ -17,7 +17,7 @@ use Rattle.nofs_client.specs.declared.commands.Command.{Command}
 use Rattle.nofs_client.specs.declared.lines.Line.{Line}
 use Rattle.nofs_client.specs.declared.lines.Line.TheVariants as line
 use Rattle.nofs_gen.specs.Script.{digit, script_of}
-use Rattle.nofs_gen.specs.Replay.{replay_of, value_in}
+use Rattle.nofs_gen.specs.Replay.{replay_of, slot_value}
 use Rattle.nofs_io.specs.Calls.{SinkState}
 use Rattle.nofs_io.specs.Texts.{AppendsAll}
 use Rattle.nofs_shared.specs.Added.{AddsStep}
@@ -48,9 +48,9 @@ gets_from f k [] = []
 gets_from f k (r ∷ rs) = (step.Get f.inode f.generation k, r) ∷ gets_from f (k + 1) rs
 
 -- each slot below the size of the file was read
-abbrev pub IsWhole : Found → Stat → Option FileRead → List Made → Type 0
-IsWhole f s None rest = ⊥
-IsWhole f s (Some file) rest =
+abbrev pub IsWholeRead : Found → Stat → Option FileRead → List Made → Type 0
+IsWholeRead f s None rest = ⊥
+IsWholeRead f s (Some file) rest =
     (file.found ≡ f) × (file.size ≡ s.size) × (length file.slots.items ≡ slots_in s.size) × (rest ≡ gets_from f 0 file.slots.items)
 
 -- after a refusal nothing more was asked for, and there is no file; else it went on from what was answered
@@ -61,7 +61,7 @@ GoesOn Next (Some it) read rest = Next it read rest
 -- the size of the file was asked for, and then its slots
 abbrev pub IsReadAt : Found → Option FileRead → List Made → Type 0
 IsReadAt f read made =
-    (r : Reply) × (rest : List Made) × (made ≡ (step.Stat f.inode f.generation, r) ∷ rest) × GoesOn (IsWhole f) (stat_in r) read rest
+    (r : Reply) × (rest : List Made) × (made ≡ (step.Stat f.inode f.generation, r) ∷ rest) × GoesOn (IsWholeRead f) (stat_in r) read rest
 
 -- the file was looked up in its directory, and then read
 abbrev pub IsReadIn : Found → Option FileRead → List Made → Type 0
@@ -69,14 +69,14 @@ IsReadIn d read made =
     (r : Reply) × (rest : List Made) × (made ≡ (step.Look d.inode d.generation (codes "f"), r) ∷ rest) × GoesOn IsReadAt (found_in r) read rest
 
 -- the directory of a user was looked up in the root, and then its file
-abbrev pub IsRead : ℕ → Option FileRead → List Made → Type 0
-IsRead user read made =
+abbrev pub IsFileRead : ℕ → Option FileRead → List Made → Type 0
+IsFileRead user read made =
     (r : Reply) × (rest : List Made) × (made ≡ (step.Look 1 1 (digit user), r) ∷ rest) × GoesOn IsReadIn (found_in r) read rest
 
 -- the files of the users from one on were read, one after the other
 abbrev pub AreRead : ℕ → List (Option FileRead) → List Made → Type 0
 AreRead user [] made = made ≡ []
-AreRead user (read ∷ reads) made = (front : List Made) × (back : List Made) × (made ≡ front ++ back) × IsRead user read front × AreRead (user + 1) reads back
+AreRead user (read ∷ reads) made = (front : List Made) × (back : List Made) × (made ≡ front ++ back) × IsFileRead user read front × AreRead (user + 1) reads back
 
 -- caller 0 added these steps with their replies, and no other caller anything
 pub record AddsOwn (made : List Made) (H K : List Entry1) : Type 0 where
@@ -121,7 +121,7 @@ is_value_read value.Lost r = false
 -- how many slots from k on differ from these values
 abbrev pub slots_wrong : List Value → ℕ → List Reply → ℕ
 slots_wrong values k [] = 0
-slots_wrong values k (r ∷ rs) = (if is_value_read (value_in values k) r then 0 else 1) + slots_wrong values (k + 1) rs
+slots_wrong values k (r ∷ rs) = (if is_value_read (slot_value values k) r then 0 else 1) + slots_wrong values (k + 1) rs
 
 -- how many slots of a file differ from what its accepted steps give; a file that was not read counts 1
 abbrev pub wrong_told : List Entry1 → Option FileRead → ℕ

@@ -9,7 +9,7 @@ ghost use Rattle.nofs_machine.specs.Machine as machine;
 ghost use Rattle.nofs_machine.specs.Steps.{Made, is_out_of_memory};
 ghost use Rattle.nofs_machine.specs.declared.steps.Step.TheVariants as step;
 ghost use Rattle.nofs.specs.declared.reads.FileRead.{FileRead as ReadOf};
-ghost use Rattle.nofs.specs.Drill.{AddsOwn, AreRead, IsRead, IsReadAt, IsReadIn, IsWhole, GoesOn, found_in as found_by, gets_from, stat_in as stat_by};
+ghost use Rattle.nofs.specs.Drill.{AddsOwn, AreRead, IsFileRead, IsReadAt, IsReadIn, IsWholeRead, GoesOn, found_in as found_by, gets_from, stat_in as stat_by};
 
 use nofs_disk::Disk;
 use nofs_lists::Name;
@@ -104,7 +104,7 @@ fn read_whole<D: Disk + Drop>(
     found: Found,
     stat: Stat,
 ) -> Result<Option<FileRead>, AllocError>
-    ensures reads { IfOk result (λ read. (made : List Made) × AddsOwn made mount.old.core.books.history.entries mount.new.core.books.history.entries × IsWhole found stat read made) }
+    ensures reads { IfOk result (λ read. (made : List Made) × AddsOwn made mount.old.core.books.history.entries mount.new.core.books.history.entries × IsWholeRead found stat read made) }
     ensures same { (mount.new.found ≡ mount.old.found) × (mount.new.first ≡ mount.old.first) }
 {
     let slots = read_slots(alloc, mount, found, slots_in(stat.size))?;
@@ -163,7 +163,7 @@ fn read_file<D: Disk + Drop>(
     user: u32,
 ) -> Result<Option<FileRead>, AllocError>
     requires { user ≤ 4 }
-    ensures reads { IfOk result (λ read. (made : List Made) × AddsOwn made mount.old.core.books.history.entries mount.new.core.books.history.entries × IsRead user read made) }
+    ensures reads { IfOk result (λ read. (made : List Made) × AddsOwn made mount.old.core.books.history.entries mount.new.core.books.history.entries × IsFileRead user read made) }
     ensures same { (mount.new.found ≡ mount.old.found) × (mount.new.first ≡ mount.old.first) }
 {
     let look = Step::Look {
@@ -186,7 +186,7 @@ fn push_read<D: Disk + Drop>(
     reads: &mut Vec<Option<FileRead>>,
 ) -> Result<(), AllocError>
     requires { user ≤ 4 }
-    ensures reads { OnOk result ((made : List Made) × (read : Option ReadOf) × AddsOwn made mount.old.core.books.history.entries mount.new.core.books.history.entries × (reads.new.items ≡ reads.old.items ++ read ∷ []) × IsRead user read made) }
+    ensures reads { OnOk result ((made : List Made) × (read : Option ReadOf) × AddsOwn made mount.old.core.books.history.entries mount.new.core.books.history.entries × (reads.new.items ≡ reads.old.items ++ read ∷ []) × IsFileRead user read made) }
     ensures same { (mount.new.found ≡ mount.old.found) × (mount.new.first ≡ mount.old.first) }
 {
     reads.push(read_file(alloc, mount, user)?)?;

@@ -6,7 +6,7 @@
 ghost use Rattle.std.specs.Prelude.{◌≡◌, ◌≤◌, ◌<◌, ◌+◌, ◌*◌, ◌++◌, IfOk, OnOk, take, flat_map, if◌then◌else◌, sum, sum_by, count_by};
 ghost use Rattle.std.specs.Fmt.{decimal};
 ghost use Rattle.nofs_machine.specs.Machine.{cut_of};
-ghost use Rattle.nofs_gen.specs.Replay.{value_in};
+ghost use Rattle.nofs_gen.specs.Replay.{slot_value};
 ghost use Rattle.nofs.specs.Drill.{drill_line, is_bytes_read as is_bytes_in, is_hole_read as is_hole_in, is_refused_line, is_value_read as is_value_in, size_told as size_of, slot_sum as slot_sum_of, slots_sum as slots_sum_of, slots_wrong as slots_wrong_of, sum_told as sum_of, wrong_told as wrong_of};
 
 use crate::reads::FileRead;
@@ -117,7 +117,7 @@ fn is_value_read(value: &Value, reply: &Reply) -> bool
 
 // 1 where a slot differs from its value.
 fn wrong_at(values: &ValueList, slot: usize, reply: &Reply) -> u64
-    ensures { result ≡ (if is_value_in (value_in values.now slot) reply.now then 0 else 1) }
+    ensures { result ≡ (if is_value_in (slot_value values.now slot) reply.now then 0 else 1) }
 {
     let is_right = match values.item(slot as u64) {
         Some(value) => is_value_read(value, reply),

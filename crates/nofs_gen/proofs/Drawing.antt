@@ -5,7 +5,7 @@ use Rattle.std.proofs.lemmas.List.{length-replicate}
 use Rattle.nofs_client.specs.declared.commands.Command.{Command}
 use Rattle.nofs_client.specs.declared.commands.Command.TheVariants as command
 use Rattle.nofs_client.specs.Commands.{IsWellFormed, AreWellFormed}
-use Rattle.nofs_gen.specs.Script.{directory_of, file_of, first_number, next_number, drawn_command, drawn, script_of}
+use Rattle.nofs_gen.specs.Script.{directory_of, user_path, first_number, next_number, drawn_command, drawn, script_of}
 
 -- one more command was drawn
 pub drawn-more : (user x next n k : ℕ) (whole old new : List Command) (one : Command) → k < n → next ≡ next_number x
@@ -28,8 +28,8 @@ command-formed user d = go (d % 4 == 0) (d % 4 == 1)
     some : 0 < length (replicate (1 + d % 1000) (d % 256))
     some = let n = length-replicate (1 + d % 1000) (d % 256) in omega (arith, n)
 
-    go : (a b : Bool) → IsWellFormed (cond a (command.Size (file_of user) (d / 4))
-        (cond b (command.Get (file_of user) 0 4096) (command.Put (file_of user) (d / 4) (replicate (1 + d % 1000) (d % 256)))))
+    go : (a b : Bool) → IsWellFormed (cond a (command.Size (user_path user) (d / 4))
+        (cond b (command.Get (user_path user) 0 4096) (command.Put (user_path user) (d / 4) (replicate (1 + d % 1000) (d % 256)))))
     go true b = tt
     go false true = tt
     go false false = some
@@ -42,4 +42,4 @@ drawn-formed user x (suc n) rest r = (command-formed user (next_number x / 65536
 pub script-formed : (start steps user : ℕ) (script : List Command) → script ≡ script_of start steps user → AreWellFormed script
 unfolding script_of
 script-formed start steps user script is = subst AreWellFormed (sym is)
-    (omega arith, (omega arith, drawn-formed user (first_number start user) steps (command.Fsync (file_of user) ∷ []) (tt, tt)))
+    (omega arith, (omega arith, drawn-formed user (first_number start user) steps (command.Fsync (user_path user) ∷ []) (tt, tt)))

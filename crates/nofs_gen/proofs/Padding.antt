@@ -4,8 +4,8 @@ use Rattle.std.proofs.lemmas.List.{map_push, length-map, take-map}
 use Rattle.nofs_model.specs.declared.value.Value.{Value}
 use Rattle.nofs_model.specs.declared.value.Value.TheVariants as value
 use Rattle.nofs_machine.specs.Machine.{slots_in}
-use Rattle.nofs_gen.specs.declared.file.Kept.{Kept}
-use Rattle.nofs_gen.specs.declared.file.Kept.TheVariants as kept
+use Rattle.nofs_gen.specs.declared.file.KeptValue.{KeptValue}
+use Rattle.nofs_gen.specs.declared.file.KeptValue.TheVariants as kept
 use Rattle.nofs_gen.specs.Replay.{FileNow, padded, ended, kept_value, resized_file}
 
 one-hole : (l : List Value) → length l < 72 → padded (l ++ value.Hole ∷ []) ≡ padded l
@@ -16,20 +16,20 @@ one-hole l low =
     append_assoc l (value.Hole ∷ []) (replicate n value.Hole) ∙ ap (λ m. l ++ replicate m value.Hole) (sym more)
 
 -- one hole more
-pub padded-push : (xs ys : List Kept) (start : List Value) → ys ≡ xs ++ kept.Hole ∷ [] → length xs < 72 → padded (map kept_value xs) ≡ start → padded (map kept_value ys) ≡ start
+pub padded-push : (xs ys : List KeptValue) (start : List Value) → ys ≡ xs ++ kept.Hole ∷ [] → length xs < 72 → padded (map kept_value xs) ≡ start → padded (map kept_value ys) ≡ start
 padded-push xs ys start is low e =
     let long = length-map xs kept_value in
     ap (λ t. padded (map kept_value t)) is ∙ (ap padded (map_push kept_value xs kept.Hole) ∙ (one-hole (map kept_value xs) (omega (arith, low, long)) ∙ e))
 
 -- no hole is wanting
-pub padded-whole : (xs : List Kept) (start : List Value) → 72 ≤ length xs → padded (map kept_value xs) ≡ start → map kept_value xs ≡ start
+pub padded-whole : (xs : List KeptValue) (start : List Value) → 72 ≤ length xs → padded (map kept_value xs) ≡ start → map kept_value xs ≡ start
 padded-whole xs start high e =
     let long = length-map xs kept_value in
     let none : 72 - length (map kept_value xs) ≡ 0 = omega (arith, high, long) in
     sym (append-nil (map kept_value xs)) ∙ (ap (λ m. map kept_value xs ++ replicate m value.Hole) (sym none) ∙ e)
 
 -- cut, and then padded again
-pub resized-is : (f : FileNow) (size n : ℕ) (whole cut rest : List Kept) → map kept_value whole ≡ ended f size → cut ≡ take n whole
+pub resized-is : (f : FileNow) (size n : ℕ) (whole cut rest : List KeptValue) → map kept_value whole ≡ ended f size → cut ≡ take n whole
     → n ≡ min (slots_in f.size) (slots_in size) → map kept_value rest ≡ padded (map kept_value cut)
     → ◌≡◌ {A = FileNow} (record { size = size; values = map kept_value rest }) (resized_file f size)
 resized-is f size n whole cut rest whole_is cut_is n_is rest_is =

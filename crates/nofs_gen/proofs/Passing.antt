@@ -3,7 +3,7 @@ use Rattle.std.proofs.Common.{◌≡◌, ℕ, zero, suc, ◌+◌, ◌<◌, List,
 use Rattle.std.specs.Prelude.{IfOk}
 use Rattle.nofs_machine.specs.declared.history.Entry1.{Entry1}
 use Rattle.nofs_gen.specs.declared.file.Replayed.{Replayed}
-use Rattle.nofs_gen.specs.Replay.{FileNow, after_entry, kept_file}
+use Rattle.nofs_gen.specs.Replay.{FileNow, after_entry, replayed_file}
 
 drop-next : (es : List Entry1) (at : ℕ) (e : Entry1) → slice_get es at ≡ Some e → drop at es ≡ e ∷ drop (at + 1) es
 drop-next [] at e is = absurd (cc is)
@@ -17,8 +17,8 @@ is-there (x ∷ es) (suc at) lt is = is-there es at (omega (arith, lt)) is
 
 -- the file after the entry at a place
 pub pass-entry : {E : Type 0} (i g : ℕ) (f : FileNow) (made : Result Replayed E) (es : List Entry1) (at : ℕ) (e : Entry1) → slice_get es at ≡ Some e
-    → IfOk made (λ next. kept_file next ≡ after_entry i g f e)
-    → IfOk made (λ next. fold (after_entry i g) (kept_file next) (drop (at + 1) es) ≡ fold (after_entry i g) f (drop at es))
+    → IfOk made (λ next. replayed_file next ≡ after_entry i g f e)
+    → IfOk made (λ next. fold (after_entry i g) (replayed_file next) (drop (at + 1) es) ≡ fold (after_entry i g) f (drop at es))
 pass-entry i g f (Ok next) es at e found is = ap (λ x. fold (after_entry i g) x (drop (at + 1) es)) is
     ∙ sym (ap (fold (after_entry i g) f) (drop-next es at e found))
 pass-entry i g f (Err x) es at e found is = tt

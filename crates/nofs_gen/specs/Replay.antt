@@ -6,8 +6,8 @@ use Rattle.nofs_machine.specs.Machine.{slots_in, trimmed, put_content, is_at, is
 use Rattle.nofs_machine.specs.declared.history.Entry1.{Entry1}
 use Rattle.nofs_machine.specs.declared.steps.Step.{Step}
 use Rattle.nofs_machine.specs.declared.steps.Step.TheVariants as step
-use Rattle.nofs_gen.specs.declared.file.Kept.{Kept}
-use Rattle.nofs_gen.specs.declared.file.Kept.TheVariants as kept
+use Rattle.nofs_gen.specs.declared.file.KeptValue.{KeptValue}
+use Rattle.nofs_gen.specs.declared.file.KeptValue.TheVariants as kept
 use Rattle.nofs_gen.specs.declared.file.Replayed.{Replayed}
 
 -- the size of a file, and the values of its slots
@@ -20,20 +20,20 @@ abbrev pub padded : List Value → List Value
 padded values = values ++ replicate (72 - length values) value.Hole
 
 -- what is kept of a slot, and of a file
-abbrev pub kept_value : Kept → Value
+abbrev pub kept_value : KeptValue → Value
 kept_value kept.Hole = value.Hole
 kept_value (kept.Bytes bytes) = value.Bytes bytes.value
 
-abbrev pub kept_file : Replayed → FileNow
-kept_file f = record { size = f.size; values = map kept_value f.values.items }
+abbrev pub replayed_file : Replayed → FileNow
+replayed_file f = record { size = f.size; values = map kept_value f.values.items }
 
 -- a file on which no step was made
 abbrev pub empty_file : FileNow
 empty_file = record { size = 0; values = padded [] }
 
 -- the value of a slot
-abbrev pub value_in : List Value → ℕ → Value
-value_in values k = unwrap_or (slice_get values k) value.Hole
+abbrev pub slot_value : List Value → ℕ → Value
+slot_value values k = unwrap_or (slice_get values k) value.Hole
 
 -- a value with zeros from a place on
 abbrev pub trimmed_value : ℕ → Value → Value
@@ -50,28 +50,28 @@ abbrev pub put_file : FileNow → ℕ → ℕ → List ℕ → FileNow
 put_file f k at bytes =
     if is_put k at bytes then record {
       size = max f.size (1024 * k + at + length bytes);
-      values = slice_set f.values k (value.Bytes (put_content (value_in f.values k) f.size k at bytes));
+      values = slice_set f.values k (value.Bytes (put_content (slot_value f.values k) f.size k at bytes));
     } else f
 
 -- where a file does not shrink, its bytes past the old end become zeros
 abbrev pub ended : FileNow → ℕ → List Value
 ended f size =
     if nat_le f.size size && not (f.size % 1024 == 0)
-    then slice_set f.values (f.size / 1024) (trimmed_value (f.size % 1024) (value_in f.values (f.size / 1024))) else f.values
+    then slice_set f.values (f.size / 1024) (trimmed_value (f.size % 1024) (slot_value f.values (f.size / 1024))) else f.values
 
 -- a file with another size: what lies behind the lesser of both sizes becomes holes
 abbrev pub resized_file : FileNow → ℕ → FileNow
 resized_file f size = record { size = size; values = padded (take (min (slots_in f.size) (slots_in size)) (ended f size)) }
 
 -- the file (i, g) after an accepted step
-abbrev pub after_step : ℕ → ℕ → FileNow → Step → FileNow
-after_step i g f (step.Put j h k at bytes) = if is_at i g j h then put_file f k at bytes else f
-after_step i g f (step.Resize j h size) = if is_at i g j h then resized_file f size else f
-after_step i g f _ = f
+abbrev pub file_with_step : ℕ → ℕ → FileNow → Step → FileNow
+file_with_step i g f (step.Put j h k at bytes) = if is_at i g j h then put_file f k at bytes else f
+file_with_step i g f (step.Resize j h size) = if is_at i g j h then resized_file f size else f
+file_with_step i g f _ = f
 
 -- the file after an entry
 abbrev pub after_entry : ℕ → ℕ → FileNow → Entry1 → FileNow
-after_entry i g f e = if is_refused e.reply then f else after_step i g f e.step
+after_entry i g f e = if is_refused e.reply then f else file_with_step i g f e.step
 
 -- the values of the file after these entries
 unfoldable pub replay_of : List Entry1 → ℕ → ℕ → List Value

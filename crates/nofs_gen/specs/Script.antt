@@ -21,15 +21,15 @@ digit user = (48 + user) ∷ []
 abbrev pub directory_of : ℕ → Path
 directory_of user = Names (digit user ∷ [])
 
-abbrev pub file_of : ℕ → Path
-file_of user = Names (digit user ∷ codes "f" ∷ [])
+abbrev pub user_path : ℕ → Path
+user_path user = Names (digit user ∷ codes "f" ∷ [])
 
 -- the command that a draw stands for
 abbrev pub drawn_command : ℕ → ℕ → Command
 drawn_command user d =
-    if d % 4 == 0 then command.Size (file_of user) (d / 4)
-    else if d % 4 == 1 then command.Get (file_of user) 0 4096
-    else command.Put (file_of user) (d / 4) (replicate (1 + d % 1000) (d % 256))
+    if d % 4 == 0 then command.Size (user_path user) (d / 4)
+    else if d % 4 == 1 then command.Get (user_path user) 0 4096
+    else command.Put (user_path user) (d / 4) (replicate (1 + d % 1000) (d % 256))
 
 -- so many drawn commands, from a number on: a draw is its number without the last 16 bits
 abbrev pub drawn : ℕ → ℕ → ℕ → List Command
@@ -39,4 +39,4 @@ drawn user x (suc n) = drawn_command user (next_number x / 65536) ∷ drawn user
 -- the script of a user: it makes its file, works on it, and makes it durable
 unfoldable pub script_of : ℕ → ℕ → ℕ → List Command
 script_of start steps user =
-    command.MakeDirectory (directory_of user) ∷ command.Make (file_of user) ∷ drawn user (first_number start user) steps ++ command.Fsync (file_of user) ∷ []
+    command.MakeDirectory (directory_of user) ∷ command.Make (user_path user) ∷ drawn user (first_number start user) steps ++ command.Fsync (user_path user) ∷ []

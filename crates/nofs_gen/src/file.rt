@@ -4,7 +4,7 @@
 ghost use Rattle.std.specs.Prelude.{◌≡◌, ◌<◌, ◌≤◌, ◌+◌, ◌/◌, IfOk, OnOk, length, map, slice_set};
 ghost use Rattle.nofs_machine.specs.Machine as machine;
 ghost use Rattle.nofs_model.specs.declared.value.Value.TheVariants as value;
-ghost use Rattle.nofs_gen.specs.Replay.{ended, empty_file, is_put as is_put_in, kept_file, kept_value, padded, put_file, resized_file, trimmed_value, value_in};
+ghost use Rattle.nofs_gen.specs.Replay.{ended, empty_file, is_put as is_put_in, replayed_file, kept_value, padded, put_file, resized_file, trimmed_value, slot_value};
 
 use nofs_disk::{clear, write_bytes_at};
 use nofs_lists::Content;
@@ -16,7 +16,7 @@ const SLOTS: usize = 72;
 
 /// The value of a slot, in a form that is changed in place.
 #[derive(Drop)]
-pub enum Kept {
+pub enum KeptValue {
     Hole,
     Bytes(Box<[u8; 1024]>),
 }
@@ -25,7 +25,7 @@ pub enum Kept {
 #[derive(Drop)]
 pub struct Replayed {
     pub size: u64,
-    pub values: Vec<Kept>,
+    pub values: Vec<KeptValue>,
 }
 
 // A cell of zeros.
@@ -45,32 +45,32 @@ fn copied(alloc: Global, bytes: &[u8; 1024]) -> Result<Box<[u8; 1024]>, AllocErr
     Ok(Box::new(alloc, *bytes)?)
 }
 
-fn copy_of(alloc: Global, kept: &Kept) -> Result<Kept, AllocError>
+fn copy_of(alloc: Global, kept: &KeptValue) -> Result<KeptValue, AllocError>
     ensures { IfOk result (λ copy. kept_value copy ≡ kept_value kept.now) }
 {
     match kept {
-        Kept::Hole => Ok(Kept::Hole),
-        Kept::Bytes(bytes) => Ok(Kept::Bytes(copied(alloc, bytes)?)),
+        KeptValue::Hole => Ok(KeptValue::Hole),
+        KeptValue::Bytes(bytes) => Ok(KeptValue::Bytes(copied(alloc, bytes)?)),
     }
 }
 
 // A copy of what a slot has, which is a hole where there is none.
-fn kept_at(alloc: Global, values: &[Kept], slot: usize) -> Result<Kept, AllocError>
-    ensures { IfOk result (λ kept. kept_value kept ≡ value_in (map kept_value values.now) slot) }
+fn kept_at(alloc: Global, values: &[KeptValue], slot: usize) -> Result<KeptValue, AllocError>
+    ensures { IfOk result (λ kept. kept_value kept ≡ slot_value (map kept_value values.now) slot) }
 {
     match values.get(slot) {
         Some(kept) => copy_of(alloc, kept),
-        None => Ok(Kept::Hole),
+        None => Ok(KeptValue::Hole),
     }
 }
 
 // Its bytes, zeros where it has none.
-fn bytes_of(alloc: Global, kept: Kept) -> Result<Box<[u8; 1024]>, AllocError>
+fn bytes_of(alloc: Global, kept: KeptValue) -> Result<Box<[u8; 1024]>, AllocError>
     ensures { IfOk result (λ cell. cell.value ≡ machine.bytes_in (kept_value kept)) }
 {
     match kept {
-        Kept::Hole => zero_cell(alloc),
-        Kept::Bytes(bytes) => Ok(bytes),
+        KeptValue::Hole => zero_cell(alloc),
+        KeptValue::Bytes(bytes) => Ok(bytes),
     }
 }
 
@@ -83,22 +83,22 @@ fn trim(cell: &mut [u8; 1024], cut: usize)
     clear(&mut cell[cut..1024]);
 }
 
-fn trimmed(kept: Kept, cut: usize) -> Kept
+fn trimmed(kept: KeptValue, cut: usize) -> KeptValue
     requires { cut ≤ 1024 }
     ensures { kept_value result ≡ trimmed_value cut (kept_value kept) }
 {
     match kept {
-        Kept::Hole => Kept::Hole,
-        Kept::Bytes(bytes) => {
+        KeptValue::Hole => KeptValue::Hole,
+        KeptValue::Bytes(bytes) => {
             let mut cell = bytes;
             trim(&mut cell, cut);
-            Kept::Bytes(cell)
+            KeptValue::Bytes(cell)
         }
     }
 }
 
 // Gives a slot a value, where there is the slot.
-fn set_slot(values: &mut Vec<Kept>, slot: usize, kept: Kept)
+fn set_slot(values: &mut Vec<KeptValue>, slot: usize, kept: KeptValue)
     ensures { map kept_value values.new.items ≡ slice_set (map kept_value values.old.items) slot (kept_value kept) }
 {
     if slot < values.len() {
@@ -107,11 +107,11 @@ fn set_slot(values: &mut Vec<Kept>, slot: usize, kept: Kept)
 }
 
 // Adds holes up to 72 slots.
-fn pad(values: &mut Vec<Kept>) -> Result<(), AllocError>
+fn pad(values: &mut Vec<KeptValue>) -> Result<(), AllocError>
     ensures { OnOk result (map kept_value values.new.items ≡ padded (map kept_value values.old.items)) }
 {
     while values.len() < SLOTS {
-        values.push(Kept::Hole)?;
+        values.push(KeptValue::Hole)?;
     }
     Ok(())
 }
@@ -134,7 +134,7 @@ fn is_put(slot: u64, at: u32, bytes: &[u8]) -> bool
 impl Replayed {
     /// A file on which no step was made.
     pub fn empty(alloc: Global) -> Result<Self, AllocError>
-        ensures { IfOk result (λ file. kept_file file ≡ empty_file) }
+        ensures { IfOk result (λ file. replayed_file file ≡ empty_file) }
     {
         let mut values = Vec::new(alloc);
         pad(&mut values)?;
@@ -152,7 +152,7 @@ impl Replayed {
     ) -> Result<Box<[u8; 1024]>, AllocError>
         requires slot { slot < 72 }
         requires range { at + length bytes.now ≤ 1024 }
-        ensures { IfOk result (λ cell. cell.value ≡ machine.put_content (value_in (kept_file self.now).values slot) self.now.size slot at bytes.now) }
+        ensures { IfOk result (λ cell. cell.value ≡ machine.put_content (slot_value (replayed_file self.now).values slot) self.now.size slot at bytes.now) }
     {
         let kept = kept_at(alloc, &self.values, slot as usize)?;
         let mut cell = bytes_of(alloc, kept)?;
@@ -170,7 +170,7 @@ impl Replayed {
         at: u32,
         bytes: &[u8],
     ) -> Result<Self, AllocError>
-        ensures { IfOk result (λ file. kept_file file ≡ put_file (kept_file self) slot at bytes.now) }
+        ensures { IfOk result (λ file. replayed_file file ≡ put_file (replayed_file self) slot at bytes.now) }
     {
         if !is_put(slot, at, bytes) {
             return Ok(self);
@@ -178,14 +178,14 @@ impl Replayed {
         let cell = self.put_content(alloc, slot, at, bytes)?;
         let end = 1024 * slot + u64::from(at) + bytes.len() as u64;
         let mut file = self;
-        set_slot(&mut file.values, slot as usize, Kept::Bytes(cell));
+        set_slot(&mut file.values, slot as usize, KeptValue::Bytes(cell));
         file.size = file.size.max(end);
         Ok(file)
     }
 
     // Makes the bytes past the end zeros, where the file does not shrink.
     fn trim_end(&mut self, alloc: Global, size: u64) -> Result<(), AllocError>
-        ensures values { OnOk result ((kept_file self.new).values ≡ ended (kept_file self.old) size) }
+        ensures values { OnOk result ((replayed_file self.new).values ≡ ended (replayed_file self.old) size) }
         ensures size { self.new.size ≡ self.old.size }
     {
         if self.size <= size && self.size % 1024 != 0 {
@@ -199,7 +199,7 @@ impl Replayed {
 
     /// The file with another size.
     pub fn resized(self, alloc: Global, size: u64) -> Result<Self, AllocError>
-        ensures { IfOk result (λ file. kept_file file ≡ resized_file (kept_file self) size) }
+        ensures { IfOk result (λ file. replayed_file file ≡ resized_file (replayed_file self) size) }
     {
         let mut file = self;
         file.trim_end(alloc, size)?;
@@ -212,7 +212,7 @@ impl Replayed {
 
     /// The values of its slots.
     pub fn into_values(self, alloc: Global) -> Result<Vec<Value>, AllocError>
-        ensures { IfOk result (λ values. values.items ≡ (kept_file self).values) }
+        ensures { IfOk result (λ values. values.items ≡ (replayed_file self).values) }
     {
         let mut values = Vec::new(alloc);
         for kept in &self.values {
@@ -223,11 +223,11 @@ impl Replayed {
 }
 
 // The value of a slot.
-fn value_of(alloc: Global, kept: &Kept) -> Result<Value, AllocError>
+fn value_of(alloc: Global, kept: &KeptValue) -> Result<Value, AllocError>
     ensures { IfOk result (λ value. value ≡ kept_value kept.now) }
 {
     match kept {
-        Kept::Hole => Ok(Value::Hole),
-        Kept::Bytes(bytes) => Ok(Value::Bytes(Content::from_slice(alloc, &**bytes)?)),
+        KeptValue::Hole => Ok(Value::Hole),
+        KeptValue::Bytes(bytes) => Ok(Value::Bytes(Content::from_slice(alloc, &**bytes)?)),
     }
 }

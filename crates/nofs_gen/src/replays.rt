@@ -3,7 +3,7 @@
 //! Promise: they are those of the definition. A step that was refused gives nothing.
 ghost use Rattle.std.specs.Prelude.{◌≡◌, ◌<◌, ◌+◌, length, IfOk, fold, drop};
 ghost use Rattle.nofs_machine.specs.Machine as machine;
-ghost use Rattle.nofs_gen.specs.Replay.{after_entry as entry_after, after_step as step_after, empty_file, kept_file, replay_of};
+ghost use Rattle.nofs_gen.specs.Replay.{after_entry as entry_after, file_with_step as step_after, empty_file, replayed_file, replay_of};
 
 use crate::file::Replayed;
 use nofs_lists::ListOf;
@@ -36,7 +36,7 @@ fn after_step(
     file: Replayed,
     step: &Step,
 ) -> Result<Replayed, AllocError>
-    ensures { IfOk result (λ next. kept_file next ≡ step_after wanted.now.inode wanted.now.generation (kept_file file) step.now) }
+    ensures { IfOk result (λ next. replayed_file next ≡ step_after wanted.now.inode wanted.now.generation (replayed_file file) step.now) }
 {
     match step {
         Step::Put {
@@ -80,7 +80,7 @@ fn after_entry(
     file: Replayed,
     entry: &Entry1,
 ) -> Result<Replayed, AllocError>
-    ensures { IfOk result (λ next. kept_file next ≡ entry_after wanted.now.inode wanted.now.generation (kept_file file) entry.now) }
+    ensures { IfOk result (λ next. replayed_file next ≡ entry_after wanted.now.inode wanted.now.generation (replayed_file file) entry.now) }
 {
     if is_refused(&entry.reply) {
         Ok(file)
@@ -98,8 +98,8 @@ fn after_place(
     at: u64,
 ) -> Result<Replayed, AllocError>
     requires { at < length history.now.entries }
-    ensures { IfOk result (λ next. fold (entry_after wanted.now.inode wanted.now.generation) (kept_file next) (drop (at + 1) history.now.entries)
-        ≡ fold (entry_after wanted.now.inode wanted.now.generation) (kept_file file) (drop at history.now.entries)) }
+    ensures { IfOk result (λ next. fold (entry_after wanted.now.inode wanted.now.generation) (replayed_file next) (drop (at + 1) history.now.entries)
+        ≡ fold (entry_after wanted.now.inode wanted.now.generation) (replayed_file file) (drop at history.now.entries)) }
 {
     match history.entry(at) {
         Some(entry) => after_entry(alloc, wanted, file, entry),

@@ -19,7 +19,7 @@ use Rattle.nofs_state.specs.declared.books.Books.{Books}
 use Rattle.nofs_scan.specs.Elements.{HasElement, IsRight, MayLearn, is_used, items_of}
 use Rattle.nofs_scan.specs.Looking.{LooksAll, LooksAt}
 use Rattle.nofs_scan.specs.Seeing.{Sees}
-use Rattle.nofs_scan.specs.Sights.{block_sight, inode_sight, item_of, judged, sight_in, verdict_by}
+use Rattle.nofs_scan.specs.Sights.{block_sight, inode_sight, item_of, sight_verdict, sight_in, verdict_by}
 use Rattle.nofs_scan.specs.declared.evidence.Verdict.{Verdict}
 use Rattle.nofs_scan.specs.declared.sights.BlockSight.{BlockSight}
 use Rattle.nofs_scan.specs.declared.sights.InodeSight.{InodeSight}
@@ -28,11 +28,11 @@ use Rattle.nofs_scan.specs.declared.sights.Sight.TheVariants as sight
 use Rattle.nofs_scan.proofs.Sighted.{judged-is}
 
 -- what was read of an element gives the verdict of the scan
-right-of : (old new : DiskState) (k : Books) (kind : ElementKind) (item : ℕ) (s : Sight) → IsAt old k.at → HasElement kind k.at item → Sees old new k.agreed_inodes (λ X. sight_in kind X item) (Ok s) → item_of s ≡ item → MayLearn kind k item (judged s) → IsRight old k kind (verdict_by s)
-right-of old new k kind item s at range sees same may = subst (λ (i : ℕ). IsRight old k kind (record { item = i; used = judged s })) (sym same) (record {
+right-of : (old new : DiskState) (k : Books) (kind : ElementKind) (item : ℕ) (s : Sight) → IsAt old k.at → HasElement kind k.at item → Sees old new k.agreed_inodes (λ X. sight_in kind X item) (Ok s) → item_of s ≡ item → MayLearn kind k item (sight_verdict s) → IsRight old k kind (verdict_by s)
+right-of old new k kind item s at range sees same may = subst (λ (i : ℕ). IsRight old k kind (record { item = i; used = sight_verdict s })) (sym same) (record {
   range = range;
   may = may;
-  scan = λ tells agreed. ap judged (sees.found tells agreed) ∙ judged-is old.now kind item (subst (λ (n : SuperBlock). HasElement kind n item) (sym (at.same tells)) range);
+  scan = λ tells agreed. ap sight_verdict (sees.found tells agreed) ∙ judged-is old.now kind item (subst (λ (n : SuperBlock). HasElement kind n item) (sym (at.same tells)) range);
 })
 
 -- a part of a sight was read

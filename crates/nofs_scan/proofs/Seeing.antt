@@ -6,7 +6,7 @@ use Rattle.nofs_disk.specs.declared.Failed.{Failed}
 use Rattle.nofs_model.specs.Image.{Image}
 use Rattle.nofs_agree.specs.Chains.{AreAgreed}
 use Rattle.nofs_agree.proofs.Climbs.{told-on}
-use Rattle.nofs_scan.specs.Seeing.{Reads, Sees}
+use Rattle.nofs_scan.specs.Seeing.{ReadsAnswer, Sees}
 
 -- what a disk has after it stayed it had before
 same-on : {T : Type 0} (old mid : DiskState) (f : Image → T) → StaysButFaults old mid → f mid.now ≡ f old.now
@@ -15,12 +15,12 @@ same-on old mid f s = ap f s.cells.now
 pub failed-on : (old mid new : DiskState) → StaysButFaults old mid → Rose mid.faults new.faults → Rose old.faults new.faults
 failed-on old mid new s r = Rose-within old.faults mid.faults new.faults new.faults s.disk.faults r (le_refl new.faults)
 
-pub reads-sees : {T : Type 0} (old new : DiskState) (known : List Bool) (f : Image → T) (result : Result T Failed) → Reads old new f result → Sees old new known f result
+pub reads-sees : {T : Type 0} (old new : DiskState) (known : List Bool) (f : Image → T) (result : Result T Failed) → ReadsAnswer old new f result → Sees old new known f result
 reads-sees old new known f (Ok a) r = record { stays = r.stays; found = λ tells agreed. r.found tells; cause = r.cause }
 reads-sees old new known f (Err e) r = record { stays = r.stays; found = tt; cause = r.cause }
 
 -- the first read failed
-pub reads-none : {A C : Type 0} (old mid : DiskState) (f : Image → A) (whole : Image → C) (e : Failed) → Reads old mid f (Err e) → Reads old mid whole (Err e)
+pub reads-none : {A C : Type 0} (old mid : DiskState) (f : Image → A) (whole : Image → C) (e : Failed) → ReadsAnswer old mid f (Err e) → ReadsAnswer old mid whole (Err e)
 reads-none old mid f whole e r = record { stays = r.stays; found = tt; cause = r.cause }
 
 pub sees-none : {A C : Type 0} (old mid : DiskState) (known : List Bool) (f : Image → A) (whole : Image → C) (e : Failed) → Sees old mid known f (Err e) → Sees old mid known whole (Err e)
@@ -28,14 +28,14 @@ sees-none old mid known f whole e r = record { stays = r.stays; found = tt; caus
 
 module _ {A B C : Type 0} (old mid new : DiskState) (f : Image → A) (g : A → Image → B) (h : A → B → C) (whole : Image → C) (a : A) where
   -- the second one did
-  pub reads-half : (e : Failed) → Reads old mid f (Ok a) → Reads mid new (g a) (Err e) → Reads old new whole (Err e)
+  pub reads-half : (e : Failed) → ReadsAnswer old mid f (Ok a) → ReadsAnswer mid new (g a) (Err e) → ReadsAnswer old new whole (Err e)
   reads-half e r q = record { stays = StaysButFaults-trans old mid new r.stays q.stays; found = tt; cause = failed-on old mid new r.stays q.cause }
 
   pub sees-half : (known : List Bool) (e : Failed) → Sees old mid known f (Ok a) → Sees mid new known (g a) (Err e) → Sees old new known whole (Err e)
   sees-half known e r q = record { stays = StaysButFaults-trans old mid new r.stays q.stays; found = tt; cause = failed-on old mid new r.stays q.cause }
 
   -- both found what they read
-  pub reads-both : (b : B) → Reads old mid f (Ok a) → Reads mid new (g a) (Ok b) → ((X : Image) → h (f X) (g (f X) X) ≡ whole X) → Reads old new whole (Ok (h a b))
+  pub reads-both : (b : B) → ReadsAnswer old mid f (Ok a) → ReadsAnswer mid new (g a) (Ok b) → ((X : Image) → h (f X) (g (f X) X) ≡ whole X) → ReadsAnswer old new whole (Ok (h a b))
   reads-both b r q is = record {
     stays = StaysButFaults-trans old mid new r.stays q.stays;
     found = λ tells.

@@ -15,7 +15,7 @@ use Rattle.nofs_machine.specs.declared.steps.ElementKind.TheVariants as element
 use Rattle.nofs_agree.proofs.Links.{four-links}
 use Rattle.nofs_state.specs.Verdicts.{names_block}
 use Rattle.nofs_scan.specs.Elements.{HasElement, is_used}
-use Rattle.nofs_scan.specs.Sights.{above_in, block_sight, holds_down, holds_with, inode_sight, judged, judged_inode, judged_tag, leads_up, link_entry, link_sight, may_have, named, names_it, no_above, sight_in, tag_sight, tag_wanted, tagged_in, way_in}
+use Rattle.nofs_scan.specs.Sights.{above_in, block_sight, holds_down, holds_with, inode_sight, sight_verdict, judged_inode, judged_tag, leads_up, entry_linked, link_sight, may_have, named_inode, names_it, no_above, sight_in, tag_sight, tag_wanted, tagged_in, way_in}
 use Rattle.nofs_scan.specs.declared.sights.Above.{Above}
 use Rattle.nofs_scan.specs.declared.sights.LinkSight.{LinkSight}
 use Rattle.nofs_scan.specs.declared.sights.Sight.TheVariants as sight
@@ -23,7 +23,7 @@ use Rattle.nofs_scan.specs.declared.sights.TagSight.{TagSight}
 
 -- Inodes
 
-named-if : (a : Bool) (o : Option Entry) (i g : ℕ) → names_it (cond a (named o) None) i g ≡ (a && names o i g)
+named-if : (a : Bool) (o : Option Entry) (i g : ℕ) → names_it (cond a (named_inode o) None) i g ≡ (a && names o i g)
 named-if true None i g = refl
 named-if true (Some e) i g = refl
 named-if false o i g = refl
@@ -43,8 +43,8 @@ of-directory false false n up = refl
 up-is : (X : Image) (i : ℕ) (l : BackLink) → leads_up i (inode X i) l (link_sight X l) ≡ (is_pair (files_in X) i l && agreed (files_in X) l.directory)
 up-is X i l = go (inode X i).kind (named-if (is_a Directory l.generation (files_in X l.directory)) (entry_at (files_in X) l.directory l.entry) i (inode X i).generation)
   where
-    go : (k : Option FileKind) → names_it (link_entry (files_in X) l) i (inode X i).generation ≡ (is_a Directory l.generation (files_in X l.directory) && names (entry_at (files_in X) l.directory l.entry) i (inode X i).generation)
-        → (may_have k l.generation (inode X i).generation && (names_it (link_entry (files_in X) l) i (inode X i).generation && agreed (files_in X) l.directory)) ≡ (pairs (file_from X i k) (files_in X l.directory) i l && agreed (files_in X) l.directory)
+    go : (k : Option FileKind) → names_it (entry_linked (files_in X) l) i (inode X i).generation ≡ (is_a Directory l.generation (files_in X l.directory) && names (entry_at (files_in X) l.directory l.entry) i (inode X i).generation)
+        → (may_have k l.generation (inode X i).generation && (names_it (entry_linked (files_in X) l) i (inode X i).generation && agreed (files_in X) l.directory)) ≡ (pairs (file_from X i k) (files_in X l.directory) i l && agreed (files_in X) l.directory)
     go None entry = refl
     go (Some File) entry = ap (λ (b : Bool). b && agreed (files_in X) l.directory) entry ∙ of-file (is_a Directory l.generation (files_in X l.directory)) (names (entry_at (files_in X) l.directory l.entry) i (inode X i).generation) (agreed (files_in X) l.directory)
     go (Some Directory) entry = ap (λ (b : Bool). ltb l.generation (inode X i).generation && (b && agreed (files_in X) l.directory)) entry
@@ -178,14 +178,14 @@ owner-is : (X : Image) (p : ℕ) → owner X p ≡ owner_by X p (tag_of (cell_at
 unfolding owner
 owner-is X p = refl
 
-block-judged : (X : Image) (p : ℕ) → p < (super_at X).blocks → judged (sight_in element.Block X p) ≡ is_used_block X p
+block-judged : (X : Image) (p : ℕ) → p < (super_at X).blocks → sight_verdict (sight_in element.Block X p) ≡ is_used_block X p
 block-judged X p low = go (is_fixed_block X p) refl
   where
-    go : (b : Bool) → is_fixed_block X p ≡ b → judged (cond b (sight.Fixed p) (sight.Block (block_sight X p))) ≡ (b || is_some (owner X p))
+    go : (b : Bool) → is_fixed_block X p ≡ b → sight_verdict (cond b (sight.Fixed p) (sight.Block (block_sight X p))) ≡ (b || is_some (owner X p))
     go true e = refl
     go false e = tag-judged X p (data-block ((super_at X).inodes / 4) p (super_at X).blocks e low) (tag_of (cell_at X p).tag) refl ∙ sym (ap is_some (owner-is X p))
 
 -- of an element of the disk
-pub judged-is : (X : Image) (kind : ElementKind) (item : ℕ) → HasElement kind (super_at X) item → judged (sight_in kind X item) ≡ is_used kind X item
+pub judged-is : (X : Image) (kind : ElementKind) (item : ℕ) → HasElement kind (super_at X) item → sight_verdict (sight_in kind X item) ≡ is_used kind X item
 judged-is X element.Inode i range = inode-judged X i
 judged-is X element.Block p range = block-judged X p range.1

@@ -6,7 +6,7 @@ use Rattle.nofs_model.specs.Image.{Image}
 use Rattle.nofs_agree.specs.Chains.{AreAgreed}
 
 -- what was read is this of the image, where the disk tells
-pub record Reads {T : Type 0} (old new : DiskState) (answer : Image → T) (result : Result T Failed) : Type 0 where
+pub record ReadsAnswer {T : Type 0} (old new : DiskState) (answer : Image → T) (result : Result T Failed) : Type 0 where
   pub stays : StaysButFaults old new
   pub found : IfOk result (λ a. IsTrue old.tells → a ≡ answer old.now)
   pub cause : OnErr result (Rose old.faults new.faults)

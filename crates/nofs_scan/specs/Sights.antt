@@ -9,7 +9,7 @@ use Rattle.nofs_scan.specs.declared.sights.Named.{Named}
 use Rattle.nofs_scan.specs.declared.sights.LinkSight.{LinkSight}
 use Rattle.nofs_scan.specs.declared.sights.InodeSight.{InodeSight}
 use Rattle.nofs_scan.specs.declared.sights.Above.{Above}
-use Rattle.nofs_scan.specs.declared.sights.Way.{Way}
+use Rattle.nofs_scan.specs.declared.sights.BlocksAbove.{BlocksAbove}
 use Rattle.nofs_scan.specs.declared.sights.TagSight.{TagSight}
 use Rattle.nofs_scan.specs.declared.sights.BlockSight.{BlockSight}
 use Rattle.nofs_scan.specs.declared.sights.Sight.{Sight}
@@ -19,16 +19,16 @@ use Rattle.nofs_scan.specs.declared.evidence.Verdict.{Verdict}
 -- What is read of an image
 
 -- whom an entry names
-abbrev pub named : Option Entry → Option Named
-named None = None
-named (Some e) = Some (record { inode = e.inode; generation = e.generation })
+abbrev pub named_inode : Option Entry → Option Named
+named_inode None = None
+named_inode (Some e) = Some (record { inode = e.inode; generation = e.generation })
 
 -- the entry that a back link names, in a directory of its generation
-abbrev pub link_entry : Files → BackLink → Option Named
-link_entry F l = if is_a file.Directory l.generation (F l.directory) then named (entry_at F l.directory l.entry) else None
+abbrev pub entry_linked : Files → BackLink → Option Named
+entry_linked F l = if is_a file.Directory l.generation (F l.directory) then named_inode (entry_at F l.directory l.entry) else None
 
 abbrev pub link_sight : Image → BackLink → LinkSight
-link_sight X l = record { entry = link_entry (files_in X) l; agreed = agreed (files_in X) l.directory }
+link_sight X l = record { entry = entry_linked (files_in X) l; agreed = agreed (files_in X) l.directory }
 
 -- the sights of four back links
 abbrev pub link_sights : Image → List BackLink → List LinkSight
@@ -45,11 +45,11 @@ abbrev pub above_in : Image → ℕ → ℕ → Above
 above_in X b n = if is_data_block X b then record { tag = tag_of (cell_at X b).tag; pointer = pointer_at (cell_at X b).payload n } else no_above
 
 -- a block above a slot alone
-abbrev pub under_record : Image → ℕ → ℕ → Way
+abbrev pub under_record : Image → ℕ → ℕ → BlocksAbove
 under_record X b n = record { upper = above_in X b n; lower = no_above }
 
 -- a block above a slot, and one of its children
-abbrev pub under_top : Image → ℕ → ℕ → ℕ → Way
+abbrev pub under_top : Image → ℕ → ℕ → ℕ → BlocksAbove
 under_top X b m n = record { upper = above_in X b m; lower = above_in X (above_in X b m).pointer.block n }
 
 -- the block above a slot whose pointer is in the record
@@ -66,7 +66,7 @@ lower_in X r (Under (InRecord a) n) = no_above
 lower_in X r (Under (Under (InRecord a) m) n) = above_in X (above_in X (record_pointer r a).block m).pointer.block n
 lower_in X r (Under (Under (Under a k) m) n) = no_above
 
-abbrev pub way_in : Image → Record → Path → Way
+abbrev pub way_in : Image → Record → Path → BlocksAbove
 way_in X r path = record { upper = upper_in X r path; lower = lower_in X r path }
 
 abbrev pub tag_sight : Image → Tag → TagSight
@@ -142,10 +142,10 @@ judged_tag p None = false
 judged_tag p (Some s) = is_slot s.tag.slot && (holds_down p s (path_of s.tag.slot) && s.agreed)
 
 -- whether an element is used, by what was read of it
-abbrev pub judged : Sight → Bool
-judged (sight.Inode s) = judged_inode s
-judged (sight.Block s) = judged_tag s.block s.tagged
-judged (sight.Fixed p) = true
+abbrev pub sight_verdict : Sight → Bool
+sight_verdict (sight.Inode s) = judged_inode s
+sight_verdict (sight.Block s) = judged_tag s.block s.tagged
+sight_verdict (sight.Fixed p) = true
 
 -- the number of the element
 abbrev pub item_of : Sight → ℕ
@@ -155,4 +155,4 @@ item_of (sight.Fixed p) = p
 
 -- the element with its verdict
 abbrev pub verdict_by : Sight → Verdict
-verdict_by s = record { item = item_of s; used = judged s }
+verdict_by s = record { item = item_of s; used = sight_verdict s }

@@ -30,7 +30,7 @@ impl Sight {
 
     /// Whether the element is used.
     pub fn is_used(&self) -> bool
-        ensures value { result ≡ sights.judged self.now }
+        ensures value { result ≡ sights.sight_verdict self.now }
         ensures scan { (X : Image) (kind : ElementKind) (item : ℕ) → HasElement kind (super_at X) item → self.now ≡ sights.sight_in kind X item → result ≡ is_used kind X item }
     {
         judged(self)
@@ -39,7 +39,7 @@ impl Sight {
 
 // Whether an element is used, by what was read of it.
 fn judged(sight: &Sight) -> bool
-    ensures { result ≡ sights.judged sight.now }
+    ensures { result ≡ sights.sight_verdict sight.now }
 {
     match sight {
         Sight::Inode(sight) => is_inode_used(sight),

@@ -19,4 +19,4 @@ pub use evidence::{Evidence, Verdict, Verdicts, judge};
 pub use laws::law_scanned;
 pub use looks::look_batch;
 pub use sees::{see_block, see_inode};
-pub use sights::{Above, BlockSight, InodeSight, LinkSight, Named, Sight, TagSight, Way};
+pub use sights::{Above, BlockSight, BlocksAbove, InodeSight, LinkSight, Named, Sight, TagSight};

@@ -11,11 +11,11 @@ ghost use Rattle.nofs_model.specs.Places.{IsPlace, place_path};
 ghost use Rattle.nofs_model.specs.Slots as slots;
 ghost use Rattle.nofs_model.specs.Cells as cells;
 ghost use Rattle.nofs_agree.specs.Reading.{IsAt, IsLast, KnowsDirectory};
-ghost use Rattle.nofs_scan.specs.Seeing.{Reads, Sees};
+ghost use Rattle.nofs_scan.specs.Seeing.{ReadsAnswer, Sees};
 ghost use Rattle.nofs_scan.specs.Sights as sights;
 
 use crate::judging::is_slot;
-use crate::sights::{Above, BlockSight, InodeSight, LinkSight, Named, TagSight, Way};
+use crate::sights::{Above, BlockSight, BlocksAbove, InodeSight, LinkSight, Named, TagSight};
 use nofs_agree::{LastRead, PathAnswer, check_chain, find_slot, read_block, read_inode};
 use nofs_bits::Bits;
 use nofs_disk::{Disk, Failed, Tag, read_tag, read_u32_at, read_u64_at};
@@ -51,7 +51,7 @@ pub fn read_inode_sight<D: Disk>(
 
 fn read_record<D: Disk>(disk: &mut D, at: &SuperBlock, inode: u32) -> Result<Record, Failed>
     requires { IsAt (D.state disk.old) at.now }
-    ensures { Reads (D.state disk.old) (D.state disk.new) (λ X. image.inode X inode) result }
+    ensures { ReadsAnswer (D.state disk.old) (D.state disk.new) (λ X. image.inode X inode) result }
 {
     let mut last = LastRead::NONE;
     read_inode(disk, at, inode, &mut last)
@@ -126,7 +126,7 @@ fn read_link_entry<D: Disk>(
     link: &BackLink,
 ) -> Result<Option<Named>, Failed>
     requires { IsAt (D.state disk.old) at.now }
-    ensures { Reads (D.state disk.old) (D.state disk.new) (λ X. sights.link_entry (files.files_in X) link.now) result }
+    ensures { ReadsAnswer (D.state disk.old) (D.state disk.new) (λ X. sights.entry_linked (files.files_in X) link.now) result }
 {
     let mut last = LastRead::NONE;
     let directory = read_inode(disk, at, link.directory, &mut last)?;
@@ -153,7 +153,7 @@ fn read_entry_of<D: Disk>(
 ) -> Result<Option<Named>, Failed>
     requires directory { KnowsDirectory (D.state disk.old) at.now link.now.directory link.now.generation directory.now }
     requires last { IsLast (D.state disk.old) last.old }
-    ensures { Reads (D.state disk.old) (D.state disk.new) (λ X. sights.named (files.entry_at (files.files_in X) link.now.directory link.now.entry)) result }
+    ensures { ReadsAnswer (D.state disk.old) (D.state disk.new) (λ X. sights.named_inode (files.entry_at (files.files_in X) link.now.directory link.now.entry)) result }
 {
     if link.entry >= 1152 {
         return Ok(None);
@@ -169,7 +169,7 @@ fn read_entry_of<D: Disk>(
 // Whom the entry at a place of a directory cell names.
 fn named_at(payload: &[u8; 1024], at: u32) -> Option<Named>
     requires { at < 16 }
-    ensures { result ≡ sights.named (entry_in payload.now at) }
+    ensures { result ≡ sights.named_inode (entry_in payload.now at) }
 {
     let bytes = bytes_of(payload, at);
     let inode = read_u32_at(bytes, 0);
@@ -217,7 +217,7 @@ pub fn read_block_sight<D: Disk>(
 fn read_own_tag<D: Disk>(disk: &mut D, at: &SuperBlock, block: u64) -> Result<Option<Tag>, Failed>
     requires numbers { IsAt (D.state disk.old) at.now }
     requires block { block < at.now.blocks }
-    ensures { Reads (D.state disk.old) (D.state disk.new) (λ X. cells.tag_of (image.cell_at X block).tag) result }
+    ensures { ReadsAnswer (D.state disk.old) (D.state disk.new) (λ X. cells.tag_of (image.cell_at X block).tag) result }
 {
     let mut last = LastRead::NONE;
     read_block(disk, block, &mut last)?;
@@ -274,10 +274,10 @@ fn read_slot_way<D: Disk>(
     at: &SuperBlock,
     inode: u32,
     place: Place,
-) -> Result<(Record, Way), Failed>
+) -> Result<(Record, BlocksAbove), Failed>
     requires numbers { IsAt (D.state disk.old) at.now }
     requires place { IsPlace place }
-    ensures { Reads (D.state disk.old) (D.state disk.new) (λ X. (image.inode X inode, sights.way_in X (image.inode X inode) (place_path place))) result }
+    ensures { ReadsAnswer (D.state disk.old) (D.state disk.new) (λ X. (image.inode X inode, sights.way_in X (image.inode X inode) (place_path place))) result }
 {
     let it = read_record(disk, at, inode)?;
     let way = read_way(disk, at, &it, place)?;
@@ -290,13 +290,13 @@ fn read_way<D: Disk>(
     at: &SuperBlock,
     it: &Record,
     place: Place,
-) -> Result<Way, Failed>
+) -> Result<BlocksAbove, Failed>
     requires numbers { IsAt (D.state disk.old) at.now }
     requires place { IsPlace place }
-    ensures { Reads (D.state disk.old) (D.state disk.new) (λ X. sights.way_in X it.now (place_path place)) result }
+    ensures { ReadsAnswer (D.state disk.old) (D.state disk.new) (λ X. sights.way_in X it.now (place_path place)) result }
 {
     match place {
-        Place::InRecord(_) => Ok(Way::NONE),
+        Place::InRecord(_) => Ok(BlocksAbove::NONE),
         Place::UnderRecord { at: above, place } => {
             read_under_record(disk, at, record_pointer(it, above).block, place)
         }
@@ -312,13 +312,13 @@ fn read_under_record<D: Disk>(
     at: &SuperBlock,
     block: u64,
     place: u64,
-) -> Result<Way, Failed>
+) -> Result<BlocksAbove, Failed>
     requires numbers { IsAt (D.state disk.old) at.now }
     requires place { place < 64 }
-    ensures { Reads (D.state disk.old) (D.state disk.new) (λ X. sights.under_record X block place) result }
+    ensures { ReadsAnswer (D.state disk.old) (D.state disk.new) (λ X. sights.under_record X block place) result }
 {
     let upper = read_above(disk, at, block, place)?;
-    Ok(Way {
+    Ok(BlocksAbove {
         upper,
         lower: Above::NONE,
     })
@@ -331,15 +331,15 @@ fn read_under_top<D: Disk>(
     block: u64,
     child: u64,
     place: u64,
-) -> Result<Way, Failed>
+) -> Result<BlocksAbove, Failed>
     requires numbers { IsAt (D.state disk.old) at.now }
     requires child { child < 64 }
     requires place { place < 64 }
-    ensures { Reads (D.state disk.old) (D.state disk.new) (λ X. sights.under_top X block child place) result }
+    ensures { ReadsAnswer (D.state disk.old) (D.state disk.new) (λ X. sights.under_top X block child place) result }
 {
     let upper = read_above(disk, at, block, child)?;
     let lower = read_above(disk, at, upper.pointer.block, place)?;
-    Ok(Way { upper, lower })
+    Ok(BlocksAbove { upper, lower })
 }
 
 // The tag of a block and the pointer at a place in it, where it is a block of the data area.
@@ -351,7 +351,7 @@ fn read_above<D: Disk>(
 ) -> Result<Above, Failed>
     requires numbers { IsAt (D.state disk.old) at.now }
     requires place { place < 64 }
-    ensures { Reads (D.state disk.old) (D.state disk.new) (λ X. sights.above_in X block place) result }
+    ensures { ReadsAnswer (D.state disk.old) (D.state disk.new) (λ X. sights.above_in X block place) result }
 {
     if block <= at.inodes / 4 || block >= at.blocks {
         return Ok(Above::NONE);

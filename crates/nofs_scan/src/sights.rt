@@ -48,16 +48,16 @@ impl Above {
 
 /// The blocks above a slot.
 #[derive(Clone, Copy)]
-pub struct Way {
+pub struct BlocksAbove {
     /// The leaf or the top, where the slot is under it.
     pub upper: Above,
     /// The child of the top, where the slot is under it.
     pub lower: Above,
 }
 
-impl Way {
+impl BlocksAbove {
     /// No block: the pointer is in the record.
-    pub const NONE: Way = Way {
+    pub const NONE: BlocksAbove = BlocksAbove {
         upper: Above::NONE,
         lower: Above::NONE,
     };
@@ -69,7 +69,7 @@ pub struct TagSight {
     pub tag: Tag,
     /// The record of the tag's inode. It has the slot's pointer, or that of the upper block.
     pub in_table: Record,
-    pub way: Way,
+    pub way: BlocksAbove,
     /// Whether the inode is agreed.
     pub agreed: bool,
 }
