@@ -1,40 +1,39 @@
 -- What is promised of one history: from the parts of a run to the headline.
-use Rattle.std.proofs.Common.{◌≡◌, ℕ, ◌<◌, Bool, true, false, List, [], length, map, Option, Some, None, Result, Ok, Err, IsTrue, refl, sym, ap, ◌∙◌, subst, arith}
-use Rattle.std.specs.Prelude.{IfOk, IfSome, is_none}
+use Rattle.std.proofs.Common.{◌≡◌, ℕ, ◌<◌, Bool, true, false, List, [], Option, Some, None, Result, Ok, Err, IsTrue, refl, sym, ap, ◌∙◌, subst, arith}
+use Rattle.std.specs.Prelude.{IfErr, IfOk, IfSome, is_none}
 use Rattle.std.proofs.Math.Logic.{∥∥₁_elim, ∥∥₁_prop}
 use Rattle.nofs_disk.specs.Adds.{Adds}
-use Rattle.nofs_disk.specs.Disk.{DiskState, IsSameDisk, Picks, cell_at}
+use Rattle.nofs_disk.specs.Disk.{DiskState, cell_at}
 use Rattle.nofs_super.specs.Format.{IsFormatted, IsFreshCell, formatted_cell}
 use Rattle.nofs_super.specs.Raise.{raised}
-use Rattle.nofs_super.specs.Geometry.{IsGeometry, format_fault, is_geometry, is_geometry-parts}
+use Rattle.nofs_super.specs.Geometry.{IsGeometry, is_geometry, is_geometry-parts}
 use Rattle.nofs_super.specs.declared.geometry.FormatFault.{FormatFault}
 use Rattle.nofs_model.specs.Cells.{SuperBlock}
-use Rattle.nofs_model.specs.Image.{Image, IsSound, super_at}
+use Rattle.nofs_model.specs.Image.{Image, super_at}
 use Rattle.nofs_model.proofs.Formatted.{formatted-law}
 use Rattle.nofs_io.specs.Calls.{SourceState}
 use Rattle.nofs_io.specs.Texts.{IsWhole}
 use Rattle.nofs_machine.specs.HistoryState.{HistoryState}
-use Rattle.nofs_machine.specs.Steps.{is_out_of_memory}
 use Rattle.nofs_machine.specs.declared.history.Entry1.{Entry1}
-use Rattle.nofs_machine.specs.declared.steps.Step.TheVariants as step
-use Rattle.nofs_machine.specs.declared.replies.Reply.{Reply}
 use Rattle.nofs_machine.specs.declared.replies.Reply.TheVariants as reply
 use Rattle.nofs_machine.specs.declared.replies.Refusal.TheVariants as refusal
 use Rattle.nofs_client.specs.declared.commands.Command.{Command}
 use Rattle.nofs_client.specs.declared.lines.Line.{Line}
 use Rattle.nofs_script.specs.Sessions.{session_of}
 use Rattle.nofs_state.specs.declared.books.Books.{Books}
-use Rattle.nofs_shared.specs.Added.{AddsStep}
 use Rattle.nofs_shared.specs.Mounts.{IsMount}
 use Rattle.nofs_serve.proofs.Teaming.{team-unserved}
 use Rattle.nofs.specs.declared.begin.Numbers.{Numbers}
-use Rattle.nofs.specs.Headline.{HeadlineOf, IsDrillHeadline, IsFollowed, IsHeadline, IsNewHeadline}
-use Rattle.nofs.specs.Serving.{IsSessionRun}
+use Rattle.nofs_machine.specs.Next.{Run}
+use Rattle.nofs_machine.specs.World.{World, world_of}
+use Rattle.nofs.specs.Drill.{IsDrillFollowed}
+use Rattle.nofs.specs.Headline.{FollowsDrill, FollowsScripts, HeadlineOf, IsDrillHeadline, IsFollowed, IsHeadline, IsHeadlineOf}
+use Rattle.nofs.specs.Serving.{IsClosed, IsSessionRun}
 use Rattle.nofs.specs.Tool.{WithSession, WithText}
 use Rattle.nofs.specs.Entries.{has_fault}
-use Rattle.nofs.specs.Whole.{Finished, IsMet}
+use Rattle.nofs.specs.Whole.{Finished, IsMet, IsWholeScan, ShowsDisk}
 use Rattle.nofs.proofs.Sessions.{run-closed}
-use Rattle.nofs.proofs.Whole.{whole-scan}
+use Rattle.nofs.proofs.Whole.{settled-end, whole-drill, whole-scan}
 
 -- a format leaves a disk on which the premises are met, where it tells
 pub formatted_met : (blocks inodes : ℕ) (old new : DiskState) → IsFormatted blocks inodes old new → Adds (IsFreshCell blocks inodes) old new
@@ -78,36 +77,61 @@ served-follows session scripts at out lines all H text same is said run =
     }
 
 -- the headline of a mount, from its state before it served and what it gave at its end
-pub headline-of : (scripts : List (List Command)) (found before last : DiskState) (first status : ℕ) (k : Books) (text : Option (List ℕ)) (ran : HistoryState)
+headline-any : (Follows : SuperBlock → Bool → List Entry1 → Type 0) (found before last : DiskState) (first status : ℕ) (k : Books) (text : Option (List ℕ)) (ran : HistoryState)
     (h : Option HistoryState) → first ≡ 0 → h ≡ Some ran → ∥ IsMount found before first k ∥₁ → ∥ Finished found last first ran ∥₁
-    → IsFollowed scripts k.at text ran.entries → (text ≡ None → status ≡ 7) → (status ≡ 0 → has_fault ran.entries ≡ false)
-    → IfSome h (λ x. ∥ IsHeadline scripts found last status x ∥₁)
-headline-of scripts found before last first status k text ran h zero some stands ends f unsaid sound =
-    subst (λ (o : Option HistoryState). IfSome o (λ x. ∥ IsHeadline scripts found last status x ∥₁)) (sym some)
+    → (short : Bool) → (short ≡ true → text ≡ None) → Follows k.at short ran.entries → IfSome text (λ _. IsClosed last ran.entries) → (text ≡ None → status ≡ 7)
+    → (status ≡ 0 → has_fault ran.entries ≡ false)
+    → ((at : SuperBlock) (B : Image) (V : World) → Follows at false ran.entries → Run ran.start (world_of B 0) ran.entries V → has_fault ran.entries ≡ false
+    → ShowsDisk at V last.now → IsWholeScan V last.now) → IfSome h (λ x. ∥ IsHeadlineOf Follows found last status x ∥₁)
+headline-any Follows found before last first status k text ran h zero some stands ends short early follows closed unsaid sound scan =
+    subst (λ (o : Option HistoryState). IfSome o (λ x. ∥ IsHeadlineOf Follows found last status x ∥₁)) (sym some)
     (∥∥₁_elim stands ∥∥₁_prop (λ m. ∥∥₁_elim ends ∥∥₁_prop (λ e. ∣ made m (subst (λ (n : ℕ). Finished found last n ran) zero e) ∣₁)))
   where
-    not-short : (b : Bool) → f.short ≡ b → status ≡ 0 → f.short ≡ false
-    not-short true e done = absurd (let s = unsaid (f.early e) in omega (arith, done, s))
+    not-short : (b : Bool) → short ≡ b → status ≡ 0 → short ≡ false
+    not-short true e done = absurd (let s = unsaid (early e) in omega (arith, done, s))
     not-short false e done = e
 
-    made : IsMount found before first k → Finished found last 0 ran → IsHeadline scripts found last status ran
+    -- there is a text at status 0
+    is-closed : (o : Option (List ℕ)) → text ≡ o → IfSome o (λ _. IsClosed last ran.entries) → status ≡ 0 → IsClosed last ran.entries
+    is-closed None e c done = absurd (let s = unsaid e in omega (arith, done, s))
+    is-closed (Some t) e c done = c
+
+    made : IsMount found before first k → Finished found last 0 ran → IsHeadlineOf Follows found last status ran
     made m e = record {
       at = k.at;
       numbers = λ q. (m.stands q).raised;
-      short = f.short;
-      early = λ s. unsaid (f.early s);
-      follows = f.follows;
+      short = short;
+      early = λ s. unsaid (early s);
+      follows = follows;
       ends = e.ends;
       whole = λ q done.
           let same : k.at ≡ raised (super_at found.now) = (m.stands q).raised in
-          let (lines, run) = f.follows in
-          let run_whole : IsSessionRun scripts k.at.inodes k.at.blocks false lines ran.entries = subst
-          (λ (b : Bool). IsSessionRun scripts k.at.inodes k.at.blocks b lines ran.entries) (not-short f.short refl done) run in
-          let run_at : IsSessionRun scripts (raised (super_at found.now)).inodes (raised (super_at found.now)).blocks false lines ran.entries = subst
-          (λ (a : SuperBlock). IsSessionRun scripts a.inodes a.blocks false lines ran.entries) same run_whole in
+          let whole : Follows k.at false ran.entries = subst (λ (b : Bool). Follows k.at b ran.entries) (not-short short refl done) follows in
           let c = e.ends.contents q in
-          whole-scan scripts (raised (super_at found.now)) lines ran.entries ran.start 0 c.base c.world last.now run_at c.run (sound done) (e.shows q (sound done));
+          scan (raised (super_at found.now)) c.base c.world (subst (λ (a : SuperBlock). Follows a false ran.entries) same whole) c.run (sound done)
+          (e.shows q (sound done));
+      settled = λ q done.
+          let c = e.ends.contents q in
+          settled-end last ran.entries ran.start 0 c.base c.world (is-closed text refl closed done) c.run (sound done);
     }
+
+-- of a session
+pub headline-of : (scripts : List (List Command)) (found before last : DiskState) (first status : ℕ) (k : Books) (text : Option (List ℕ)) (ran : HistoryState)
+    (h : Option HistoryState) → first ≡ 0 → h ≡ Some ran → ∥ IsMount found before first k ∥₁ → ∥ Finished found last first ran ∥₁
+    → IsFollowed scripts k.at text ran.entries → IfSome text (λ _. IsClosed last ran.entries) → (text ≡ None → status ≡ 7)
+    → (status ≡ 0 → has_fault ran.entries ≡ false) → IfSome h (λ x. ∥ IsHeadline scripts found last status x ∥₁)
+headline-of scripts found before last first status k text ran h zero some stands ends f closed unsaid sound =
+    headline-any (FollowsScripts scripts) found before last first status k text ran h zero some stands ends f.short f.early f.follows closed unsaid sound
+    (λ at B V follows run ok shows. whole-scan scripts at follows.0 ran.entries ran.start 0 B V last.now follows.1 run ok shows)
+
+-- of a drill
+pub drill-of : (start steps : ℕ) (found before last : DiskState) (first status : ℕ) (k : Books) (text : Option (List ℕ)) (ran : HistoryState)
+    (h : Option HistoryState) → first ≡ 0 → h ≡ Some ran → ∥ IsMount found before first k ∥₁ → ∥ Finished found last first ran ∥₁
+    → IsDrillFollowed start steps k.at text ran.entries → IfSome text (λ _. IsClosed last ran.entries) → (text ≡ None → status ≡ 7)
+    → (status ≡ 0 → has_fault ran.entries ≡ false) → IfSome h (λ x. ∥ IsHeadlineOf (FollowsDrill start steps) found last status x ∥₁)
+drill-of start steps found before last first status k text ran h zero some stands ends f closed unsaid sound =
+    headline-any (FollowsDrill start steps) found before last first status k text ran h zero some stands ends f.short f.early f.follows closed unsaid sound
+    (λ at B V follows run ok shows. whole-drill start steps at ran.entries ran.start 0 B V last.now follows run ok shows)
 
 module _ {D : Type 0} (state : D → DiskState) where
   pub new-headline : (numbers : Numbers) (scripts : List (List Command)) (old found : D) (last : DiskState) (status : ℕ) (h : Option HistoryState)
@@ -122,17 +146,11 @@ module _ {D : Type 0} (state : D → DiskState) where
       subst (λ (d : D). IfSome h (λ x. ∥ IsHeadline scripts (state d) last status x ∥₁)) is i
 
 module _ {D : Type 0} (state : D → DiskState) where
-  pub drill-headline : (old found left last : D) (first : ℕ) (ran : HistoryState) (h : Option HistoryState)
-      → IsFormatted 4096 256 (state old) (state found) → (IsTrue (state old).tells → IsMet (state found)) → first ≡ 0 → last ≡ left → h ≡ Some ran
-      → ∥ Finished (state found) (state left) first ran ∥₁ → IfSome h (IsDrillHeadline state old (state last))
-  drill-headline old found left last first ran h formatted met zero same some ends =
-      subst (λ (o : Option HistoryState). IfSome o (IsDrillHeadline state old (state last))) (sym some) (record {
-        found = found;
-        formatted = formatted;
-        met = met;
-        finished = subst (λ (n : ℕ). ∥ Finished (state found) (state last) n ran ∥₁) zero
-            (subst (λ (d : D). ∥ Finished (state found) (state d) first ran ∥₁) (sym same) ends);
-      })
+  pub drill-headline : (start steps : ℕ) (old found : D) (last : DiskState) (status : ℕ) (h : Option HistoryState)
+      → IsFormatted 4096 256 (state old) (state found) → (IsTrue (state old).tells → IsMet (state found))
+      → IfSome h (λ x. ∥ IsHeadlineOf (FollowsDrill start steps) (state found) last status x ∥₁) → IfSome h (IsDrillHeadline state start steps old last status)
+  drill-headline start steps old found last status None formatted met i = tt
+  drill-headline start steps old found last status (Some h) formatted met i = record { found = found; formatted = formatted; met = met; headline = i }
 
 -- without a history nothing is owed
 pub none-owed : (P : HistoryState → Type 0) (h : Option HistoryState) → h ≡ None → IfSome h P
@@ -153,3 +171,7 @@ in-text P old new limit text (Some h) whole i = (text, whole, i)
 pub if-ok : {T E : Type 0} (r : Result T E) (P Q : T → Type 0) → IfOk r P → ((t : T) → P t → Q t) → IfOk r Q
 if-ok (Ok t) P Q p f = f t p
 if-ok (Err e) P Q p f = tt
+
+pub if-err : {T E : Type 0} (r : Result T E) (P Q : E → Type 0) → IfErr r P → ((e : E) → P e → Q e) → IfErr r Q
+if-err (Ok t) P Q p f = tt
+if-err (Err e) P Q p f = f e p

@@ -9,3 +9,6 @@ pub mod Headlines
 pub mod Known
 pub mod Whole
 pub mod Counted
+pub mod Complete
+pub mod Causes
+pub mod Saying

@@ -15,12 +15,14 @@ pub written-ends : (found new : DiskState) (sink_old sink_new : SinkState) (firs
     → ∥ Finished found new first ran ∥₁
     → (status ≡ 0) ⊎ (status ≡ 3) ⊎ (status ≡ 5) ⊎ (status ≡ 7)
     → (status ≡ 3 → has_fault ran.entries ≡ true)
+    → (has_fault ran.entries ≡ true → (status ≡ 3) ⊎ (status ≡ 7))
     → (status ≡ 5 → Rose sink_old.faults sink_new.faults × (has_fault ran.entries ≡ false))
     → MountEnds found new sink_old sink_new status h
-written-ends found new sink_old sink_new first status ran h stood ends named device sink =
+written-ends found new sink_old sink_new first status ran h stood ends named device faulty sink =
     subst (λ x. MountEnds found new sink_old sink_new status x) (sym stood) (record {
       named = named;
       device = λ e. (device e, faults-rose found new first ran ends (device e));
+      faulty = faulty;
       sink = sink;
       stood = λ e. cc e;
     })
@@ -45,6 +47,7 @@ pub mounted-ends : {Refused : Type 0} (old found new : DiskState) (sink_old sink
 mounted-ends old found new sink_old sink_new status h later m = record {
   named = widened m.named;
   device = λ e. ((m.device e).0, (let r = (m.device e).1 in omega (arith, later, r)));
+  faulty = m.faulty;
   sink = m.sink;
   refused = λ e. absurd (not-refused status m.named e);
 }

@@ -47,7 +47,7 @@ module _ {W : Type 0} (f : W → List Command) where
   plans-few ws session s e = let n = ap length e in let m = length-scripts f ws in omega (arith, n, m, s.few)
 
 -- where less is told to be whole
-sweeps-shorter : (Item : ℕ → ℕ → Type 0) (kind : ElementKind) (count : ℕ) (out short : Bool) (made : List Made) → (short ≡ false → out ≡ false)
+pub sweeps-shorter : (Item : ℕ → ℕ → Type 0) (kind : ElementKind) (count : ℕ) (out short : Bool) (made : List Made) → (short ≡ false → out ≡ false)
     → Sweeps Item kind 0 count out [] made → Sweeps Item kind 0 count short [] made
 sweeps-shorter Item kind count out short made less s = record {
   elements = s.elements;

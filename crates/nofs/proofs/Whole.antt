@@ -1,6 +1,6 @@
 -- At the end of a session in which no call of the device failed the machine's verdicts are those of the disk.
-use Rattle.std.proofs.Common.{◌≡◌, ℕ, ◌/◌, ◌<◌, ◌≤◌, Bool, true, false, ◌||◌, not, leb, List, [], ◌∷◌, is_some, ◌⊎◌, inl, inr, refl, sym, ap, ◌∙◌, subst, arith}
-use Rattle.nofs_disk.specs.Disk.{DiskState}
+use Rattle.std.proofs.Common.{◌≡◌, ℕ, ◌-◌, ◌/◌, ◌<◌, Bool, true, false, ◌||◌, not, leb, List, [], ◌∷◌, ◌++◌, is_some, ◌⊎◌, inl, inr, refl, sym, ap, ◌∙◌, subst, arith}
+use Rattle.nofs_disk.specs.Disk.{DiskState, IsSettled}
 use Rattle.nofs_super.specs.Raise.{raised}
 use Rattle.nofs_model.specs.Cells.{SuperBlock}
 use Rattle.nofs_model.specs.Image.{Image, Files, is_special, super_at}
@@ -26,9 +26,15 @@ use Rattle.nofs_shared.proofs.Ending.{mount-ends}
 use Rattle.nofs_client.specs.declared.commands.Command.{Command}
 use Rattle.nofs_client.specs.declared.lines.Line.{Line}
 use Rattle.nofs.specs.Entries.{has_fault}
-use Rattle.nofs.specs.Serving.{IsSessionRun}
+use Rattle.nofs_machine.specs.Steps.{Made}
+use Rattle.nofs_machine.specs.declared.steps.ElementKind.TheVariants.{Inode, Block}
+use Rattle.nofs_shared.specs.Added.{AddsStep}
+use Rattle.nofs_shared.specs.Owned.{steps_by}
+use Rattle.nofs_workers.specs.Sweeps.{Sweeps}
+use Rattle.nofs.specs.Drill.{IsDrillRun}
+use Rattle.nofs.specs.Serving.{IsClosed, IsSessionRun}
 use Rattle.nofs.specs.Whole.{Finished, IsWholeScan, ShowsDisk}
-use Rattle.nofs.proofs.Known.{blocks-seen, has-added, inodes-seen, no-fault, run-goes}
+use Rattle.nofs.proofs.Known.{flushed-last, blocks-seen, has-added, inodes-seen, no-fault, run-goes}
 
 not-write : (r : Reply) → is_fault r ≡ false → is_write_fault r ≡ false
 not-write (reply.Refused refusal.WriteFault) e = absurd (cc e)
@@ -115,26 +121,47 @@ world-going : (B : Image) (first : ℕ) → (world_of B first).stopped ≡ false
 unfolding world_of
 world-going B first = refl
 
--- the sweeps have seen all
+-- the sweeps have seen all: each element was examined before the last flush
+module _ (at : SuperBlock) (served H : List Entry1) (flush : Reply) (closes : AddsStep 0 (step.Flush 0 0) flush served H)
+    (inodes_seen : Sweeps (λ place item. item ≡ place) Inode 0 at.inodes false [] (steps_by 9 served))
+    (blocks_seen : Sweeps (λ place item. item ≡ at.blocks - 1 - place) Block 0 at.blocks false [] (steps_by 10 served)) where
+  whole-by : (start first : ℕ) (B : Image) (V : World) (X : Image) → Run start (world_of B first) H V → has_fault H ≡ false → ShowsDisk at V X → IsWholeScan V X
+  whole-by start first B V X r ok shows =
+      let g = run-goes H start (world_of B first) V r (world-going B first) ok in
+      let inodes : (super_at X).inodes ≡ at.inodes = ap (λ (s : SuperBlock). s.inodes) shows.numbers in
+      let blocks : (super_at X).blocks ≡ at.blocks = ap (λ (s : SuperBlock). s.blocks) shows.numbers in
+      let same_inodes = g.inodes in
+      let same_blocks = g.blocks in
+      let at_inodes = shows.inodes in
+      let at_blocks = shows.blocks in
+      record {
+        known_inodes = λ i low high. g.sees_inodes i
+            (has-added 0 (step.Flush 0 0) (step.SeeInode i) flush served H closes (inodes-seen served at.inodes i inodes_seen low (omega (arith, high, inodes))))
+            low (omega (arith, high, inodes, same_inodes, at_inodes));
+        known_blocks = λ p low. g.sees_blocks p
+            (has-added 0 (step.Flush 0 0) (step.SeeBlock p) flush served H closes (blocks-seen served at.blocks p blocks_seen (omega (arith, low, blocks))))
+            (omega (arith, low, blocks, same_blocks, at_blocks));
+        used_inodes = λ i low high. shows.used_inodes i;
+        used_blocks = λ p low. shows.used_blocks p (omega (arith, low, blocks));
+      }
+
 pub whole-scan : (scripts : List (List Command)) (at : SuperBlock) (lines : List (List Line)) (H : List Entry1) (start first : ℕ) (B : Image) (V : World) (X : Image)
     → IsSessionRun scripts at.inodes at.blocks false lines H → Run start (world_of B first) H V → has_fault H ≡ false → ShowsDisk at V X → IsWholeScan V X
-whole-scan scripts at lines H start first B V X run r ok shows =
-    let g = run-goes H start (world_of B first) V r (world-going B first) ok in
-    let inodes : (super_at X).inodes ≡ at.inodes = ap (λ (s : SuperBlock). s.inodes) shows.numbers in
-    let blocks : (super_at X).blocks ≡ at.blocks = ap (λ (s : SuperBlock). s.blocks) shows.numbers in
-    let same_inodes = g.inodes in
-    let same_blocks = g.blocks in
-    let at_inodes = shows.inodes in
-    let at_blocks = shows.blocks in
-    record {
-      known_inodes = λ i low high. g.sees_inodes i
-          (has-added 0 (step.Flush 0 0) (step.SeeInode i) run.flush run.served H run.closes
-          (inodes-seen run.served at.inodes i run.team.inodes_seen low (omega (arith, high, inodes))))
-          low (omega (arith, high, inodes, same_inodes, at_inodes));
-      known_blocks = λ p low. g.sees_blocks p
-          (has-added 0 (step.Flush 0 0) (step.SeeBlock p) run.flush run.served H run.closes
-          (blocks-seen run.served at.blocks p run.team.blocks_seen (omega (arith, low, blocks))))
-          (omega (arith, low, blocks, same_blocks, at_blocks));
-      used_inodes = λ i low high. shows.used_inodes i;
-      used_blocks = λ p low. shows.used_blocks p (omega (arith, low, blocks));
-    }
+whole-scan scripts at lines H start first B V X run = whole-by at run.served H run.flush run.closes run.team.inodes_seen run.team.blocks_seen start first B V X
+
+-- so it is in a drill, whose caller 0 then reads
+pub whole-drill : (start steps : ℕ) (at : SuperBlock) (H : List Entry1) (begun first : ℕ) (B : Image) (V : World) (X : Image)
+    → IsDrillRun start steps at.inodes at.blocks false H → Run begun (world_of B first) H V → has_fault H ≡ false → ShowsDisk at V X → IsWholeScan V X
+whole-drill start steps at H begun first B V X run = whole-by at run.seen H run.flush run.closes
+    (subst (λ (m : List Made). Sweeps (λ place item. item ≡ place) Inode 0 at.inodes false [] m) (sym (run.adds.others 9 (omega arith))) run.team.inodes_seen)
+    (subst (λ (m : List Made). Sweeps (λ place item. item ≡ at.blocks - 1 - place) Block 0 at.blocks false [] m) (sym (run.adds.others 10 (omega arith))) run.team.blocks_seen)
+    begun first B V X
+
+-- the device is settled where the last flush was made, which is so where no call failed
+pub settled-end : (d : DiskState) (H : List Entry1) (start first : ℕ) (B : Image) (V : World) → IsClosed d H → Run start (world_of B first) H V
+    → has_fault H ≡ false → IsSettled d
+settled-end d H start first B V c r ok =
+    let (x, whole, caller, step_is, reply_is) = c.closes.one c.made in
+    let run : Run start (world_of B first) (c.served ++ x ∷ []) V = subst (λ (l : List Entry1). Run start (world_of B first) l V) whole r in
+    let fine : has_fault (c.served ++ x ∷ []) ≡ false = sym (ap has_fault whole) ∙ ok in
+    c.settled (sym reply_is ∙ flushed-last c.served start (world_of B first) V x run (world-going B first) fine step_is)

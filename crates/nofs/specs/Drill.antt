@@ -1,13 +1,15 @@
 -- The drill: the session of its users, what caller 0 then reads of their files, and the line that tells of it.
-use Rattle.std.specs.Prelude.{◌≡◌, ℕ, zero, ◌+◌, ◌*◌, Bool, true, false, List, [], ◌∷◌, ◌++◌, length, take, map, codes, sum, sum_by, count_by, bytes_eq, ◌≤◌, if◌then◌else◌, Some, None}
+use Rattle.std.specs.Prelude.{◌≡◌, ℕ, ◌+◌, ◌*◌, Bool, true, false, List, [], ◌∷◌, ◌++◌, length, take, map, codes, sum, sum_by, count_by, bytes_eq, ◌≤◌, if◌then◌else◌, Some, None, Result, IfOk, ⊤}
 use Rattle.std.specs.Fmt.{decimal}
 use Rattle.std.specs.declared.option.Option.{Option}
+use Rattle.nofs_model.specs.Cells.{SuperBlock}
 use Rattle.nofs_model.specs.declared.value.Value.{Value}
 use Rattle.nofs_model.specs.declared.value.Value.TheVariants as value
 use Rattle.nofs_machine.specs.Machine.{cut_of, slots_in}
 use Rattle.nofs_machine.specs.Steps.{Made, is_out_of_memory}
 use Rattle.nofs_machine.specs.HistoryState.{HistoryState}
 use Rattle.nofs_machine.specs.declared.history.Entry1.{Entry1}
+use Rattle.nofs_machine.specs.declared.steps.Step.{Step}
 use Rattle.nofs_machine.specs.declared.steps.Step.TheVariants as step
 use Rattle.nofs_machine.specs.declared.replies.Found.{Found}
 use Rattle.nofs_machine.specs.declared.replies.Stat.{Stat}
@@ -82,6 +84,30 @@ AreRead user (read ∷ reads) made = (front : List Made) × (back : List Made) �
 pub record AddsOwn (made : List Made) (H K : List Entry1) : Type 0 where
   pub own : steps_by 0 K ≡ steps_by 0 H ++ made
   pub others : (c : ℕ) → 1 ≤ c → steps_by c K ≡ steps_by c H
+
+-- a step that changes nothing, as those are by which the files are read
+abbrev pub is_reading : Step → Bool
+is_reading (step.Look _ _ _) = true
+is_reading (step.Stat _ _) = true
+is_reading (step.Get _ _ _) = true
+is_reading _ = false
+
+-- all of these steps are such
+abbrev pub AreReadings : List Made → Type 0
+AreReadings [] = ⊤
+AreReadings (m ∷ made) = (is_reading m.0 ≡ true) × AreReadings made
+
+-- this step alone, with this reply
+abbrev pub IsOneStep : Step → Reply → List Made → Type 0
+IsOneStep s r made = made ≡ (s, r) ∷ []
+
+-- Whatever the result is, caller 0 added steps that read, and no other caller anything; and where it is Ok, more is said of it and
+-- of these steps
+pub record ReadsBy {T E : Type 0} (Is : T → List Made → Type 0) (result : Result T E) (H K : List Entry1) : Type 0 where
+  pub made : List Made
+  pub adds : AddsOwn made H K
+  pub readings : AreReadings made
+  pub read : IfOk result (λ t. Is t made)
 
 -- What the line tells
 
@@ -163,6 +189,42 @@ pub record IsDrilled (start steps : ℕ) (H : List Entry1) (text : List ℕ) : T
   pub lines : List (List Line)
   pub team : TeamMade (drill_session start steps) inodes blocks false lines (λ c. steps_by c served)
   pub out : IsReadOut start steps (count_by is_refused_line (session_lines 1 (drill_session start steps) H)) served H text
+
+-- What a drill adds to the history of a new mount, whatever comes of it: the steps of the drawn users and of the sweeps, which are as
+-- those of every session; then of caller 0 none but such as read; then its flush of the whole disk. Where memory was wanting
+-- (`short`), each may have ended early; else the reads are just those of the four files
+pub record IsDrillRun (start steps inodes blocks : ℕ) (short : Bool) (H : List Entry1) : Type 0 where
+  pub served : List Entry1
+  pub seen : List Entry1
+  pub lines : List (List Line)
+  pub made : List Made
+  pub flush : Reply
+  pub team : TeamMade (drill_session start steps) inodes blocks short lines (λ c. steps_by c served)
+  pub adds : AddsOwn made served seen
+  pub readings : AreReadings made
+  pub read : short ≡ false → (reads : List (Option FileRead)) × AreRead 1 reads made
+  pub closes : AddsStep 0 (step.Flush 0 0) flush seen H
+  pub closed : short ≡ false → is_out_of_memory flush ≡ false
+
+-- what a drill leaves: its history, and whether there is a text of it
+pub record IsDrillFollowed (start steps : ℕ) (at : SuperBlock) (text : Option (List ℕ)) (H : List Entry1) : Type 0 where
+  pub short : Bool
+  pub early : short ≡ true → text ≡ None
+  pub follows : IsDrillRun start steps at.inodes at.blocks short H
+
+-- its end, after the users were served: `out` tells whether memory was wanting to them
+pub record IsReadFollowed (out : Bool) (served : List Entry1) (text : Option (List ℕ)) (H : List Entry1) : Type 0 where
+  pub short : Bool
+  pub early : short ≡ true → text ≡ None
+  pub less : short ≡ false → out ≡ false
+  pub seen : List Entry1
+  pub made : List Made
+  pub flush : Reply
+  pub adds : AddsOwn made served seen
+  pub readings : AreReadings made
+  pub read : short ≡ false → (reads : List (Option FileRead)) × AreRead 1 reads made
+  pub closes : AddsStep 0 (step.Flush 0 0) flush seen H
+  pub closed : short ≡ false → is_out_of_memory flush ≡ false
 
 -- a drill whose line the sink took
 abbrev pub IsDrillDone : ℕ → ℕ → Option HistoryState → SinkState → SinkState → Type 0

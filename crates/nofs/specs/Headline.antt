@@ -1,7 +1,7 @@
 -- The headline: what the one history of a session says of its users, of the machine, and of every moment of the disk.
 use Rattle.std.specs.Prelude.{◌≡◌, ℕ, Bool, true, List, [], IsTrue, Some, None}
 use Rattle.std.specs.declared.option.Option.{Option}
-use Rattle.nofs_disk.specs.Disk.{DiskState}
+use Rattle.nofs_disk.specs.Disk.{DiskState, IsSettled}
 use Rattle.nofs_super.specs.Format.{IsFormatted}
 use Rattle.nofs_super.specs.Raise.{raised}
 use Rattle.nofs_model.specs.Cells.{SuperBlock}
@@ -14,10 +14,11 @@ use Rattle.nofs_client.specs.declared.lines.Line.{Line}
 use Rattle.nofs_shared.specs.Ends.{Ends}
 use Rattle.nofs.specs.declared.begin.Numbers.{Numbers}
 use Rattle.nofs.specs.declared.words.Request.{Request}
-use Rattle.nofs.specs.declared.words.Request.TheVariants.{New, Run, Scan, Drill}
+use Rattle.nofs.specs.declared.words.Request.TheVariants.{New, Run, Scan, Drill, Upgrade}
+use Rattle.nofs.specs.Drill.{IsDrillRun}
 use Rattle.nofs.specs.Serving.{IsSessionRun}
 use Rattle.nofs.specs.Tool.{WithText, WithSession}
-use Rattle.nofs.specs.Whole.{Finished, IsMet, IsWholeScan}
+use Rattle.nofs.specs.Whole.{IsMet, IsWholeScan}
 
 -- The entries of a history are just the steps that a session asks for: of each user those of its commands, in order, by the replies
 -- before; of the sweeps one for each element, the inodes upwards and the blocks downwards; then caller 0's flush of the
@@ -31,20 +32,29 @@ pub record IsFollowed (scripts : List (List Command)) (at : SuperBlock) (text : 
   pub early : short ≡ true → text ≡ None
   pub follows : FollowsScripts scripts at short H
 
--- THE HEADLINE, of one history over the disk that the mount found. Its entries follow the session; a user ends early at status 7
--- alone. Where the premises are met, `Ends` says further: the history is a run of the machine with its replies; at each moment, in
--- mid-step too, every image that a crash may leave is allowed; what is claimed was free; and each image is one on which the
--- premises are met again. At status 0 the machine knows every inode and every block, and says of each what the full scan of the
--- disk handed back says
-pub record IsHeadline (scripts : List (List Command)) (found last : DiskState) (status : ℕ) (h : HistoryState) : Type 0 where
+-- THE HEADLINE, of one history over the disk that the mount found. Its entries follow what was asked for (`Follows`, by the numbers of
+-- the mount, and whether memory was wanting, which is so at status 7 alone). Where the premises are met, `Ends` says further: the
+-- history is a run of the machine with its replies; at each moment, in mid-step too, every image that a crash may leave is allowed; what
+-- is claimed was free; and each image is one on which the premises are met again. At status 0 the machine knows every inode and every
+-- block, and says of each what the full scan of the disk handed back says; and each block of that disk may be left as a read gives it alone
+pub record IsHeadlineOf (Follows : SuperBlock → Bool → List Entry1 → Type 0) (found last : DiskState) (status : ℕ) (h : HistoryState) : Type 0 where
   -- the numbers of the mount
   pub at : SuperBlock
   pub numbers : IsMet found → at ≡ raised (super_at found.now)
   pub short : Bool
   pub early : short ≡ true → status ≡ 7
-  pub follows : FollowsScripts scripts at short h.entries
+  pub follows : Follows at short h.entries
   pub ends : Ends found last 0 h
   pub whole : (q : IsMet found) → status ≡ 0 → IsWholeScan (ends.contents q).world last.now
+  pub settled : IsMet found → status ≡ 0 → IsSettled last
+
+-- the entries of a history are those of a drill
+abbrev pub FollowsDrill : ℕ → ℕ → SuperBlock → Bool → List Entry1 → Type 0
+FollowsDrill start steps at short H = IsDrillRun start steps at.inodes at.blocks short H
+
+-- of a session
+abbrev pub IsHeadline : List (List Command) → DiskState → DiskState → ℕ → HistoryState → Type 0
+IsHeadline scripts found last status h = IsHeadlineOf (FollowsScripts scripts) found last status h
 
 module _ {D : Type 0} (state : D → DiskState) where
   -- on a device that was formatted first: the mount found it as the format left it, and the premises are met where it tells
@@ -59,19 +69,19 @@ module _ {D : Type 0} (state : D → DiskState) where
   HeadlineOf None scripts old last status h = ∥ IsHeadline scripts (state old) last status h ∥₁
   HeadlineOf (Some numbers) scripts old last status h = IsNewHeadline numbers.blocks numbers.inodes scripts old last status h
 
-  -- of a drill: the mount found its device as the format left it, and `Finished` says of its history what `Ends` says of every other; what
-  -- its entries are is said at status 0 (`IsDrillDone`)
-  pub record IsDrillHeadline (old : D) (last : DiskState) (h : HistoryState) : Type 0 where
+  -- of a drill, for which the device was formatted: its users have the drawn scripts, and then caller 0 reads their files
+  pub record IsDrillHeadline (start steps : ℕ) (old : D) (last : DiskState) (status : ℕ) (h : HistoryState) : Type 0 where
     pub found : D
     pub formatted : IsFormatted 4096 256 (state old) (state found)
     pub met : IsTrue (state old).tells → IsMet (state found)
-    pub finished : ∥ Finished (state found) last 0 h ∥₁
+    pub headline : ∥ IsHeadlineOf (FollowsDrill start steps) (state found) last status h ∥₁
 
   -- of a task: the session is the one that its source spells, and a scan has no users
   abbrev pub HeadlineIn : Option Request → SourceState → SourceState → ℕ → D → DiskState → ℕ → HistoryState → Type 0
   HeadlineIn None source_old source_new limit old last status h = ⊥
+  HeadlineIn (Some Upgrade) source_old source_new limit old last status h = ⊥
   HeadlineIn (Some Scan) source_old source_new limit old last status h = HeadlineOf None [] old last status h
-  HeadlineIn (Some (Drill start steps)) source_old source_new limit old last status h = IsDrillHeadline old last h
+  HeadlineIn (Some (Drill start steps)) source_old source_new limit old last status h = IsDrillHeadline start steps old last status h
   HeadlineIn (Some Run) source_old source_new limit old last status h = WithText source_old source_new limit (λ text.
       WithSession text (λ session. HeadlineOf None session old last status h))
   HeadlineIn (Some (New blocks inodes)) source_old source_new limit old last status h = WithText source_old source_new limit (λ text.

@@ -7,3 +7,7 @@ pub mod Whole
 pub mod Counts
 pub mod Tool
 pub mod Headline
+pub mod Complete
+pub mod Upgrading
+pub mod Lines
+pub mod Said

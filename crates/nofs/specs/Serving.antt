@@ -1,9 +1,11 @@
 -- What a session leaves in the history of a mount.
 use Rattle.std.specs.Prelude.{◌≡◌, ℕ, Bool, false, List}
+use Rattle.nofs_disk.specs.Disk.{DiskState, IsSettled}
 use Rattle.nofs_machine.specs.Steps.{is_out_of_memory}
 use Rattle.nofs_machine.specs.declared.history.Entry1.{Entry1}
 use Rattle.nofs_machine.specs.declared.steps.Step.TheVariants as step
 use Rattle.nofs_machine.specs.declared.replies.Reply.{Reply}
+use Rattle.nofs_machine.specs.declared.replies.Reply.TheVariants as reply
 use Rattle.nofs_client.specs.declared.commands.Command.{Command}
 use Rattle.nofs_client.specs.declared.lines.Line.{Line}
 use Rattle.nofs_shared.specs.Added.{AddsStep}
@@ -18,3 +20,11 @@ pub record IsSessionRun (scripts : List (List Command)) (inodes blocks : ℕ) (s
   pub closes : AddsStep 0 (step.Flush 0 0) flush served H
   pub closed : short ≡ false → is_out_of_memory flush ≡ false
   pub team : TeamMade scripts inodes blocks short lines (λ c. steps_by c served)
+
+-- Caller 0's last flush, of the whole disk: what came before it, and what is left on the device where it was made
+pub record IsClosed (d : DiskState) (H : List Entry1) : Type 0 where
+  pub served : List Entry1
+  pub flush : Reply
+  pub closes : AddsStep 0 (step.Flush 0 0) flush served H
+  pub made : is_out_of_memory flush ≡ false
+  pub settled : flush ≡ reply.Flushed → IsSettled d

@@ -1,7 +1,8 @@
 -- What a run of the program leaves, by its status.
-use Rattle.std.specs.Prelude.{◌≡◌, ◌≢◌, ◌⊎◌, ℕ, ◌<◌, List, [], true, false, Ok, Err, Some, None}
+use Rattle.std.specs.Prelude.{◌≡◌, ◌≢◌, ◌⊎◌, ℕ, ◌<◌, List, IsTrue, true, false, Ok, Err, Some, None}
 use Rattle.std.specs.declared.option.Option.{Option}
 use Rattle.nofs_disk.specs.Disk.{DiskState, KeepsCells, Rose}
+use Rattle.nofs_super.specs.declared.superblock.MountFault.{MountFault}
 use Rattle.nofs_io.specs.Calls.{SourceState, SinkState}
 use Rattle.nofs_io.specs.Texts.{IsWhole, AppendsAll}
 use Rattle.nofs_machine.specs.HistoryState.{HistoryState}
@@ -9,12 +10,15 @@ use Rattle.nofs_client.specs.declared.commands.Command.{Command}
 use Rattle.nofs_script.specs.declared.faults.ScriptFault.{ScriptFault}
 use Rattle.nofs_script.specs.Sessions.{session_of}
 use Rattle.nofs.specs.declared.words.Request.{Request}
-use Rattle.nofs.specs.declared.words.Request.TheVariants.{New, Run, Scan, Drill}
+use Rattle.nofs.specs.declared.words.Request.TheVariants.{New, Run, Scan, Drill, Upgrade}
 use Rattle.nofs.specs.declared.begin.Numbers.{Numbers}
-use Rattle.nofs.specs.Begin.{IsRefusedFormat}
+use Rattle.nofs.specs.Begin.{IsMountRefusal, IsRefusedFormat}
 use Rattle.nofs.specs.Entries.{session_text, has_fault}
 use Rattle.nofs_state.specs.declared.books.Counts.{Counts}
 use Rattle.nofs.specs.Counts.{CountsDisk, counts_line}
+use Rattle.nofs_upgrade.specs.Upgrades.{IsUpgraded}
+use Rattle.nofs.specs.Lines.{upgraded_line}
+use Rattle.nofs.specs.Upgrading.{IsRefusedUpgrade}
 use Rattle.nofs.specs.Whole.{IsMet}
 use Rattle.nofs.specs.Drill.{IsDrillDone}
 
@@ -35,6 +39,7 @@ abbrev pub HasSession : Option Request → SourceState → SourceState → ℕ �
 HasSession None old new limit = ⊥
 HasSession (Some Scan) old new limit = Unit {0}
 HasSession (Some (Drill start steps)) old new limit = Unit {0}
+HasSession (Some Upgrade) old new limit = Unit {0}
 HasSession (Some Run) old new limit = WithText old new limit (λ text. WithSession text (λ _. Unit {0}))
 HasSession (Some (New blocks inodes)) old new limit = WithText old new limit (λ text. WithSession text (λ _. Unit {0}))
 
@@ -48,10 +53,20 @@ abbrev pub IsFaultless : Option HistoryState → Type 0
 IsFaultless None = ⊥
 IsFaultless (Some h) = has_fault h.entries ≡ false
 
+-- so it is of a task; an upgrade has no mount
+abbrev pub IsFaultlessIn : Option Request → Option HistoryState → Type 0
+IsFaultlessIn (Some Upgrade) h = h ≡ None
+IsFaultlessIn _ h = IsFaultless h
+
 -- no mount stood, or an entry has a fault of the device
 abbrev pub IsFaulty : Option HistoryState → Type 0
 IsFaulty None = Unit {0}
 IsFaulty (Some h) = has_fault h.entries ≡ true
+
+-- an entry has a fault of the device
+abbrev pub HasFaultOf : Option HistoryState → Type 0
+HasFaultOf None = ⊥
+HasFaultOf (Some h) = has_fault h.entries ≡ true
 
 -- a status of the program
 abbrev pub IsStatus : ℕ → Type 0
@@ -61,6 +76,7 @@ IsStatus s = (s ≡ 0) ⊎ (s ≡ 1) ⊎ (s ≡ 2) ⊎ (s ≡ 3) ⊎ (s ≡ 4) �
 pub record MountEnds (found new : DiskState) (sink_old sink_new : SinkState) (status : ℕ) (h : Option HistoryState) : Type 0 where
   pub named : (status ≡ 0) ⊎ (status ≡ 3) ⊎ (status ≡ 5) ⊎ (status ≡ 7)
   pub device : status ≡ 3 → IsFaulty h × Rose found.faults new.faults
+  pub faulty : HasFaultOf h → (status ≡ 3) ⊎ (status ≡ 7)
   pub sink : status ≡ 5 → Rose sink_old.faults sink_new.faults × IsFaultless h
   pub stood : h ≢ None
 
@@ -68,19 +84,24 @@ pub record MountEnds (found new : DiskState) (sink_old sink_new : SinkState) (st
 pub record SessionEnds (Refused : Type 0) (old new : DiskState) (sink_old sink_new : SinkState) (status : ℕ) (h : Option HistoryState) : Type 0 where
   pub named : (status ≡ 0) ⊎ (status ≡ 3) ⊎ (status ≡ 4) ⊎ (status ≡ 5) ⊎ (status ≡ 7)
   pub device : status ≡ 3 → IsFaulty h × Rose old.faults new.faults
+  pub faulty : HasFaultOf h → (status ≡ 3) ⊎ (status ≡ 7)
   pub sink : status ≡ 5 → Rose sink_old.faults sink_new.faults × IsFaultless h
   pub refused : status ≡ 4 → (h ≡ None) × Refused
 
--- what a refusal with status 4 leaves of the device: no write was made but those of a format
+-- why a refusal with status 4 came, and what it leaves of the device: no write was made but those of a format. On a device that
+-- tells, it is the table of a format's numbers, or that of a superblock's faults
 abbrev pub IsRefusedBy : Option Numbers → DiskState → DiskState → Type 0
-IsRefusedBy (Some numbers) old new = (IsRefusedFormat old numbers.blocks numbers.inodes × KeepsCells old new) ⊎ (old.moment < new.moment)
-IsRefusedBy None old new = KeepsCells old new
+IsRefusedBy (Some numbers) old new =
+    ((IsRefusedFormat old numbers.blocks numbers.inodes × KeepsCells old new) ⊎ (old.moment < new.moment))
+    × (IsTrue old.tells → IsRefusedFormat old numbers.blocks numbers.inodes)
+IsRefusedBy None old new = KeepsCells old new × ((fault : MountFault) × IsMountRefusal old fault)
 
 abbrev pub IsRefusedTask : Option Request → DiskState → DiskState → Type 0
 IsRefusedTask None old new = ⊥
 IsRefusedTask (Some (New blocks inodes)) old new = IsRefusedBy (Some (record { blocks = blocks; inodes = inodes })) old new
 IsRefusedTask (Some Run) old new = IsRefusedBy None old new
 IsRefusedTask (Some Scan) old new = IsRefusedBy None old new
+IsRefusedTask (Some Upgrade) old new = IsRefusedUpgrade old new
 IsRefusedTask (Some (Drill start steps)) old new = IsRefusedBy (Some (record { blocks = 4096; inodes = 256 })) old new
 
 -- a scan was made: no call of the device failed, and the sink took the line of these counts. Where the premises are met, they are
@@ -89,11 +110,12 @@ abbrev pub IsScanned : DiskState → DiskState → Option HistoryState → SinkS
 IsScanned found last None old new = ⊥
 IsScanned found last (Some h) old new = (has_fault h.entries ≡ false) × ((c : Counts) × AppendsAll old new (counts_line c) × ∥ (IsMet found → CountsDisk last.now c) ∥₁)
 
--- a session was read and served, or the device was scanned
+-- a session was read and served, or the device was scanned, or upgraded
 abbrev pub IsDone : Option Request → SourceState → SourceState → ℕ → SinkState → SinkState → DiskState → DiskState → Option HistoryState → Type 0
 IsDone None source_old source_new limit old new found last h = ⊥
 IsDone (Some Scan) source_old source_new limit old new found last h = IsScanned found last h old new
 IsDone (Some (Drill start steps)) source_old source_new limit old new found last h = IsDrillDone start steps h old new
+IsDone (Some Upgrade) source_old source_new limit old new found last h = IsUpgraded found last × AppendsAll old new upgraded_line
 IsDone (Some Run) source_old source_new limit old new found last h = WithText source_old source_new limit (λ text.
     WithSession text (λ session. IsAnswered session h old new))
 IsDone (Some (New blocks inodes)) source_old source_new limit old new found last h = WithText source_old source_new limit (λ text.

@@ -4,7 +4,7 @@ use Rattle.std.specs.Str.{bytes_eq}
 use Rattle.std.specs.declared.option.Option.{Option}
 use Rattle.nofs_script.specs.Words.{number_of}
 use Rattle.nofs.specs.declared.words.Request.{Request}
-use Rattle.nofs.specs.declared.words.Request.TheVariants.{New, Run, Scan, Drill}
+use Rattle.nofs.specs.declared.words.Request.TheVariants.{New, Run, Scan, Drill, Upgrade}
 
 abbrev pub both : Option ℕ → Option ℕ → Option Request
 both (Some blocks) (Some inodes) = Some (New blocks inodes)
@@ -24,7 +24,8 @@ drill_in start steps = drawn_in (number_of start) (number_of steps)
 
 -- a command of one word
 abbrev pub plain_in : List ℕ → Option Request
-plain_in word = if bytes_eq word (codes "run") then Some Run else (if bytes_eq word (codes "scan") then Some Scan else None)
+plain_in word = if bytes_eq word (codes "run") then Some Run else (if bytes_eq word (codes "scan") then Some Scan else
+    (if bytes_eq word (codes "upgrade") then Some Upgrade else None))
 
 -- the task that words ask for
 abbrev pub task_in : List (List ℕ) → Option Request

@@ -75,6 +75,7 @@ fn mount_cause(fault: MountFault) -> Cause
 }
 
 /// Mounts a device: its mount number is then one higher, durably.
+#[tactic(auto, using(crate::proofs::Causes::unmounted_by))]
 pub fn mount<D: Disk + Drop>(alloc: Global, disk: D) -> Result<Mount<D>, Refused<D>>
     ensures mount { IfOk result (λ m. (m.found.value ≡ disk) × (m.first ≡ 0) × (m.core.books.history.entries ≡ [])) }
     ensures refused { IfErr result (λ r. IsUnmounted (D.state disk) (D.state r.disk) r.cause) }

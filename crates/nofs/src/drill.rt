@@ -1,14 +1,16 @@
 //! The drill: four users with drawn scripts at a fresh mount, and a line that tells whether their files have what was accepted.
 //!
 //! Promise: where the line is told, each user made just the steps of its script, caller 0 read the four files after them and
-//! made all durable, and the numbers are those of the lines, of these reads, and of a replay of the history.
+//! made all durable, and the numbers are those of the lines, of these reads, and of a replay of the history. Where none is told
+//! each of them may have ended early, and made no other steps.
 
 ghost use Rattle.std.specs.Prelude.{◌≡◌, ◌≤◌, ◌∷◌, ◌++◌, ◌+◌, [], false, sum_by, count_by, All, List, map, vec_len, IfOk, IfSome, OnOk};
 ghost use Rattle.nofs_client.specs.Commands.{AreWellFormed};
 ghost use Rattle.nofs_gen.specs.Script.{script_of as script_in};
 ghost use Rattle.nofs_serve.specs.Served.{TeamServed};
+ghost use Rattle.nofs.specs.Serving.{IsClosed};
 ghost use Rattle.nofs.specs.Whole.{Finished};
-ghost use Rattle.nofs.specs.Drill.{IsDrilled, IsReadOut, drill_line, drill_session, is_refused_line, size_told, sum_told, wrong_told};
+ghost use Rattle.nofs.specs.Drill.{IsDrillFollowed, IsDrilled, IsReadFollowed, IsReadOut, drill_line, drill_session, is_refused_line, size_told, sum_told, wrong_told};
 
 use crate::reads::{FileRead, read_files};
 use crate::serve::{Ran, close, ended};
@@ -18,7 +20,7 @@ use nofs_disk::Disk;
 use nofs_gen::script_of;
 use nofs_lists::Content;
 use nofs_machine::History;
-use nofs_serve::{Plan, Served, Sweeps, serve};
+use nofs_serve::{Plan, Served, Sweeps, WriteOuts, serve};
 use nofs_shared::Mount;
 use nofs_workers::OpenGate;
 use std::alloc::{AllocError, Global};
@@ -62,7 +64,7 @@ fn drill_plans(alloc: Global, start: u64, steps: u64) -> Result<Vec<Plan<OpenGat
     Ok(plans)
 }
 
-// Serves users, each beside the sweeps.
+// Serves users, each beside the sweeps and the flusher.
 fn serve_users<R: Threads + Wait + Sync, D: Disk + Drop + Send>(
     rt: &R,
     alloc: Global,
@@ -80,7 +82,11 @@ fn serve_users<R: Threads + Wait + Sync, D: Disk + Drop + Send>(
         blocks: at.blocks,
         gates: (OpenGate, OpenGate),
     };
-    serve(rt, alloc, mount, plans, sweeps)
+    let outs = WriteOuts {
+        turns: at.blocks,
+        gate: OpenGate,
+    };
+    serve(rt, alloc, mount, plans, sweeps, outs)
 }
 
 // The line, where memory was found for all that it takes.
@@ -108,7 +114,9 @@ fn read_and_close<D: Disk + Drop>(
 ) -> Ran<D>
     requires { steps ≤ 4000 }
     ensures ends { ∥ Finished (D.state served.mount.found.value) (D.state result.disk) served.mount.first result.history ∥₁ }
+    ensures closed { IfSome result.text (λ _. IsClosed (D.state result.disk) result.history.entries) }
     ensures out { IfSome result.text (λ text. (served.out_of_memory ≡ false) × IsReadOut start steps (sum_by (count_by is_refused_line) served.lines.items) served.mount.core.books.history.entries result.history.entries text) }
+    ensures follows { IsReadFollowed served.out_of_memory served.mount.core.books.history.entries result.text result.history.entries }
 {
     let Served {
         mount,
@@ -142,6 +150,8 @@ pub fn run_drill<R: Threads + Wait + Sync, D: Disk + Drop + Send>(
     requires steps { steps ≤ 4000 }
     requires new { mount.core.books.history.entries ≡ [] }
     ensures ends { ∥ Finished (D.state mount.found.value) (D.state result.disk) mount.first result.history ∥₁ }
+    ensures follows { IsDrillFollowed start steps mount.core.books.at result.text result.history.entries }
+    ensures closed { IfSome result.text (λ _. IsClosed (D.state result.disk) result.history.entries) }
     ensures drilled { IfSome result.text (IsDrilled start steps result.history.entries) }
 {
     match drill_plans(alloc, start, steps) {

@@ -1,23 +1,85 @@
 //! The lines of a run that served no session (docs/FORMAT.md, "Other lines of the program").
+//!
+//! Promise: each line is the one that `specs/Lines.antt` defines, byte by byte. Where there is no memory for a line, none is given.
+
+ghost use Rattle.std.specs.Prelude.{◌≡◌, ◌++◌, IfOk, OnOk, string_bytes};
+ghost use Rattle.std.specs.Fmt.{decimal};
+ghost use Rattle.nofs.specs.Lines.{already_line, cause_line, device_fault_line, format_line, geometry_line, magic_line, mount_line, number_line, rest_line, script_line, script_words, source_fault_line, too_long_line, upgrade_line, upgraded_line, usage_line};
 
 use crate::begin::Cause;
 use nofs_script::{ScriptFault, ScriptKind};
 use nofs_super::{FormatFault, MountFault};
+use nofs_upgrade::UpgradeFault;
 use std::alloc::{AllocError, Global};
 
 /// The line of words that are no command.
-pub const USAGE: &str = "usage: nofs IMAGE new BLOCKS INODES | run | scan | drill START STEPS\n";
+#[tactic(auto, unfolding(crate::specs::Lines::usage_line))]
+pub fn usage() -> &'static str
+    ensures { result.now ≡ usage_line }
+{
+    "usage: nofs IMAGE new BLOCKS INODES | run | scan | drill START STEPS | upgrade\n"
+}
 
 /// The line of a source that failed.
-pub const SOURCE_FAULT: &str = "source fault\n";
+#[tactic(auto, unfolding(crate::specs::Lines::source_fault_line))]
+pub fn source_fault() -> &'static str
+    ensures { result.now ≡ source_fault_line }
+{
+    "source fault\n"
+}
 
 /// The line of a session that is too long.
-pub const TOO_LONG: &str = "session longer than 16777216 bytes\n";
+#[tactic(auto, unfolding(crate::specs::Lines::too_long_line))]
+pub fn too_long() -> &'static str
+    ensures { result.now ≡ too_long_line }
+{
+    "session longer than 16777216 bytes\n"
+}
 
 /// The line of a device that failed before a mount stood.
-pub const DEVICE_FAULT: &str = "device fault\n";
+#[tactic(auto, unfolding(crate::specs::Lines::device_fault_line))]
+pub fn device_fault() -> &'static str
+    ensures { result.now ≡ device_fault_line }
+{
+    "device fault\n"
+}
 
-fn kind_text(kind: ScriptKind) -> &'static str {
+/// The line of an upgrade that ended well.
+#[tactic(auto, unfolding(crate::specs::Lines::upgraded_line))]
+pub fn upgraded() -> &'static str
+    ensures { result.now ≡ upgraded_line }
+{
+    "upgraded\n"
+}
+
+// The line of a disk that an upgrade finds upgraded.
+#[tactic(auto, unfolding(crate::specs::Lines::already_line))]
+fn already() -> &'static str
+    ensures { result.now ≡ already_line }
+{
+    "upgrade: already version 2\n"
+}
+
+fn push_number(alloc: Global, text: &mut String, words: &str, number: u64) -> Result<(), AllocError>
+    ensures { OnOk result (string_bytes text.new ≡ string_bytes text.old ++ (words.now ++ decimal number)) }
+{
+    text.push_str(words)?;
+    text.push_str(number.to_string(alloc)?.as_str())
+}
+
+// A line of words and a number.
+fn number_text(alloc: Global, words: &str, number: u64) -> Result<String, AllocError>
+    ensures { IfOk result (λ text. string_bytes text ≡ number_line words.now number) }
+{
+    let mut text = String::new(alloc);
+    push_number(alloc, &mut text, words, number)?;
+    text.push_str("\n")?;
+    Ok(text)
+}
+
+fn kind_text(kind: ScriptKind) -> &'static str
+    ensures { result.now ≡ script_words kind }
+{
     match kind {
         ScriptKind::UnknownCommand => "unknown command",
         ScriptKind::WordCount => "wrong number of words",
@@ -31,54 +93,100 @@ fn kind_text(kind: ScriptKind) -> &'static str {
 }
 
 /// The line of a text that is no session.
-pub fn script_text(alloc: Global, fault: ScriptFault) -> Result<String, AllocError> {
-    let line = fault.line;
-    let text = kind_text(fault.kind);
-    format!(in alloc; "line {line}: {text}\n")
+#[tactic(auto, unfolding(crate::specs::Lines::script_line))]
+pub fn script_text(alloc: Global, fault: ScriptFault) -> Result<String, AllocError>
+    ensures { IfOk result (λ text. string_bytes text ≡ script_line fault) }
+{
+    let mut text = String::new(alloc);
+    push_number(alloc, &mut text, "line ", fault.line)?;
+    text.push_str(": ")?;
+    text.push_str(kind_text(fault.kind))?;
+    text.push_str("\n")?;
+    Ok(text)
 }
 
-fn format_text(alloc: Global, fault: FormatFault) -> Result<String, AllocError> {
+fn format_text(alloc: Global, fault: FormatFault) -> Result<String, AllocError>
+    ensures { IfOk result (λ text. string_bytes text ≡ format_line fault) }
+{
     match fault {
-        FormatFault::TooSmall { least } => format!(in alloc; "format: too small, least {least}\n"),
-        FormatFault::TooLarge { most } => format!(in alloc; "format: too large, most {most}\n"),
-        FormatFault::NotMultiple { inodes } => format!(in alloc; "format: bad inodes {inodes}\n"),
-        FormatFault::WriteFault | FormatFault::OutOfMemory => {
-            String::from_str(alloc, DEVICE_FAULT)
-        }
+        FormatFault::TooSmall { least } => number_text(alloc, "format: too small, least ", least),
+        FormatFault::TooLarge { most } => number_text(alloc, "format: too large, most ", most),
+        FormatFault::NotMultiple { inodes } => number_text(alloc, "format: bad inodes ", inodes),
+        FormatFault::WriteFault => String::from_str(alloc, device_fault()),
+        FormatFault::OutOfMemory => Ok(String::new(alloc)),
     }
 }
 
-fn magic_text(alloc: Global, found: [u8; 8]) -> Result<String, AllocError> {
+fn magic_text(alloc: Global, found: [u8; 8]) -> Result<String, AllocError>
+    ensures { IfOk result (λ text. string_bytes text ≡ magic_line found) }
+{
     let digits = hex::encode(alloc, found.as_slice())?;
-    format!(in alloc; "mount: bad magic {digits}\n")
+    let mut text = String::from_str(alloc, "mount: bad magic ")?;
+    text.push_str(digits.as_str())?;
+    text.push_str("\n")?;
+    Ok(text)
 }
 
-fn mount_text(alloc: Global, fault: MountFault) -> Result<String, AllocError> {
+fn geometry_text(alloc: Global, blocks: u64, inodes: u64) -> Result<String, AllocError>
+    ensures { IfOk result (λ text. string_bytes text ≡ geometry_line blocks inodes) }
+{
+    let mut text = String::new(alloc);
+    push_number(alloc, &mut text, "mount: bad geometry, blocks ", blocks)?;
+    push_number(alloc, &mut text, ", inodes ", inodes)?;
+    text.push_str("\n")?;
+    Ok(text)
+}
+
+fn rest_text(alloc: Global, at: u64) -> Result<String, AllocError>
+    ensures { IfOk result (λ text. string_bytes text ≡ rest_line at) }
+{
+    let mut text = String::new(alloc);
+    push_number(alloc, &mut text, "mount: byte ", at)?;
+    text.push_str(" is not zero\n")?;
+    Ok(text)
+}
+
+fn mount_text(alloc: Global, fault: MountFault) -> Result<String, AllocError>
+    ensures { IfOk result (λ text. string_bytes text ≡ mount_line fault) }
+{
     match fault {
         MountFault::BadMagic { found } => magic_text(alloc, found),
-        MountFault::BadVersion { found } => format!(in alloc; "mount: bad version {found}\n"),
-        MountFault::BadGeometry { blocks, inodes } => {
-            format!(in alloc; "mount: bad geometry, blocks {blocks}, inodes {inodes}\n")
+        MountFault::BadVersion { found } => {
+            number_text(alloc, "mount: bad version ", u64::from(found))
         }
+        MountFault::BadGeometry { blocks, inodes } => geometry_text(alloc, blocks, inodes),
         MountFault::DeviceTooSmall { has } => {
-            format!(in alloc; "mount: device too small, has {has}\n")
+            number_text(alloc, "mount: device too small, has ", has)
         }
         MountFault::MountsSpent { found } => {
-            format!(in alloc; "mount: mounts spent, number {found}\n")
+            number_text(alloc, "mount: mounts spent, number ", found)
         }
-        MountFault::BadRest { at } => format!(in alloc; "mount: byte {at} is not zero\n"),
-        MountFault::ReadFault | MountFault::WriteFault | MountFault::OutOfMemory => {
-            String::from_str(alloc, DEVICE_FAULT)
+        MountFault::BadRest { at } => rest_text(alloc, at),
+        MountFault::ReadFault | MountFault::WriteFault => {
+            String::from_str(alloc, device_fault())
         }
+        MountFault::OutOfMemory => Ok(String::new(alloc)),
     }
 }
 
 /// The line of a format or a mount that was refused; nothing is said where memory was wanting.
-pub fn cause_text(alloc: Global, cause: Cause) -> Result<String, AllocError> {
+pub fn cause_text(alloc: Global, cause: Cause) -> Result<String, AllocError>
+    ensures { IfOk result (λ text. string_bytes text ≡ cause_line cause) }
+{
     match cause {
-        Cause::Device => String::from_str(alloc, DEVICE_FAULT),
-        Cause::NoMemory => String::from_str(alloc, ""),
+        Cause::Device => String::from_str(alloc, device_fault()),
+        Cause::NoMemory => Ok(String::new(alloc)),
         Cause::Format(fault) => format_text(alloc, fault),
         Cause::Mount(fault) => mount_text(alloc, fault),
+    }
+}
+
+/// The line of an upgrade that was refused; nothing is said where memory was wanting.
+pub fn upgrade_text(alloc: Global, fault: UpgradeFault) -> Result<String, AllocError>
+    ensures { IfOk result (λ text. string_bytes text ≡ upgrade_line fault) }
+{
+    match fault {
+        UpgradeFault::Mount(fault) => mount_text(alloc, fault),
+        UpgradeFault::Already => String::from_str(alloc, already()),
     }
 }

@@ -1,12 +1,14 @@
 //! `nofs IMAGE WORDS`: serves a session on a disk image.
 //!
-//! Promise: what holds of a run is the contract of `tool` in `tool.rt`. What stands here takes the words, makes the disk, hands
-//! over standard input and output, and ends with the status. Nothing goes to standard error.
+//! Promise: what holds of a run is the contract of `tool` in `tool.rt`. What stands here takes the words, makes the disk, puts a
+//! write-back cache before it, hands over standard input and output, and ends with the status. Nothing goes to standard error.
 #![tactic(auto)]
 
 mod begin;
+mod cached;
 mod drill;
 mod faults;
+mod image;
 #[cfg(test)]
 mod instance;
 mod reads;
@@ -16,15 +18,20 @@ mod tally;
 #[cfg(test)]
 mod tests;
 mod tool;
+mod upgrading;
 mod words;
 
-use crate::faults::{DEVICE_FAULT, USAGE};
-use crate::tool::{Outcome, tool};
+use crate::cached::{tool_cached, tool_mirrored};
+use crate::faults::{device_fault, usage};
+use crate::image::{Image, image_of};
+use crate::tool::Outcome;
 use crate::words::task_of;
+use nofs_cache::Cached;
 use nofs_disk::Disk;
 use nofs_filedisk::{FileDisk, HostFile};
 use nofs_io::{ReadSource, Sink, Source, WriteSink, write_all};
 use nofs_memdisk::MemDisk;
+use nofs_mirror::{Mirror, MirrorCause, MirrorFault};
 use std::alloc::Global;
 use std::process::ExitCode;
 use std::rt::Env;
@@ -47,17 +54,20 @@ fn all_words<R: Env + AllocGlobal>(rt: &R) -> io::Result<Vec<String>> {
     Ok(words)
 }
 
-// The image's path and the words behind it, where they are a command. They are judged before any image is opened: a mistyped
-// command line leaves nothing behind.
-fn command(words: &[String]) -> Option<(&str, &[String])> {
+// The image and the words behind it, where they are a command. They are judged before any image is opened: a mistyped command line
+// leaves nothing behind.
+fn command(words: &[String]) -> Option<(Image<'_>, &[String])> {
     match words {
-        [path, rest @ ..] if task_of(rest).is_some() => Some((path.as_str(), rest)),
+        [first, rest @ ..] if task_of(rest).is_some() => {
+            let image = image_of(first.as_str())?;
+            Some((image, rest))
+        }
         _ => None,
     }
 }
 
-// The status of a run on a disk.
-fn run_on<R: Threads + Wait + Sync, S: Source, K: Sink, D: Disk + Drop + Send>(
+// A run on a disk behind a write-back cache.
+fn run_cached<R: Threads + Wait + Sync, S: Source, K: Sink, D: Disk + Drop + Send>(
     rt: &R,
     alloc: Global,
     words: &[String],
@@ -65,12 +75,30 @@ fn run_on<R: Threads + Wait + Sync, S: Source, K: Sink, D: Disk + Drop + Send>(
     sink: &mut K,
     disk: D,
 ) -> u8 {
-    let Outcome {
-        status,
-        disk: _,
-        history: _,
-    } = tool(rt, alloc, words, source, sink, disk);
-    status
+    match Cached::new(alloc, disk) {
+        Ok(cached) => {
+            let Outcome { status, .. } = tool_cached(rt, alloc, words, source, sink, cached);
+            status
+        }
+        Err(_) => NO_MEMORY,
+    }
+}
+
+// A run on a mirror of two disks behind a write-back cache.
+fn run_mirrored<
+    R: Threads + Wait + Sync,
+    S: Source,
+    K: Sink,
+    A: Disk + Drop + Send,
+    B: Disk + Drop + Send,
+>(rt: &R, alloc: Global, words: &[String], source: &mut S, sink: &mut K, disk: Mirror<A, B>) -> u8 {
+    match Cached::new(alloc, disk) {
+        Ok(cached) => {
+            let Outcome { status, .. } = tool_mirrored(rt, alloc, words, source, sink, cached);
+            status
+        }
+        Err(_) => NO_MEMORY,
+    }
 }
 
 // A run on a disk in memory.
@@ -82,9 +110,15 @@ fn run_in_memory<R: Threads + Wait + Sync, S: Source, K: Sink>(
     sink: &mut K,
 ) -> u8 {
     match MemDisk::new(alloc, MEMORY_BLOCKS) {
-        Ok(disk) => run_on(rt, alloc, words, source, sink, disk),
+        Ok(disk) => run_cached(rt, alloc, words, source, sink, disk),
         Err(_) => NO_MEMORY,
     }
+}
+
+// The line and the status of a device that can't be used.
+fn no_device<K: Sink>(sink: &mut K) -> u8 {
+    let _told = write_all(sink, device_fault().as_bytes());
+    3
 }
 
 // A run on a disk in a file, where it could be opened.
@@ -97,12 +131,44 @@ fn run_in_file<R: Threads + Wait + Sync, S: Source, K: Sink>(
     file: io::Result<HostFile>,
 ) -> u8 {
     let Ok(file) = file else {
-        let _told = write_all(sink, DEVICE_FAULT.as_bytes());
-        return 3;
+        return no_device(sink);
     };
     match FileDisk::over(alloc, file) {
-        Ok(disk) => run_on(rt, alloc, words, source, sink, disk),
+        Ok(disk) => run_cached(rt, alloc, words, source, sink, disk),
         Err(_) => NO_MEMORY,
+    }
+}
+
+// Why no mirror was opened, as a status: 7 for want of memory, else 3. A file has blocks enough.
+fn unopened<K: Sink>(sink: &mut K, cause: MirrorCause) -> u8 {
+    match cause {
+        MirrorCause::OutOfMemory => NO_MEMORY,
+        MirrorCause::ReadFault | MirrorCause::TooSmall { .. } => no_device(sink),
+    }
+}
+
+// A run on two files as one disk, where both could be opened.
+fn run_in_mirror<R: Threads + Wait + Sync, S: Source, K: Sink>(
+    rt: &R,
+    alloc: Global,
+    words: &[String],
+    source: &mut S,
+    sink: &mut K,
+    blocks: u64,
+    files: (io::Result<HostFile>, io::Result<HostFile>),
+) -> u8 {
+    let (Ok(lead), Ok(other)) = files else {
+        return no_device(sink);
+    };
+    let Ok(lead) = FileDisk::over(alloc, lead) else {
+        return NO_MEMORY;
+    };
+    let Ok(other) = FileDisk::over(alloc, other) else {
+        return NO_MEMORY;
+    };
+    match Mirror::open(lead, other, blocks) {
+        Ok(mirror) => run_mirrored(rt, alloc, words, source, sink, mirror),
+        Err(MirrorFault { cause, .. }) => unopened(sink, cause),
     }
 }
 
@@ -115,15 +181,25 @@ fn main(rt: HostRuntime) -> ExitCode {
         }
         Err(_) => Vec::new(rt.alloc()),
     };
-    let Some((path, rest)) = command(&words) else {
-        let _told = write_all(&mut sink, USAGE.as_bytes());
+    let Some((image, rest)) = command(&words) else {
+        let _told = write_all(&mut sink, usage().as_bytes());
         return ExitCode::from(1);
     };
-    if path == "-" {
-        let status = run_in_memory(&rt, rt.alloc(), rest, &mut source, &mut sink);
-        return ExitCode::from(status);
-    }
-    let file = HostFile::open(&rt, path);
-    let status = run_in_file(&rt, rt.alloc(), rest, &mut source, &mut sink, file);
+    let alloc = rt.alloc();
+    let status = match image {
+        Image::Memory => run_in_memory(&rt, alloc, rest, &mut source, &mut sink),
+        Image::File(path) => {
+            let file = HostFile::open(&rt, path);
+            run_in_file(&rt, alloc, rest, &mut source, &mut sink, file)
+        }
+        Image::Mirror {
+            blocks,
+            lead,
+            other,
+        } => {
+            let files = (HostFile::open(&rt, lead), HostFile::open(&rt, other));
+            run_in_mirror(&rt, alloc, rest, &mut source, &mut sink, blocks, files)
+        }
+    };
     ExitCode::from(status)
 }

@@ -1,15 +1,15 @@
 //! What caller 0 reads of the files of a drill.
 //!
 //! Promise: it looks up each file in its directory, asks for its size, and gets each slot below it, in order. A refused look or
-//! stat ends that file.
+//! stat ends that file. Where memory is wanting it ends early, and has made no other steps than these.
 
-ghost use Rattle.std.specs.Prelude.{◌≡◌, ◌≤◌, ◌∷◌, ◌++◌, [], List, length, IfOk, OnOk};
+ghost use Rattle.std.specs.Prelude.{◌≡◌, ◌≤◌, ◌∷◌, ◌++◌, [], length, true};
 ghost use Rattle.std.specs.declared.option.Option.{Option};
 ghost use Rattle.nofs_machine.specs.Machine as machine;
-ghost use Rattle.nofs_machine.specs.Steps.{Made, is_out_of_memory};
+ghost use Rattle.nofs_machine.specs.Steps.{is_out_of_memory};
 ghost use Rattle.nofs_machine.specs.declared.steps.Step.TheVariants as step;
 ghost use Rattle.nofs.specs.declared.reads.FileRead.{FileRead as ReadOf};
-ghost use Rattle.nofs.specs.Drill.{AddsOwn, AreRead, IsFileRead, IsReadAt, IsReadIn, IsWholeRead, GoesOn, found_in as found_by, gets_from, stat_in as stat_by};
+ghost use Rattle.nofs.specs.Drill.{AreRead, IsFileRead, IsOneStep, IsReadAt, IsReadIn, IsWholeRead, ReadsBy, found_in as found_by, gets_from, is_reading, stat_in as stat_by};
 
 use nofs_disk::Disk;
 use nofs_lists::Name;
@@ -33,13 +33,14 @@ fn is_memory_wanting(reply: &Reply) -> bool
     matches!(reply, Reply::Refused(Refusal::OutOfMemory))
 }
 
-// One step of caller 0.
+// One step of caller 0. Where memory was wanting for it, none was made.
 fn ask<D: Disk + Drop>(
     alloc: Global,
     mount: &mut Mount<D>,
     asked: Step,
 ) -> Result<Reply, AllocError>
-    ensures adds { IfOk result (λ r. AddsOwn ((asked, r) ∷ []) mount.old.core.books.history.entries mount.new.core.books.history.entries) }
+    requires { is_reading asked ≡ true }
+    ensures reads { ReadsBy (IsOneStep asked) result mount.old.core.books.history.entries mount.new.core.books.history.entries }
     ensures same { (mount.new.found ≡ mount.old.found) × (mount.new.first ≡ mount.old.first) }
 {
     let reply = mount.step(alloc, READER, asked);
@@ -81,8 +82,7 @@ fn read_slots<D: Disk + Drop>(
     found: Found,
     count: u64,
 ) -> Result<Vec<Reply>, AllocError>
-    ensures whole { IfOk result (λ replies. length replies.items ≡ count) }
-    ensures adds { IfOk result (λ replies. AddsOwn (gets_from found 0 replies.items) mount.old.core.books.history.entries mount.new.core.books.history.entries) }
+    ensures reads { ReadsBy (λ replies made. (length replies.items ≡ count) × (made ≡ gets_from found 0 replies.items)) result mount.old.core.books.history.entries mount.new.core.books.history.entries }
     ensures same { (mount.new.found ≡ mount.old.found) × (mount.new.first ≡ mount.old.first) }
 {
     let mut replies = Vec::new(alloc);
@@ -104,7 +104,7 @@ fn read_whole<D: Disk + Drop>(
     found: Found,
     stat: Stat,
 ) -> Result<Option<FileRead>, AllocError>
-    ensures reads { IfOk result (λ read. (made : List Made) × AddsOwn made mount.old.core.books.history.entries mount.new.core.books.history.entries × IsWholeRead found stat read made) }
+    ensures reads { ReadsBy (IsWholeRead found stat) result mount.old.core.books.history.entries mount.new.core.books.history.entries }
     ensures same { (mount.new.found ≡ mount.old.found) × (mount.new.first ≡ mount.old.first) }
 {
     let slots = read_slots(alloc, mount, found, slots_in(stat.size))?;
@@ -121,7 +121,7 @@ fn read_found<D: Disk + Drop>(
     mount: &mut Mount<D>,
     found: Found,
 ) -> Result<Option<FileRead>, AllocError>
-    ensures reads { IfOk result (λ read. (made : List Made) × AddsOwn made mount.old.core.books.history.entries mount.new.core.books.history.entries × IsReadAt found read made) }
+    ensures reads { ReadsBy (IsReadAt found) result mount.old.core.books.history.entries mount.new.core.books.history.entries }
     ensures same { (mount.new.found ≡ mount.old.found) × (mount.new.first ≡ mount.old.first) }
 {
     let stat = Step::Stat {
@@ -141,7 +141,7 @@ fn read_in<D: Disk + Drop>(
     mount: &mut Mount<D>,
     directory: Found,
 ) -> Result<Option<FileRead>, AllocError>
-    ensures reads { IfOk result (λ read. (made : List Made) × AddsOwn made mount.old.core.books.history.entries mount.new.core.books.history.entries × IsReadIn directory read made) }
+    ensures reads { ReadsBy (IsReadIn directory) result mount.old.core.books.history.entries mount.new.core.books.history.entries }
     ensures same { (mount.new.found ≡ mount.old.found) × (mount.new.first ≡ mount.old.first) }
 {
     let look = Step::Look {
@@ -163,7 +163,7 @@ fn read_file<D: Disk + Drop>(
     user: u32,
 ) -> Result<Option<FileRead>, AllocError>
     requires { user ≤ 4 }
-    ensures reads { IfOk result (λ read. (made : List Made) × AddsOwn made mount.old.core.books.history.entries mount.new.core.books.history.entries × IsFileRead user read made) }
+    ensures reads { ReadsBy (IsFileRead user) result mount.old.core.books.history.entries mount.new.core.books.history.entries }
     ensures same { (mount.new.found ≡ mount.old.found) × (mount.new.first ≡ mount.old.first) }
 {
     let look = Step::Look {
@@ -186,7 +186,7 @@ fn push_read<D: Disk + Drop>(
     reads: &mut Vec<Option<FileRead>>,
 ) -> Result<(), AllocError>
     requires { user ≤ 4 }
-    ensures reads { OnOk result ((made : List Made) × (read : Option ReadOf) × AddsOwn made mount.old.core.books.history.entries mount.new.core.books.history.entries × (reads.new.items ≡ reads.old.items ++ read ∷ []) × IsFileRead user read made) }
+    ensures reads { ReadsBy (λ _ made. (read : Option ReadOf) × (reads.new.items ≡ reads.old.items ++ read ∷ []) × IsFileRead user read made) result mount.old.core.books.history.entries mount.new.core.books.history.entries }
     ensures same { (mount.new.found ≡ mount.old.found) × (mount.new.first ≡ mount.old.first) }
 {
     reads.push(read_file(alloc, mount, user)?)?;
@@ -198,7 +198,7 @@ pub fn read_files<D: Disk + Drop>(
     alloc: Global,
     mount: &mut Mount<D>,
 ) -> Result<Vec<Option<FileRead>>, AllocError>
-    ensures reads { IfOk result (λ reads. (made : List Made) × AddsOwn made mount.old.core.books.history.entries mount.new.core.books.history.entries × AreRead 1 reads.items made) }
+    ensures reads { ReadsBy (λ reads made. AreRead 1 reads.items made) result mount.old.core.books.history.entries mount.new.core.books.history.entries }
     ensures same { (mount.new.found ≡ mount.old.found) × (mount.new.first ≡ mount.old.first) }
 {
     let mut reads = Vec::new(alloc);

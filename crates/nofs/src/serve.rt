@@ -1,6 +1,7 @@
 //! Serving a session at a mount, and counting what is used.
 //!
-//! Promise: user `u` of a session is caller `u`, the sweeps are callers 9 and 10, and caller 0 makes the last entry, a flush of
+//! Promise: user `u` of a session is caller `u`, the sweeps are callers 9 and 10, the flusher, caller 11, makes no
+//! entry, and caller 0 makes the last entry, a flush of
 //! the whole disk. The text is that of the session by the replies in the history; there is none where memory was wanting.
 
 ghost use Rattle.std.specs.Prelude.{◌≡◌, ◌≢◌, ℕ, ◌≤◌, ◌<◌, ◌++◌, [], None, Some, slice_get, true, false, not, map, flat_map, All, Bool, List, vec_len, IfOk, IfSome, OnOk};
@@ -18,7 +19,7 @@ ghost use Rattle.nofs_state.specs.declared.books.Counts.{Counts};
 ghost use Rattle.nofs.specs.Entries.{has_fault, session_text};
 ghost use Rattle.nofs.specs.Counts.{CountsDisk, counts_line};
 ghost use Rattle.nofs.specs.Headline.{IsFollowed};
-ghost use Rattle.nofs.specs.Serving.{IsSessionRun};
+ghost use Rattle.nofs.specs.Serving.{IsClosed, IsSessionRun};
 ghost use Rattle.nofs.specs.Whole.{Finished, IsMet};
 
 use crate::scan::counts_text;
@@ -27,7 +28,7 @@ use nofs_disk::Disk;
 use nofs_lists::Content;
 use nofs_machine::{Entry1, History, Refusal, Reply, Step};
 use nofs_script::{Session, line_text};
-use nofs_serve::{Plan, Served, Sweeps, serve};
+use nofs_serve::{Plan, Served, Sweeps, WriteOuts, serve};
 use nofs_shared::Mount;
 use nofs_workers::OpenGate;
 use std::alloc::{AllocError, Global};
@@ -68,6 +69,7 @@ fn lines_text(alloc: Global, users: &[LineList]) -> Result<Content, AllocError>
 /// Makes all durable; false where memory was wanting.
 pub fn close<D: Disk + Drop>(alloc: Global, mount: &mut Mount<D>) -> bool
     ensures adds { (reply : Reply) × AddsStep 0 (step.Flush 0 0) reply mount.old.core.books.history.entries mount.new.core.books.history.entries × (result ≡ not (is_out_of_memory reply)) }
+    ensures closed { result ≡ true → IsClosed (D.state mount.new.core.disk) mount.new.core.books.history.entries }
     ensures same { (mount.new.found ≡ mount.old.found) × (mount.new.first ≡ mount.old.first) }
 {
     let flush = Step::Flush {
@@ -127,7 +129,7 @@ pub fn has_fault_in(history: &History) -> bool
     false
 }
 
-// Serves users, each beside the sweeps, and makes all durable.
+// Serves users, each beside the sweeps and the flusher, and makes all durable. The flusher writes out as often as the disk has blocks.
 fn serve_and_close<R: Threads + Wait + Sync, D: Disk + Drop + Send>(
     rt: &R,
     alloc: Global,
@@ -139,6 +141,7 @@ fn serve_and_close<R: Threads + Wait + Sync, D: Disk + Drop + Send>(
     requires new { mount.core.books.history.entries ≡ [] }
     ensures same { (result.mount.found.value ≡ mount.found.value) × (result.mount.first ≡ mount.first) }
     ensures ran { IsSessionRun (map (λ p. p.commands) plans.items) mount.core.books.at.inodes mount.core.books.at.blocks result.out_of_memory result.lines.items result.mount.core.books.history.entries }
+    ensures closed { result.out_of_memory ≡ false → IsClosed (D.state result.mount.core.disk) result.mount.core.books.history.entries }
 {
     let at = mount.numbers();
     let sweeps = Sweeps {
@@ -146,11 +149,15 @@ fn serve_and_close<R: Threads + Wait + Sync, D: Disk + Drop + Send>(
         blocks: at.blocks,
         gates: (OpenGate, OpenGate),
     };
+    let outs = WriteOuts {
+        turns: at.blocks,
+        gate: OpenGate,
+    };
     let Served {
         mount,
         lines,
         out_of_memory,
-    } = serve(rt, alloc, mount, plans, sweeps);
+    } = serve(rt, alloc, mount, plans, sweeps, outs);
     let mut mount = mount;
     let closed = close(alloc, &mut mount);
     Served {
@@ -186,6 +193,7 @@ pub fn run_session<R: Threads + Wait + Sync, D: Disk + Drop + Send>(
     requires new { mount.core.books.history.entries ≡ [] }
     ensures ends { ∥ Finished (D.state mount.found.value) (D.state result.disk) mount.first result.history ∥₁ }
     ensures follows { IsFollowed session mount.core.books.at result.text result.history.entries }
+    ensures closed { IfSome result.text (λ _. IsClosed (D.state result.disk) result.history.entries) }
     ensures ran { IfSome result.text (λ text. (lines : List (List Line)) × IsSessionRun session mount.core.books.at.inodes mount.core.books.at.blocks false lines result.history.entries × (text ≡ session_text session result.history.entries)) }
 {
     let Ok(plans) = plans_of(alloc, session) else {
@@ -211,6 +219,7 @@ pub fn run_scan<R: Threads + Wait + Sync, D: Disk + Drop + Send>(
     requires { mount.core.books.history.entries ≡ [] }
     ensures ends { ∥ Finished (D.state mount.found.value) (D.state result.disk) mount.first result.history ∥₁ }
     ensures follows { IsFollowed [] mount.core.books.at result.text result.history.entries }
+    ensures closed { IfSome result.text (λ _. IsClosed (D.state result.disk) result.history.entries) }
     ensures counted { IfSome result.text (λ text. (c : Counts) × (text ≡ counts_line c)
         × ∥ (IsMet (D.state mount.found.value) → has_fault result.history.entries ≡ false → CountsDisk (D.state result.disk).now c) ∥₁) }
 {

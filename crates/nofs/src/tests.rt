@@ -1,10 +1,14 @@
 //! Whole runs over a disk in memory, with the texts and statuses that a user sees.
 
+mod caches;
 mod days;
 mod disks;
 mod drills;
 mod files;
 mod images;
+mod mirrors;
+mod moves;
+mod second;
 mod statuses;
 mod unready;
 
@@ -61,7 +65,8 @@ pub fn run_with<R: Threads + Wait + Sync, D: Disk + Drop + Send>(
     Ok((status, disk))
 }
 
-const USAGE: &str = "usage: nofs IMAGE new BLOCKS INODES | run | scan | drill START STEPS\n";
+pub const USAGE: &str =
+    "usage: nofs IMAGE new BLOCKS INODES | run | scan | drill START STEPS | upgrade\n";
 
 #[test]
 fn each_run_prints_its_lines_and_ends_with_its_status(rt: HostRuntime) -> Result<(), Fail> {

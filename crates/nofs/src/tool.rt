@@ -4,24 +4,29 @@
 //! the sink took the whole text of the session, as it follows from the replies in the history. Wherever there is a history, the
 //! headline holds of it.
 
-ghost use Rattle.std.specs.Prelude.{◌≡◌, ◌≢◌, ◌+◌, ◌≤◌, ◌↔◌, ◌⊎◌, [], None, Some, true, false, map, ℕ, List, IfSome, string_bytes};
+ghost use Rattle.std.specs.Prelude.{◌≡◌, ◌≢◌, ◌+◌, ◌≤◌, ◌↔◌, ◌⊎◌, [], None, Some, true, false, map, ℕ, List, IfOk, IfSome, IsTrue, OnErr, OnOk, string_bytes};
 ghost use Rattle.nofs_disk.specs.Disk.{KeepsCells, Rose};
 ghost use Rattle.nofs_io.specs.Texts.{AppendsAll, TakesJust};
 ghost use Rattle.nofs_script.specs.Sessions.{IsSession};
+ghost use Rattle.nofs_upgrade.specs.Upgrades.{StaysOrUpgrades};
 ghost use Rattle.nofs.specs.Begin.{status_of as status_in};
 ghost use Rattle.nofs.specs.Words.{task_in};
 ghost use Rattle.nofs.specs.Entries.{has_fault};
 ghost use Rattle.nofs.specs.Drill.{IsDrillDone};
+ghost use Rattle.nofs.specs.Lines.{source_fault_line, too_long_line};
+ghost use Rattle.nofs.specs.Said.{Said, Says, SaysCause, SaysCounts, SaysDrill, SaysFault, SaysOrNot, SaysSession};
 ghost use Rattle.nofs.specs.Headline.{HeadlineIn, HeadlineOf, IsDrillHeadline, IsHeadline};
-ghost use Rattle.nofs.specs.Tool.{HasSession, IsBad, IsDone, IsFaulty, IsRefusedBy, IsRefusedTask, IsScanned, IsAnswered, IsFaultless, IsStatus, MountEnds, SessionEnds, WithSession, WithText};
+ghost use Rattle.nofs.specs.Complete.{IsReady, NoneRose};
+ghost use Rattle.nofs.specs.Tool.{HasFaultOf, HasSession, IsBad, IsDone, IsFaulty, IsRefusedBy, IsRefusedTask, IsScanned, IsAnswered, IsFaultless, IsFaultlessIn, IsStatus, MountEnds, SessionEnds, WithSession, WithText};
 
 use crate::begin::{Numbers, Refused, format_and_mount, mount, status_of};
 use crate::drill::run_drill;
-use crate::faults::{SOURCE_FAULT, TOO_LONG, USAGE, cause_text, script_text};
+use crate::faults::{cause_text, script_text, source_fault, too_long, usage};
 use crate::serve::{Ran, has_fault_in, run_scan, run_session};
+use crate::upgrading::upgrade_outcome;
 use crate::words::{Request, task_of};
 use nofs_disk::Disk;
-use nofs_io::{ReadFault, Sink, Source, TEXT_LIMIT, read_all, write_all};
+use nofs_io::{Failed, ReadFault, Sink, Source, TEXT_LIMIT, read_all, write_all};
 use nofs_lists::Content;
 use nofs_machine::History;
 use nofs_script::{ParseFault, Session, parse};
@@ -38,11 +43,24 @@ pub struct Outcome<D> {
     pub history: Option<History>,
 }
 
+/// Tells a sink a text: where it fails, it has a part of it.
+pub fn say<K: Sink>(sink: &mut K, text: &[u8]) -> Result<(), Failed>
+    ensures says { Says (K.state sink.old) (K.state sink.new) text.now }
+    ensures whole { OnOk result (AppendsAll (K.state sink.old) (K.state sink.new) text.now) }
+    ensures cause { OnErr result (Rose (K.state sink.old).faults (K.state sink.new).faults) }
+{
+    match write_all(sink, text) {
+        Ok(()) => Ok(()),
+        Err(failed) => Err(failed),
+    }
+}
+
 // A run that served nothing, and says why. A sink that fails here changes nothing.
 fn told<K: Sink, D>(sink: &mut K, disk: D, status: u8, line: &str) -> Outcome<D>
-    ensures { (result.status ≡ status) × (result.disk ≡ disk) × (result.history ≡ None) }
+    ensures is { (result.status ≡ status) × (result.disk ≡ disk) × (result.history ≡ None) }
+    ensures says { Says (K.state sink.old) (K.state sink.new) line.now }
 {
-    let _told = write_all(sink, line.as_bytes());
+    let _said = say(sink, line.as_bytes());
     Outcome {
         status,
         disk,
@@ -50,14 +68,15 @@ fn told<K: Sink, D>(sink: &mut K, disk: D, status: u8, line: &str) -> Outcome<D>
     }
 }
 
-// The same with a line that took memory; where there was none, nothing is said.
-fn told_text<K: Sink, D>(
+/// The same with a line that took memory; where there was none, nothing is said.
+pub fn told_text<K: Sink, D>(
     sink: &mut K,
     disk: D,
     status: u8,
     line: Result<String, AllocError>,
 ) -> Outcome<D>
-    ensures { (result.status ≡ status) × (result.disk ≡ disk) × (result.history ≡ None) }
+    ensures is { (result.status ≡ status) × (result.disk ≡ disk) × (result.history ≡ None) }
+    ensures says { (text : List ℕ) → IfOk line (λ l. string_bytes l ≡ text) → SaysOrNot (K.state sink.old) (K.state sink.new) text }
 {
     match line {
         Ok(line) => told(sink, disk, status, line.as_str()),
@@ -67,13 +86,14 @@ fn told_text<K: Sink, D>(
 
 // The status after the text was written.
 fn status_after<K: Sink>(sink: &mut K, text: &Content, faulty: bool) -> u8
-    ensures device { result ≡ 3 → faulty ≡ true }
+    ensures device { result ≡ 3 ↔ faulty ≡ true }
     ensures sink { result ≡ 5 → Rose (K.state sink.old).faults (K.state sink.new).faults }
     ensures done { result ≡ 0 → (faulty ≡ false) × AppendsAll (K.state sink.old) (K.state sink.new) text.now }
     ensures sound { result ≡ 5 → faulty ≡ false }
     ensures named { (result ≡ 0) ⊎ (result ≡ 3) ⊎ (result ≡ 5) }
+    ensures says { Says (K.state sink.old) (K.state sink.new) text.now }
 {
-    let end = write_all(sink, text.as_slice());
+    let end = say(sink, text.as_slice());
     if faulty {
         return 3;
     }
@@ -87,10 +107,12 @@ fn status_after<K: Sink>(sink: &mut K, text: &Content, faulty: bool) -> u8
 fn written<K: Sink, D: Disk>(sink: &mut K, ran: Ran<D>) -> Outcome<D>
     ensures disk { (result.disk ≡ ran.disk) × (result.history ≡ Some ran.history) }
     ensures device { result.status ≡ 3 → has_fault ran.history.entries ≡ true }
+    ensures faulty { has_fault ran.history.entries ≡ true → (result.status ≡ 3) ⊎ (result.status ≡ 7) }
     ensures sink { result.status ≡ 5 → Rose (K.state sink.old).faults (K.state sink.new).faults × (has_fault ran.history.entries ≡ false) }
     ensures done { result.status ≡ 0 → (has_fault ran.history.entries ≡ false) × (ran.text ≢ None) × IfSome ran.text (AppendsAll (K.state sink.old) (K.state sink.new)) }
     ensures named { (result.status ≡ 0) ⊎ (result.status ≡ 3) ⊎ (result.status ≡ 5) ⊎ (result.status ≡ 7) }
     ensures unsaid { ran.text ≡ None → result.status ≡ 7 }
+    ensures says { IfSome ran.text (Says (K.state sink.old) (K.state sink.new)) }
 {
     let Ran {
         disk,
@@ -110,7 +132,8 @@ fn written<K: Sink, D: Disk>(sink: &mut K, ran: Ran<D>) -> Outcome<D>
 
 // A device that was not mounted.
 fn refused<K: Sink, D: Disk>(alloc: Global, sink: &mut K, refused: Refused<D>) -> Outcome<D>
-    ensures { (result.status ≡ status_in refused.cause) × (result.disk ≡ refused.disk) × (result.history ≡ None) }
+    ensures is { (result.status ≡ status_in refused.cause) × (result.disk ≡ refused.disk) × (result.history ≡ None) }
+    ensures says { SaysCause (K.state sink.old) (K.state sink.new) result.status }
 {
     let Refused { disk, cause } = refused;
     told_text(sink, disk, status_of(cause), cause_text(alloc, cause))
@@ -130,6 +153,7 @@ fn mounted<R: Threads + Wait + Sync, K: Sink, D: Disk + Drop + Send>(
     ensures headline { IfSome result.history (λ h. ∥ IsHeadline session (D.state mount.found.value) (D.state result.disk) result.status h ∥₁) }
     ensures ends { MountEnds (D.state mount.found.value) (D.state result.disk) (K.state sink.old) (K.state sink.new) result.status result.history }
     ensures done { result.status ≡ 0 → IsAnswered session result.history (K.state sink.old) (K.state sink.new) }
+    ensures part { (result.status ≡ 3) ⊎ (result.status ≡ 5) → SaysSession (K.state sink.old) (K.state sink.new) session result.history }
 {
     written(sink, run_session(rt, alloc, mount, session))
 }
@@ -147,6 +171,8 @@ fn new_outcome<R: Threads + Wait + Sync, K: Sink, D: Disk + Drop + Send>(
     ensures headline { IfSome result.history (HeadlineOf D.state (Some numbers) session disk (D.state result.disk) result.status) }
     ensures ends { SessionEnds (IsRefusedBy (Some numbers) (D.state disk) (D.state result.disk)) (D.state disk) (D.state result.disk) (K.state sink.old) (K.state sink.new) result.status result.history }
     ensures done { result.status ≡ 0 → IsAnswered session result.history (K.state sink.old) (K.state sink.new) }
+    ensures unserved { result.history ≡ None → SaysCause (K.state sink.old) (K.state sink.new) result.status }
+    ensures part { (result.status ≡ 3) ⊎ (result.status ≡ 5) → SaysSession (K.state sink.old) (K.state sink.new) session result.history }
 {
     match format_and_mount(alloc, disk, numbers) {
         Ok(mount) => mounted(rt, alloc, sink, mount, session),
@@ -166,6 +192,8 @@ fn run_outcome<R: Threads + Wait + Sync, K: Sink, D: Disk + Drop + Send>(
     ensures headline { IfSome result.history (HeadlineOf D.state None session disk (D.state result.disk) result.status) }
     ensures ends { SessionEnds (IsRefusedBy None (D.state disk) (D.state result.disk)) (D.state disk) (D.state result.disk) (K.state sink.old) (K.state sink.new) result.status result.history }
     ensures done { result.status ≡ 0 → IsAnswered session result.history (K.state sink.old) (K.state sink.new) }
+    ensures unserved { result.history ≡ None → SaysCause (K.state sink.old) (K.state sink.new) result.status }
+    ensures part { (result.status ≡ 3) ⊎ (result.status ≡ 5) → SaysSession (K.state sink.old) (K.state sink.new) session result.history }
 {
     match mount(alloc, disk) {
         Ok(mount) => mounted(rt, alloc, sink, mount, session),
@@ -186,6 +214,8 @@ fn session_outcome<R: Threads + Wait + Sync, K: Sink, D: Disk + Drop + Send>(
     ensures headline { IfSome result.history (HeadlineOf D.state numbers session disk (D.state result.disk) result.status) }
     ensures ends { SessionEnds (IsRefusedBy numbers (D.state disk) (D.state result.disk)) (D.state disk) (D.state result.disk) (K.state sink.old) (K.state sink.new) result.status result.history }
     ensures done { result.status ≡ 0 → IsAnswered session result.history (K.state sink.old) (K.state sink.new) }
+    ensures unserved { result.history ≡ None → SaysCause (K.state sink.old) (K.state sink.new) result.status }
+    ensures part { (result.status ≡ 3) ⊎ (result.status ≡ 5) → SaysSession (K.state sink.old) (K.state sink.new) session result.history }
 {
     match numbers {
         Some(numbers) => new_outcome(rt, alloc, sink, disk, numbers, session),
@@ -207,6 +237,9 @@ fn text_outcome<R: Threads + Wait + Sync, K: Sink, D: Disk + Drop + Send>(
     ensures ends { result.status ≢ 2 → SessionEnds (IsRefusedBy numbers (D.state disk) (D.state result.disk)) (D.state disk) (D.state result.disk) (K.state sink.old) (K.state sink.new) result.status result.history }
     ensures session { (result.status ≡ 0) ⊎ (result.status ≡ 3) ⊎ (result.status ≡ 4) ⊎ (result.status ≡ 5) → WithSession text.now (λ _. Unit {0}) }
     ensures done { result.status ≡ 0 → WithSession text.now (λ session. IsAnswered session result.history (K.state sink.old) (K.state sink.new)) }
+    ensures fault { result.status ≡ 2 → SaysFault (K.state sink.old) (K.state sink.new) text.now }
+    ensures unserved { (result.status ≡ 3) ⊎ (result.status ≡ 4) → result.history ≡ None → SaysCause (K.state sink.old) (K.state sink.new) result.status }
+    ensures part { (result.status ≡ 3) ⊎ (result.status ≡ 5) → WithSession text.now (λ session. SaysSession (K.state sink.old) (K.state sink.new) session result.history) }
 {
     match parse(alloc, text) {
         Ok(session) => session_outcome(rt, alloc, sink, disk, numbers, session),
@@ -233,16 +266,23 @@ fn source_outcome<R: Threads + Wait + Sync, S: Source, K: Sink, D: Disk + Drop +
     ensures session { (result.status ≡ 0) ⊎ (result.status ≡ 3) ⊎ (result.status ≡ 4) ⊎ (result.status ≡ 5) →
         WithText (S.state source.old) (S.state source.new) TEXT_LIMIT (λ text. WithSession text (λ _. Unit {0})) }
     ensures device { result.status ≡ 3 → IsFaulty result.history × Rose (D.state disk).faults (D.state result.disk).faults }
+    ensures faulty { HasFaultOf result.history → (result.status ≡ 3) ⊎ (result.status ≡ 7) }
     ensures sink { result.status ≡ 5 → Rose (K.state sink.old).faults (K.state sink.new).faults × IsFaultless result.history }
     ensures done { result.status ≡ 0 → WithText (S.state source.old) (S.state source.new) TEXT_LIMIT (λ text.
         WithSession text (λ session. IsAnswered session result.history (K.state sink.old) (K.state sink.new))) }
     ensures untouched { (result.status ≡ 2) ⊎ (result.status ≡ 6) ⊎ (result.status ≡ 8) → (result.disk ≡ disk) × (result.history ≡ None) }
     ensures refused { result.status ≡ 4 → (result.history ≡ None) × IsRefusedBy numbers (D.state disk) (D.state result.disk) }
+    ensures fault { result.status ≡ 6 → Says (K.state sink.old) (K.state sink.new) source_fault_line }
+    ensures long { result.status ≡ 8 → Says (K.state sink.old) (K.state sink.new) too_long_line }
+    ensures bad { result.status ≡ 2 → WithText (S.state source.old) (S.state source.new) TEXT_LIMIT (λ text. SaysFault (K.state sink.old) (K.state sink.new) text) }
+    ensures unserved { (result.status ≡ 3) ⊎ (result.status ≡ 4) → result.history ≡ None → SaysCause (K.state sink.old) (K.state sink.new) result.status }
+    ensures part { (result.status ≡ 3) ⊎ (result.status ≡ 5) → WithText (S.state source.old) (S.state source.new) TEXT_LIMIT (λ text.
+        WithSession text (λ session. SaysSession (K.state sink.old) (K.state sink.new) session result.history)) }
 {
     match read_all(alloc, source, TEXT_LIMIT) {
         Ok(text) => text_outcome(rt, alloc, sink, disk, numbers, &text),
-        Err(ReadFault::Source) => told(sink, disk, 6, SOURCE_FAULT),
-        Err(ReadFault::TooLong) => told(sink, disk, 8, TOO_LONG),
+        Err(ReadFault::Source) => told(sink, disk, 6, source_fault()),
+        Err(ReadFault::TooLong) => told(sink, disk, 8, too_long()),
         Err(ReadFault::OutOfMemory) => told(sink, disk, 7, ""),
     }
 }
@@ -257,6 +297,8 @@ fn scan_outcome<R: Threads + Wait + Sync, K: Sink, D: Disk + Drop + Send>(
     ensures headline { IfSome result.history (HeadlineOf D.state None [] disk (D.state result.disk) result.status) }
     ensures ends { SessionEnds (IsRefusedBy None (D.state disk) (D.state result.disk)) (D.state disk) (D.state result.disk) (K.state sink.old) (K.state sink.new) result.status result.history }
     ensures done { result.status ≡ 0 → IsScanned (D.state disk) (D.state result.disk) result.history (K.state sink.old) (K.state sink.new) }
+    ensures unserved { result.history ≡ None → SaysCause (K.state sink.old) (K.state sink.new) result.status }
+    ensures part { (result.status ≡ 3) ⊎ (result.status ≡ 5) → result.history ≢ None → SaysCounts (K.state sink.old) (K.state sink.new) }
 {
     match mount(alloc, disk) {
         Ok(mount) => written(sink, run_scan(rt, alloc, mount)),
@@ -280,9 +322,11 @@ fn drill_outcome<R: Threads + Wait + Sync, K: Sink, D: Disk + Drop + Send>(
     steps: u64,
 ) -> Outcome<D>
     requires { steps ≤ 4000 }
-    ensures headline { IfSome result.history (IsDrillHeadline D.state disk (D.state result.disk)) }
+    ensures headline { IfSome result.history (IsDrillHeadline D.state start steps disk (D.state result.disk) result.status) }
     ensures ends { SessionEnds (IsRefusedBy (Some (record { blocks = 4096; inodes = 256 })) (D.state disk) (D.state result.disk)) (D.state disk) (D.state result.disk) (K.state sink.old) (K.state sink.new) result.status result.history }
     ensures done { result.status ≡ 0 → IsDrillDone start steps result.history (K.state sink.old) (K.state sink.new) }
+    ensures unserved { result.history ≡ None → SaysCause (K.state sink.old) (K.state sink.new) result.status }
+    ensures part { (result.status ≡ 3) ⊎ (result.status ≡ 5) → SaysDrill (K.state sink.old) (K.state sink.new) start steps result.history }
 {
     match format_and_mount(alloc, disk, DRILL) {
         Ok(mount) => written(sink, run_drill(rt, alloc, mount, start, steps)),
@@ -298,17 +342,23 @@ fn drill_outcome<R: Threads + Wait + Sync, K: Sink, D: Disk + Drop + Send>(
 /// | 6 | only where the source failed |
 /// | 8 | only where the source of `new` or `run` had more than 16,777,216 bytes |
 /// | 2 | only where the text is no session |
-/// | 4 | only where format or mount refused with another cause than the device or memory; no write was made but a format's |
+/// | 4 | only where format, mount or upgrade refused with another cause than the device or memory; no write was made but a format's. On a device that tells, by the table of the numbers or of the superblock's faults |
 /// | 7 | where memory was wanting |
-/// | 3 | only where the device failed: in format or mount, or in a step of the history |
+/// | 3 | only where the device failed: in format, mount or upgrade, or in a step of the history; where a step has a fault, 3 or 7 |
 /// | 5 | only where the sink failed |
 /// | 0 | where none of these came |
 ///
 /// At status 1, 2, 6 and 8 no call of the device was made. At 0, 3, 4 and 5 of `new` and `run` the text is a session.
 ///
+/// What the sink was told at each status is in `Said` (specs/Said.antt): the line of that status, or the session's text, or a part of it.
+///
 /// Where there is a history, the headline holds of it (`IsHeadline` in specs/Headline.antt): its entries are the steps that the
 /// session asks for; and where the premises are met, it is a run of the machine, and at every moment a crash leaves only
 /// what it allows.
+///
+/// An upgrade begins no mount: at each moment of it a crash leaves an image that it could leave before, or that one with version 2.
+///
+/// Where the words are a command, its session is one, its device is ready, and no count of faults rose, the status is 0 or 7.
 pub fn tool<R: Threads + Wait + Sync, S: Source, K: Sink, D: Disk + Drop + Send>(
     rt: &R,
     alloc: Global,
@@ -326,13 +376,19 @@ pub fn tool<R: Threads + Wait + Sync, S: Source, K: Sink, D: Disk + Drop + Send>
     ensures session { (result.status ≡ 0) ⊎ (result.status ≡ 3) ⊎ (result.status ≡ 4) ⊎ (result.status ≡ 5) →
         HasSession (task_in (map string_bytes words.now)) (S.state source.old) (S.state source.new) TEXT_LIMIT }
     ensures device { result.status ≡ 3 → IsFaulty result.history × Rose (D.state disk).faults (D.state result.disk).faults }
-    ensures sink { result.status ≡ 5 → Rose (K.state sink.old).faults (K.state sink.new).faults × IsFaultless result.history }
+    ensures faulty { HasFaultOf result.history → (result.status ≡ 3) ⊎ (result.status ≡ 7) }
+    ensures sink { result.status ≡ 5 → Rose (K.state sink.old).faults (K.state sink.new).faults × IsFaultlessIn (task_in (map string_bytes words.now)) result.history }
     ensures done { result.status ≡ 0 → IsDone (task_in (map string_bytes words.now)) (S.state source.old) (S.state source.new) TEXT_LIMIT (K.state sink.old) (K.state sink.new) (D.state disk) (D.state result.disk) result.history }
     ensures untouched { (result.status ≡ 1) ⊎ (result.status ≡ 2) ⊎ (result.status ≡ 6) ⊎ (result.status ≡ 8) → (result.disk ≡ disk) × (result.history ≡ None) }
     ensures refused { result.status ≡ 4 → (result.history ≡ None) × IsRefusedTask (task_in (map string_bytes words.now)) (D.state disk) (D.state result.disk) }
+    ensures said { Said (task_in (map string_bytes words.now)) (S.state source.old) (S.state source.new) TEXT_LIMIT (K.state sink.old) (K.state sink.new) result.status result.history }
+    ensures upgrade { task_in (map string_bytes words.now) ≡ Some Request.Upgrade → IsTrue (D.state disk).tells → StaysOrUpgrades (D.state disk) (D.state result.disk) }
+    ensures complete { IsReady (task_in (map string_bytes words.now)) (S.state source.old) TEXT_LIMIT (D.state disk)
+        → NoneRose (S.state source.old) (S.state source.new) (D.state disk) (D.state result.disk) (K.state sink.old) (K.state sink.new)
+        → (result.status ≡ 0) ⊎ (result.status ≡ 7) }
 {
     match task_of(words) {
-        None => told(sink, disk, 1, USAGE),
+        None => told(sink, disk, 1, usage()),
         Some(Request::New { blocks, inodes }) => {
             let numbers = Numbers { blocks, inodes };
             source_outcome(rt, alloc, source, sink, disk, Some(numbers))
@@ -340,5 +396,6 @@ pub fn tool<R: Threads + Wait + Sync, S: Source, K: Sink, D: Disk + Drop + Send>
         Some(Request::Run) => source_outcome(rt, alloc, source, sink, disk, None),
         Some(Request::Scan) => scan_outcome(rt, alloc, sink, disk),
         Some(Request::Drill { start, steps }) => drill_outcome(rt, alloc, sink, disk, start, steps),
+        Some(Request::Upgrade) => upgrade_outcome(alloc, sink, disk),
     }
 }

@@ -19,6 +19,8 @@ pub enum Request {
     Scan,
     /// Formats the device, mounts it, serves four users with drawn scripts, and tells whether their files have what was accepted.
     Drill { start: u64, steps: u64 },
+    /// Raises an image of version 1 to version 2.
+    Upgrade,
 }
 
 fn new_task(blocks: &str, inodes: &str) -> Option<Request>
@@ -49,6 +51,8 @@ fn plain_task(word: &str) -> Option<Request>
         Some(Request::Run)
     } else if word.as_bytes() == b"scan".as_slice() {
         Some(Request::Scan)
+    } else if word.as_bytes() == b"upgrade".as_slice() {
+        Some(Request::Upgrade)
     } else {
         None
     }

@@ -129,6 +129,10 @@ pub record WrittenBack (old new : DiskState) (before after : List DirtyEntry) : 
   pub agrees : (now : List Cell) → Agrees now old.now before → Agrees now new.now after
   pub fewer : (b : ℕ) → Contains (map (λ e. e.block) after) b → Contains (map (λ e. e.block) before) b
 
+-- blocks were written below in rising order: each that is still dirty is above each that no longer is
+pub record WritesRising (before after : List ℕ) : Type 0 where
+  pub above : (b c : ℕ) → Contains after b → Contains before c → (Contains after c → ⊥) → c < b
+
 -- the dirty block that was written out, where there was one
 abbrev pub TakesOut : List DirtyEntry → List DirtyEntry → Result (Option ℕ) Failed → Type 0
 TakesOut before after (Ok None) = (before ≡ []) × (after ≡ [])

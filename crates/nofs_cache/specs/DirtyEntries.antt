@@ -17,6 +17,18 @@ pub record AreSlotted (slots : List ℕ) (entries : List DirtyEntry) : Type 0 wh
   pub low : (i : ℕ) → i < length entries → (dirty_entry_at entries i).block < length slots
   pub at : (i : ℕ) → i < length entries → slice_index slots (dirty_entry_at entries i).block ≡ i
 
+-- the block of each entry is less than this
+pub record AreBelow (entries : List DirtyEntry) (blocks : ℕ) : Type 0 where
+  pub low : (i : ℕ) → i < length entries → (dirty_entry_at entries i).block < blocks
+
+-- no two entries are of one block
+pub record HaveOwnBlocks (entries : List DirtyEntry) : Type 0 where
+  pub own : (i j : ℕ) → i < length entries → j < length entries → (dirty_entry_at entries i).block ≡ (dirty_entry_at entries j).block → i ≡ j
+
+-- each entry's block is less than those of the entries before it
+pub record BlocksFall (entries : List DirtyEntry) : Type 0 where
+  pub falls : (i j : ℕ) → i < j → j < length entries → (dirty_entry_at entries j).block < (dirty_entry_at entries i).block
+
 -- the entry at a place is that of a block
 pub record IsDirtyEntryOf (entries : List DirtyEntry) (b : ℕ) (i : ℕ) : Type 0 where
   pub low : i < length entries

@@ -7,7 +7,7 @@ ghost use Rattle.nofs_disk.specs.declared.tag.Cell.{Cell};
 ghost use Rattle.nofs_cache.specs.DirtyBlocks.{block_count, entries_of, room_of};
 ghost use Rattle.nofs_cache.specs.Laws.{CacheKeeps};
 ghost use Rattle.nofs_disk.specs.Disk.{Flushes, Reads, Writes, WritesOut, cell_at};
-ghost use Rattle.nofs_cache.specs.Cache.{IsMarked, LeavesAll};
+ghost use Rattle.nofs_cache.specs.Cache.{IsMarked, LeavesAll, WritesRising};
 ghost use Rattle.nofs_cache.specs.Past.{past_calls};
 
 use crate::dirty::DirtyBlocks;
@@ -189,10 +189,11 @@ impl<D: Disk + Drop> Disk for Cached<D> {
         Ok(())
     }
 
-    /// Every dirty block is written below, and then the disk below is flushed. What that disk may
-    /// leave meanwhile, this one may leave at its moment during the call.
+    /// Every dirty block is written below in rising order, and then the disk below is flushed. What
+    /// that disk may leave meanwhile, this one may leave at its moment during the call.
     fn flush(&mut self) -> Result<(), Failed>
         requires { 1 ≤ (⟦<Cached<D> as Disk>⟧.state self.old).spare }
+        ensures rising { WritesRising (⟦<Cached<D> as Disk>⟧.state self.old).dirty (⟦<Cached<D> as Disk>⟧.state self.new).dirty }
         ensures flushes { Flushes (⟦<Cached<D> as Disk>⟧.state self.old) (⟦<Cached<D> as Disk>⟧.state self.new) result }
         ensures left { LeavesAll (D.state self.old.under).moment (D.state self.new.under) (⟦<Cached<D> as Disk>⟧.state self.new) ((⟦<Cached<D> as Disk>⟧.state self.old).moment + 1) }
     {
@@ -212,8 +213,8 @@ impl<D: Disk + Drop> Disk for Cached<D> {
         result
     }
 
-    /// The block that became dirty last is written below. What the disk below may leave meanwhile,
-    /// this one may leave at its present moment.
+    /// One dirty block is written below. What the disk below may leave meanwhile, this one may leave
+    /// at its present moment.
     fn write_out(&mut self) -> Result<Option<u64>, Failed>
         requires { 1 ≤ (⟦<Cached<D> as Disk>⟧.state self.old).spare }
         ensures writes_out { WritesOut (⟦<Cached<D> as Disk>⟧.state self.old) (⟦<Cached<D> as Disk>⟧.state self.new) result }

@@ -3,8 +3,8 @@
 //!
 //! Promise: each dirty block has one cell, the last that was put. It is found in constant time by
 //! the block's number, and a clean block takes the four bytes of its slot.
-ghost use Rattle.std.specs.Prelude.{◌≡◌, ◌+◌, ◌<◌, ◌≤◌, ◌∷◌, [], ◌++◌, ◌-◌, take, IfOk, IfSome, IfNone, length, slice_set, vec_capacity, OnOk};
-ghost use Rattle.nofs_cache.specs.DirtyEntries.{HasCell, HasLast, IsClean, IsDirtyEntryOf, AreSlotted, PutsDirtyEntry, dirty_entry};
+ghost use Rattle.std.specs.Prelude.{◌≡◌, ◌+◌, ◌^◌, IsPermutation, ◌<◌, ◌≤◌, ◌∷◌, [], ◌++◌, ◌-◌, take, IfOk, IfSome, IfNone, length, slice_set, vec_capacity, OnOk};
+ghost use Rattle.nofs_cache.specs.DirtyEntries.{HasCell, HasLast, HaveOwnBlocks, IsClean, IsDirtyEntryOf, AreBelow, AreSlotted, BlocksFall, PutsDirtyEntry, dirty_entry};
 
 use nofs_disk::Cell;
 use std::alloc::{AllocError, Global};
@@ -22,7 +22,21 @@ pub struct DirtyEntry {
 pub struct DirtyBlocks {
     slots: Vec<u32>,
     entries: Vec<DirtyEntry>,
+    ghost few: { length entries.items ≤ 2 ^ 32 },
     ghost placed: { AreSlotted slots.items entries.items },
+}
+
+// Lets the slot of each entry's block name that entry.
+fn number(slots: &mut Vec<u32>, entries: &[DirtyEntry])
+    requires few { length entries.now ≤ 2 ^ 32 }
+    requires low { AreBelow entries.now (length slots.old.items) }
+    requires own { HaveOwnBlocks entries.now }
+    ensures slotted { AreSlotted slots.new.items entries.now }
+    ensures blocks { length slots.new.items ≡ length slots.old.items }
+{
+    for at in 0..entries.len() {
+        slots[entries[at].block as usize] = at as u32;
+    }
 }
 
 impl DirtyBlocks {
@@ -124,6 +138,20 @@ impl DirtyBlocks {
             Some(at) => self.replace(at, block, cell),
             None => self.push(block, cell),
         }
+    }
+
+    /// Puts the entries in falling order of blocks, so that the last one is of the least block. It
+    /// takes no memory.
+    pub fn sort_falling(&mut self)
+        ensures same { IsPermutation (entries_of self.old) (entries_of self.new) }
+        ensures len { length (entries_of self.new) ≡ length (entries_of self.old) }
+        ensures falls { BlocksFall (entries_of self.new) }
+        ensures blocks { block_count self.new ≡ block_count self.old }
+        ensures room { room_of self.old ≤ room_of self.new }
+    {
+        self.entries
+            .sort_unstable_by(|one, other| other.block.cmp(&one.block));
+        number(&mut self.slots, self.entries.as_slice());
     }
 
     /// The last entry; `None` where no block is dirty.

@@ -1,27 +1,22 @@
 -- A Put below a block of pointers that holds: one block is claimed, its pointer is written, and the record.
-use Rattle.std.proofs.Common.{◌≡◌, ◌≢◌, ℕ, zero, suc, ◌+◌, ◌-◌, ◌*◌, ◌/◌, ◌%◌, ◌^◌, ◌<◌, ◌≤◌, ◌⊎◌, max, inl, inr, Bool, true, false, cond, eqb, ne_eqb, not}
-use Rattle.std.proofs.Common.{List, [], ◌∷◌, ◌++◌, length, Option, Some, None, IsTrue, Result, Ok, Err, refl, sym, ap, ◌∙◌, subst, subst₂, arith}
+use Rattle.std.proofs.Common.{◌≡◌, ◌≢◌, ℕ, ◌+◌, ◌*◌, ◌/◌, ◌^◌, ◌<◌, ◌≤◌, max, inl, inr, Bool, true, false, cond, eqb, ne_eqb, not}
+use Rattle.std.proofs.Common.{List, [], ◌∷◌, length, Some, IsTrue, Result, refl, sym, ap, ◌∙◌, subst, subst₂, arith}
 use Rattle.std.specs.Prelude.{slice_set}
-use Rattle.std.proofs.lemmas.Bool.{cases_eq}
 use Rattle.nofs_ptrs.specs.Paths.{slot_limit}
 use Rattle.nofs_bits.specs.Bits.{is_set}
 use Rattle.nofs_disk.specs.Disk.{DiskState, IsDisk, StaysButFaults, Rose, cell_at}
 use Rattle.nofs_disk.specs.Number as number
-use Rattle.nofs_disk.specs.Chains.{StaysButFaults-trans}
 use Rattle.nofs_inode.specs.declared.inode.FileKind.TheVariants.{File}
-use Rattle.nofs_model.specs.Cells.{Cell, Content, record_of, Pointer, Record, Tag, null, pointer_at, tag_of, is_live}
-use Rattle.nofs_model.specs.Image.{Image, inode, value, value_in, Path, InRecord, Under, path_of, slot_of, kind_in, tag_for, find, pointer, record_pointer}
+use Rattle.nofs_model.specs.Cells.{Cell, Content, record_of, Pointer, Record, null, pointer_at, tag_of}
+use Rattle.nofs_model.specs.Image.{Image, inode, value, value_in, Path, InRecord, Under, path_of, slot_of, kind_in, tag_for, find, pointer}
 use Rattle.nofs_model.specs.Image.{files_in, agreed, IsAbove, is_pointer_slot}
 use Rattle.nofs_model.specs.declared.path.PathAnswer.{PathAnswer}
 use Rattle.nofs_model.specs.declared.path.PathAnswer.TheVariants as answer
 use Rattle.nofs_model.specs.declared.value.Value.TheVariants.{Bytes}
-use Rattle.nofs_model.proofs.Find.{find-held}
 use Rattle.nofs_model.proofs.Paths.{above-refl, slot_of-path_of, path_of-content}
 use Rattle.nofs_machine.specs.Meta.{is_bytes}
 use Rattle.nofs_machine.specs.Machine.{put_content, same_path}
-use Rattle.nofs_machine.specs.World.{World}
 use Rattle.nofs_machine.specs.Claims.{is_claimed, next_stamp, no_claims}
-use Rattle.nofs_machine.specs.declared.history.Claims.{Claims}
 use Rattle.nofs_machine.specs.declared.history.Entry1.{Entry1}
 use Rattle.nofs_machine.specs.declared.steps.Step.TheVariants as step
 use Rattle.nofs_machine.specs.declared.replies.Reply.TheVariants as reply
@@ -53,7 +48,7 @@ use Rattle.nofs_files.proofs.Climbing.{Climbs}
 use Rattle.nofs_files.proofs.FileRows.{current-agreed}
 use Rattle.nofs_files.proofs.Needs.{above-held, claim-one, claims_are, needs-are, IsTaken}
 use Rattle.nofs_files.proofs.Parts.{Takes}
-use Rattle.nofs_files.proofs.Ways.{IsNew, IsOld, IsChanged, way_writes, no-loop}
+use Rattle.nofs_files.proofs.Ways.{IsNew, way_writes, no-loop}
 
 -- a slot without bytes holds nothing
 pub empty-held : (X : Image) (i slot : ℕ) (way : Path) → path_of slot ≡ way → is_bytes (value X i slot) ≡ false → (y : Pointer)

@@ -1,14 +1,12 @@
 -- The contract of a Put at any depth, from its cells.
-use Rattle.std.proofs.Common.{◌≡◌, ◌≢◌, ℕ, zero, suc, ◌+◌, ◌*◌, ◌^◌, ◌<◌, ◌≤◌, ◌⊎◌, inl, inr, Bool, true, false, cond, ltb, List, [], ◌∷◌, Option, Some}
-use Rattle.std.proofs.Common.{None, is_some, IsTrue, Result, Ok, Err, refl, sym, ap, ◌∙◌, subst, subst₂, arith}
+use Rattle.std.proofs.Common.{◌≡◌, ℕ, true, false, List}
+use Rattle.std.proofs.Common.{IsTrue, Result, Ok, Err, refl, sym, ap, ◌∙◌, subst₂}
 use Rattle.nofs_disk.specs.Disk.{DiskState, IsDisk}
-use Rattle.nofs_model.specs.Cells.{Cell, Pointer, Record, null}
-use Rattle.nofs_model.specs.Image.{Image, Path, InRecord, Under, path_of, find, Files, NodeState, Absent, Present, Damaged, node_in, FileState, IsAbove, IsSlot}
-use Rattle.nofs_model.specs.declared.path.PathAnswer.TheVariants as answer
-use Rattle.nofs_model.proofs.Paths.{above-refl}
-use Rattle.nofs_machine.specs.Machine.{gives, node_of}
-use Rattle.nofs_machine.specs.World.{World, absent_above, blocks_for}
-use Rattle.nofs_machine.specs.Claims.{IsClaim, IsBlockClaim, NoInode, Apart, claimed_blocks, next_stamp}
+use Rattle.nofs_model.specs.Cells.{Cell, Pointer, Record}
+use Rattle.nofs_model.specs.Image.{Path}
+use Rattle.nofs_machine.specs.Machine.{gives}
+use Rattle.nofs_machine.specs.World.{blocks_for}
+use Rattle.nofs_machine.specs.Claims.{IsClaim}
 use Rattle.nofs_machine.specs.declared.history.Claims.{Claims}
 use Rattle.nofs_machine.specs.declared.history.Entry1.{Entry1}
 use Rattle.nofs_machine.specs.declared.steps.Step.TheVariants as step
@@ -28,7 +26,7 @@ use Rattle.nofs_files.specs.Putting.{put_answer}
 use Rattle.nofs_state.specs.Owing.{RowsPass}
 use Rattle.nofs_files.proofs.Climbing.{Climbs, climb-done, climb-proper, climb-numbered}
 use Rattle.nofs_files.proofs.Parts.{Takes}
-use Rattle.nofs_files.proofs.Ways.{IsNew, IsOld, way_writes}
+use Rattle.nofs_files.proofs.Ways.{way_writes}
 
 -- what a Put at any depth owes in an open world
 pub record IsClimb (d : DiskState) (p : Past) (i g slot at : ℕ) (bytes : List ℕ) (r r' : Record) (m : ℕ) (way : Path) (places : Path → Pointer)

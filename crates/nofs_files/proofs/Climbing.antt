@@ -1,9 +1,7 @@
 -- A Put at any depth, in place or with claims: the blocks of its way and the record are written.
-use Rattle.std.proofs.Common.{◌≡◌, ◌≢◌, ℕ, zero, suc, ◌+◌, ◌-◌, ◌*◌, ◌/◌, ◌%◌, ◌^◌, ◌<◌, ◌≤◌, ◌⊎◌, max, inl, inr, Bool, true, false, cond, eqb, eqb-true}
+use Rattle.std.proofs.Common.{◌≡◌, ◌≢◌, ℕ, ◌+◌, ◌-◌, ◌*◌, ◌/◌, ◌<◌, ◌≤◌, ◌⊎◌, max, inl, inr, Bool, true, false, cond, eqb, eqb-true}
 use Rattle.std.proofs.Common.{eq-eqb, leb, ltb, leb-true, ltb-true, ◌&&◌, ◌||◌, not, List, [], ◌∷◌, ◌++◌, length, Option, Some, None, is_some, IsTrue}
-use Rattle.std.proofs.Common.{Result, Ok, Err, refl, sym, ap, ◌∙◌, subst, subst₂, arith, Contains}
-use Rattle.std.proofs.lemmas.Bool.{cases_eq}
-use Rattle.std.proofs.lemmas.Bool.Decides.{nat_tests}
+use Rattle.std.proofs.Common.{Ok, refl, sym, ap, ◌∙◌, subst, subst₂, arith}
 use Rattle.nofs_ptrs.specs.Paths.{slot_limit}
 use Rattle.nofs_disk.specs.Disk.{DiskState, IsDisk, Picks, cell_at}
 use Rattle.nofs_disk.specs.Adds.{Adds}
@@ -11,7 +9,7 @@ use Rattle.nofs_bits.specs.Bits.{is_set}
 use Rattle.nofs_super.specs.Geometry.{IsGeometry}
 use Rattle.nofs_inode.specs.declared.inode.FileKind.TheVariants.{File}
 use Rattle.nofs_model.specs.Cells.{Cell, Pointer, Record, SuperBlock, Tag, is_null, pointer_at, tag_of, is_live}
-use Rattle.nofs_model.specs.Image.{Image, super_at, file_from, value, is_data_block, is_inode, inode, Path, InRecord, Under, path_of, is_pointer_slot}
+use Rattle.nofs_model.specs.Image.{Image, super_at, file_from, value, is_data_block, inode, Path, InRecord, Under, path_of, is_pointer_slot}
 use Rattle.nofs_model.specs.Image.{tag_for, find, pointer, record_pointer, files_in, agreed, is_special, Files, is_folder, Home, IsAbove, IsSlot, IsFree}
 use Rattle.nofs_model.specs.Image.{IsBelow}
 use Rattle.nofs_model.specs.declared.path.PathAnswer.TheVariants as answer
@@ -29,8 +27,8 @@ use Rattle.nofs_machine.specs.Meta.{meta_of, Is}
 use Rattle.nofs_machine.specs.Marks.{Mark}
 use Rattle.nofs_machine.specs.Search.{first_of}
 use Rattle.nofs_machine.specs.Machine.{Given, gives, given_by, put_given, put_content, files_after}
-use Rattle.nofs_machine.specs.World.{World, is_fixed, blocks_for, uses_inode, uses_block, is_free_block}
-use Rattle.nofs_machine.specs.Claims.{claimed_blocks, claimed_home, is_claimed, next_stamp, has_block, homes_after, slot_above, IsClaim}
+use Rattle.nofs_machine.specs.World.{World, is_fixed, blocks_for, uses_inode, uses_block}
+use Rattle.nofs_machine.specs.Claims.{claimed_home, is_claimed, next_stamp, has_block, homes_after, slot_above, IsClaim}
 use Rattle.nofs_machine.specs.Refusals.{rows}
 use Rattle.nofs_machine.specs.History.{FilesMatch, SameFile, agreed_files, files_along, mark_at}
 use Rattle.nofs_machine.specs.Next.{Learns}
@@ -41,7 +39,7 @@ use Rattle.nofs_machine.specs.declared.replies.Reply.TheVariants as reply
 use Rattle.nofs_law_untouched.specs.Frames.{SameNames, OldPointers, Touches}
 use Rattle.nofs_law_untouched.specs.Grows.{Grows, IsPlaced}
 use Rattle.nofs_machine.specs.Gives.{GivesNothing}
-use Rattle.nofs_law_untouched.proofs.Claiming.{not-null, super-same}
+use Rattle.nofs_law_untouched.proofs.Claiming.{not-null}
 use Rattle.nofs_law_untouched.proofs.Growth.{above-or-not}
 use Rattle.nofs_law_untouched.proofs.Matching.{Matched, matched-agreed, matched-file}
 use Rattle.nofs_law_untouched.proofs.Touching.{one-owner}

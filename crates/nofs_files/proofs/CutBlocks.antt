@@ -1,21 +1,19 @@
 -- The blocks of what is cut, and the writes that may come.
-use Rattle.std.proofs.Common.{◌≡◌, ℕ, ◌+◌, ◌/◌, ◌^◌, ◌<◌, ◌≤◌, ◌⊎◌, inl, inr, Bool, true, false, List, [], ◌∷◌, length, replicate, Option, Some, IsTrue, Result, Ok, Err, refl, sym, ap, ◌∙◌, subst, subst₂, arith}
+use Rattle.std.proofs.Common.{◌≡◌, ℕ, ◌+◌, ◌^◌, inl, inr, Bool, true, false, List, replicate, Option, Some, Result, Ok, Err, sym, ◌∙◌, subst, subst₂}
 use Rattle.std.proofs.lemmas.List.{length-replicate}
 use Rattle.nofs_ptrs.specs.Paths.{slot_limit}
 use Rattle.nofs_bits.specs.Bits.{is_set}
-use Rattle.nofs_disk.specs.Adds.{Adds-writes}
 use Rattle.nofs_disk.specs.Chains.{StaysButFaults-trans}
 use Rattle.nofs_disk.specs.Disk.{DiskState, IsDisk, Writes}
 use Rattle.nofs_disk.specs.declared.Failed.{Failed}
-use Rattle.nofs_model.specs.Cells.{Cell, Pointer, SuperBlock}
-use Rattle.nofs_model.specs.Image.{Image, path_of, find}
-use Rattle.nofs_model.specs.declared.path.PathAnswer.TheVariants as answer
+use Rattle.nofs_model.specs.Cells.{Cell, SuperBlock}
+use Rattle.nofs_model.specs.Image.{Image}
 use Rattle.nofs_agree.specs.declared.reads.LastRead.{LastRead}
-use Rattle.nofs_state.specs.Owning.{IsBlockAmong, Marked, MarksAll}
-use Rattle.nofs_state.specs.Writing.{OneOf, WritesAll}
+use Rattle.nofs_state.specs.Owning.{Marked, MarksAll}
+use Rattle.nofs_state.specs.Writing.{WritesAll}
 use Rattle.nofs_state.proofs.Maps.{set-none}
-use Rattle.nofs_state.proofs.TwoWrites.{first-fails, then-others, write-other}
-use Rattle.nofs_files.specs.Resizing.{IsCutMap, MarksCut, first_cut, maybe}
+use Rattle.nofs_state.proofs.TwoWrites.{first-fails, then-others}
+use Rattle.nofs_files.specs.Resizing.{MarksCut, first_cut, maybe}
 use Rattle.nofs_files.specs.declared.cutting.NewCell.{NewCell}
 
 pub cut-map-ends : (old mid new : DiskState) (at : SuperBlock) (i m : ℕ) (z b c : List Bool) (last next : LastRead) → z ≡ replicate at.blocks false
@@ -56,18 +54,6 @@ cut-map-ends old mid new at i m z b c last next ez first second = record {
     two : Marked new.now new.tells at i (first_cut m) (2 ^ 32 + 66) b c
     two = subst₂ (λ (X : Image) (told : Bool). Marked X told at i (first_cut m) (2 ^ 32 + 66) b c) (sym second.stays.cells.now) (sym second.stays.disk.tells)
         second.marked_as
-
--- one write, whatever comes of it
-pub one-write : (old new : DiskState) (b : ℕ) (c : Cell) (r : Result (Unit {0}) Failed) → IsDisk new → Writes old new b c r
-    → WritesAll old new ((b, c) ∷ []) r
-one-write old new b c (Err x) is w = first-fails old new b c [] x is w
-one-write old new b c (Ok done) is w = record {
-  adds = Adds-writes (OneOf ((b, c) ∷ [])) old new b c is w (inl (refl, refl));
-  later = (let m = w.moment in omega (arith, m));
-  others = λ n apart. write-other old new b c (Ok done) n w apart.0;
-  now = w.ok;
-  cause = tt;
-}
 
 -- a write that comes is done, and then the others
 pub maybe-then : (old mid new : DiskState) (w : Option NewCell) (it : NewCell) (ws : List (ℕ × Cell)) (r : Result (Unit {0}) Failed) → IsDisk mid

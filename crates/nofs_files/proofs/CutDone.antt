@@ -1,17 +1,14 @@
 -- A Resize that is done, or that failed at a write: the mount stands.
-use Rattle.std.proofs.Common.{◌≡◌, ◌≢◌, ℕ, ◌+◌, ◌-◌, ◌*◌, ◌/◌, ◌%◌, ◌<◌, ◌≤◌, ◌⊎◌, min, inl, inr, Bool, true, false, cond, eqb, eqb-true, eq-eqb, leb, ltb, ◌&&◌, List, [], ◌∷◌, ◌++◌, length, Option, Some, None, is_some, IsTrue, Result, Ok, Err, refl, sym, ap, ◌∙◌, subst, subst₂, arith}
+use Rattle.std.proofs.Common.{◌≡◌, ℕ, ◌+◌, ◌/◌, ◌<◌, ◌≤◌, ◌⊎◌, inl, inr, Bool, true, false, cond, eqb, eqb-true, eq-eqb, leb, ltb, ◌&&◌, List, [], ◌∷◌, ◌++◌, length, Option, Some, None, is_some, IsTrue, Ok, refl, sym, ap, ◌∙◌, subst, subst₂, arith}
 use Rattle.std.proofs.lemmas.Bool.{cases_lt}
 use Rattle.nofs_ptrs.specs.Paths.{slot_limit}
-use Rattle.nofs_bits.specs.Bits.{is_set}
 use Rattle.nofs_disk.specs.Disk.{DiskState, IsDisk, cell_at, Picks}
 use Rattle.nofs_disk.specs.Adds.{Adds}
-use Rattle.nofs_inode.specs.declared.inode.FileKind.TheVariants.{File}
-use Rattle.nofs_model.specs.Cells.{Cell, Kind, Leaf, Pointer, Record, SuperBlock, null, is_null, pointer_at, tag_of, is_live}
-use Rattle.nofs_model.specs.Image.{Image, super_at, is_data_block, inode, Path, InRecord, Under, path_of, is_pointer_slot, IsSlot, kind_in, tag_for, find, pointer, record_pointer, files_in, agreed, is_special, FileState, Files, Home}
+use Rattle.nofs_model.specs.Cells.{Cell, Leaf, Pointer, Record, SuperBlock, is_null, pointer_at, tag_of}
+use Rattle.nofs_model.specs.Image.{Image, super_at, is_data_block, inode, Path, InRecord, Under, path_of, IsSlot, kind_in, tag_for, find, pointer, record_pointer, FileState, Files}
 use Rattle.nofs_model.specs.declared.path.PathAnswer.TheVariants as answer
 use Rattle.nofs_model.specs.declared.value.Value.TheVariants.{Bytes}
 use Rattle.nofs_model.proofs.Find.{HoldsAt, find-held}
-use Rattle.nofs_model.proofs.Paths.{path_of-slot}
 use Rattle.nofs_model.proofs.Sound.{supers}
 use Rattle.nofs_law_images.specs.Proper.{Proper, OfPointers, OfTable, PointerProper, Same, Cut, RecordProper, Unchanged}
 use Rattle.nofs_law_images.specs.Moments.{during}
@@ -22,7 +19,7 @@ use Rattle.nofs_machine.specs.Steady.{SteadyRest}
 use Rattle.nofs_machine.specs.Meta.{meta_of, Is}
 use Rattle.nofs_machine.specs.Marks.{Mark}
 use Rattle.nofs_machine.specs.Search.{first_of}
-use Rattle.nofs_machine.specs.Machine.{Given, gives, given_by, resize_given, resize_slot, trimmed, files_after}
+use Rattle.nofs_machine.specs.Machine.{Given, gives, given_by, resize_given, resize_slot, files_after}
 use Rattle.nofs_machine.specs.World.{World}
 use Rattle.nofs_machine.specs.Claims.{no_claims, next_stamp, IsClaim, Unclaimed, NoInode}
 use Rattle.nofs_machine.specs.Refusals.{rows}
@@ -38,7 +35,7 @@ use Rattle.nofs_law_maps.specs.Fresh.{Numbered, CellNumbers}
 use Rattle.nofs_law_maps.proofs.Homes.{uses-inode}
 use Rattle.nofs_crashlaw.specs.Stage.{AddsProper}
 use Rattle.nofs_crashlaw.proofs.Resting.{law-rest}
-use Rattle.nofs_law_files.specs.Resizes.{is_cut, cut_at}
+use Rattle.nofs_law_files.specs.Resizes.{is_cut}
 use Rattle.nofs_law_files.proofs.Resizes.{law-resize-files, law-resize-homes, law-resize-holes, as-before, meta-here, resize-gives, resize-made}
 use Rattle.nofs_law_files.proofs.OneFile.{GivesFile}
 use Rattle.nofs_law_files.proofs.Writes.{law-content, law-record}

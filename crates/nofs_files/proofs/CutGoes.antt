@@ -1,14 +1,12 @@
 -- The contract of a Resize from the state before its writes.
-use Rattle.std.proofs.Common.{◌≡◌, ◌≢◌, ℕ, ◌+◌, ◌-◌, ◌*◌, ◌/◌, ◌^◌, ◌<◌, ◌≤◌, ◌⊎◌, Bool, true, false, List, [], ◌∷◌, length, Option, Some, None, IsTrue, Result, Ok, Err, refl, sym, ap, ◌∙◌, subst, subst₂, arith}
+use Rattle.std.proofs.Common.{◌≡◌, ℕ, ◌+◌, ◌^◌, ◌≤◌, ◌⊎◌, Bool, true, false, List, length, Option, Some, None, IsTrue, Result, Ok, Err, refl, sym, ap, ◌∙◌, subst, subst₂, arith}
 use Rattle.std.specs.Prelude.{IfSome}
 use Rattle.nofs_ptrs.specs.Paths.{slot_limit}
-use Rattle.nofs_bits.specs.Bits.{is_set}
 use Rattle.nofs_disk.specs.Disk.{DiskState, IsDisk, StaysButFaults, cell_at}
 use Rattle.nofs_inode.specs.InodeRecords.{largest_size}
-use Rattle.nofs_model.specs.Cells.{Cell, Record, SuperBlock, tag_of, is_live}
-use Rattle.nofs_model.specs.Image.{Image, inode, files_in, agreed, find, path_of}
+use Rattle.nofs_model.specs.Cells.{Cell, Record, SuperBlock, tag_of}
+use Rattle.nofs_model.specs.Image.{Image, files_in, agreed, find, path_of}
 use Rattle.nofs_machine.specs.Machine.{gives}
-use Rattle.nofs_machine.specs.World.{World}
 use Rattle.nofs_machine.specs.Claims.{no_claims}
 use Rattle.nofs_machine.specs.declared.history.Entry1.{Entry1}
 use Rattle.nofs_machine.specs.declared.steps.Step.TheVariants as step
@@ -30,7 +28,7 @@ use Rattle.nofs_state.proofs.Done.{goes-done}
 use Rattle.nofs_state.proofs.Faults.{goes-fault, stopped_world, stopped_books}
 use Rattle.nofs_state.proofs.Keeping.{goes-after, open-back, reads-keep, safe-keeps}
 use Rattle.nofs_state.proofs.Machine.{agreed-live, are-agreed}
-use Rattle.nofs_state.proofs.Tables.{HasRecord, table_block}
+use Rattle.nofs_state.proofs.Tables.{table_block}
 use Rattle.nofs_state.proofs.TwoWrites.{safe-writes}
 use Rattle.nofs_files.specs.Answers.{IsFile}
 use Rattle.nofs_state.specs.Owing.{RecordIn, RowsPass}

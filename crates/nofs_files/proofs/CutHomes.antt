@@ -1,31 +1,29 @@
 -- The homes after a Resize: the blocks of what is cut have none, and all others keep theirs.
-use Rattle.std.proofs.Common.{◌≡◌, ◌≢◌, ℕ, ◌+◌, ◌-◌, ◌*◌, ◌/◌, ◌^◌, ◌<◌, ◌≤◌, ◌⊎◌, inl, inr, Bool, true, false, cond, eqb, leb, ltb, leb-true, ltb-true, lt-ltb, ◌&&◌, ◌||◌, not, List, length, Option, Some, None, is_some, IsTrue, refl, sym, ap, ◌∙◌, subst, subst₂, arith}
+use Rattle.std.proofs.Common.{◌≡◌, ◌≢◌, ℕ, ◌+◌, ◌-◌, ◌/◌, ◌^◌, ◌<◌, ◌≤◌, ◌⊎◌, inl, inr, Bool, true, false, cond, leb, ltb, leb-true, ltb-true, lt-ltb, ◌&&◌, ◌||◌, not, List, Option, Some, None, is_some, IsTrue, refl, sym, ap, ◌∙◌, subst, arith}
 use Rattle.std.proofs.lemmas.Bool.{cases_eq, cases_lt, le-leb, and_parts}
 use Rattle.std.proofs.lemmas.Bool.Decides.{nat_tests}
 use Rattle.std.proofs.lemmas.List.{get_or_past}
 use Rattle.nofs_ptrs.specs.Paths.{slot_limit}
 use Rattle.nofs_bits.specs.Bits.{is_set}
-use Rattle.nofs_disk.specs.Disk.{DiskState, IsDisk, cell_at}
+use Rattle.nofs_disk.specs.Disk.{DiskState, IsDisk}
 use Rattle.nofs_model.specs.Cells.{Cell, Pointer, Record}
-use Rattle.nofs_model.specs.Image.{Image, super_at, is_data_block, Path, path_of, slot_of, is_pointer_slot, is_slot, IsSlot, find, value, value_in, node_in, files_in, agreed, FileState, Files, NodeState, Absent, Present, Home, home_at, owner}
+use Rattle.nofs_model.specs.Image.{Image, Path, path_of, is_pointer_slot, is_slot, IsSlot, find, value_in, node_in, FileState, Files, Absent, Home, home_at, owner}
 use Rattle.nofs_model.specs.declared.path.PathAnswer.{PathAnswer}
 use Rattle.nofs_model.specs.declared.path.PathAnswer.TheVariants as answer
-use Rattle.nofs_model.specs.declared.value.Value.{Value}
-use Rattle.nofs_model.specs.declared.value.Value.TheVariants.{Hole, Bytes}
-use Rattle.nofs_model.proofs.Owners.{owner-of, owner-holds, owner-slot, same-home}
+use Rattle.nofs_model.specs.declared.value.Value.TheVariants.{Hole}
+use Rattle.nofs_model.proofs.Owners.{owner-of, owner-holds, owner-slot}
 use Rattle.nofs_model.proofs.Paths.{path_of-number, path-record, path-child}
 use Rattle.nofs_machine.specs.Meta.{is_bytes}
 use Rattle.nofs_machine.specs.Machine.{resize_given, files_after}
-use Rattle.nofs_machine.specs.World.{World, uses_block, is_fixed}
+use Rattle.nofs_machine.specs.World.{is_fixed}
 use Rattle.nofs_machine.specs.Claims.{no_claims, next_stamp, has_block, homes_after, is_present}
 use Rattle.nofs_machine.specs.History.{FilesMatch}
 use Rattle.nofs_machine.specs.declared.history.Entry1.{Entry1}
 use Rattle.nofs_machine.specs.declared.steps.Step.TheVariants as step
-use Rattle.nofs_law_files.specs.Resizes.{is_cut, cut_at, first_slot_below}
+use Rattle.nofs_law_files.specs.Resizes.{is_cut}
 use Rattle.nofs_law_files.proofs.Resizes.{cut-slot, found, resize-made, resize-new, resize-gives, law-resize-files}
 use Rattle.nofs_law_files.proofs.PutFile.{file-in}
 use Rattle.nofs_state.specs.Standing.{IsOpen, Past}
-use Rattle.nofs_state.specs.Owning.{IsBlockAmong}
 use Rattle.nofs_state.specs.declared.books.Books.{Books}
 use Rattle.nofs_state.proofs.Replies.{home-has}
 use Rattle.nofs_files.specs.Resizing.{IsCutMap, first_cut, kept_slots}
@@ -33,8 +31,8 @@ use Rattle.nofs_files.specs.declared.cutting.NewCell.{NewCell}
 use Rattle.nofs_files.specs.declared.cutting.Edge.{Edge}
 use Rattle.nofs_files.proofs.Kept.{file-stays}
 use Rattle.nofs_files.proofs.CutPaths.{cut-from, from-cut, lt-leb}
-use Rattle.nofs_files.proofs.CutWrites.{Cuts, most}
-use Rattle.nofs_files.proofs.CutImage.{W, X, Y, match, own, file, generation, same-cut, lies}
+use Rattle.nofs_files.proofs.CutWrites.{Cuts}
+use Rattle.nofs_files.proofs.CutImage.{Y, match, own, file, generation, same-cut, lies}
 
 -- whether a slot has its block, by the file
 abbrev block_in : Option FileState → ℕ → Bool

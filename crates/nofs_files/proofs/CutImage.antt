@@ -1,12 +1,12 @@
 -- The image after a Resize: what is cut has no pointer, and all else stays.
-use Rattle.std.proofs.Common.{◌≡◌, ◌≢◌, ℕ, ◌+◌, ◌-◌, ◌*◌, ◌/◌, ◌%◌, ◌<◌, ◌≤◌, ◌⊎◌, min, inl, inr, Bool, true, false, cond, eqb, eqb-true, eq-eqb, ne_eqb, leb, ltb, leb-true, ltb-true, lt-ltb, ◌&&◌, ◌||◌, not, List, [], ◌∷◌, ◌++◌, length, take, replicate, Option, Some, None, is_some, unwrap_or, IsTrue, refl, sym, ap, ◌∙◌, subst, subst₂, arith}
+use Rattle.std.proofs.Common.{◌≡◌, ◌≢◌, ℕ, ◌+◌, ◌-◌, ◌*◌, ◌/◌, ◌%◌, ◌<◌, ◌≤◌, ◌⊎◌, min, inl, inr, Bool, true, false, cond, eqb, eq-eqb, ne_eqb, leb, ltb, leb-true, ltb-true, ◌&&◌, not, List, ◌++◌, length, take, Option, Some, None, unwrap_or, IsTrue, refl, sym, ap, ◌∙◌, subst, arith}
 use Rattle.std.proofs.lemmas.Bool.{cases_eq, cases_lt, le-leb}
 use Rattle.nofs_ptrs.specs.Paths.{slot_limit}
 use Rattle.nofs_disk.specs.Disk.{DiskState, IsDisk, cell_at}
 use Rattle.nofs_super.specs.Geometry.{IsGeometry}
 use Rattle.nofs_inode.specs.declared.inode.FileKind.TheVariants.{File}
-use Rattle.nofs_model.specs.Cells.{Cell, Pointer, Record, SuperBlock, is_null, pointer_at, tag_of, is_live}
-use Rattle.nofs_model.specs.Image.{Image, super_at, file_from, value_in, is_data_block, inode, Path, InRecord, Under, path_of, slot_of, is_pointer_slot, IsSlot, find, record_pointer, files_in, agreed, FileState, Files, is_folder, IsBelow}
+use Rattle.nofs_model.specs.Cells.{Cell, Pointer, Record, is_null, pointer_at, tag_of, is_live}
+use Rattle.nofs_model.specs.Image.{Image, super_at, file_from, value_in, is_data_block, inode, Path, InRecord, Under, path_of, slot_of, is_pointer_slot, IsSlot, find, record_pointer, Files, is_folder, IsBelow}
 use Rattle.nofs_model.specs.declared.path.PathAnswer.{PathAnswer}
 use Rattle.nofs_model.specs.declared.path.PathAnswer.TheVariants as answer
 use Rattle.nofs_model.specs.declared.value.Value.{Value}
@@ -28,7 +28,7 @@ use Rattle.nofs_law_files.specs.Resizes.{is_cut, cut_at, ResizeLies}
 use Rattle.nofs_law_files.proofs.PutFile.{file-in}
 use Rattle.nofs_law_numbers.specs.Cells.{OldNumbers}
 use Rattle.nofs_state.specs.Standing.{IsOpen, Past}
-use Rattle.nofs_state.specs.Writing.{OneOf, image_after}
+use Rattle.nofs_state.specs.Writing.{image_after}
 use Rattle.nofs_state.specs.declared.books.Books.{Books}
 use Rattle.nofs_state.proofs.Replies.{open-files}
 use Rattle.nofs_state.proofs.Machine.{agreed-live}

@@ -1,9 +1,9 @@
 -- Which slots are cut, by their places and by their numbers.
-use Rattle.std.proofs.Common.{◌≡◌, ◌≢◌, ℕ, ◌+◌, ◌-◌, ◌*◌, ◌/◌, ◌%◌, ◌^◌, ◌<◌, ◌≤◌, ◌⊎◌, min, inl, inr, Bool, true, false, cond, eqb-true, leb, leb-true, ◌||◌, refl, sym, ap, ◌∙◌, subst, arith}
+use Rattle.std.proofs.Common.{◌≡◌, ℕ, ◌+◌, ◌-◌, ◌*◌, ◌/◌, ◌^◌, ◌<◌, ◌≤◌, ◌⊎◌, inl, inr, Bool, true, false, cond, eqb-true, leb, leb-true, ◌||◌, refl, sym, ap, ◌∙◌, arith}
 use Rattle.std.proofs.lemmas.Bool.{cases_lt, le-leb}
 use Rattle.std.proofs.lemmas.Bool.Decides.{nat_tests}
 use Rattle.nofs_ptrs.specs.Paths.{slot_limit}
-use Rattle.nofs_model.specs.Image.{Path, InRecord, Under, path_of, is_pointer_slot, IsSlot}
+use Rattle.nofs_model.specs.Image.{Path, InRecord, Under, path_of, IsSlot}
 use Rattle.nofs_model.proofs.Paths.{path-record, path-child}
 use Rattle.nofs_law_files.specs.Resizes.{is_cut}
 use Rattle.nofs_files.specs.Resizing.{first_cut, last_child}

@@ -1,13 +1,12 @@
 -- A Resize reads all that it asks: what is known of the disk stays over each read, and each read that fails ends it.
-use Rattle.std.proofs.Common.{◌≡◌, ℕ, ◌+◌, ◌*◌, ◌^◌, ◌<◌, ◌≤◌, ◌⊎◌, inl, inr, Bool, true, false, List, Option, Some, None, IsTrue, Result, Ok, Err, refl, sym, ap, ◌∙◌, subst, arith, le_refl}
+use Rattle.std.proofs.Common.{◌≡◌, ℕ, ◌*◌, ◌≤◌, inl, inr, Bool, true, false, List, Option, None, IsTrue, Result, Ok, Err, refl, sym, subst, le_refl}
 use Rattle.nofs_ptrs.specs.Paths.{slot_limit}
-use Rattle.nofs_disk.specs.Disk.{DiskState, IsDisk, StaysButFaults, Rose}
+use Rattle.nofs_disk.specs.Disk.{DiskState, IsDisk, StaysButFaults}
 use Rattle.nofs_disk.specs.Chains.{StaysButFaults-trans, Rose-within}
 use Rattle.nofs_disk.specs.declared.Failed.{Failed}
 use Rattle.nofs_model.specs.Cells.{Record, SuperBlock}
 use Rattle.nofs_model.specs.Image.{Image}
 use Rattle.nofs_machine.specs.Claims.{no_claims}
-use Rattle.nofs_machine.specs.declared.history.Entry1.{Entry1}
 use Rattle.nofs_machine.specs.declared.steps.Step.TheVariants as step
 use Rattle.nofs_machine.specs.declared.replies.Reply.TheVariants as reply
 use Rattle.nofs_machine.specs.declared.replies.Refusal.{Refusal}
@@ -16,7 +15,6 @@ use Rattle.nofs_agree.specs.Chains.{AreAgreed}
 use Rattle.nofs_agree.specs.declared.reads.LastRead.{LastRead}
 use Rattle.nofs_agree.proofs.Climbs.{KnowsInode-on}
 use Rattle.nofs_state.specs.Books.{IsSafe}
-use Rattle.nofs_state.specs.Standing.{IsOpen, Past}
 use Rattle.nofs_state.specs.Steps.{Goes}
 use Rattle.nofs_state.specs.Opening.{is_current}
 use Rattle.nofs_state.specs.declared.books.Books.{Books}
@@ -24,7 +22,7 @@ use Rattle.nofs_state.proofs.Replies.{goes-read}
 use Rattle.nofs_state.proofs.Keeping.{goes-after, goes-memory, open-back, reads-keep, safe-keeps}
 use Rattle.nofs_files.specs.Answers.{IsFile, OpensFile, slots_of}
 use Rattle.nofs_state.specs.Owing.{RowsPass}
-use Rattle.nofs_files.specs.Resizing.{FindsEdge, FindsTail, IsCutMap, IsEdge, IsTail, MarkFails, MarksCut, kept_slots, resize_answer}
+use Rattle.nofs_files.specs.Resizing.{FindsEdge, FindsTail, IsCutMap, IsEdge, IsTail, MarksCut, kept_slots, resize_answer}
 use Rattle.nofs_files.specs.declared.cutting.NewCell.{NewCell}
 use Rattle.nofs_files.specs.declared.cutting.Edge.{Edge}
 use Rattle.nofs_files.proofs.CutGoes.{map-after}

@@ -1,19 +1,19 @@
 -- The rows of a Resize.
-use Rattle.std.proofs.Common.{◌≡◌, ◌≢◌, ℕ, ◌+◌, ◌-◌, ◌*◌, ◌/◌, ◌<◌, ◌≤◌, min, inl, inr, Bool, true, false, cond, eqb, ltb, lt-ltb, ltb-true, ◌&&◌, List, [], ◌∷◌, Option, Some, None, IsTrue, Result, Ok, Err, refl, sym, ap, ◌∙◌, subst, arith}
+use Rattle.std.proofs.Common.{◌≡◌, ◌≢◌, ℕ, ◌+◌, ◌-◌, ◌*◌, ◌<◌, ◌≤◌, Bool, true, false, cond, eqb, ltb, lt-ltb, ltb-true, ◌&&◌, List, [], ◌∷◌, Option, Some, None, IsTrue, Result, Err, refl, sym, ap, ◌∙◌, subst, arith}
 use Rattle.std.proofs.lemmas.Bool.Decides.{nat_tests}
 use Rattle.nofs_ptrs.specs.Paths.{slot_limit}
 use Rattle.nofs_disk.specs.Disk.{DiskState, IsDisk, StaysButFaults}
-use Rattle.nofs_inode.specs.declared.inode.FileKind.TheVariants.{File, Directory}
+use Rattle.nofs_inode.specs.declared.inode.FileKind.TheVariants.{Directory}
 use Rattle.nofs_model.specs.Cells.{Record, SuperBlock}
-use Rattle.nofs_model.specs.Image.{Image, inode, Path, InRecord, Under, is_pointer_slot, IsSlot, find, node_in, files_in, agreed, NodeState, Files}
+use Rattle.nofs_model.specs.Image.{Image, Path, InRecord, Under, is_pointer_slot, IsSlot, find, node_in, files_in, agreed, Files}
 use Rattle.nofs_model.specs.Files.{is_kind}
 use Rattle.nofs_model.specs.declared.path.PathAnswer.{PathAnswer}
 use Rattle.nofs_model.specs.declared.path.PathAnswer.TheVariants as answer
 use Rattle.nofs_machine.specs.Search.{first_of}
-use Rattle.nofs_machine.specs.Machine.{is_folder_at, node_of, size_of, slots_in}
+use Rattle.nofs_machine.specs.Machine.{is_folder_at, node_of, size_of}
 use Rattle.nofs_machine.specs.World.{World}
 use Rattle.nofs_machine.specs.Claims.{no_claims}
-use Rattle.nofs_machine.specs.Refusals.{row, rows, slots, stale, is_directory, is_damaged, lost_resize, reads_nothing}
+use Rattle.nofs_machine.specs.Refusals.{row, rows, slots, stale, is_directory, is_damaged, lost_resize}
 use Rattle.nofs_machine.specs.History.{FilesMatch}
 use Rattle.nofs_machine.specs.declared.history.Entry1.{Entry1}
 use Rattle.nofs_machine.specs.declared.steps.Step.TheVariants as step

@@ -1,9 +1,9 @@
 -- Blocks of pointers that are lost above a slot, and what a Put answers then.
-use Rattle.std.proofs.Common.{◌≡◌, ℕ, ◌+◌, ◌^◌, ◌<◌, ◌≤◌, Bool, true, false, ltb, List, [], ◌∷◌, IsTrue, Err, inr, refl, sym, ap, ◌∙◌, subst, arith}
+use Rattle.std.proofs.Common.{◌≡◌, ℕ, ◌+◌, ◌^◌, ◌<◌, Bool, true, false, ltb, List, [], ◌∷◌, IsTrue, Err, inr, refl, sym, ap, ◌∙◌, subst, arith}
 use Rattle.nofs_ptrs.specs.Paths.{slot_limit}
 use Rattle.nofs_disk.specs.Disk.{DiskState, IsDisk, StaysButFaults, Rose}
 use Rattle.nofs_model.specs.Cells.{Pointer}
-use Rattle.nofs_model.specs.Image.{Image, Path, InRecord, Under, path_of, is_pointer_slot, find, files_in, agreed, Files, NodeState, Absent, Present}
+use Rattle.nofs_model.specs.Image.{Image, Path, InRecord, Under, path_of, find, files_in, agreed, Files, NodeState, Absent, Present}
 use Rattle.nofs_model.specs.Image.{Damaged, node_in, IsSlot}
 use Rattle.nofs_model.specs.declared.path.PathAnswer.{PathAnswer}
 use Rattle.nofs_model.specs.declared.path.PathAnswer.TheVariants as answer

@@ -1,7 +1,8 @@
 -- The exits of Flush.
 use Rattle.std.proofs.Common.{◌≡◌, ℕ, Bool, true, false, cond, not, eqb, ◌&&◌, is_some, List, [], ◌∷◌, Option, Some, None, IsTrue, Result, Ok, Err, refl}
 use Rattle.std.proofs.Common.{sym, ap, ◌∙◌, subst, subst₂}
-use Rattle.nofs_disk.specs.Disk.{DiskState, IsDisk}
+use Rattle.std.specs.Prelude.{OnOk}
+use Rattle.nofs_disk.specs.Disk.{DiskState, IsDisk, IsSettled}
 use Rattle.nofs_model.specs.Image.{Image}
 use Rattle.nofs_agree.specs.Chains.{AreAgreed}
 use Rattle.nofs_machine.specs.Search.{first_of}
@@ -27,6 +28,11 @@ use Rattle.nofs_state.proofs.Replies.{open-files}
 use Rattle.nofs_state.proofs.Rows.{IsLate, first-late, late-row, goes-unopened}
 use Rattle.nofs_state.proofs.Machine.{are-agreed, stale-none}
 use Rattle.nofs_files.specs.Answers.{FlushesDisk, Flushed, NotFlushed, flush_answer}
+
+-- what was flushed is settled
+pub settled-by : (old new : DiskState) (k l : Books) (result : Result (Unit {0}) Refusal) → FlushesDisk old k new l result → OnOk result (IsSettled new)
+settled-by old new k l result (Flushed f same e) = subst (λ (r : Result (Unit {0}) Refusal). OnOk r (IsSettled new)) (sym e) f.settled
+settled-by old new k l result (NotFlushed x f same e) = subst (λ (r : Result (Unit {0}) Refusal). OnOk r (IsSettled new)) (sym e) tt
 
 -- the flush itself
 pub ends-flush : (old new : DiskState) (k l : Books) (i g : ℕ) (result : Result (Unit {0}) Refusal) → IsDisk old → IsDisk new → IsSafe old k → k.stopped ≡ false

@@ -1,17 +1,16 @@
 -- A Put that claims blocks of pointers too: a leaf, a child, or a child and the top.
-use Rattle.std.proofs.Common.{◌≡◌, ◌≢◌, ℕ, zero, suc, ◌+◌, ◌-◌, ◌*◌, ◌/◌, ◌%◌, ◌^◌, ◌<◌, ◌≤◌, ◌⊎◌, max, inl, inr, Bool, true, false, cond, eqb, eqb-true}
-use Rattle.std.proofs.Common.{ne_eqb, not, List, [], ◌∷◌, ◌++◌, length, get_or, Option, Some, None, IsTrue, Result, Ok, Err, refl, sym, ap, ◌∙◌, subst}
-use Rattle.std.proofs.Common.{subst₂, arith}
+use Rattle.std.proofs.Common.{◌≡◌, ◌≢◌, ℕ, ◌+◌, ◌*◌, ◌^◌, ◌<◌, ◌≤◌, ◌⊎◌, max, inl, inr, Bool, true, false, eqb}
+use Rattle.std.proofs.Common.{ne_eqb, not, List, [], ◌∷◌, length, Some, IsTrue, Result, refl, sym, ap, ◌∙◌, subst}
+use Rattle.std.proofs.Common.{arith}
 use Rattle.std.specs.Prelude.{slice_set}
-use Rattle.std.proofs.lemmas.Bool.{cases_eq}
 use Rattle.nofs_ptrs.specs.Paths.{slot_limit}
 use Rattle.nofs_bits.specs.Bits.{is_set}
 use Rattle.nofs_disk.specs.Disk.{DiskState, IsDisk, StaysButFaults, cell_at}
 use Rattle.nofs_disk.specs.Number as number
 use Rattle.nofs_inode.specs.declared.inode.FileKind.TheVariants.{File}
-use Rattle.nofs_model.specs.Cells.{Cell, Content, Leaf, Pointer, Record, Tag, is_null, null, pointer_at, record_of, tag_of}
-use Rattle.nofs_model.specs.Image.{Image, inode, value, Path, InRecord, Under, path_of, slot_of, kind_in, tag_for, find, pointer, record_pointer, files_in}
-use Rattle.nofs_model.specs.Image.{agreed, IsAbove, is_pointer_slot}
+use Rattle.nofs_model.specs.Cells.{Cell, Content, Leaf, Pointer, Record, is_null, null, pointer_at, record_of, tag_of}
+use Rattle.nofs_model.specs.Image.{Image, inode, value, Path, InRecord, Under, path_of, slot_of, kind_in, tag_for, find, record_pointer, files_in}
+use Rattle.nofs_model.specs.Image.{agreed, is_pointer_slot}
 use Rattle.nofs_model.specs.declared.path.PathAnswer.TheVariants as answer
 use Rattle.nofs_model.specs.declared.value.Value.TheVariants.{Bytes}
 use Rattle.nofs_model.proofs.Paths.{below-null}
@@ -47,7 +46,7 @@ use Rattle.nofs_files.proofs.Climbed.{IsClimb, climb-goes}
 use Rattle.nofs_files.proofs.Climbing.{Climbs}
 use Rattle.nofs_files.proofs.Needs.{claim-three, claim-two, claims_are, needs-are, IsTaken}
 use Rattle.nofs_files.proofs.Parts.{Takes}
-use Rattle.nofs_files.proofs.Ways.{IsNew, IsOld, IsChanged, each-new, each-next, way_writes}
+use Rattle.nofs_files.proofs.Ways.{IsNew, IsOld, each-new, each-next, way_writes}
 
 -- the exit of each Put that writes, from the state before its last reads
 pub ways-end : (old mid new : DiskState) (k l' l : Books) (i g slot at : ℕ) (bytes : List ℕ) (r r' : Record) (m : ℕ) (way : Path) (places : Path → Pointer)

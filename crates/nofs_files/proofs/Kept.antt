@@ -1,12 +1,12 @@
 -- What stays over a Put, and what a claim leaves.
 use Rattle.std.proofs.Common.{◌≡◌, ℕ, ◌<◌, inl, inr, Bool, true, false, cond, eqb, leb, ltb, ◌&&◌, List, Option, Some, None, unwrap_or, refl, sym, ap, ◌∙◌}
-use Rattle.std.proofs.Common.{subst, arith, ◌-◌, ◌^◌}
+use Rattle.std.proofs.Common.{subst, arith, ◌^◌}
 use Rattle.std.specs.Prelude.{slice_set}
 use Rattle.std.proofs.lemmas.Bool.{cases_eq}
 use Rattle.std.proofs.lemmas.Bool.Decides.{nat_tests}
 use Rattle.nofs_ptrs.specs.Paths.{slot_limit}
 use Rattle.nofs_disk.specs.Disk.{DiskState}
-use Rattle.nofs_model.specs.Image.{inode, path_of, FileState, Files, is_folder, Home, NodeState, Present, Absent}
+use Rattle.nofs_model.specs.Image.{path_of, FileState, Files, is_folder, Home, NodeState, Present, Absent}
 use Rattle.nofs_model.specs.declared.value.Value.{Value}
 use Rattle.nofs_model.specs.declared.value.Value.TheVariants.{Hole, Bytes, Lost}
 use Rattle.nofs_machine.specs.Meta.{is_bytes}
@@ -18,7 +18,6 @@ use Rattle.nofs_law_files.proofs.PutFile.{put-made, put-new, put-gives}
 use Rattle.nofs_state.specs.Books.{IsSafe, claimed_books}
 use Rattle.nofs_state.specs.declared.books.Books.{Books}
 use Rattle.nofs_bits.specs.Bits.{is_set}
-use Rattle.nofs_model.specs.Cells.{Content}
 use Rattle.nofs_state.proofs.Maps.{set-here, set-other, set-length}
 use Rattle.nofs_disk.specs.Number.{put_bytes}
 use Rattle.nofs_machine.proofs.EntryPut.{zeros-are}

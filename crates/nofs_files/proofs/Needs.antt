@@ -1,27 +1,24 @@
 -- How many blocks a Put asks for, and what it claims.
-use Rattle.std.proofs.Common.{◌≡◌, ◌≢◌, ℕ, zero, suc, ◌+◌, ◌*◌, ◌^◌, ◌<◌, ◌≤◌, ◌⊎◌, inl, inr, Bool, true, false, cond, eqb, ne_eqb, ltb, not, List, [], ◌∷◌}
-use Rattle.std.proofs.Common.{◌++◌, Option, Some, None, is_some, IsTrue, refl, sym, ap, ◌∙◌, subst, arith, Contains}
+use Rattle.std.proofs.Common.{◌≡◌, ◌≢◌, ℕ, zero, suc, ◌+◌, ◌<◌, ◌⊎◌, inl, inr, Bool, true, false, cond, ltb, List, [], ◌∷◌}
+use Rattle.std.proofs.Common.{◌++◌, refl, sym, ap, ◌∙◌, subst, arith, Contains}
 use Rattle.nofs_ptrs.specs.Paths.{slot_limit}
-use Rattle.nofs_bits.specs.Bits.{is_set}
-use Rattle.nofs_disk.specs.Disk.{DiskState}
-use Rattle.nofs_model.specs.Cells.{Pointer, null, is_live}
-use Rattle.nofs_model.specs.Image.{Image, inode, value, Path, InRecord, Under, path_of, is_pointer_slot, find, pointer, files_in, file_from, agreed, Files}
-use Rattle.nofs_model.specs.Image.{NodeState, Absent, Present, Damaged, node_in, FileState, IsAbove, IsSlot}
-use Rattle.nofs_model.specs.declared.path.PathAnswer.{PathAnswer}
+use Rattle.nofs_model.specs.Cells.{Pointer, null}
+use Rattle.nofs_model.specs.Image.{Image, value, Path, InRecord, Under, path_of, is_pointer_slot, find, pointer, files_in, agreed, Files}
+use Rattle.nofs_model.specs.Image.{NodeState, Absent, Present, Damaged, node_in, IsAbove, IsSlot}
 use Rattle.nofs_model.specs.declared.path.PathAnswer.TheVariants as answer
 use Rattle.nofs_model.proofs.Find.{find-held}
-use Rattle.nofs_model.proofs.Paths.{above-refl, above-slot, path_of-slot}
+use Rattle.nofs_model.proofs.Paths.{above-refl, path_of-slot}
 use Rattle.nofs_machine.specs.Meta.{is_bytes}
 use Rattle.nofs_machine.specs.Machine.{value_of, node_of}
 use Rattle.nofs_machine.specs.World.{World, absent_above, blocks_for, is_free_block}
 use Rattle.nofs_machine.specs.Claims.{IsClaim, IsBlockClaim, Claimed, Unclaimed, NoInode, Apart, claimed_blocks, is_claimed, next_stamp, no_claims}
-use Rattle.nofs_machine.specs.History.{FilesMatch, SameFile}
+use Rattle.nofs_machine.specs.History.{FilesMatch}
 use Rattle.nofs_machine.specs.declared.history.Claims.{Claims}
 use Rattle.nofs_machine.specs.declared.steps.Step.TheVariants as step
 use Rattle.nofs_law_untouched.proofs.Matching.{matched-agreed}
 use Rattle.nofs_law_files.proofs.PutFile.{file-in}
 use Rattle.nofs_files.proofs.FileRows.{value-is}
-use Rattle.nofs_files.proofs.Ways.{IsNew, IsOld, way-changed}
+use Rattle.nofs_files.proofs.Ways.{IsNew, IsOld}
 use Rattle.nofs_state.proofs.Machine.{agreed-live}
 
 -- above a slot that holds, each slot holds

@@ -1,9 +1,9 @@
 -- The parts of a claim: their stamps are new, they have their homes, and the maps follow them.
-use Rattle.std.proofs.Common.{◌≡◌, ◌≢◌, ℕ, ◌+◌, ◌*◌, ◌^◌, ◌<◌, ◌≤◌, ◌⊎◌, inl, inr, Bool, true, false, cond, eqb, eqb-true, eq-eqb, ◌&&◌, not, List, [], ◌∷◌}
+use Rattle.std.proofs.Common.{◌≡◌, ◌≢◌, ℕ, ◌+◌, ◌≤◌, ◌⊎◌, inl, inr, Bool, true, false, cond, eqb, eqb-true, eq-eqb, ◌&&◌, List, [], ◌∷◌}
 use Rattle.std.proofs.Common.{Option, Some, None, is_some, refl, sym, ap, ◌∙◌, subst, arith}
 use Rattle.nofs_bits.specs.Bits.{is_set}
-use Rattle.nofs_model.specs.Cells.{Pointer, null}
-use Rattle.nofs_model.specs.Image.{Path, Files, Home, home_at, path_of, slot_of}
+use Rattle.nofs_model.specs.Cells.{Pointer}
+use Rattle.nofs_model.specs.Image.{Files, Home, home_at, path_of, slot_of}
 use Rattle.nofs_model.proofs.Find.{and-both}
 use Rattle.nofs_machine.specs.Search.{first_of}
 use Rattle.nofs_machine.specs.World.{World}

@@ -1,5 +1,5 @@
 -- A Put in place, and one into a direct slot, are ways with no new slot and with one.
-use Rattle.std.proofs.Common.{◌≡◌, ◌≢◌, ℕ, ◌+◌, ◌*◌, ◌<◌, max, inl, inr, Bool, true, false, cond, List, length, Some, refl, sym, ap, ◌∙◌, subst, ◌-◌, ◌^◌}
+use Rattle.std.proofs.Common.{◌≡◌, ◌≢◌, ℕ, ◌+◌, ◌*◌, ◌<◌, max, inl, inr, Bool, true, false, cond, List, length, Some, refl, sym, ap, ◌∙◌, subst, ◌^◌}
 use Rattle.std.proofs.Common.{eqb, [], ◌∷◌, get_or, IsTrue, Result, arith, ltb}
 use Rattle.nofs_ptrs.specs.Paths.{slot_limit}
 use Rattle.nofs_disk.specs.Disk.{cell_at, DiskState, IsDisk, StaysButFaults}

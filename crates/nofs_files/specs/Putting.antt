@@ -1,9 +1,9 @@
 -- What Put owes and answers.
-use Rattle.std.specs.Prelude.{◌≡◌, ◌≢◌, ℕ, ◌+◌, ◌-◌, ◌%◌, ◌<◌, ◌&&◌, ◌||◌, ◌==◌, not, nat_lt, nat_le, Bool, true, List, length, [], ◌∷◌, Some, None}
+use Rattle.std.specs.Prelude.{◌≡◌, ℕ, ◌+◌, ◌%◌, ◌<◌, ◌&&◌, ◌||◌, ◌==◌, not, nat_lt, nat_le, Bool, true, List, length, [], ◌∷◌}
 use Rattle.std.specs.Prelude.{if◌then◌else◌, IsTrue, Result, Ok, Err, slice_set}
 use Rattle.nofs_bits.specs.Bits.{NoneSet, is_set}
 use Rattle.nofs_disk.specs.Disk.{DiskState}
-use Rattle.nofs_model.specs.Cells.{Cell, Pointer, Record, record_of}
+use Rattle.nofs_model.specs.Cells.{Pointer, Record}
 use Rattle.nofs_machine.specs.Search.{first_of}
 use Rattle.nofs_machine.specs.World.{World, damaged_above}
 use Rattle.nofs_machine.specs.Machine.{cut_of, slots_in}

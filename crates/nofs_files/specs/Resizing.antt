@@ -17,7 +17,7 @@ use Rattle.nofs_machine.specs.declared.replies.Refusal.{Refusal}
 use Rattle.nofs_machine.specs.declared.replies.Refusal.TheVariants as refusal
 use Rattle.nofs_agree.specs.Reading.{IsLast}
 use Rattle.nofs_agree.specs.declared.reads.LastRead.{LastRead}
-use Rattle.nofs_state.specs.Owning.{IsBlockAmong}
+use Rattle.nofs_state.specs.Owning.{IsBlockAmong, MarkFails}
 use Rattle.nofs_files.specs.declared.cutting.NewCell.{NewCell}
 use Rattle.nofs_files.specs.declared.cutting.Edge.{Edge}
 
@@ -164,10 +164,6 @@ pub record IsCutMap (d : DiskState) (at : SuperBlock) (i kept : ℕ) (freed : Li
   pub contents : IsTrue d.tells → (k : ℕ) (x : Pointer) → kept ≤ k → k < slot_limit → find d.now i (path_of k) ≡ answer.Holds x → is_set freed x.block ≡ true
   pub pointers : IsTrue d.tells → (k : ℕ) (x : Pointer) → first_cut kept ≤ k → k < 2 ^ 32 + 66 → find d.now i (path_of k) ≡ answer.Holds x
       → is_set freed x.block ≡ true
-
--- why the blocks are not found
-abbrev pub MarkFails : DiskState → DiskState → Refusal → Type 0
-MarkFails old new why = (why ≡ refusal.OutOfMemory) ⊎ ((why ≡ refusal.ReadFault) × Rose old.faults new.faults)
 
 pub record MarksCut (old new : DiskState) (at : SuperBlock) (i kept : ℕ) (last : LastRead) (result : Result (List Bool) Refusal) : Type 0 where
   pub stays : StaysButFaults old new

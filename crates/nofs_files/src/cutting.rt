@@ -12,13 +12,12 @@ ghost use Rattle.nofs_files.specs.Resizing.{CutsBlock, FindsEdge, FindsFar, Find
 use crate::content::trim;
 use crate::files::find_content;
 use nofs_agree::{LastRead, PathAnswer, find_slot};
-use nofs_bits::Bits;
 use nofs_disk::{Cell, Disk, Failed, Pointer};
 use nofs_inode::Record;
 use nofs_machine::Refusal;
 use nofs_model::Place;
 use nofs_ptrs::{SLOT_LIMIT, write_pointer};
-use nofs_state::mark_slots;
+use nofs_state::{FreedBlocks, mark_slots};
 use nofs_super::SuperBlock;
 use std::alloc::Global;
 
@@ -61,7 +60,7 @@ fn first_cut(kept: u64) -> u64
     }
 }
 
-/// Marks the blocks of the slots that go, in a new map with a place for each block of the disk.
+/// The blocks of the slots that go.
 ///
 /// # Errors
 ///
@@ -74,24 +73,21 @@ pub(crate) fn mark_cut<D: Disk>(
     it: &Record,
     kept: u64,
     last: &mut LastRead,
-) -> Result<Bits, Refusal>
+) -> Result<FreedBlocks, Refusal>
     requires known { KnowsInode (D.state disk.old) at.now inode it.now }
     requires kept { kept ≤ slot_limit }
     requires last { IsLast (D.state disk.old) last.old }
     ensures { MarksCut (D.state disk.old) (D.state disk.new) at.now inode kept last.new result }
 {
-    let mut freed = match Bits::new(alloc, at.blocks) {
-        Ok(freed) => freed,
-        Err(_) => return Err(Refusal::OutOfMemory),
-    };
+    let mut freed = FreedBlocks::new(alloc, at.blocks);
     match mark_slots(disk, at, inode, it, kept, SLOT_LIMIT, &mut freed, last) {
         Ok(()) => {}
-        Err(_) => return Err(Refusal::ReadFault),
+        Err(why) => return Err(why),
     }
     let first = first_cut(kept);
     match mark_slots(disk, at, inode, it, first, (1 << 32) + 66, &mut freed, last) {
         Ok(()) => Ok(freed),
-        Err(_) => Err(Refusal::ReadFault),
+        Err(why) => Err(why),
     }
 }
 

@@ -1,5 +1,6 @@
 //! Making durable what was written.
-ghost use Rattle.std.specs.Prelude.{◌≡◌, ◌≤◌, ◌==◌, ◌&&◌};
+ghost use Rattle.std.specs.Prelude.{◌≡◌, ◌≤◌, ◌==◌, ◌&&◌, OnOk};
+ghost use Rattle.nofs_disk.specs.Disk.{IsSettled};
 ghost use Rattle.nofs_machine.specs.Claims.{no_claims};
 ghost use Rattle.nofs_machine.specs.declared.steps.Step.TheVariants as step;
 ghost use Rattle.nofs_state.specs.Books.{IsSafe};
@@ -11,10 +12,12 @@ use nofs_disk::Disk;
 use nofs_machine::Refusal;
 use nofs_state::{Core, open_inode};
 
-/// Makes all that was written durable. Inode 0 of generation 0 names the whole disk.
+/// Makes all that was written durable. Inode 0 of generation 0 names the whole disk. Where it is done, a crash leaves just what a read
+/// gives.
 pub fn flush<D: Disk + Drop>(core: &mut Core<D>, inode: u32, generation: u64) -> Result<(), Refusal>
     requires { IsSafe (D.state core.old.disk) core.old.books }
-    ensures { Goes (D.state core.old.disk) core.old.books (D.state core.new.disk) core.new.books (step.Flush inode generation) no_claims (flush_answer result) }
+    ensures goes { Goes (D.state core.old.disk) core.old.books (D.state core.new.disk) core.new.books (step.Flush inode generation) no_claims (flush_answer result) }
+    ensures settled { OnOk result (IsSettled (D.state core.new.disk)) }
 {
     match core.disk.ready(1) {
         Ok(()) => flush_with_room(core, inode, generation),
@@ -29,7 +32,8 @@ fn flush_with_room<D: Disk + Drop>(
 ) -> Result<(), Refusal>
     requires safe { IsSafe (D.state core.old.disk) core.old.books }
     requires spare { 1 ≤ (D.state core.old.disk).spare }
-    ensures { Goes (D.state core.old.disk) core.old.books (D.state core.new.disk) core.new.books (step.Flush inode generation) no_claims (flush_answer result) }
+    ensures goes { Goes (D.state core.old.disk) core.old.books (D.state core.new.disk) core.new.books (step.Flush inode generation) no_claims (flush_answer result) }
+    ensures settled { OnOk result (IsSettled (D.state core.new.disk)) }
 {
     if core.books.stopped {
         return Err(Refusal::Stopped);

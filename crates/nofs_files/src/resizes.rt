@@ -17,11 +17,10 @@ use crate::cutting::{Edge, NewCell, cut_record, find_edge, find_tail, kept_slots
 use crate::files::{open_file, slots_of};
 use crate::puts::with_record;
 use nofs_agree::{LastRead, read_block};
-use nofs_bits::Bits;
 use nofs_disk::{Cell, Disk, Failed};
 use nofs_inode::{FileKind, Record};
 use nofs_machine::Refusal;
-use nofs_state::Core;
+use nofs_state::{Core, FreedBlocks};
 use std::alloc::Global;
 
 // Writes the cell of the inode table, the last write of all.
@@ -127,7 +126,7 @@ fn resize_cut<D: Disk + Drop>(
     size: u64,
     tail: &Option<NewCell>,
     edge: &Edge,
-    freed: &Bits,
+    freed: &FreedBlocks,
     last: &mut LastRead,
 ) -> Result<(), Refusal>
     requires safe { IsSafe (D.state core.old.disk) core.old.books }

@@ -58,13 +58,13 @@ flush-keeps W V e next er d g p entry v h =
 
 -- The places of both names
 
-record Places (F : Files) (d : ℕ) (name : List ℕ) : Type 0 where
-  place : ℕ
-  entry : Entry
-  finds : found F d name ≡ Some place
-  there : entry_at F d place ≡ Some entry
+pub record Places (F : Files) (d : ℕ) (name : List ℕ) : Type 0 where
+  pub place : ℕ
+  pub entry : Entry
+  pub finds : found F d name ≡ Some place
+  pub there : entry_at F d place ≡ Some entry
 
-look-places : (W V : World) (e : Entry1) (d dg i g : ℕ) (name : List ℕ) (kind : FileKind) → Next W e V → e.step ≡ step.Look d dg name → e.reply ≡ reply.Found (record { inode = i; generation = g; kind = kind }) → Places W.files d name
+pub look-places : (W V : World) (e : Entry1) (d dg i g : ℕ) (name : List ℕ) (kind : FileKind) → Next W e V → e.step ≡ step.Look d dg name → e.reply ≡ reply.Found (record { inode = i; generation = g; kind = kind }) → Places W.files d name
 look-places W V e d dg i g name kind next es er =
     let a = accepted-acts W V e next (ap is_refused er) in
     let answer : found_reply W.files d (found W.files d name) ≡ reply.Found (record { inode = i; generation = g; kind = kind }) = sym (ap (λ (s : Step). reply_of W s e.claims) es) ∙ sym a.2 ∙ er in
@@ -81,7 +81,7 @@ look-places W V e d dg i g name kind next es er =
     go None ep h = absurd (refused (found_reply W.files d None) refl h)
     go (Some p) ep h = by p ep (entry_at W.files d p) refl h
 
-link-place-is : (W V : World) (e : Entry1) (d dg i g : ℕ) (name : List ℕ) → Next W e V → e.step ≡ step.Link d dg name i g → e.reply ≡ reply.Linked → (p : ℕ) × (place_for W.files d name ≡ Some p)
+pub link-place-is : (W V : World) (e : Entry1) (d dg i g : ℕ) (name : List ℕ) → Next W e V → e.step ≡ step.Link d dg name i g → e.reply ≡ reply.Linked → (p : ℕ) × (place_for W.files d name ≡ Some p)
 link-place-is W V e d dg i g name next es er =
     let a = accepted-acts W V e next (ap is_refused er) in
     let r : first_of (rows W V (step.Link d dg name i g)) ≡ None = subst (λ (s : Step). first_of (rows W V s) ≡ None) es a.0 in
@@ -148,7 +148,7 @@ module _ (B : Image) (H : List Entry1) (r : SaneRun B H) (d dg : ℕ) (name : Li
       is_entry = old.there;
       new_place = fresh.0;
       is_new = fresh.1;
-      old_stays = λ p e low high ne nd there. flush-at p e there (others p e low high ne nd there) d dg old.place old.entry;
+      old_stays = λ p e low high ne before there. flush-at p e there (others p e low high ne (λ h. omega (arith, h, before)) there) d dg old.place old.entry;
       new_stays = λ p e low high nd there. flush-at p e there (others p e (omega (arith, low)) high (λ h. omega (arith, h, low)) nd there) d2 dg2 fresh.0 (record { inode = i; generation = g; name = new });
     },
     record { second = length a.before + 3; after_link = omega arith; before_drop = omega arith; flushed = record { entry = a.second; there = at 3; flushed = a.flushes_again }; dropping = record { entry = a.drop; there = at 4; is = a.drops } },

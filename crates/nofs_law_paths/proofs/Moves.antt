@@ -132,7 +132,7 @@ module _ (B : Image) (H : List Entry1) (r : SaneRun B H) (d dg : ℕ) (name : Li
       (k.0, subst (λ (F : Files). Linked (λ x. Only (named_entry i g name) x) F i g k.0 (link_to d mv.old_place dg)) m.files k.1, k.2)
 
   -- it stays over each entry before Drop
-  old-guard : (b q : ℕ) (e : Entry1) → mv.look ≤ q → q ≤ mv.last → q ≢ mv.drop → slice_get H q ≡ Some e → (W V : World) → W.files ≡ files_before B H q → IsSane W → Next W e V
+  old-guard : (b q : ℕ) (e : Entry1) → mv.look ≤ q → q ≤ mv.last → q < mv.drop → slice_get H q ≡ Some e → (W V : World) → W.files ≡ files_before B H q → IsSane W → Next W e V
       → Linked (λ x. Only (named_entry i g name) x) W.files i g b (link_to d mv.old_place dg) → Guard (λ x. Only (named_entry i g name) x) W e (link_to d mv.old_place dg)
   old-guard b q e low high nd at W V files sane next l = go (eqb q mv.look) refl (eqb q mv.link) refl
     where
@@ -140,11 +140,11 @@ module _ (B : Image) (H : List Entry1) (r : SaneRun B H) (d dg : ℕ) (name : Li
       go true ex y ey =
           let same = same-entry H q mv.look e mv.looked.entry (eqb-true q mv.look ex) at mv.looked.there in
           let es : e.step ≡ step.Look d dg name = ap (λ (z : Entry1). z.step) same ∙ mv.looked.is in
-          plain-guard (named_entry i g name) W V e i g b (link_to d mv.old_place dg) sane next l (λ dir of o n h. no-rename (e.step) dir of o n h (ap is-plain es)) (λ of n h f. no-drop (e.step) d of n h (ap is-plain es))
+          plain-guard (named_entry i g name) W V e i g b (link_to d mv.old_place dg) sane next l (λ of o n h f. no-rename (e.step) d of o n h (ap is-plain es)) (λ of n h f. no-drop (e.step) d of n h (ap is-plain es))
       go false ex true ey =
           let same = same-entry H q mv.link e mv.linking.entry (eqb-true q mv.link ey) at mv.linking.there in
           let es : e.step ≡ step.Link d2 dg2 new i g = ap (λ (z : Entry1). z.step) same ∙ mv.linking.is in
-          plain-guard (named_entry i g name) W V e i g b (link_to d mv.old_place dg) sane next l (λ dir of o n h. no-rename (e.step) dir of o n h (ap is-plain es)) (λ of n h f. no-drop (e.step) d of n h (ap is-plain es))
+          plain-guard (named_entry i g name) W V e i g b (link_to d mv.old_place dg) sane next l (λ of o n h f. no-rename (e.step) d of o n h (ap is-plain es)) (λ of n h f. no-drop (e.step) d of n h (ap is-plain es))
       go false ex false ey =
           let apart : q ≢ mv.look = λ h. let z = eq-eqb q mv.look h in cc (ex, z) in
           let elsewhere : q ≢ mv.link = λ h. let z = eq-eqb q mv.link h in cc (ey, z) in
@@ -170,7 +170,7 @@ module _ (B : Image) (H : List Entry1) (r : SaneRun B H) (d dg : ℕ) (name : Li
       let second = mv.link_after in
       let by = mv.link_by_last in
       let l = linked-along B H r mv.look mv.link reach (λ x. Only (named_entry i g name) x) i g old.0 (link_to d mv.old_place dg) (λ x e. (ap (λ (y : Entry). y.inode) e, ap (λ (y : Entry). y.generation) e)) old.1
-      (λ q e low high at W V files sane next l. old-guard old.0 q e low (omega (arith, high, by)) (λ h. omega (arith, h, high, before)) at W V files sane next l) mv.link (omega (arith, first, second)) (omega arith) in
+      (λ q e low high at W V files sane next l. old-guard old.0 q e low (omega (arith, high, by)) (omega (arith, high, before)) at W V files sane next l) mv.link (omega (arith, first, second)) (omega arith) in
       let paired = linked-paired (λ x. Only (named_entry i g name) x) (files_before B H mv.link) i g old.0 (link_to d mv.old_place dg) l in
       let some = name-finds (files_before B H mv.link) d name mv.old_place l.entry l.there (ap (λ (x : Entry). x.name) l.passes) paired (linked-range (λ x. Only (named_entry i g name) x) (files_before B H mv.link) i g old.0 (link_to d mv.old_place dg) l) in
       let none = fresh.2 in
@@ -192,7 +192,7 @@ module _ (B : Image) (H : List Entry1) (r : SaneRun B H) (d dg : ℕ) (name : Li
       own drop qd =
           let same = same-entry H q mv.drop e drop.entry qd at drop.there in
           let es : e.step ≡ step.Drop d dg name = ap (λ (z : Entry1). z.step) same ∙ drop.is in
-          plain-guard (named_entry i g new) W V e i g b (link_to d2 mv.new_place dg2) sane next l (λ dir of o n h. no-renaming e.step dir of o n d dg name h es)
+          plain-guard (named_entry i g new) W V e i g b (link_to d2 mv.new_place dg2) sane next l (λ of o n h f. no-renaming e.step d2 of o n d dg name h es)
           (λ of n h f.
           let ed : d2 ≡ d = sym (ap directory-of h) ∙ ap directory-of es in
           let en : n ≡ name = sym (ap name-of h) ∙ ap name-of es in
@@ -218,7 +218,7 @@ module _ (B : Image) (H : List Entry1) (r : SaneRun B H) (d dg : ℕ) (name : Li
   ]
 
   -- while Drop has not begun the old name finds the file
-  find-old : (e : Entry1) → slice_get H mv.last ≡ Some e → (m : ℕ) → mv.flushed.entry.to ≤ m → m ≤ e.to → ((q : ℕ) → q < length (begun H m) → q ≢ mv.drop) → (X : Image) → IsAllowed B H m X → Finds X d dg name i g
+  find-old : (e : Entry1) → slice_get H mv.last ≡ Some e → (m : ℕ) → mv.flushed.entry.to ≤ m → m ≤ e.to → ((q : ℕ) → q < length (begun H m) → q < mv.drop) → (X : Image) → IsAllowed B H m X → Finds X d dg name i g
   find-old e at m from to undropped X allowed =
       let first = mv.flush_after in
       let w = within B H r m mv.flush mv.flushed.entry mv.flushed.there (flushed-is mv.flushed.entry mv.flushed.flushed) from mv.look (omega (arith, first)) in
@@ -242,15 +242,18 @@ module _ (B : Image) (H : List Entry1) (r : SaneRun B H) (d dg : ℕ) (name : Li
       (λ q h low lt there W V files sane next l. new-guard (omega (arith, a, c)) (inl done.dropping) fresh.0 q h low (begun-last e at m to q lt) there W V files sane next l) X allowed
 
   find-one : DropIsLate H mv.link mv.drop mv.last d dg name → (e : Entry1) → slice_get H mv.last ≡ Some e → (m : ℕ) → mv.flushed.entry.to ≤ m → m ≤ e.to → (X : Image) → IsAllowed B H m X → Finds X d dg name i g ⊎ Finds X d2 dg2 new i g
-  find-one (inl late) e at m from to X allowed = inl (find-old e at m from to (λ q lt h. let le = begun-last e at m to q lt in omega (arith, le, h, late)) X allowed)
+  find-one (inl late) e at m from to X allowed = inl (find-old e at m from to (λ q lt. let le = begun-last e at m to q lt in omega (arith, le, late)) X allowed)
   find-one (inr done) e at m from to X allowed = elim (cases_lt m done.flushed.entry.to) [
     | inr le ↦ inr (find-new done e at m le to X allowed)
-    | inl lt ↦ inl (find-old e at m from to (λ q begun h.
-        let x = begun-get H m q begun in
-        let a = begun-before H m q x.0 x.1 begun in
-        let c = done.before_drop in
-        let o = run-order H r.start r.first r.last r.run done.second q done.flushed.entry x.0 done.flushed.there x.1 (omega (arith, c, h)) in
-        omega (arith, a, o, lt)) X allowed)
+    | inl lt ↦ inl (find-old e at m from to (λ q begun. elim (cases_lt q mv.drop) [
+      | inl before ↦ before
+      | inr past ↦
+          let x = begun-get H m q begun in
+          let a = begun-before H m q x.0 x.1 begun in
+          let c = done.before_drop in
+          let o = run-order H r.start r.first r.last r.run done.second q done.flushed.entry x.0 done.flushed.there x.1 (omega (arith, c, past)) in
+          absurd (omega (arith, a, o, lt))
+    ]) X allowed)
   ]
 
 pub law-move : LawMove

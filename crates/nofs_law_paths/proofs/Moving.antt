@@ -49,9 +49,9 @@ abbrev is_rename : Step → Bool
 is_rename (step.Rename d g old new) = true
 is_rename _ = false
 
--- a step that is neither a Rename nor a Drop
+-- a step that is neither a Rename nor a Drop of the entry
 pub plain-guard : (entry : Entry) (W V : World) (e : Entry1) (i g b : ℕ) (link : BackLink) → IsSane W → Next W e V → Linked (λ x. Only entry x) W.files i g b link
-    → ((d of : ℕ) (old new : List ℕ) → e.step ≡ step.Rename d of old new → ⊥) → ((of : ℕ) (name : List ℕ) → e.step ≡ step.Drop link.directory of name → found W.files link.directory name ≡ Some link.entry → ⊥) → Guard (λ x. Only entry x) W e link
+    → ((of : ℕ) (old new : List ℕ) → e.step ≡ step.Rename link.directory of old new → found W.files link.directory old ≡ Some link.entry → ⊥) → ((of : ℕ) (name : List ℕ) → e.step ≡ step.Drop link.directory of name → found W.files link.directory name ≡ Some link.entry → ⊥) → Guard (λ x. Only entry x) W e link
 plain-guard entry W V e i g b link sane next l unrenamed undropped = record { undropped = λ V' same row claim of name es ef. undropped of name es ef; keeps = keeps }
   where
     keeps : (v : Value) → (given_by W.files e).slots link.directory link.generation (link.entry / 16) ≡ Some v → (x : Entry) × (entry_held v link.entry ≡ Some x) × Only entry x
@@ -59,7 +59,7 @@ plain-guard entry W V e i g b link sane next l unrenamed undropped = record { un
       where
         kept : Kept W.files e.step link.directory link.entry l.entry v → (x : Entry) × (entry_held v link.entry ≡ Some x) × Only entry x
         kept (Same same) = (l.entry, same, l.passes)
-        kept (Renamed d of old new es same) = absurd (unrenamed d of old new es)
+        kept (Renamed of old new es ef same) = absurd (unrenamed of old new es ef)
         kept (Dropped of name es ef) = absurd (undropped of name es ef)
 
         by : Acts W e → (x : Entry) × (entry_held v link.entry ≡ Some x) × Only entry x

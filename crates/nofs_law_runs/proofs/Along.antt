@@ -76,7 +76,7 @@ chain-guard W V e i g b link sane next l dir full = record { undropped = λ V' s
       where
         kept : (V' : World) → first_of (rows W V' e.step) ≡ None → IsClaim W e.step e.claims → Kept W.files e.step link.directory link.entry l.entry v → (x : Entry) × (entry_held v link.entry ≡ Some x) × Names i g x
         kept V' row claim (Same same) = (l.entry, same, l.passes)
-        kept V' row claim (Renamed dir of old new es same) = (record { inode = l.entry.inode; generation = l.entry.generation; name = new }, same, l.passes)
+        kept V' row claim (Renamed of old new es ef same) = (record { inode = l.entry.inode; generation = l.entry.generation; name = new }, same, l.passes)
         kept V' row claim (Dropped of name es ef) = absurd (undropped V' row claim of name es ef)
 
         by : Acts W e → (x : Entry) × (entry_held v link.entry ≡ Some x) × Names i g x

@@ -88,7 +88,7 @@ module _ (W V : World) (e : Entry1) (sane : IsSane W) (next : Next W e V) where
         where
           kept : Kept W.files e.step link.directory link.entry l.entry v → (x : Entry) × (entry_held v link.entry ≡ Some x) × Names i g x
           kept (Same same) = (l.entry, same, l.passes)
-          kept (Renamed dir of old new es same) = (record { inode = l.entry.inode; generation = l.entry.generation; name = new }, same, l.passes)
+          kept (Renamed of old new es ef same) = (record { inode = l.entry.inode; generation = l.entry.generation; name = new }, same, l.passes)
           kept (Dropped of name es ef) = absurd (undropped of name es ef)
 
           by : Acts W e → (x : Entry) × (entry_held v link.entry ≡ Some x) × Names i g x

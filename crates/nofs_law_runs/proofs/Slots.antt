@@ -58,7 +58,7 @@ entry-slot F d g e bytes metas j h l v s = go (eqb d j) refl (eqb g h) (eqb (e /
 -- what becomes of an entry whose slot gets this value
 pub data Kept (F : Files) (s : Step) (d e : ℕ) (entry : Entry) (v : Value) : Type 0 where
   Same : entry_held v e ≡ Some entry → Kept F s d e entry v
-  Renamed : (dir of : ℕ) (old new : List ℕ) → s ≡ step.Rename dir of old new → entry_held v e ≡ Some (record { inode = entry.inode; generation = entry.generation; name = new }) → Kept F s d e entry v
+  Renamed : (of : ℕ) (old new : List ℕ) → s ≡ step.Rename d of old new → found F d old ≡ Some e → entry_held v e ≡ Some (record { inode = entry.inode; generation = entry.generation; name = new }) → Kept F s d e entry v
   Dropped : (of : ℕ) (name : List ℕ) → s ≡ step.Drop d of name → found F d name ≡ Some e → Kept F s d e entry v
 
 -- numbers that an entry can spell
@@ -144,24 +144,25 @@ module _ (W V : World) (c : Claims) (d e : ℕ) (f : FileState) (entry : Entry)
       go None eo l q = cc q
       go (Some p) eo None q = cc q
       go (Some p) eo (Some b) q = beside dir g p (spelled_entry i of name) no_meta (step.Link dir g name i of) v (short-entry i of name name-ok) q (λ qd qp w. absurd (unpaired name dir p eo qd qp))
-  slot-kept (step.Rename dir g old new) r claim v h = go (found W.files dir old) h
+  slot-kept (step.Rename dir g old new) r claim v h = go (found W.files dir old) refl h
     where
       name-ok : bad_name new ≡ None
       name-ok = none-at (rows W V (step.Rename dir g old new)) r 1 (bad_name new) refl
 
-      here : (p : ℕ) (x : Entry) → entry_at W.files dir p ≡ Some x → dir ≡ d → p ≡ e → with_entry (f.values (e / 16)) e (spelled_entry x.inode x.generation new) ≡ v → Kept W.files (step.Rename dir g old new) d e entry v
-      here p x ex qd qp w =
+      here : (p : ℕ) (x : Entry) → found W.files dir old ≡ Some p → entry_at W.files dir p ≡ Some x → dir ≡ d → p ≡ e → with_entry (f.values (e / 16)) e (spelled_entry x.inode x.generation new) ≡ v → Kept W.files (step.Rename dir g old new) d e entry v
+      here p x ep ex qd qp w =
           let same : x ≡ entry = cc (ex, at, qd, qp) in
           let w' : with_entry (f.values (e / 16)) e (spelled_entry entry.inode entry.generation new) ≡ v = subst (λ (y : Entry). with_entry (f.values (e / 16)) e (spelled_entry y.inode y.generation new) ≡ v) same w in
-          Renamed dir g old new refl (ap (λ (u : Value). entry_held u e) (sym w') ∙ read-back (f.values (e / 16)) e entry.inode entry.generation new whole numbers name-ok)
+          Renamed g old new (ap (λ (j : ℕ). step.Rename j g old new) qd) (sym (ap (λ (j : ℕ). found W.files j old) qd) ∙ ep ∙ ap Some qp)
+          (ap (λ (u : Value). entry_held u e) (sym w') ∙ read-back (f.values (e / 16)) e entry.inode entry.generation new whole numbers name-ok)
 
-      by : (p : ℕ) (o : Option Entry) → entry_at W.files dir p ≡ o → (rename_given W.files dir g new p).slots d f.generation (e / 16) ≡ Some v → Kept W.files (step.Rename dir g old new) d e entry v
-      by p None eo q = absurd (cc (rw (eo, rename_given) at q))
-      by p (Some x) eo q = beside dir g p (spelled_entry x.inode x.generation new) no_meta (step.Rename dir g old new) v (short-entry x.inode x.generation new name-ok) (rw (eo, rename_given) at q) (here p x eo)
+      by : (p : ℕ) → found W.files dir old ≡ Some p → (o : Option Entry) → entry_at W.files dir p ≡ o → (rename_given W.files dir g new p).slots d f.generation (e / 16) ≡ Some v → Kept W.files (step.Rename dir g old new) d e entry v
+      by p ep None eo q = absurd (cc (rw (eo, rename_given) at q))
+      by p ep (Some x) eo q = beside dir g p (spelled_entry x.inode x.generation new) no_meta (step.Rename dir g old new) v (short-entry x.inode x.generation new name-ok) (rw (eo, rename_given) at q) (here p x ep eo)
 
-      go : (o : Option ℕ) → (at_place o (λ p. rename_given W.files dir g new p)).slots d f.generation (e / 16) ≡ Some v → Kept W.files (step.Rename dir g old new) d e entry v
-      go None q = cc q
-      go (Some p) q = by p (entry_at W.files dir p) refl q
+      go : (o : Option ℕ) → found W.files dir old ≡ o → (at_place o (λ p. rename_given W.files dir g new p)).slots d f.generation (e / 16) ≡ Some v → Kept W.files (step.Rename dir g old new) d e entry v
+      go None eo q = cc q
+      go (Some p) eo q = by p eo (entry_at W.files dir p) refl q
   slot-kept (step.Drop dir g name) r claim v h = go (found W.files dir name) refl h
     where
       by : (p : ℕ) → found W.files dir name ≡ Some p → (o : Option Entry) → entry_at W.files dir p ≡ o → (drop_given W.files dir g p).slots d f.generation (e / 16) ≡ Some v → Kept W.files (step.Drop dir g name) d e entry v

@@ -1,20 +1,19 @@
 -- What a Make asks for, and what it claims.
-use Rattle.std.proofs.Common.{◌≡◌, ◌≢◌, ℕ, zero, suc, ◌+◌, ◌-◌, ◌*◌, ◌/◌, ◌^◌, ◌<◌, ◌≤◌, ◌⊎◌, Bool, true, false, cond, eqb, ne_eqb, ltb, not, List, [], ◌∷◌}
-use Rattle.std.proofs.Common.{◌++◌, length, Option, Some, None, IsTrue, inl, inr, refl, sym, ap, ◌∙◌, subst, arith, Contains}
+use Rattle.std.proofs.Common.{◌≡◌, ◌≢◌, ℕ, zero, suc, ◌+◌, ◌-◌, ◌*◌, ◌/◌, ◌^◌, ◌<◌, ◌≤◌, ◌⊎◌, true, false, eqb, ne_eqb, ltb, not, List, [], ◌∷◌}
+use Rattle.std.proofs.Common.{length, Some, inl, inr, refl, sym, ap, ◌∙◌, subst, arith, Contains}
 use Rattle.std.specs.Prelude.{slice_set}
 use Rattle.std.proofs.lemmas.Bool.{cases_eq}
 use Rattle.nofs_dirent.specs.Entries.{entry_limit}
 use Rattle.nofs_bits.specs.Bits.{is_set}
 use Rattle.nofs_disk.specs.Disk.{DiskState}
 use Rattle.nofs_model.specs.Cells.{FileKind, Pointer, SuperBlock, null}
-use Rattle.nofs_model.specs.Image.{Image, value_in, leaf, Path, InRecord, Under, path_of, find, files_in, agreed, Files, NodeState, Absent, Present, Damaged}
-use Rattle.nofs_model.specs.Image.{node_in, FileState}
-use Rattle.nofs_model.specs.declared.path.PathAnswer.{PathAnswer}
+use Rattle.nofs_model.specs.Image.{Image, value_in, leaf, path_of, find, files_in, agreed, Files, NodeState, Absent, Present, Damaged}
+use Rattle.nofs_model.specs.Image.{node_in}
 use Rattle.nofs_model.specs.declared.path.PathAnswer.TheVariants as answer
 use Rattle.nofs_model.proofs.Paths.{path-direct, path-leaf}
 use Rattle.nofs_machine.specs.Meta.{is_bytes}
 use Rattle.nofs_machine.specs.Machine.{value_of, node_of, place_for}
-use Rattle.nofs_machine.specs.World.{World, absent_above, blocks_at, blocks_for, blocks_needed, is_free_block}
+use Rattle.nofs_machine.specs.World.{World, blocks_at, blocks_for, blocks_needed, is_free_block}
 use Rattle.nofs_machine.specs.Claims.{IsClaim, IsBlockClaim, IsInodeClaim, Claimed, Unclaimed, ClaimedInode, Apart, claimed_blocks, is_claimed, next_stamp}
 use Rattle.nofs_machine.specs.History.{FilesMatch}
 use Rattle.nofs_machine.specs.declared.history.Claims.{Claims}
@@ -22,13 +21,11 @@ use Rattle.nofs_machine.specs.declared.history.Entry1.{Entry1}
 use Rattle.nofs_machine.specs.declared.steps.Step.TheVariants as step
 use Rattle.nofs_law_untouched.proofs.Matching.{Matched, matched-agreed}
 use Rattle.nofs_law_old_names.proofs.NameFiles.{file-of}
-use Rattle.nofs_law_maps.specs.Moves.{IsClaimed}
-use Rattle.nofs_state.specs.Books.{IsSafe, Says, claimed_books, made_books}
+use Rattle.nofs_state.specs.Books.{IsSafe, claimed_books, made_books}
 use Rattle.nofs_state.specs.Standing.{IsOpen, Past}
 use Rattle.nofs_state.specs.declared.books.Books.{Books}
 use Rattle.nofs_state.proofs.Machine.{agreed-live}
 use Rattle.nofs_state.proofs.Maps.{set-here, set-other, set-length}
-use Rattle.nofs_state.proofs.Replies.{open-files}
 use Rattle.nofs_names.specs.Placing.{FitsSlot, IsEntrySlot, slot_blocks}
 use Rattle.nofs_names.specs.declared.placing.EntrySlot.{EntrySlot}
 use Rattle.nofs_names.specs.declared.placing.EntrySlot.TheVariants as entry

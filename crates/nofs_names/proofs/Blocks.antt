@@ -1,18 +1,17 @@
 -- The blocks of an inode, slot by slot.
-use Rattle.std.proofs.Common.{◌≡◌, ℕ, ◌+◌, ◌-◌, ◌*◌, ◌/◌, ◌%◌, ◌^◌, ◌<◌, ◌≤◌, ◌⊎◌, inl, inr, Bool, true, false, eqb, eqb-true, eq-eqb, leb, ltb, leb-true, ltb-true, ◌&&◌, ◌||◌, List, length, replicate, Option, Some, None, IsTrue, Result, Ok, Err, refl, sym, ap, ◌∙◌, subst, subst₂, arith, le_refl}
-use Rattle.std.specs.Prelude.{slice_set}
-use Rattle.std.proofs.lemmas.Bool.{cases_lt, cases_eq, and_parts}
+use Rattle.std.proofs.Common.{◌≡◌, ℕ, ◌+◌, ◌-◌, ◌*◌, ◌/◌, ◌%◌, ◌^◌, ◌<◌, ◌≤◌, ◌⊎◌, inl, inr, Bool, true, false, eqb, eqb-true, eq-eqb, leb, ltb, leb-true, ltb-true, ◌&&◌, ◌||◌, List, length, replicate, Option, Some, None, IsTrue, Result, Ok, Err, refl, sym, ap, ◌∙◌, subst, subst₂, arith}
+use Rattle.std.proofs.lemmas.Bool.{cases_lt, and_parts}
 use Rattle.std.proofs.lemmas.Bool.Decides.{nat_tests}
 use Rattle.std.proofs.lemmas.List.{length-replicate}
 use Rattle.nofs_ptrs.specs.Paths.{slot_limit}
 use Rattle.nofs_bits.specs.Bits.{is_set}
-use Rattle.nofs_disk.specs.Disk.{DiskState, StaysButFaults, Rose}
-use Rattle.std.specs.Prelude.{OnOk, OnErr}
-use Rattle.nofs_disk.specs.Chains.{StaysButFaults-refl, StaysButFaults-trans, Rose-within}
+use Rattle.nofs_disk.specs.Disk.{DiskState, StaysButFaults}
+use Rattle.std.specs.Prelude.{IfErr, OnOk}
+use Rattle.nofs_disk.specs.Chains.{StaysButFaults-refl, StaysButFaults-trans}
 use Rattle.nofs_disk.specs.declared.Failed.{Failed}
+use Rattle.nofs_machine.specs.declared.replies.Refusal.{Refusal}
 use Rattle.nofs_model.specs.Cells.{Pointer, SuperBlock}
 use Rattle.nofs_model.specs.Image.{Image, Path, InRecord, Under, path_of, find, files_in, agreed, is_slot, Home, owner}
-use Rattle.nofs_model.specs.Places.{InArea}
 use Rattle.nofs_model.specs.declared.path.PathAnswer.{PathAnswer}
 use Rattle.nofs_model.specs.declared.path.PathAnswer.TheVariants as answer
 use Rattle.nofs_model.proofs.Owners.{owner-of, owner-holds, owner-slot}
@@ -21,12 +20,11 @@ use Rattle.nofs_ptrs.specs.PathLaws.{path-far}
 use Rattle.nofs_agree.specs.Finding.{FindsSlot}
 use Rattle.nofs_agree.specs.Reading.{IsLast}
 use Rattle.nofs_agree.specs.declared.reads.LastRead.{LastRead}
-use Rattle.nofs_agree.proofs.Climbs.{told-on}
-use Rattle.nofs_state.proofs.Maps.{set-here, set-other, set-length, set-none}
+use Rattle.nofs_state.proofs.Maps.{set-none}
 use Rattle.nofs_names.specs.Removing.{is_of}
-use Rattle.nofs_state.proofs.MarkedSlots.{marked-begins, marking-begins, marking-goes, marking-ends, marking-fails, Marking}
+use Rattle.nofs_state.proofs.MarkedSlots.{fails-on, marked-begins}
 use Rattle.nofs_names.specs.Owning.{MarksInode}
-use Rattle.nofs_state.specs.Owning.{Marks, MarksAll, Marked, IsBlockAmong, marked}
+use Rattle.nofs_state.specs.Owning.{MarkFails, MarksAll, Marked, IsBlockAmong}
 
 -- all slots
 
@@ -108,21 +106,21 @@ module _ (X : Image) (told : Bool) (at : SuperBlock) (i : ℕ) (b c : List Bool)
 
 -- what lies below is passed over
 
-pub marks-after : (old mid new : DiskState) (at : SuperBlock) (i from to : ℕ) (bits b : List Bool) (last : LastRead) (res : Result (Unit {0}) Failed)
+pub marks-after : (old mid new : DiskState) (at : SuperBlock) (i from to : ℕ) (bits b : List Bool) (last : LastRead) (res : Result (Unit {0}) Refusal)
     → StaysButFaults old mid → MarksAll mid new at i from to bits b last res → MarksAll old new at i from to bits b last res
 marks-after old mid new at i from to bits b last res stays m = record {
   stays = StaysButFaults-trans old mid new stays m.stays;
   marked_as = on-ok res m.marked_as;
   kept = m.kept;
-  cause = on-err res m.cause;
+  refused = on-err res m.refused;
 }
   where
-    on-ok : (r : Result (Unit {0}) Failed) → OnOk r (Marked mid.now mid.tells at i from to bits b) → OnOk r (Marked old.now old.tells at i from to bits b)
+    on-ok : (r : Result (Unit {0}) Refusal) → OnOk r (Marked mid.now mid.tells at i from to bits b) → OnOk r (Marked old.now old.tells at i from to bits b)
     on-ok (Err e) h = tt
     on-ok (Ok it) h = subst₂ (λ (X : Image) (told : Bool). Marked X told at i from to bits b) stays.cells.now stays.disk.tells h
 
-    on-err : (r : Result (Unit {0}) Failed) → OnErr r (Rose mid.faults new.faults) → OnErr r (Rose old.faults new.faults)
-    on-err (Err e) h = Rose-within old.faults mid.faults new.faults new.faults stays.disk.faults h (le_refl new.faults)
+    on-err : (r : Result (Unit {0}) Refusal) → IfErr r (MarkFails mid new) → IfErr r (MarkFails old new)
+    on-err (Err why) h = fails-on old mid new stays why h
     on-err (Ok it) h = tt
 
 -- where none of the slots holds
@@ -144,7 +142,7 @@ marks-none old mid at i from to path bits last res a b finds e h none =
             (none old.now (sym (f.found t)) k x low high held);
       };
       kept = f.kept;
-      cause = tt;
+      refused = tt;
     }
 
 -- below a block of pointers that does not hold no slot does
@@ -204,20 +202,20 @@ marks-join old mid new at i from cut to bits b c last next low high f s =
       stays = q.stays;
       marked_as = marked-join old.now old.tells at i from cut to bits b c low high f.marked_as q.marked_as;
       kept = q.kept;
-      cause =
-          tt;
+      refused = tt;
     }
 
 pub marks-begin : (old : DiskState) (at : SuperBlock) (i from : ℕ) (bits : List Bool) (last : LastRead) → IsLast old last
     → MarksAll old old at i from from bits bits last (Ok tt)
 marks-begin old at i from bits last kept = record
-    { stays = StaysButFaults-refl old; marked_as = marked-begins old.now old.tells at i from bits; kept = kept; cause = tt }
+    { stays = StaysButFaults-refl old; marked_as = marked-begins old.now old.tells at i from bits; kept = kept; refused = tt }
 
-pub marks-fail : (old mid new : DiskState) (at : SuperBlock) (i from cut to end : ℕ) (bits b c z : List Bool) (last next : LastRead) (f : Failed)
-    → MarksAll old mid at i from cut bits b last (Ok tt) → MarksAll mid new at i cut to b c next (Err f) → MarksAll old new at i from end bits z next (Err f)
-marks-fail old mid new at i from cut to end bits b c z last next f m s =
-    let q = marks-after old mid new at i cut to b c next (Err f) m.stays s in
-    record { stays = q.stays; marked_as = tt; kept = tt; cause = q.cause }
+pub marks-fail : (old mid new : DiskState) (at : SuperBlock) (i from cut to end : ℕ) (bits b c z : List Bool) (last next : LastRead) (why : Refusal)
+    → MarksAll old mid at i from cut bits b last (Ok tt) → MarksAll mid new at i cut to b c next (Err why)
+    → MarksAll old new at i from end bits z next (Err why)
+marks-fail old mid new at i from cut to end bits b c z last next why m s =
+    let q = marks-after old mid new at i cut to b c next (Err why) m.stays s in
+    record { stays = q.stays; marked_as = tt; kept = tt; refused = q.refused }
 
 pub inode-marked : (old mid new : DiskState) (at : SuperBlock) (i : ℕ) (z b c : List Bool) (last next : LastRead) → z ≡ replicate at.blocks false
     → MarksAll old mid at i 0 slot_limit z b last (Ok tt) → MarksAll mid new at i (2 ^ 32) (2 ^ 32 + 66) b c next (Ok tt)
@@ -230,7 +228,7 @@ inode-marked old mid new at i z b c last next ez first second = record {
     owned = λ t a q low. all-owned new.now new.tells at i b c one two t a q;
   };
   kept = second.kept;
-  cause = tt;
+  refused = tt;
 }
   where
     now-one : new.now ≡ old.now
@@ -247,7 +245,7 @@ inode-marked old mid new at i z b c last next ez first second = record {
     two = subst₂ (λ (X : Image) (told : Bool). Marked X told at i (2 ^ 32) (2 ^ 32 + 66) b c) (sym second.stays.cells.now) (sym second.stays.disk.tells)
         second.marked_as
 
-pub inode-marks : (old one two new : DiskState) (at : SuperBlock) (i : ℕ) (z b c d : List Bool) (last later next : LastRead) (res : Result (Unit {0}) Failed)
+pub inode-marks : (old one two new : DiskState) (at : SuperBlock) (i : ℕ) (z b c d : List Bool) (last later next : LastRead) (res : Result (Unit {0}) Refusal)
     → z ≡ replicate at.blocks false → MarksAll old one at i 0 72 z b last (Ok tt) → MarksAll one two at i 72 slot_limit b c later (Ok tt)
     → MarksAll two new at i (2 ^ 32) (2 ^ 32 + 66) c d next res → MarksInode old new at i d next res
 inode-marks old one two new at i z b c d last later next res ez first second third = go res third
@@ -255,7 +253,7 @@ inode-marks old one two new at i z b c d last later next res ez first second thi
     low : MarksAll old two at i 0 slot_limit z c later (Ok tt)
     low = marks-join old one two at i 0 72 slot_limit z b c last later (omega arith) (omega arith) first second
 
-    go : (r : Result (Unit {0}) Failed) → MarksAll two new at i (2 ^ 32) (2 ^ 32 + 66) c d next r → MarksInode old new at i d next r
+    go : (r : Result (Unit {0}) Refusal) → MarksAll two new at i (2 ^ 32) (2 ^ 32 + 66) c d next r → MarksInode old new at i d next r
     go (Ok u) m = inode-marked old two new at i z c d later next ez low m
     go (Err e) m = let q = marks-after old two new at i (2 ^ 32) (2 ^ 32 + 66) c d next (Err e) low.stays m in record
-        { stays = q.stays; owned = tt; kept = tt; cause = q.cause }
+        { stays = q.stays; owned = tt; kept = tt; refused = q.refused }

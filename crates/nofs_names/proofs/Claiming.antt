@@ -1,5 +1,5 @@
 -- A step that claims an inode, and perhaps blocks for one slot: what was claimed is used, and known to be.
-use Rattle.std.proofs.Common.{◌≡◌, ◌≢◌, ℕ, ◌+◌, ◌-◌, ◌<◌, ◌≤◌, ◌⊎◌, Bool, true, false, cond, ltb, eqb, eqb-true, eq-eqb, ◌&&◌, ◌||◌, not, List, [], ◌∷◌}
+use Rattle.std.proofs.Common.{◌≡◌, ◌≢◌, ℕ, ◌+◌, ◌-◌, ◌<◌, ◌≤◌, ◌⊎◌, Bool, true, false, cond, ltb, eqb, eqb-true, eq-eqb, ◌&&◌, ◌||◌, not, [], ◌∷◌}
 use Rattle.std.proofs.Common.{Option, Some, None, is_some, inl, inr, refl, sym, ap, ◌∙◌, subst, arith}
 use Rattle.std.proofs.lemmas.Bool.{cases_eq}
 use Rattle.nofs_bits.specs.Bits.{is_set}
@@ -10,7 +10,7 @@ use Rattle.nofs_machine.specs.Search.{first_of}
 use Rattle.nofs_machine.specs.Machine.{gives, files_after}
 use Rattle.nofs_machine.specs.World.{World, is_fixed, is_free_inode, is_free_block, blocks_needed, inodes_needed, uses_inode, uses_block}
 use Rattle.nofs_machine.specs.Claims.{cell_slot, has_block, homes_after, claimed_home, is_claimed, next_stamp, slot_above, IsClaim, IsBlockClaim, Claimed}
-use Rattle.nofs_machine.specs.Claims.{Unclaimed, IsInodeClaim, ClaimedInode, NoInode}
+use Rattle.nofs_machine.specs.Claims.{Unclaimed, IsInodeClaim, ClaimedInode}
 use Rattle.nofs_machine.specs.History.{FilesMatch}
 use Rattle.nofs_machine.specs.Next.{Learns, sees_inode, sees_block}
 use Rattle.nofs_machine.specs.declared.history.Claims.{Claims}

@@ -2,8 +2,7 @@
 use Rattle.std.proofs.Common.{◌≡◌, ℕ, false, true, List, Result, Ok, Err, IsTrue, refl, sym, ap, ◌∙◌, subst₂}
 use Rattle.nofs_disk.specs.Disk.{DiskState, IsDisk}
 use Rattle.nofs_model.specs.Cells.{Cell, FileKind}
-use Rattle.nofs_machine.specs.Search.{first_of}
-use Rattle.nofs_machine.specs.World.{World, blocks_needed}
+use Rattle.nofs_machine.specs.World.{blocks_needed}
 use Rattle.nofs_machine.specs.declared.history.Claims.{Claims}
 use Rattle.nofs_machine.specs.declared.history.Entry1.{Entry1}
 use Rattle.nofs_machine.specs.declared.steps.Step.TheVariants as step

@@ -1,43 +1,38 @@
 -- Make, by what stands in the slot of its entry.
-use Rattle.std.proofs.Common.{◌≡◌, ◌≢◌, ℕ, zero, suc, ◌+◌, ◌-◌, ◌*◌, ◌/◌, ◌%◌, ◌^◌, ◌<◌, ◌≤◌, ◌⊎◌, inl, inr, Bool, true, false, leb, ltb, leb-true, ltb-true}
-use Rattle.std.proofs.Common.{le-leb, ◌&&◌, List, [], ◌∷◌, length, Option, Some, None, IsTrue, refl, sym, ap, ◌∙◌, subst, arith}
-use Rattle.nofs_bits.specs.Bits.{is_set}
+use Rattle.std.proofs.Common.{◌≡◌, ℕ, zero, suc, ◌+◌, ◌*◌, ◌/◌, ◌%◌, ◌^◌, ◌<◌, ◌≤◌, ◌⊎◌, inl, inr, true, leb}
+use Rattle.std.proofs.Common.{le-leb, List, [], ◌∷◌, length, Some, IsTrue, refl, sym, ap, ◌∙◌, subst, arith}
 use Rattle.nofs_disk.specs.Disk.{DiskState, IsDisk, cell_at}
 use Rattle.nofs_disk.specs.Number.{put_bytes}
 use Rattle.nofs_dirent.specs.Entries.{spelled_entry}
 use Rattle.nofs_dirent.specs.EntryLaws.{Spells, spelled_entry-spells}
 use Rattle.nofs_super.specs.Geometry.{IsGeometry}
-use Rattle.nofs_inode.specs.declared.inode.FileKind.TheVariants.{Directory as Folder}
 use Rattle.nofs_model.specs.Cells.{Cell, FileKind, Pointer, Record, SuperBlock, is_null, null, tag_of}
 use Rattle.nofs_model.specs.Image.{Image, super_at, is_data_block, is_inode, inode, path_of, find, files_in, agreed, record_pointer}
 use Rattle.nofs_model.specs.declared.path.PathAnswer.TheVariants as answer
 use Rattle.nofs_model.specs.declared.value.Value.TheVariants.{Bytes}
-use Rattle.nofs_model.proofs.Find.{and-both, find-held}
+use Rattle.nofs_model.proofs.Find.{find-held}
 use Rattle.nofs_model.proofs.Sound.{mountable-law}
-use Rattle.nofs_machine.specs.Machine.{link_to, place_for, with_entry}
+use Rattle.nofs_machine.specs.Machine.{link_to, place_for}
 use Rattle.nofs_machine.specs.World.{World, blocks_needed}
 use Rattle.nofs_machine.specs.Claims.{IsClaim, IsInodeClaim, next_stamp}
-use Rattle.nofs_machine.specs.History.{FilesMatch}
-use Rattle.nofs_machine.specs.declared.history.Claims.{Claims}
 use Rattle.nofs_machine.specs.declared.history.Entry1.{Entry1}
 use Rattle.nofs_machine.specs.declared.steps.Step.TheVariants as step
 use Rattle.nofs_machine.proofs.EntryPut.{with-entry-put}
 use Rattle.nofs_law_new_names.specs.Holes.{IsNewRecord, first_links}
-use Rattle.nofs_state.specs.Books.{IsSafe, made_books}
+use Rattle.nofs_state.specs.Books.{IsSafe}
 use Rattle.nofs_state.specs.Standing.{IsOpen, Past}
 use Rattle.nofs_state.specs.Writing.{OneOf, image_after}
 use Rattle.nofs_state.specs.declared.books.Books.{Books}
 use Rattle.nofs_state.proofs.Machine.{are-agreed}
 use Rattle.nofs_state.proofs.Replies.{open-files}
 use Rattle.nofs_state.proofs.Tables.{HasRecord, table_block}
-use Rattle.nofs_state.specs.Owing.{RecordIn}
 use Rattle.nofs_names.specs.Entering.{IsTable, entered}
 use Rattle.nofs_names.specs.Makes.{MayMake, made_record}
 use Rattle.nofs_names.specs.Placing.{slot_blocks}
 use Rattle.nofs_names.specs.declared.entering.EntryPlace.{EntryPlace}
 use Rattle.nofs_names.specs.declared.placing.EntrySlot.TheVariants as entry
 use Rattle.nofs_names.proofs.Asking.{make_claims, make-asks, inode-picked, claims-none}
-use Rattle.nofs_names.proofs.Making.{Makes, EndsWell, WritesInPlace, in-place-ends}
+use Rattle.nofs_names.proofs.Making.{Makes, WritesInPlace, in-place-ends}
 use Rattle.nofs_names.proofs.Made.{IsMade}
 use Rattle.nofs_names.proofs.NameWrite as write
 use Rattle.nofs_names.proofs.Safely.{raised-stamp}

@@ -1,9 +1,9 @@
 -- The contract of Make, by how its entry was written.
-use Rattle.std.proofs.Common.{◌≡◌, ◌≢◌, ℕ, ◌+◌, ◌-◌, ◌*◌, ◌/◌, ◌^◌, ◌<◌, ◌≤◌, Bool, true, false, eqb, ne_eqb, not, List, length, IsTrue, refl, sym, ap, ◌∙◌}
+use Rattle.std.proofs.Common.{◌≡◌, ℕ, ◌/◌, ◌^◌, ◌<◌, ◌≤◌, true, false, eqb, ne_eqb, not, List, length, IsTrue, sym, ap}
 use Rattle.std.proofs.Common.{subst, arith}
 use Rattle.nofs_bits.specs.Bits.{is_set}
 use Rattle.nofs_disk.specs.Disk.{DiskState, IsDisk, cell_at}
-use Rattle.nofs_model.specs.Cells.{FileKind, Pointer, Record}
+use Rattle.nofs_model.specs.Cells.{FileKind, Record}
 use Rattle.nofs_machine.specs.Machine.{link_to}
 use Rattle.nofs_machine.specs.Claims.{is_claimed}
 use Rattle.nofs_machine.specs.declared.history.Claims.{Claims}
@@ -13,7 +13,7 @@ use Rattle.nofs_state.specs.Steps.{Goes}
 use Rattle.nofs_state.specs.declared.books.Books.{Books}
 use Rattle.nofs_names.specs.Entering.{Enters, table_block}
 use Rattle.nofs_names.specs.Makes.{MayMake, made_answer, made_record}
-use Rattle.nofs_names.specs.Placing.{AreFree, FitsSlot, slot_blocks}
+use Rattle.nofs_names.specs.Placing.{FitsSlot, slot_blocks}
 use Rattle.nofs_state.specs.Owing.{RowsPass}
 use Rattle.nofs_names.specs.declared.ending.Ended.{Ended}
 use Rattle.nofs_names.specs.declared.entering.EntryPlace.{EntryPlace}

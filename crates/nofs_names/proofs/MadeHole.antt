@@ -5,7 +5,7 @@ use Rattle.nofs_bits.specs.Bits.{is_set}
 use Rattle.nofs_disk.specs.Disk.{DiskState, IsDisk, cell_at}
 use Rattle.nofs_inode.specs.InodeRecords.{fields_in, free_record, record_of, record_or_free}
 use Rattle.nofs_model.specs.Cells.{Cell, Entry, FileKind, Pointer, Record, SuperBlock, null, record_at, spelled_entry}
-use Rattle.nofs_model.specs.Image.{Image, super_at, is_inode, inode, leaf, find, files_in, agreed, is_special}
+use Rattle.nofs_model.specs.Image.{Image, is_inode, inode, leaf, find, files_in, agreed, is_special}
 use Rattle.nofs_model.specs.declared.path.PathAnswer.TheVariants as answer
 use Rattle.nofs_model.proofs.Sound.{supers}
 use Rattle.nofs_machine.specs.Machine.{link_to}

@@ -4,7 +4,7 @@ use Rattle.std.proofs.Common.{length, Option, Some, None, IsTrue, Result, Ok, Er
 use Rattle.std.proofs.lemmas.Bool.Decides.{nat_tests}
 use Rattle.std.proofs.lemmas.List.Sums.{count_by-le-length}
 use Rattle.nofs_dirent.specs.Entries.{entry_limit}
-use Rattle.nofs_bits.specs.Bits.{NoneSet, count_set, is_set}
+use Rattle.nofs_bits.specs.Bits.{count_set, is_set}
 use Rattle.nofs_disk.specs.Disk.{DiskState, IsDisk, Rose, StaysButFaults}
 use Rattle.nofs_disk.specs.Chains.{StaysButFaults-refl, StaysButFaults-trans}
 use Rattle.nofs_dirent.specs.Names.{is_name}
@@ -13,8 +13,8 @@ use Rattle.nofs_model.specs.Image.{Image, find, path_of, Files}
 use Rattle.nofs_model.specs.declared.path.PathAnswer.TheVariants as answer
 use Rattle.nofs_machine.specs.Search.{first_of}
 use Rattle.nofs_machine.specs.Machine.{generation_of, is_folder_at, found, place_for}
-use Rattle.nofs_machine.specs.World.{World, free_inodes, next_inode, blocks_needed}
-use Rattle.nofs_machine.specs.Claims.{no_claims, next_stamp}
+use Rattle.nofs_machine.specs.World.{World, free_inodes, blocks_needed}
+use Rattle.nofs_machine.specs.Claims.{no_claims}
 use Rattle.nofs_machine.specs.Refusals.{rows, directory_full, inodes_full, full, serials_spent}
 use Rattle.nofs_machine.specs.History.{FilesMatch}
 use Rattle.nofs_machine.specs.declared.history.Entry1.{Entry1}
@@ -35,7 +35,7 @@ use Rattle.nofs_state.proofs.Replies.{goes-row, goes-read, open-files}
 use Rattle.nofs_state.proofs.Rows.{IsLate, first-late, late-row}
 use Rattle.nofs_state.proofs.Machine.{are-agreed}
 use Rattle.nofs_names.specs.Searching.{Passed}
-use Rattle.nofs_names.specs.Refusing.{Fails, KnownAgreed, IsThere, directory_rows, exists_rows, OpensDirectory, FindsNone, place_of_entry}
+use Rattle.nofs_names.specs.Refusing.{Fails, KnownAgreed, IsThere, directory_rows, exists_rows, OpensDirectory, FindsNone}
 use Rattle.nofs_names.specs.Makes.{FindsInode, MayMake, NoInode, PlaceIs, RowsLeft, RoomLeft, made_answer, room_left}
 use Rattle.nofs_names.specs.Placing.{FindsEntrySlot, FitsSlot, IsEntrySlot, IsPlaceOf, IsSlotCell, LiesInside, SlotFails, TakesBlocks, slot_blocks, room_rows}
 use Rattle.nofs_names.specs.declared.ending.Ended.{Ended}

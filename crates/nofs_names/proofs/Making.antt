@@ -1,6 +1,6 @@
 -- Make: a new entry and the record of a claimed inode are written, in a slot that holds or in a hole.
-use Rattle.std.proofs.Common.{◌≡◌, ◌≢◌, ℕ, ◌+◌, ◌-◌, ◌*◌, ◌/◌, ◌%◌, ◌<◌, ◌≤◌, ◌⊎◌, inl, inr, Bool, true, false, cond, eqb, eqb-true, eq-eqb, ne_eqb, leb}
-use Rattle.std.proofs.Common.{leb-true, ltb, ◌&&◌, ◌||◌, not, List, [], ◌∷◌, ◌++◌, length, Option, Some, None, is_some, unwrap_or, IsTrue, Ok, refl, sym, ap}
+use Rattle.std.proofs.Common.{◌≡◌, ◌≢◌, ℕ, ◌+◌, ◌-◌, ◌/◌, ◌%◌, ◌<◌, ◌≤◌, ◌⊎◌, inl, inr, Bool, true, false, cond, eqb, eqb-true, eq-eqb, ne_eqb, leb}
+use Rattle.std.proofs.Common.{ltb, ◌&&◌, ◌||◌, not, List, [], ◌∷◌, ◌++◌, length, Option, Some, None, is_some, unwrap_or, IsTrue, Ok, refl, sym, ap}
 use Rattle.std.proofs.Common.{◌∙◌, subst, subst₂, arith, Contains}
 use Rattle.std.proofs.lemmas.Bool.{cases_eq}
 use Rattle.std.proofs.lemmas.Bool.Decides.{nat_tests}
@@ -16,11 +16,9 @@ use Rattle.nofs_model.specs.Image.{Image, super_at, is_data_block, is_inode, ino
 use Rattle.nofs_model.specs.Image.{FileState, Files, Home, home_at, NodeState, Present, IsBelow}
 use Rattle.nofs_model.specs.declared.path.PathAnswer.TheVariants as answer
 use Rattle.nofs_model.specs.declared.value.Value.{Value}
-use Rattle.nofs_model.specs.declared.value.Value.TheVariants.{Hole}
-use Rattle.nofs_model.proofs.Find.{and-both, find-held}
+use Rattle.nofs_model.proofs.Find.{find-held}
 use Rattle.nofs_model.proofs.Sound.{mountable-law, supers}
 use Rattle.nofs_law_images.specs.Proper.{Proper}
-use Rattle.nofs_law_images.specs.Reasons.{ReadsSince}
 use Rattle.nofs_law_images.specs.Moments.{during, Survives}
 use Rattle.nofs_law_images.proofs.Moments.{law-images}
 use Rattle.nofs_crashlaw.proofs.Histories.{now-picks}
@@ -30,7 +28,7 @@ use Rattle.nofs_machine.specs.Search.{first_of}
 use Rattle.nofs_machine.specs.Machine.{Given, gives, given_by, make_given, born_file, file_after, after_meta, filled, is_at, lies_above, files_after, value_of}
 use Rattle.nofs_machine.specs.Machine.{with_entry, place_for}
 use Rattle.nofs_machine.specs.World.{World, blocks_needed}
-use Rattle.nofs_machine.specs.Claims.{cell_slot, has_block, is_present, next_stamp, IsClaim}
+use Rattle.nofs_machine.specs.Claims.{has_block, is_present, next_stamp, IsClaim}
 use Rattle.nofs_machine.specs.Refusals.{rows}
 use Rattle.nofs_machine.specs.History.{FilesMatch, agreed_files, files_along, mark_at}
 use Rattle.nofs_machine.specs.Steady.{SteadyRest}
@@ -72,7 +70,7 @@ use Rattle.nofs_state.proofs.Replies.{open-files}
 use Rattle.nofs_state.proofs.Machine.{agreed-live}
 use Rattle.nofs_state.proofs.Tables.{table_block}
 use Rattle.nofs_names.proofs.Quiet.{block_in}
-use Rattle.nofs_names.proofs.Claiming.{InodeWas, inode-was, claim-was, IsTaking, Taken, taking-learns, taking-says}
+use Rattle.nofs_names.proofs.Claiming.{InodeWas, inode-was, IsTaking, Taken, taking-learns, taking-says}
 
 entry-bytes : (v : Value) (e : ℕ) (bytes : List ℕ) → is_bytes (with_entry v e bytes) ≡ true
 unfolding with_entry

@@ -1,13 +1,7 @@
 -- Which blocks an inode owns, read slot by slot.
-use Rattle.std.specs.Prelude.{◌≡◌, ℕ, ◌+◌, ◌/◌, ◌<◌, ◌≤◌, ◌⊎◌, Bool, true, List, length, IsTrue, Result, IfOk, IfErr, OnOk, OnErr, slice_set}
-use Rattle.nofs_bits.specs.Bits.{is_set}
-use Rattle.nofs_disk.specs.declared.Failed.{Failed}
-use Rattle.nofs_disk.specs.Disk.{DiskState, StaysButFaults, Rose}
-use Rattle.nofs_model.specs.Cells.{Pointer, SuperBlock}
-use Rattle.nofs_model.specs.Image.{Image, path_of, find}
-use Rattle.nofs_model.specs.Places.{InArea}
-use Rattle.nofs_model.specs.declared.path.PathAnswer.{PathAnswer}
-use Rattle.nofs_model.specs.declared.path.PathAnswer.TheVariants as answer
+use Rattle.std.specs.Prelude.{ℕ, Bool, List, Result, IfOk, IfErr, OnOk}
+use Rattle.nofs_disk.specs.Disk.{DiskState, StaysButFaults}
+use Rattle.nofs_model.specs.Cells.{SuperBlock}
 use Rattle.nofs_machine.specs.declared.replies.Refusal.{Refusal}
 use Rattle.nofs_agree.specs.Reading.{IsLast}
 use Rattle.nofs_agree.specs.declared.reads.LastRead.{LastRead}
@@ -15,11 +9,11 @@ use Rattle.nofs_names.specs.Listing.{LinesFail}
 use Rattle.nofs_names.specs.Removing.{BlocksOf}
 
 -- the blocks of all slots are marked, and no others
-pub record MarksInode (old new : DiskState) (at : SuperBlock) (i : ℕ) (bits : List Bool) (last : LastRead) (result : Result (Unit {0}) Failed) : Type 0 where
+pub record MarksInode (old new : DiskState) (at : SuperBlock) (i : ℕ) (bits : List Bool) (last : LastRead) (result : Result (Unit {0}) Refusal) : Type 0 where
   pub stays : StaysButFaults old new
   pub owned : OnOk result (BlocksOf new at i bits)
   pub kept : OnOk result (IsLast new last)
-  pub cause : OnErr result (Rose old.faults new.faults)
+  pub refused : IfErr result (LinesFail old new)
 
 pub record OwnsBlocks (old new : DiskState) (at : SuperBlock) (i : ℕ) (last : LastRead) (result : Result (List Bool) Refusal) : Type 0 where
   pub stays : StaysButFaults old new

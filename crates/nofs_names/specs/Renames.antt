@@ -1,5 +1,5 @@
 -- What Rename asks of its parts, and answers.
-use Rattle.std.specs.Prelude.{◌≡◌, ℕ, ◌⊎◌, true, List, None, IsTrue, Result, Ok, Err, IfOk, IfErr, OnOk}
+use Rattle.std.specs.Prelude.{◌≡◌, ℕ, ◌⊎◌, true, List, IsTrue, Result, Ok, Err, IfOk, IfErr, OnOk}
 use Rattle.nofs_disk.specs.Disk.{DiskState, StaysButFaults, Rose, cell_at}
 use Rattle.nofs_model.specs.Cells.{Pointer, SuperBlock}
 use Rattle.nofs_model.specs.Image.{path_of, find}
@@ -7,11 +7,6 @@ use Rattle.nofs_model.specs.Places.{InArea}
 use Rattle.nofs_model.specs.declared.path.PathAnswer.{PathAnswer}
 use Rattle.nofs_model.specs.declared.path.PathAnswer.TheVariants as answer
 use Rattle.nofs_machine.specs.Steps.{InRange}
-use Rattle.nofs_machine.specs.Search.{first_of}
-use Rattle.nofs_machine.specs.World.{World}
-use Rattle.nofs_machine.specs.Refusals.{rows}
-use Rattle.nofs_machine.specs.declared.history.Entry1.{Entry1}
-use Rattle.nofs_machine.specs.declared.steps.Step.{Step}
 use Rattle.nofs_machine.specs.declared.replies.Refusal.{Refusal}
 use Rattle.nofs_machine.specs.declared.replies.Refusal.TheVariants as refusal
 use Rattle.nofs_machine.specs.declared.replies.Reply.{Reply}
@@ -23,9 +18,7 @@ use Rattle.nofs_machine.specs.History.{FilesMatch}
 use Rattle.nofs_names.specs.Searching.{IsFoundEntry}
 use Rattle.nofs_names.specs.Refusing.{IsThere}
 use Rattle.nofs_names.specs.declared.searching.Paired.{Paired}
-use Rattle.nofs_state.specs.Standing.{IsOpen, Past}
 use Rattle.nofs_state.specs.Steps.{is_plain}
-use Rattle.nofs_state.specs.declared.books.Books.{Books}
 
 -- what stands in a slot that must hold
 abbrev pub IsSlotHeld : ℕ → PathAnswer → Result Pointer Refusal → Type 0

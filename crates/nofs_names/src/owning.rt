@@ -7,16 +7,15 @@ ghost use Rattle.nofs_names.specs.Owning.{MarksInode, OwnsBlocks};
 ghost use Rattle.nofs_state.specs.Owning.{MarksAll};
 
 use nofs_agree::{LastRead, find_slot};
-use nofs_bits::Bits;
-use nofs_disk::{Disk, Failed};
+use nofs_disk::Disk;
 use nofs_inode::Record;
 use nofs_machine::Refusal;
 use nofs_model::{PathAnswer, Place};
-use nofs_state::mark_slots;
+use nofs_state::{FreedBlocks, mark_slots};
 use nofs_super::SuperBlock;
 use std::alloc::Global;
 
-/// The blocks of an inode, as a map with a place for each block of the disk.
+/// The blocks of an inode.
 ///
 /// # Errors
 ///
@@ -28,30 +27,27 @@ pub(crate) fn owned_blocks<D: Disk>(
     inode: u32,
     it: &Record,
     last: &mut LastRead,
-) -> Result<Bits, Refusal>
+) -> Result<FreedBlocks, Refusal>
     requires known { KnowsInode (D.state disk.old) at.now inode it.now }
     requires last { IsLast (D.state disk.old) last.old }
     ensures { OwnsBlocks (D.state disk.old) (D.state disk.new) at.now inode last.new result }
 {
-    let mut owned = match Bits::new(alloc, at.blocks) {
-        Ok(owned) => owned,
-        Err(_) => return Err(Refusal::OutOfMemory),
-    };
+    let mut owned = FreedBlocks::new(alloc, at.blocks);
     match mark_all(disk, at, inode, it, &mut owned, last) {
         Ok(()) => Ok(owned),
-        Err(_) => Err(Refusal::ReadFault),
+        Err(why) => Err(why),
     }
 }
 
-// Marks the blocks of all slots.
+// Finds the blocks of all slots.
 fn mark_all<D: Disk>(
     disk: &mut D,
     at: &SuperBlock,
     inode: u32,
     it: &Record,
-    owned: &mut Bits,
+    owned: &mut FreedBlocks,
     last: &mut LastRead,
-) -> Result<(), Failed>
+) -> Result<(), Refusal>
     requires known { KnowsInode (D.state disk.old) at.now inode it.now }
     requires empty { owned.old ≡ replicate at.now.blocks false }
     requires last { IsLast (D.state disk.old) last.old }
@@ -62,24 +58,25 @@ fn mark_all<D: Disk>(
     mark_slots(disk, at, inode, it, 1 << 32, (1 << 32) + 66, owned, last)
 }
 
-// Marks the blocks of the slots below the top, where there is one.
+// Finds the blocks of the slots below the top, where there is one.
 fn mark_far<D: Disk>(
     disk: &mut D,
     at: &SuperBlock,
     inode: u32,
     it: &Record,
-    owned: &mut Bits,
+    owned: &mut FreedBlocks,
     last: &mut LastRead,
-) -> Result<(), Failed>
+) -> Result<(), Refusal>
     requires known { KnowsInode (D.state disk.old) at.now inode it.now }
     requires size { length owned.old ≡ at.now.blocks }
     requires last { IsLast (D.state disk.old) last.old }
     ensures { MarksAll (D.state disk.old) (D.state disk.new) at.now inode 72 slot_limit owned.old owned.new last.new result }
 {
-    match find_slot(disk, at, inode, it, Place::InRecord(9), last)? {
-        PathAnswer::Hole => Ok(()),
-        PathAnswer::Lost => Ok(()),
-        PathAnswer::Holds(_) => mark_children(disk, at, inode, it, owned, last),
+    match find_slot(disk, at, inode, it, Place::InRecord(9), last) {
+        Ok(PathAnswer::Hole) => Ok(()),
+        Ok(PathAnswer::Lost) => Ok(()),
+        Ok(PathAnswer::Holds(_)) => mark_children(disk, at, inode, it, owned, last),
+        Err(_) => Err(Refusal::ReadFault),
     }
 }
 
@@ -88,9 +85,9 @@ fn mark_children<D: Disk>(
     at: &SuperBlock,
     inode: u32,
     it: &Record,
-    owned: &mut Bits,
+    owned: &mut FreedBlocks,
     last: &mut LastRead,
-) -> Result<(), Failed>
+) -> Result<(), Refusal>
     requires known { KnowsInode (D.state disk.old) at.now inode it.now }
     requires size { length owned.old ≡ at.now.blocks }
     requires last { IsLast (D.state disk.old) last.old }
@@ -102,16 +99,16 @@ fn mark_children<D: Disk>(
     Ok(())
 }
 
-// Marks the blocks of the slots below a child of the top, where there is one.
+// Finds the blocks of the slots below a child of the top, where there is one.
 fn mark_child<D: Disk>(
     disk: &mut D,
     at: &SuperBlock,
     inode: u32,
     it: &Record,
     child: u64,
-    owned: &mut Bits,
+    owned: &mut FreedBlocks,
     last: &mut LastRead,
-) -> Result<(), Failed>
+) -> Result<(), Refusal>
     requires known { KnowsInode (D.state disk.old) at.now inode it.now }
     requires child { child < 64 }
     requires size { length owned.old ≡ at.now.blocks }
@@ -122,12 +119,13 @@ fn mark_child<D: Disk>(
         at: 9,
         place: child,
     };
-    match find_slot(disk, at, inode, it, place, last)? {
-        PathAnswer::Hole => Ok(()),
-        PathAnswer::Lost => Ok(()),
-        PathAnswer::Holds(_) => {
+    match find_slot(disk, at, inode, it, place, last) {
+        Ok(PathAnswer::Hole) => Ok(()),
+        Ok(PathAnswer::Lost) => Ok(()),
+        Ok(PathAnswer::Holds(_)) => {
             let from = 72 + 64 * child;
             mark_slots(disk, at, inode, it, from, from + 64, owned, last)
         }
+        Err(_) => Err(Refusal::ReadFault),
     }
 }

@@ -14,14 +14,13 @@ ghost use Rattle.nofs_names.specs.Removing.{BlocksOf, FreedAs, HasSizes, LosesNa
 use crate::drops::with_record;
 use crate::searching::Paired;
 use nofs_agree::{LastRead, read_block};
-use nofs_bits::Bits;
 use nofs_disk::{Cell, Disk, Pointer};
 use nofs_inode::{FREE_RECORD, Record};
 use nofs_machine::Refusal;
-use nofs_state::{Books, Core, write_two};
+use nofs_state::{Books, Core, FreedBlocks, write_two};
 
 // Marks an inode and its blocks as known and free.
-fn free_all(books: &mut Books, freed: &Bits, inode: u32)
+fn free_all(books: &mut Books, freed: &FreedBlocks, inode: u32)
     requires sizes { HasSizes books.old }
     requires freed { length freed.now ≡ books.old.at.blocks }
     requires above { 1 ≤ inode }
@@ -45,7 +44,7 @@ pub(crate) fn remove_file<D: Disk + Drop>(
     found: &Paired,
     pointer: Pointer,
     cell: &Cell,
-    freed: &Bits,
+    freed: &FreedBlocks,
     records: &mut LastRead,
 ) -> Result<(), Refusal>
     requires safe { IsSafe (D.state core.old.disk) core.old.books }

@@ -2,7 +2,7 @@
 use Rattle.std.proofs.Common.{◌≡◌, ℕ, ◌-◌, ◌<◌, ◌≤◌, Bool, true, false, cond, ◌&&◌, not, ltb, leb, List, ◌++◌, Some, None, refl, sym, ◌∙◌, subst, subst₂, arith}
 use Rattle.nofs_bits.specs.Bits.{is_set}
 use Rattle.nofs_disk.specs.Disk.{DiskState, IsDisk}
-use Rattle.nofs_disk.specs.Chains.{StaysButFaults-refl}
+use Rattle.nofs_disk.specs.Chains.{KeepsCells-refl, StaysButFaults-refl}
 use Rattle.nofs_model.specs.Cells.{SuperBlock}
 use Rattle.nofs_model.specs.Image.{Image}
 use Rattle.nofs_machine.specs.World.{world_of}
@@ -78,7 +78,7 @@ module _ (early : DiskState) (before : Books) (d : DiskState) (k : Books) (kind 
   pub commits : (l : Books) (result : Bool) → Settles k l (verdict_of kind k v.item) (learned kind k v.item) used result → Commits early before d k l kind v.item used result
   commits l result (StaysSo stood e) = subst (λ (m : Books). Commits early before d k m kind v.item used result) (sym e) (record {
     settles = StaysSo stood refl;
-    cause = seen-causes d d k k result going going;
+    cause = seen-causes d d k k result (KeepsCells-refl d) going going;
     safe = safe;
     at = refl;
     history = refl;
@@ -87,7 +87,7 @@ module _ (early : DiskState) (before : Books) (d : DiskState) (k : Books) (kind 
   })
   commits l result (LearnsIt none e r) = subst₂ (λ (m : Books) (b : Bool). Commits early before d k m kind v.item used b) (sym e) (sym r) (record {
     settles = LearnsIt none refl refl;
-    cause = seen-causes d d k (learned kind k v.item used) used going (here.stopped used ∙ going);
+    cause = seen-causes d d k (learned kind k v.item used) used (KeepsCells-refl d) going (here.stopped used ∙ going);
     safe = here.safe d used (StaysButFaults-refl d) may-now;
     at = here.at used;
     history = here.history used;

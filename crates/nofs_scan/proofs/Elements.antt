@@ -87,7 +87,7 @@ goes-seen old new k l s used stays going still safe at history follows = record 
   disk = stays.disk;
   past = stays.past;
   later = (let m = stays.cells.moment in omega (arith, m));
-  cause = seen-causes old new k l used going still;
+  cause = seen-causes old new k l used stays.cells going still;
   safe = safe;
   at = at;
   history = history;

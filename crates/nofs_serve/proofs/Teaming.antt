@@ -1,5 +1,5 @@
--- A whole team: its sweepers and its users, and what it leaves in a history.
-use Rattle.std.proofs.Common.{◌≡◌, ◌≢◌, ◌⊎◌, inl, inr, ℕ, ◌+◌, ◌-◌, ◌<◌, ◌≤◌, Bool, true, false, ◌||◌, List, [], ◌∷◌, ◌++◌, length, drop, refl, sym, ap, ◌∙◌, subst, arith}
+-- A whole team: its sweepers, its flusher and its users, and what it leaves in a history.
+use Rattle.std.proofs.Common.{◌≡◌, ◌≢◌, ◌⊎◌, inl, inr, ℕ, ◌+◌, ◌-◌, ◌<◌, ◌≤◌, eqb, eqb-true, eq-eqb, Bool, true, false, ◌||◌, List, [], ◌∷◌, ◌++◌, length, drop, refl, sym, ap, ◌∙◌, subst, arith}
 use mathlib.Core.List.{IsPrefix}
 use Rattle.nofs_turn.specs.declared.view.View.{View}
 use Rattle.nofs_turn.specs.Lists.{numbered, chosen}
@@ -30,22 +30,38 @@ sweeps-told Item kind count out short new now less is s = record {
   makes = record { made = s.makes.made; more = is ∙ s.makes.more; steps = s.makes.steps };
 }
 
-module _ {F : Type 0} (scripts : List (List Command)) (inodes blocks : ℕ) (short out out_inodes out_blocks : Bool) (lines : List (List Line)) (v p w q u : View Entry1 F)
+module _ {F : Type 0} (scripts : List (List Command)) (inodes blocks : ℕ) (short out out_inodes out_blocks : Bool) (lines : List (List Line)) (v p w q f z u : View Entry1 F)
     (few : length scripts ≤ 8) (one : v.stands ≡ 1) (same : SameSeat v p) (own : all_by 9 p.mine ≡ true)
     (up : Sweeps (λ place item. item ≡ place) Inode 0 inodes out_inodes [] (own_steps p.mine))
     (same_blocks : SameSeat v w) (j : JoinsOwn 10 p w q)
     (down : Sweeps (λ place item. item ≡ blocks - 1 - place) Block 0 blocks out_blocks [] (own_steps w.mine))
+    (same_flusher : SameSeat v f) (joined_flusher : JoinsOwn 11 q f z) (no_step : own_steps f.mine ≡ [])
     (either : out ≡ (out_inodes || out_blocks)) where
-  none_before : (c : ℕ) → c ≢ 9 → c ≢ 10 → made_by c q ≡ []
-  none_before c not_inodes not_blocks = joins-other 10 c p w q j not_blocks ∙ made_by-other c 9 p own not_inodes
+  none_of_sweeps : (c : ℕ) → c ≢ 9 → c ≢ 10 → made_by c q ≡ []
+  none_of_sweeps c not_inodes not_blocks = joins-other 10 c p w q j not_blocks ∙ made_by-other c 9 p own not_inodes
 
-  pub team-gathers : (((c : ℕ) → 1 ≤ c → c ≤ length scripts → made_by c q ≡ []) → Gathers v q 2 → Gathers v u (2 + length scripts) × UsersGathered scripts out short lines q u) → TeamGathered scripts inodes blocks short lines v u
+  -- the flusher adds nothing
+  flusher-adds : (c : ℕ) → made_by c z ≡ made_by c q
+  flusher-adds c = go (eqb c 11) refl
+    where
+      go : (b : Bool) → eqb c 11 ≡ b → made_by c z ≡ made_by c q
+      go true e =
+          let is : c ≡ 11 = eqb-true c 11 e in
+          let none : made_by 11 q ≡ [] = none_of_sweeps 11 (λ n. absurd (omega (arith, n))) (λ n. absurd (omega (arith, n))) in
+          subst (λ (n : ℕ). made_by n z ≡ made_by n q) (sym is) (joins-own 11 q f z joined_flusher none ∙ no_step ∙ sym none)
+      go false e = joins-other 11 c q f z joined_flusher (λ n. absurd (let t : eqb c 11 ≡ true = eq-eqb c 11 n in cc (t, e)))
+
+  none_before : (c : ℕ) → c ≢ 9 → c ≢ 10 → made_by c z ≡ []
+  none_before c not_inodes not_blocks = flusher-adds c ∙ none_of_sweeps c not_inodes not_blocks
+
+  pub team-gathers : (((c : ℕ) → 1 ≤ c → c ≤ length scripts → made_by c z ≡ []) → Gathers v z 3 → Gathers v u (3 + length scripts) × UsersGathered scripts out short lines z u) → TeamGathered scripts inodes blocks short lines v u
   team-gathers users =
       let two = gathers-more 10 1 v p w q one (gathers-one v p one same) j same_blocks in
-      let r = users (λ c low high. none_before c (λ e. absurd (omega (arith, few, high, e))) (λ e. absurd (omega (arith, few, high, e)))) two in
+      let three = gathers-more 11 2 v q f z one two joined_flusher same_flusher in
+      let r = users (λ c low high. none_before c (λ e. absurd (omega (arith, few, high, e))) (λ e. absurd (omega (arith, few, high, e)))) three in
       let g = r.1 in
-      let of_inodes : made_by 9 u ≡ own_steps p.mine = g.others 9 (inr (omega (arith, few))) ∙ (joins-other 10 9 p w q j (λ e. absurd (omega (arith, e))) ∙ made_by-own 9 p own) in
-      let of_blocks : made_by 10 u ≡ own_steps w.mine = g.others 10 (inr (omega (arith, few))) ∙ joins-own 10 p w q j (made_by-other 10 9 p own (λ e. absurd (omega (arith, e)))) in
+      let of_inodes : made_by 9 u ≡ own_steps p.mine = g.others 9 (inr (omega (arith, few))) ∙ (flusher-adds 9 ∙ (joins-other 10 9 p w q j (λ e. absurd (omega (arith, e))) ∙ made_by-own 9 p own)) in
+      let of_blocks : made_by 10 u ≡ own_steps w.mine = g.others 10 (inr (omega (arith, few))) ∙ (flusher-adds 10 ∙ joins-own 10 p w q j (made_by-other 10 9 p own (λ e. absurd (omega (arith, e))))) in
       let less : short ≡ false → (out_inodes ≡ false) × (out_blocks ≡ false) = λ e. neither out_inodes out_blocks (sym either ∙ g.was_short e) in
       record {
         gathers = subst (λ n. Gathers v u n) (omega arith) r.0;

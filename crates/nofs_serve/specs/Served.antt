@@ -1,4 +1,4 @@
--- What a team of users and sweepers leaves.
+-- What a team of users, sweepers and a flusher leaves.
 use Rattle.std.specs.Prelude.{◌≡◌, ◌≢◌, ◌⊎◌, ℕ, ◌+◌, ◌-◌, ◌<◌, Bool, false, List, [], length, drop}
 use mathlib.Core.List.{IsPrefix}
 use Rattle.nofs_turn.specs.declared.view.View.{View}
@@ -12,7 +12,7 @@ use Rattle.nofs_workers.specs.Sweeps.{Sweeps}
 use Rattle.nofs_serve.specs.Joins.{Gathers, made_by}
 use Rattle.nofs_serve.specs.Teams.{UsersBegun, UsersServed}
 
--- no user of so many has this number, nor a sweep
+-- no user of so many has this number, nor a sweep: so it is with the flusher's, 11
 abbrev pub IsNobody : ℕ → ℕ → Type 0
 IsNobody users c = (c ≢ 9) × (c ≢ 10) × ((c ≡ 0) ⊎ (users < c))
 
@@ -27,7 +27,7 @@ pub record TeamMade (scripts : List (List Command)) (inodes blocks : ℕ) (short
 
 -- the passes of a team in one
 pub record TeamGathered {F : Type 0} (scripts : List (List Command)) (inodes blocks : ℕ) (short : Bool) (lines : List (List Line)) (v u : View Entry1 F) : Type 0 where
-  pub gathers : Gathers v u (length scripts + 2)
+  pub gathers : Gathers v u (length scripts + 3)
   pub made : TeamMade scripts inodes blocks short lines (λ c. made_by c u)
 
 -- what a team added to a history

@@ -25,22 +25,42 @@ pub fn work_all<R: Threads + Sync, W: Works + Send>(rt: &R, workers: &mut [W])
     );
 }
 
-/// Lends the users and both sweepers to threads at once. Each has then done its work once.
-pub fn work_team<R: Threads + Sync, U: Works + Send, I: Works + Send, B: Works + Send>(
-    rt: &R,
-    users: &mut Vec<U>,
-    inodes: &mut I,
-    blocks: &mut B,
-)
+/// Lends the users, both sweepers and the flusher to threads at once. Each has then done its work once.
+pub fn work_team<
+    R: Threads + Sync,
+    U: Works + Send,
+    I: Works + Send,
+    B: Works + Send,
+    F: Works + Send,
+>(rt: &R, users: &mut Vec<U>, inodes: &mut I, blocks: &mut B, flusher: &mut F)
     ensures len { length users.new.items ≡ length users.old.items }
     ensures users { (place : ℕ) (default : U) → place < length users.old.items → U.worked (slice_index_or users.old.items place default) (slice_index_or users.new.items place default) }
     ensures inodes { I.worked inodes.old inodes.new }
     ensures blocks { B.worked blocks.old blocks.new }
+    ensures flusher { F.worked flusher.old flusher.new }
 {
     thread::join_mut(
         rt,
         &mut || work_all(rt, users.as_mut_slice()),
-        &mut || work_two(rt, inodes, blocks),
+        &mut || work_three(rt, inodes, blocks, flusher),
+    );
+}
+
+// Lends three workers to threads at once.
+fn work_three<R: Threads + Sync, U: Works + Send, V: Works + Send, W: Works + Send>(
+    rt: &R,
+    first: &mut U,
+    second: &mut V,
+    third: &mut W,
+)
+    ensures first { U.worked first.old first.new }
+    ensures second { V.worked second.old second.new }
+    ensures third { W.worked third.old third.new }
+{
+    thread::join_mut(
+        rt,
+        &mut || first.work(),
+        &mut || work_two(rt, second, third),
     );
 }
 

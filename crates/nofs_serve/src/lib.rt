@@ -1,4 +1,4 @@
-//! A mount serves its users: a worker for each on a thread of its own, beside the two sweepers.
+//! A mount serves its users: a worker for each on a thread of its own, beside the two sweepers and the flusher.
 //!
 //! Promise: every worker comes back, and has done what its own kind promises.
 #![tactic(auto)]
@@ -12,6 +12,6 @@ mod works;
 
 pub use lend::{work_all, work_team};
 pub use session::{Served, serve};
-pub use team::{Plan, Sweeps};
+pub use team::{Plan, Sweeps, WriteOuts};
 pub use way::Way;
 pub use works::Works;

@@ -1,13 +1,13 @@
 //! Serving users at a mount.
 //!
 //! Promise: the history has of each user just the steps that its commands ask for, in order, and of each sweep one step for each
-//! element.
+//! element. The flusher has none.
 ghost use Rattle.std.specs.Prelude.{◌≡◌, ◌<◌, ◌≤◌, ◌^◌, true, All, map, vec_len};
 ghost use Rattle.nofs_client.specs.Commands.{AreWellFormed};
 ghost use Rattle.nofs_serve.specs.Served.{TeamServed};
 
 use crate::gather::Gathered;
-use crate::team::{Plan, Sweeps, TeamRoom, run_team};
+use crate::team::{Plan, Sweeps, TeamRoom, WriteOuts, run_team};
 use nofs_client::LineList;
 use nofs_shared::{Serves, ShareFault, SharedMount};
 use nofs_workers::Gate;
@@ -36,13 +36,14 @@ fn unserved<V>(alloc: Global, mount: V) -> Served<V>
     }
 }
 
-/// Serves each user by a worker on a thread of its own beside the two sweepers, and hands the mount back when all have ended.
+/// Serves each user by a worker on a thread of its own beside the two sweepers and the flusher, and hands the mount back when all have ended.
 pub fn serve<R: Threads + Wait + Sync, V: Serves + Send, T: Gate + Send + Drop>(
     rt: &R,
     alloc: Global,
     mount: V,
     plans: Vec<Plan<T>>,
     sweeps: Sweeps<T>,
+    outs: WriteOuts<T>,
 ) -> Served<V>
 where
     V::Evidence: Send,
@@ -59,7 +60,7 @@ where
     let Ok(lines) = Vec::with_capacity(alloc, count) else {
         return unserved(alloc, mount);
     };
-    let (shared, passes) = match SharedMount::new(alloc, mount, count as u32 + 2) {
+    let (shared, passes) = match SharedMount::new(alloc, mount, count as u32 + 3) {
         Ok(made) => made,
         Err(ShareFault { mount }) => return unserved(alloc, mount),
     };
@@ -68,7 +69,7 @@ where
         pass,
         lines,
         out_of_memory,
-    } = run_team(rt, alloc, &shared, passes, plans, sweeps, room);
+    } = run_team(rt, alloc, &shared, passes, plans, sweeps, outs, room);
     let Ok(mount) = shared.close(pass) else {
         unreachable!()
     };

@@ -1,7 +1,7 @@
-//! A team over one mount: a worker for each user, and the two sweepers.
+//! A team over one mount: a worker for each user, the two sweepers, and the flusher.
 //!
 //! Promise: each worker has a caller of its own. Users are callers 1 and up, in their order; the sweeper of the inodes is caller
-//! 9, and that of the blocks caller 10.
+//! 9, that of the blocks caller 10, and the flusher, which makes no step, caller 11.
 ghost use Rattle.std.specs.Prelude.{◌≡◌, ℕ, ◌+◌, ◌<◌, ◌≤◌, ◌^◌, List, [], All, length, map, vec_len, vec_capacity};
 ghost use Rattle.nofs_turn.specs.declared.view.View.{View};
 ghost use Rattle.nofs_turn.specs.Turns.{view_of, IsPassOf};
@@ -16,7 +16,7 @@ use crate::way::Way;
 use nofs_client::{CommandList, LineList};
 use nofs_shared::{Serves, SharedMount};
 use nofs_turn::Pass;
-use nofs_workers::{BlockSweeper, Downwards, Gate, InodeSweeper, Upwards, UserWorker};
+use nofs_workers::{BlockSweeper, Downwards, Flusher, Gate, InodeSweeper, Upwards, UserWorker};
 use std::alloc::Global;
 use std::sync::Wait;
 use std::thread::Threads;
@@ -34,6 +34,13 @@ pub struct Sweeps<T> {
     pub inodes: u64,
     pub blocks: u64,
     pub gates: (T, T),
+}
+
+/// How often the flusher writes out, and its gate.
+#[derive(Drop)]
+pub struct WriteOuts<T> {
+    pub turns: u64,
+    pub gate: T,
 }
 
 /// What a team is put together in: room for its users, and for their lines.
@@ -104,6 +111,7 @@ pub fn run_team<'a, R: Threads + Wait + Sync, V: Serves + Send, T: Gate + Send +
     passes: Vec<Pass<V>>,
     plans: Vec<Plan<T>>,
     sweeps: Sweeps<T>,
+    outs: WriteOuts<T>,
     room: TeamRoom<'a, R, V, T>,
 ) -> Gathered<V>
 where
@@ -111,7 +119,7 @@ where
     requires few { vec_len plans ≤ 8 }
     requires formed { All (λ p. AreWellFormed p.commands) plans.items }
     requires small { sweeps.inodes < 2 ^ 32 }
-    requires passes { (vec_len plans + 2 ≡ vec_len passes) × All (λ p. IsPassOf shared.now.turn p × ((view_of p).mine ≡ [])) passes.items }
+    requires passes { (vec_len plans + 3 ≡ vec_len passes) × All (λ p. IsPassOf shared.now.turn p × ((view_of p).mine ≡ [])) passes.items }
     requires users { (room.users.items ≡ []) × (vec_len plans ≤ vec_capacity room.users) }
     requires lines { (room.lines.items ≡ []) × (vec_len plans ≤ vec_capacity room.lines) }
     ensures of { IsPassOf shared.now.turn result.pass }
@@ -128,10 +136,13 @@ where
     let mut inodes = InodeSweeper::new(way, Upwards { count: inodes }, gate);
     let way = seat(rt, alloc, shared, 10, &mut passes);
     let mut blocks = BlockSweeper::new(way, Downwards { count: blocks }, next_gate);
-    work_team(rt, &mut users, &mut inodes, &mut blocks);
+    let way = seat(rt, alloc, shared, 11, &mut passes);
+    let mut flusher = Flusher::new(way, outs.gate, outs.turns);
+    work_team(rt, &mut users, &mut inodes, &mut blocks, &mut flusher);
     let out_of_memory = either(inodes.out_of_memory, blocks.out_of_memory);
     let mut pass = inodes.into_inner().back();
     join_way(shared, &mut pass, blocks.into_inner());
+    join_way(shared, &mut pass, flusher.into_inner());
     gather_users(
         shared,
         users,

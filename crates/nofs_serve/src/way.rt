@@ -1,15 +1,16 @@
 //! The way of a worker to a mount that several workers share.
 //!
 //! Promise: its steps are those of the pass behind it. A batch is looked at under one turn, and each of its verdicts is
-//! committed under a later one.
+//! committed under a later one. A write-out takes the turn and makes no step.
 ghost use Rattle.std.specs.Prelude.{◌≡◌, true};
 ghost use Rattle.nofs_turn.specs.Turns.{view_of, IsPassOf};
 ghost use Rattle.nofs_shared.specs.Owned.{all_by};
 
+use nofs_disk::OutFault;
 use nofs_machine::{ElementKind, Refusal, Reply, Step, Steps};
 use nofs_shared::{Serves, SharedPass};
 use nofs_turn::Pass;
-use nofs_workers::Batches;
+use nofs_workers::{Batches, WritesOut};
 use std::sync::Wait;
 
 /// A pass of a shared mount, as the workers take it.
@@ -70,5 +71,16 @@ impl<R: Wait, V: Serves> Batches for Way<'_, R, V> {
 
     fn commit(&mut self, evidence: &V::Evidence, at: u32, used: bool) -> Reply {
         self.pass.commit(evidence, at, used)
+    }
+}
+
+impl<R: Wait, V: Serves> WritesOut for Way<'_, R, V> {
+    ghost use Rattle.std.specs.Prelude.{◌<◌};
+    ghost use Rattle.nofs_turn.specs.Turns.{view_of};
+
+    ghost wrote = { λ old _ new. (view_of old.pass.pass).looks < (view_of new.pass.pass).looks };
+
+    fn write_out(&mut self) -> Result<Option<u64>, OutFault> {
+        self.pass.write_out()
     }
 }

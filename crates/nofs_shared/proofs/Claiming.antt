@@ -1,11 +1,11 @@
 -- What a step claims has no owner on the disk before it.
-use Rattle.std.proofs.Common.{◌≡◌, ◌≢◌, ℕ, ◌+◌, ◌<◌, ◌≤◌, Bool, true, false, ◌&&◌, ◌||◌, not, leb, List, [], ◌∷◌, ◌++◌, length, length-append, Contains, Option, Some, None, is_some, IsTrue, ◌⊎◌, inl, inr, refl, sym, ap, ◌∙◌, subst, arith}
+use Rattle.std.proofs.Common.{◌≡◌, ℕ, Bool, true, false, ◌&&◌, ◌||◌, not, List, [], ◌∷◌, ◌++◌, length, length-append, Contains, Option, Some, None, is_some, IsTrue, ◌⊎◌, inl, inr, refl, sym, ap, ◌∙◌, subst, arith}
 use Rattle.std.proofs.lemmas.Bool.{cases_lt}
 use Rattle.nofs_disk.specs.Disk.{DiskState}
 use Rattle.nofs_model.specs.Cells.{Pointer, SuperBlock}
-use Rattle.nofs_model.specs.Image.{Image, Home, owner, super_at}
+use Rattle.nofs_model.specs.Image.{Image, Home, owner}
 use Rattle.nofs_machine.specs.Machine.{is_write_fault}
-use Rattle.nofs_machine.specs.World.{World, is_free_block, uses_block, is_fixed}
+use Rattle.nofs_machine.specs.World.{World, is_free_block, is_fixed}
 use Rattle.nofs_machine.specs.Claims.{claimed_blocks, no_claims}
 use Rattle.nofs_machine.specs.Next.{Next, AfterFault, ByRow, Done, ByRead, ByWrite}
 use Rattle.nofs_machine.specs.Steps.{is_out_of_memory}

@@ -1,9 +1,9 @@
 -- Passes that are joined one after another: the history has of each caller what its pass made.
-use Rattle.std.proofs.Common.{◌≡◌, ◌≢◌, ℕ, ◌+◌, ◌<◌, eqb, eq-eqb, ne_eqb, eqb-true, Bool, true, false, cond, ◌&&◌, List, [], ◌∷◌, ◌++◌, length, map, drop, refl, sym, ap, ◌∙◌, subst, arith, append_assoc, length-append}
+use Rattle.std.proofs.Common.{◌≡◌, ◌≢◌, ℕ, ◌+◌, ne_eqb, eqb-true, Bool, true, false, cond, ◌&&◌, List, [], ◌∷◌, ◌++◌, length, map, refl, sym, ap, ◌∙◌, subst, arith, append_assoc}
 use Rattle.std.specs.Prelude.{filter}
 use mathlib.Core.List.{IsPrefix}
 use Rattle.nofs_turn.specs.declared.view.View.{View}
-use Rattle.nofs_turn.specs.Lists.{rises, merge, numbered, entries_of, chosen}
+use Rattle.nofs_turn.specs.Lists.{rises, merge, numbered, chosen}
 use Rattle.nofs_turn.specs.Views.{joined}
 use Rattle.nofs_turn.proofs.Callers.{entries_of-numbered, filter-entries_of, joined_own, joined_other}
 use Rattle.nofs_machine.specs.declared.history.Entry1.{Entry1}

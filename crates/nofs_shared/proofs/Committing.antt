@@ -1,11 +1,10 @@
 -- A mount stands after a verdict of an earlier state is committed.
-use Rattle.std.proofs.Common.{◌≡◌, ℕ, ◌^◌, ◌<◌, ◌≤◌, arith, Bool, true, false, ◌&&◌, List, [], ◌∷◌, ◌++◌, set, IsTrue, ◌⊎◌, inl, inr, refl, sym, ap, ◌∙◌, subst, le_refl}
+use Rattle.std.proofs.Common.{◌≡◌, ℕ, ◌^◌, ◌<◌, ◌≤◌, arith, Bool, true, false, [], ◌∷◌, ◌++◌, set, IsTrue, ◌⊎◌, inl, inr, refl, sym, ap, ◌∙◌, subst, le_refl}
 use mathlib.Core.List.{IsPrefix}
 use Rattle.nofs_disk.specs.Disk.{DiskState}
 use Rattle.nofs_disk.specs.Chains.{IsSameDisk-refl, KeepsPast-refl}
 use Rattle.nofs_super.specs.Format.{super_cell}
 use Rattle.nofs_model.specs.Cells.{SuperBlock}
-use Rattle.nofs_model.specs.Image.{Image}
 use Rattle.nofs_machine.specs.Claims.{no_claims}
 use Rattle.nofs_machine.specs.HistoryState.{HistoryState}
 use Rattle.nofs_machine.specs.declared.history.Entry1.{Entry1}
@@ -17,7 +16,7 @@ use Rattle.nofs_machine.specs.declared.replies.Reply.TheVariants as reply
 use Rattle.nofs_machine.specs.declared.replies.Refusal.TheVariants as refusal
 use Rattle.nofs_machine.specs.Steps.{Fits}
 use Rattle.nofs_state.specs.Books.{with_history}
-use Rattle.nofs_state.specs.Standing.{IsOpen, IsStopped, Past, Sounds}
+use Rattle.nofs_state.specs.Standing.{IsOpen, IsStopped, Past}
 use Rattle.nofs_state.specs.Steps.{IsSafeStep, entry}
 use Rattle.nofs_state.specs.declared.books.Books.{Books}
 use Rattle.nofs_state.specs.Verdicts.{LearnsIt, Settles, StaysSo}

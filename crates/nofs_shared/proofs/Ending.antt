@@ -1,11 +1,11 @@
 -- What the invariant of a mount gives at its end.
-use Rattle.std.proofs.Common.{◌≡◌, ◌≢◌, ℕ, ◌+◌, ◌<◌, ◌≤◌, Bool, true, false, ltb, List, [], ◌∷◌, ◌++◌, Contains, set, ◌⊎◌, inl, inr, refl, sym, ap, ◌∙◌, subst, arith}
+use Rattle.std.proofs.Common.{◌≡◌, ◌≢◌, ℕ, ◌≤◌, Bool, true, false, ltb, List, [], ◌∷◌, ◌++◌, Contains, set, ◌⊎◌, inl, inr, refl, ap, ◌∙◌, subst, arith}
 use Rattle.nofs_disk.specs.Disk.{DiskState}
 use Rattle.nofs_disk.specs.Moments.{AtEach}
 use Rattle.nofs_super.specs.Format.{super_cell}
 use Rattle.nofs_model.specs.Cells.{Pointer, SuperBlock}
 use Rattle.nofs_model.specs.Image.{Image}
-use Rattle.nofs_machine.specs.World.{World, world_of, is_free_block, is_free_inode, inodes_needed}
+use Rattle.nofs_machine.specs.World.{World, world_of, is_free_inode, inodes_needed}
 use Rattle.nofs_machine.specs.Claims.{claimed_blocks, no_claims, next_stamp, IsClaim, IsInodeClaim, ClaimedInode, NoInode}
 use Rattle.nofs_machine.specs.Next.{Next, Run, AfterFault, ByRow, Done, ByRead, ByWrite}
 use Rattle.nofs_machine.specs.Allowed.{IsAllowed}
@@ -15,8 +15,8 @@ use Rattle.nofs_machine.specs.declared.steps.Step.{Step}
 use Rattle.nofs_machine.proofs.ClaimParts.{claim-free}
 use Rattle.nofs_state.specs.Standing.{IsOpen, IsStopped, Past}
 use Rattle.nofs_state.specs.declared.books.Books.{Books}
-use Rattle.nofs_shared.specs.Mounts.{IsFound, IsMount, IsSoundDisk, MountStands}
-use Rattle.nofs_shared.specs.Ends.{AllClaimsFree, EntryClaimsFree, Contents, Ends}
+use Rattle.nofs_shared.specs.Mounts.{IsFound, IsMount}
+use Rattle.nofs_shared.specs.Ends.{EntryClaimsFree, Ends}
 
 inode-free : (W : World) (n : ℕ) (c : Claims) (b : Bool) → IsInodeClaim W n c b → c.inode ≢ 0 → is_free_inode W c.inode ≡ true
 inode-free W n c true (ClaimedInode free low high stamp) some = free

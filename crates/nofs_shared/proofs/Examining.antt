@@ -1,5 +1,5 @@
 -- What a pass knows after a batch was looked at, or a verdict committed.
-use Rattle.std.proofs.Common.{◌≡◌, ℕ, ◌≤◌, Bool, true, List, [], ◌∷◌, ◌++◌, length, drop, map, Option, Some, refl, sym, ap, ◌∙◌, subst, append-nil, le_refl}
+use Rattle.std.proofs.Common.{◌≡◌, ℕ, ◌+◌, ◌<◌, ◌≤◌, List, ◌++◌, length, drop, Some, sym, ap, ◌∙◌, subst, append-nil, le_refl}
 use Rattle.std.specs.Prelude.{Result, Ok, Err, IfOk}
 use Rattle.std.proofs.lemmas.List.{drop_all}
 use mathlib.Core.List.{IsPrefix}
@@ -8,7 +8,10 @@ use Rattle.nofs_turn.specs.Lists.{numbered}
 use Rattle.nofs_turn.specs.Passes.{MayRun, Ran}
 use Rattle.nofs_turn.proofs.Words.{prefix_trans}
 use Rattle.nofs_machine.specs.declared.history.Entry1.{Entry1}
-use Rattle.nofs_shared.specs.Owned.{all_by, own_steps}
+use Rattle.nofs_machine.specs.declared.steps.Step.{Step}
+use Rattle.nofs_machine.specs.declared.replies.Reply.{Reply}
+use Rattle.nofs_shared.specs.Commits.{CommitRan}
+use Rattle.nofs_shared.specs.Owned.{TellsStep}
 use Rattle.nofs_shared.specs.Seats.{SameSeat}
 
 module _ {F Out : Type 0} (tells : F → List Entry1 → List Entry1 → Out → Type 0) (v w : View Entry1 F) (out : Out) (h : Ran tells v w out) where
@@ -21,6 +24,10 @@ module _ {F Out : Type 0} (tells : F → List Entry1 → List Entry1 → Out →
     stands = ap (λ (u : View Entry1 F). u.stands) h.now;
     seen = subst (λ l. IsPrefix v.seen l) (sym (ap (λ (u : View Entry1 F). u.seen) h.now)) (prefix_trans v.seen h.before h.after h.begins h.keeps);
   }
+
+  -- it looked at the turn
+  pub looks-more : v.looks < w.looks
+  looks-more = subst (λ (n : ℕ). v.looks < n) (sym (ap (λ (u : View Entry1 F). u.looks) h.now)) h.looked_more
 
   -- nothing was added
   pub mine-stays : h.after ≡ h.before → w.mine ≡ v.mine
@@ -46,3 +53,32 @@ knows-on P more v w same may f e = subst (λ (l : List Entry1). P f l) same.seen
 pub knows-looked : {F A B : Type 0} (tells : F → List Entry1 → List Entry1 → Result A B → Type 0) (P : A → F → List Entry1 → Type 0) (v w : View Entry1 F) (r : Result A B) (h : Ran tells v w r) → IfOk r (λ e. P e h.part h.after) → IfOk r (λ e. MayRun (P e) w)
 knows-looked tells P v w (Ok e) h p = knows-left tells v w (Ok e) h (P e) p
 knows-looked tells P v w (Err x) h p = tt
+
+-- what a commit tells: its step, and what it says of the list that it met
+module _ {F : Type 0} (commits : F → List Entry1 → Reply → Type 0) (caller : ℕ) (s : Step) (v w : View Entry1 F) (r : Reply)
+    (h : Ran (λ f xs ys q. TellsStep caller s xs ys q × commits f xs q) v w r) where
+  pub commit-step : Ran (λ f xs ys q. TellsStep caller s xs ys q) v w r
+  commit-step = record {
+    part = h.part;
+    before = h.before;
+    after = h.after;
+    looks_now = h.looks_now;
+    same_part = h.same_part;
+    begins = h.begins;
+    keeps = h.keeps;
+    at_most_one = h.at_most_one;
+    told = h.told.0;
+    looked_more = h.looked_more;
+    now = h.now;
+  }
+
+  pub commit-ran : CommitRan commits v w r
+  commit-ran = record {
+    part = h.part;
+    before = h.before;
+    fixed = h.same_part;
+    begins = h.begins;
+    keeps = subst (λ (l : List Entry1). IsPrefix h.before l) (sym (ap (λ (u : View Entry1 F). u.seen) h.now)) h.keeps;
+    at_most_one = subst (λ (l : List Entry1). length l ≤ length h.before + 1) (sym (ap (λ (u : View Entry1 F). u.seen) h.now)) h.at_most_one;
+    says = h.told.1;
+  }

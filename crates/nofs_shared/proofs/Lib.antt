@@ -1,3 +1,4 @@
+pub mod RestingImages
 pub mod Mounting
 pub mod Refusing
 pub mod Raising
@@ -13,3 +14,4 @@ pub mod Sends
 pub mod Examining
 pub mod Looking
 pub mod Scanning
+pub mod WritingOut

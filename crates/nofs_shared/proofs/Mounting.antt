@@ -1,9 +1,12 @@
 -- A mount stands after each step.
-use Rattle.std.proofs.Common.{◌≡◌, ℕ, ◌+◌, ◌-◌, ◌^◌, ◌<◌, ◌≤◌, min, Bool, true, false, ◌||◌, cond, List, [], ◌∷◌, ◌++◌, IsTrue, ◌⊎◌, inl, inr, refl, sym, ap, ◌∙◌, subst, subst₂, arith}
-use Rattle.nofs_disk.specs.Disk.{DiskState, IsSameDisk, KeepsPast, KeepsCells, Rose}
+use Rattle.std.proofs.Common.{◌≡◌, ℕ, ◌+◌, ◌-◌, ◌^◌, ◌<◌, ◌≤◌, min, Bool, true, false, ◌||◌, cond, List, [], ◌∷◌, ◌++◌, IsTrue, ◌⊎◌, inl, inr, refl, sym, ap, ◌∙◌, subst, subst₂, arith, le_refl}
+use Rattle.std.proofs.lemmas.Bool.{cases_lt}
+use Rattle.nofs_disk.specs.Disk.{DiskState, IsSameDisk, KeepsCells, Picks, Rose}
 use Rattle.nofs_disk.specs.Chains.{IsSameDisk-trans}
-use Rattle.nofs_model.specs.Cells.{SuperBlock}
+use Rattle.nofs_model.specs.Cells.{Cell, SuperBlock}
 use Rattle.nofs_model.specs.Image.{Image}
+use Rattle.nofs_machine.specs.Allowed.{IsAllowed}
+use Rattle.nofs_machine.specs.History.{is_flushed}
 use Rattle.nofs_machine.specs.Machine.{is_write_fault, is_refused}
 use Rattle.nofs_machine.specs.World.{World, world_of}
 use Rattle.nofs_machine.specs.Claims.{next_stamp}
@@ -16,15 +19,17 @@ use Rattle.nofs_machine.specs.declared.steps.Step.{Step}
 use Rattle.nofs_machine.specs.declared.replies.Reply.{Reply}
 use Rattle.nofs_machine.specs.declared.replies.Reply.TheVariants as reply
 use Rattle.nofs_machine.specs.declared.replies.Refusal.TheVariants as refusal
-use Rattle.nofs_crashlaw.specs.Stage.{Lasts, Stage}
+use Rattle.nofs_crashlaw.specs.Stage.{AllBy, Lasts, Stage}
+use Rattle.nofs_crashlaw.proofs.Later.{law-later}
 use Rattle.nofs_state.specs.Books.{IsSafe, Says}
 use Rattle.nofs_state.specs.Standing.{IsOpen, IsRun, IsStopped, Past, Sounds, ends_at}
-use Rattle.nofs_state.specs.Steps.{Causes, Follows, Goes, IsSafeStep, Moves, StaysStopped, entry, goes-safely}
+use Rattle.nofs_state.specs.Steps.{Follows, Goes, IsSafeStep, Moves, entry, goes-safely}
 use Rattle.nofs_state.specs.declared.books.Books.{Books}
 use Rattle.nofs_state.proofs.Keeping.{Keeping, open-keeps, stopped-keeps}
 use Rattle.nofs_state.proofs.Sounding.{sounds-keep}
+use Rattle.nofs_shared.proofs.RestingImages.{rests-later}
 use Rattle.nofs_shared.specs.Forms.{Forms, IsNextEntry, is_fault, faults_in}
-use Rattle.nofs_shared.specs.Mounts.{IsFound, IsMount, IsMounted, IsSoundDisk, MountStands}
+use Rattle.nofs_shared.specs.Mounts.{IsMount, IsMounted, IsSoundDisk, MountStands}
 
 -- Only the start of the history is spoken of
 
@@ -106,6 +111,7 @@ mount-history found d first k h start entries m = record {
     raised = s.raised;
     now = subst (λ (H : List Entry1). IsOpen d (record k { history = h }) H s.past ⊎ IsStopped d (record k { history = h }) H s.past) (sym entries) (go s.past s.now);
     sound = s.sound;
+    rests = λ X p. subst (λ (H : List Entry1). IsAllowed s.past.base H d.moment X) (sym entries) (s.rests X p);
   };
 }
   where
@@ -141,6 +147,10 @@ takes-when reply.Flushed e = inl refl
 takes-when (reply.Refused refusal.WriteFault) e = inr refl
 takes-when _ e = cc
 
+flushed-is : (r : Reply) → is_flushed r ≡ true → r ≡ reply.Flushed
+flushed-is reply.Flushed e = refl
+flushed-is _ e = cc
+
 memory-refused : (r : Reply) → is_out_of_memory r ≡ true → (is_refused r ≡ true) × (is_write_fault r ≡ false)
 memory-refused (reply.Refused refusal.OutOfMemory) e = (refl, refl)
 memory-refused _ e = cc
@@ -153,6 +163,10 @@ faulty _ e = cc
 -- what the machine says of a step that is made where this past stands
 abbrev pub Leads : DiskState → Books → Entry1 → List Entry1 → Past → Type 0
 Leads new l e H p = (q : Past) × Moves p e q × (IsOpen new l (H ++ e ∷ []) q ⊎ IsStopped new l (H ++ e ∷ []) q)
+
+-- where the cells stay, an image picks from what was there
+pub picks-back : (old new : DiskState) → IsSameDisk old new → KeepsCells old new → (X : Image) → Picks new.may new.blocks X → Picks old.may old.blocks X
+picks-back old new disk cells X p = subst₂ (λ (may : ℕ → List Cell) (n : ℕ). Picks may n X) cells.may disk.blocks p
 
 module _ (old new : DiskState) (k l : Books) (r : Reply) (g : IsSafeStep old k new l r) where
   stopped-is : l.stopped ≡ (k.stopped || is_write_fault r)
@@ -181,7 +195,34 @@ module _ (old new : DiskState) (k l : Books) (r : Reply) (g : IsSafeStep old k n
     begun = m.begun;
     base = g.past.was start low ∙ m.base;
     before = λ n X from to left. m.before n X from to (g.past.no_more n X (omega (arith, low, to)) left);
+    resting = λ e X p.
+        let up = g.later in
+        m.resting (omega (arith, e, low, up)) X (picks-back old new g.disk (g.cause.still (omega (arith, e, low, up))) X p);
   }
+
+  -- each image that picks from what a step may leave is allowed at its end
+  module _ (caller : ℕ) (s : Step) (c : Claims) (H : List Entry1) (p q : Past) (base : q.base ≡ p.base) where
+    abbrev here : Entry1
+    here = entry caller old new s c r
+
+    rests-more : IsOpen old k H p ⊎ IsStopped old k H p → IsOpen new l (H ++ here ∷ []) q ⊎ IsStopped new l (H ++ here ∷ []) q
+        → ((X : Image) → Picks old.may old.blocks X → IsAllowed p.base H old.moment X) → (X : Image) → Picks new.may new.blocks X → IsAllowed q.base (H ++ here ∷ []) new.moment X
+    rests-more was now rest X picks = elim (cases_lt old.moment new.moment) [
+      | inl later ↦ rests-later H here old.moment new (all-by was) later refl q now X picks
+      | inr none ↦
+          let up = g.later in
+          let same : new.moment ≡ old.moment = omega (arith, none, up) in
+          let a : IsAllowed p.base H old.moment X = rest X (picks-back old new g.disk (g.cause.still same) X picks) in
+          subst₂ (λ (B : Image) (n : ℕ). IsAllowed B (H ++ here ∷ []) n X) (sym base) (sym same)
+          (law-later p.base H (here ∷ []) old.moment X (le_refl old.moment, flushed, tt) a)
+    ]
+      where
+        all-by : IsOpen old k H p ⊎ IsStopped old k H p → AllBy H old.moment
+        all-by (inl o) = o.stage.lasts.by
+        all-by (inr o) = o.lasts.by
+
+        flushed : is_flushed r ≡ true → old.moment < new.moment
+        flushed f = g.cause.flush (flushed-is r f)
 
 module _ (found old new : DiskState) (first : ℕ) (k l : Books) (m : IsMount found old first k) where
   low : k.history.start ≤ old.moment
@@ -199,6 +240,7 @@ module _ (found old new : DiskState) (first : ℕ) (k l : Books) (m : IsMount fo
       begun = m.mounted.begun;
       base = keep.past.was k.history.start low ∙ m.mounted.base;
       before = λ n X from to left. m.mounted.before n X from to (keep.past.no_more n X (omega (arith, low, to)) left);
+      resting = λ e X p. m.mounted.resting (sym keep.cells.moment ∙ e) X (picks-back old new keep.disk keep.cells X p);
     };
     forms = subst (λ (n : ℕ). Forms k.history.start false k.history.entries n k.stopped) (sym keep.cells.moment) m.forms;
     counted = (let q = m.counted in let f = keep.disk.faults in omega (arith, q, f));
@@ -209,6 +251,7 @@ module _ (found old new : DiskState) (first : ℕ) (k l : Books) (m : IsMount fo
       raised = st.raised;
       now = go st.past st.now;
       sound = sounds-keep found.moment old new keep.disk keep.past keep.cells st.sound;
+      rests = λ X p. subst (λ (n : ℕ). IsAllowed st.past.base k.history.entries n X) (sym keep.cells.moment) (st.rests X (picks-back old new keep.disk keep.cells X p));
     };
   }
     where
@@ -271,6 +314,7 @@ module _ (found old new : DiskState) (first : ℕ) (k l : Books) (m : IsMount fo
             raised = g.at ∙ st.raised;
             now = subst (λ (H : List Entry1). IsOpen new (record l { history = h }) H a.0.0 ⊎ IsStopped new (record l { history = h }) H a.0.0) (sym all) (go a.0.0 a.0.2);
             sound = a.1;
+            rests = subst (λ (H : List Entry1). (X : Image) → Picks new.may new.blocks X → IsAllowed a.0.0.base H new.moment X) (sym all) (rests-more old new k l r g caller s c k.history.entries st.past a.0.0 a.0.1.base st.now a.0.2 st.rests);
           };
     }
       where

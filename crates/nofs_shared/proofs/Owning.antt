@@ -1,13 +1,13 @@
 -- What a step under the turn adds to the caller's own entries.
-use Rattle.std.proofs.Common.{◌≡◌, ℕ, ◌+◌, ◌%◌, ◌<◌, ◌≤◌, length-append, eqb, eq-eqb, Bool, true, false, cond, ◌&&◌, List, [], ◌∷◌, ◌++◌, length, map, drop, Result, Ok, Err, IfOk, IfErr, refl, sym, ap, ◌∙◌, subst, arith}
+use Rattle.std.proofs.Common.{◌≡◌, ℕ, ◌+◌, ◌%◌, ◌<◌, ◌≤◌, length-append, eqb, eq-eqb, Bool, true, false, ◌&&◌, List, [], ◌∷◌, ◌++◌, length, Result, Ok, Err, IfOk, IfErr, refl, sym, ap, ◌∙◌, subst, arith}
 use Rattle.std.proofs.lemmas.List.{append-nil}
 use mathlib.Core.List.{IsPrefix}
 use Rattle.nofs_turn.specs.declared.view.View.{View}
-use Rattle.nofs_turn.specs.Lists.{numbered, entries_of}
+use Rattle.nofs_turn.specs.Lists.{numbered}
 use Rattle.nofs_turn.specs.Views.{looked}
 use Rattle.nofs_turn.specs.Passes.{Ran}
 use Rattle.nofs_turn.proofs.Words.{drop_prefix, prefix_trans}
-use Rattle.nofs_machine.specs.Steps.{Fits, Made, is_out_of_memory, with_made}
+use Rattle.nofs_machine.specs.Steps.{Made, is_out_of_memory, with_made}
 use Rattle.nofs_machine.specs.declared.history.Entry1.{Entry1}
 use Rattle.nofs_machine.specs.declared.steps.Step.{Step}
 use Rattle.nofs_machine.specs.declared.replies.Reply.{Reply}

@@ -1,5 +1,5 @@
 -- A mount begins: the superblock is raised, and all images stay sound.
-use Rattle.std.proofs.Common.{◌≡◌, ◌≢◌, ℕ, ◌+◌, ◌-◌, ◌*◌, ◌^◌, ◌<◌, ◌≤◌, min, Bool, true, false, cond, ◌||◌, ◌&&◌, eqb, eqb-true, eq-eqb, List, [], ◌∷◌, ◌++◌, length, set, IsTrue, Some, None, ◌⊎◌, inl, inr, refl, sym, ap, ◌∙◌, subst, subst₂, arith, Contains}
+use Rattle.std.proofs.Common.{◌≡◌, ◌≢◌, ℕ, ◌+◌, ◌-◌, ◌*◌, ◌^◌, ◌<◌, ◌≤◌, min, Bool, true, false, cond, ◌||◌, eqb, eqb-true, eq-eqb, List, [], length, set, IsTrue, Some, None, ◌⊎◌, inl, inr, refl, sym, ap, ◌∙◌, subst, subst₂, arith, Contains}
 use Rattle.std.proofs.lemmas.Bool.{cases_lt}
 use Rattle.std.proofs.lemmas.List.{get_or-set_same, get_or-set_other, length-set}
 use Rattle.nofs_disk.specs.Disk.{DiskState, IsDisk, IsSameDisk, KeepsPast, KeepsCells, Picks, no_cell, IsSettled}
@@ -13,19 +13,20 @@ use Rattle.nofs_super.specs.Raise.{IsRaised, IsSuperCell, raised}
 use Rattle.nofs_super.specs.Spelling.{super_of-payload}
 use Rattle.nofs_super.specs.Super.{CanMount, is_version, super_of}
 use Rattle.nofs_model.specs.Cells.{Cell, Super, SuperBlock, Tag, tag_of}
-use Rattle.nofs_model.specs.Image.{Image, cell_at, super_at, super_in, is_super, is_mountable, IsSound, IsBelow, CellBelow}
+use Rattle.nofs_model.specs.Image.{Image, cell_at, super_at, super_in, is_super, is_mountable, IsSound, IsBelow}
+use Rattle.nofs_machine.specs.Allowed.{IsAllowed}
 use Rattle.nofs_machine.specs.World.{world_of}
-use Rattle.nofs_machine.specs.Claims.{next_stamp}
 use Rattle.nofs_law_lives.specs.Lives as lives
 use Rattle.nofs_law_lives.proofs.Begin.{law-begin}
 use Rattle.nofs_agree.specs.Reading.{IsAt}
 use Rattle.nofs_state.specs.Books.{IsSafe}
-use Rattle.nofs_state.specs.Standing.{IsOpen, IsStopped, Past, Sounds}
+use Rattle.nofs_state.specs.Standing.{IsOpen, IsStopped, Sounds}
 use Rattle.nofs_state.specs.Beginning.{first_past}
 use Rattle.nofs_state.specs.declared.books.Books.{Books}
 use Rattle.nofs_machine.specs.declared.history.Entry1.{Entry1}
+use Rattle.nofs_shared.proofs.RestingImages.{rests-at}
 use Rattle.nofs_shared.specs.Forms.{Forms, faults_in}
-use Rattle.nofs_shared.specs.Mounts.{IsFound, IsMount, IsMounted, IsSoundDisk, MountStands}
+use Rattle.nofs_shared.specs.Mounts.{IsFound, IsMount, IsMounted, IsSoundDisk}
 
 -- What a superblock's cell spells
 
@@ -220,6 +221,7 @@ begin-mount found old new it at first k is_old is_new disk past cells can spelle
     begun = r.moment ∙ ap (λ (n : ℕ). n + 4) cells.moment;
     base = r.was ∙ r.now ∙ ap (λ (X : Image). set X 0 (super_cell (raised it))) cells.now;
     before = λ m X from to left. on X (before-raised old new (raised it) is_old adds m X (let e = cells.moment in omega (arith, from, e)) to left);
+    resting = λ e X p. on X (p.len ∙ adds.disk.blocks, λ b low. adds.cells b (cell_at X b) (p.each b (let n = adds.disk.blocks in omega (arith, low, n))));
   });
   forms = subst₂ (λ (n : ℕ) (H : List Entry1). Forms n false H new.moment k.stopped) (sym begun.0) (sym empty) (refl, begun.2);
   counted = subst (λ (H : List Entry1). min (found.faults + faults_in H) (2 ^ 64 - 1) ≤ new.faults) (sym empty) (let a = disk.faults in let b = adds.disk.faults in omega (arith, a, b));
@@ -228,14 +230,16 @@ begin-mount found old new it at first k is_old is_new disk past cells can spelle
       let sp = spelled o.tells in
       let t : IsTrue new.tells = subst (λ (b : Bool). IsTrue b) (sym adds.disk.tells) o.tells in
       let b = below-raised old new it is_old can adds r first o sp in
+      let opened : IsOpen new k [] (first_past new first) = opens t r.settled b.0.mountable (let m : at.mount ≡ it.mount + 1 = ap (λ (s : SuperBlock). s.mount) same in omega (arith, m))
+      (subst (λ (s : SuperBlock). IsBelow (s.mount * 2 ^ 40 + first) new.now) (sym same) b.1) in
       record {
         past = first_past new first;
         base = sym r.was ∙ ap new.was (sym begun.0);
         serial = refl;
         raised = begun.1 ∙ same ∙ ap raised (sym (super-of old.now (cell_at old.now 0) it refl sp)) ∙ ap (λ (X : Image). raised (super_at X)) cells.now;
-        now = subst (λ (H : List Entry1). IsOpen new k H (first_past new first) ⊎ IsStopped new k H (first_past new first)) (sym empty)
-            (inl (opens t r.settled b.0.mountable (let m : at.mount ≡ it.mount + 1 = ap (λ (s : SuperBlock). s.mount) same in omega (arith, m))
-            (subst (λ (s : SuperBlock). IsBelow (s.mount * 2 ^ 40 + first) new.now) (sym same) b.1)));
+        now = subst (λ (H : List Entry1). IsOpen new k H (first_past new first) ⊎ IsStopped new k H (first_past new first)) (sym empty) (inl opened);
+        rests = subst (λ (H : List Entry1). (X : Image) → Picks new.may new.blocks X → IsAllowed new.now H new.moment X) (sym empty)
+            (rests-at new.now [] (first_past new first).mark (first_past new first).stamps k.history.start new refl tt opened.stage.lasts);
         sound = subst (λ (n : ℕ). Sounds n new) cells.moment (sounds-raised old new it is_old can adds o sp);
       };
 }

@@ -1,12 +1,15 @@
 -- The memory for entries, and what of it is kept for the sweeps.
-use Rattle.std.proofs.Common.{◌≡◌, ℕ, ◌+◌, ◌-◌, ◌^◌, ◌<◌, ◌≤◌, ◌==◌, Bool, true, false, ◌&&◌, ◌||◌, List, [], ◌∷◌, ◌++◌, length, Some, None, Option, refl, sym, ap, ◌∙◌, subst, arith}
+use Rattle.std.proofs.Common.{◌≡◌, ℕ, ◌+◌, ◌-◌, ◌^◌, ◌<◌, ◌≤◌, ◌==◌, Bool, true, false, ◌&&◌, ◌||◌, List, length, Some, arith}
+use Rattle.nofs_disk.specs.Disk.{DiskState}
 use Rattle.nofs_machine.specs.Steps.{is_out_of_memory}
 use Rattle.nofs_machine.specs.declared.history.Entry1.{Entry1}
 use Rattle.nofs_machine.specs.declared.steps.Step.{Step}
+use Rattle.nofs_machine.specs.declared.steps.Step.TheVariants as step
 use Rattle.nofs_machine.specs.declared.replies.Reply.{Reply}
 use Rattle.nofs_machine.specs.declared.replies.Reply.TheVariants as reply
 use Rattle.nofs_machine.specs.declared.replies.Refusal.TheVariants as refusal
 use Rattle.nofs_shared.specs.Sees.{is_see, is_of_sweep}
+use Rattle.nofs_shared.specs.Settling.{Settles}
 use Rattle.nofs_shared.specs.Added.{AddsStep}
 use Rattle.nofs_shared.proofs.Owning.{adds-one}
 
@@ -20,6 +23,11 @@ sweep-sees c s e = second ((c == 9) || (c == 10)) (is_see s) e
 -- one entry more, and one fewer that is kept
 pub few-left : (c : ℕ) (s : Step) (r : Reply) (H K : List Entry1) (left : ℕ) → AddsStep c s r H K → length H + left < 2 ^ 62 → length K + left ≤ 2 ^ 62
 few-left c s r H K left a few = let one = adds-one c s r H K a in omega (arith, one, few)
+
+-- want of memory settles nothing
+pub settles-memory : (s : Step) (d : DiskState) → Settles s (reply.Refused refusal.OutOfMemory) d
+settles-memory (step.Flush i g) d = λ e. absurd (cc e)
+settles-memory _ d = tt
 
 -- without memory for the entry there is none
 pub adds-none : (c : ℕ) (s : Step) (H K : List Entry1) → K ≡ H → AddsStep c s (reply.Refused refusal.OutOfMemory) H K

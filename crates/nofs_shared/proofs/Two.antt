@@ -1,14 +1,14 @@
 -- Two passes in one: what each user made stands in the history.
-use Rattle.std.proofs.Common.{◌≡◌, ◌≢◌, ℕ, ◌+◌, ◌<◌, ◌≤◌, eqb, eq-eqb, ne_eqb, eqb-true, Bool, true, false, cond, ltb, ◌&&◌, ◌||◌, List, [], ◌∷◌, ◌++◌, length, map, drop, refl, sym, ap, ◌∙◌, subst, arith}
-use Rattle.std.specs.Prelude.{filter, All}
+use Rattle.std.proofs.Common.{◌≡◌, ℕ, Bool, true, false, cond, ltb, ◌||◌, List, [], ◌∷◌, ◌++◌, length, map, drop, refl, sym, ap, ◌∙◌, subst, arith}
+use Rattle.std.specs.Prelude.{All}
 use Rattle.std.specs.List.{AllByRecursion}
 use Rattle.std.proofs.lemmas.List.Elements.{recursion_from_All}
 use mathlib.Core.List.{IsPrefix}
 use Rattle.nofs_turn.specs.declared.view.View.{View}
-use Rattle.nofs_turn.specs.Lists.{rises, merge, longer, numbered, entries_of, chosen}
+use Rattle.nofs_turn.specs.Lists.{rises, merge, numbered, chosen}
 use Rattle.nofs_turn.specs.Views.{fresh, joined}
 use Rattle.nofs_turn.proofs.Words.{prefix_trans}
-use Rattle.nofs_turn.proofs.Callers.{entries_of-numbered, filter-entries_of, joined_own, joined_other}
+use Rattle.nofs_turn.proofs.Callers.{joined_own, joined_other}
 use Rattle.nofs_machine.specs.Steps.{Made}
 use Rattle.nofs_machine.specs.declared.history.Entry1.{Entry1}
 use Rattle.nofs_machine.specs.declared.steps.Step.{Step}
@@ -16,8 +16,7 @@ use Rattle.nofs_machine.specs.declared.steps.Step.TheVariants as step
 use Rattle.nofs_machine.specs.declared.replies.Reply.{Reply}
 use Rattle.nofs_shared.specs.Added.{AddsStep}
 use Rattle.nofs_shared.specs.Ends.{AllFollow, FollowEach, Task, WholeEach, step_of}
-use Rattle.nofs_shared.specs.Owned.{done_of, is_by, all_by, own_steps, steps_by}
-use Rattle.nofs_shared.specs.Seats.{SameSeat}
+use Rattle.nofs_shared.specs.Owned.{is_by, own_steps, steps_by}
 use Rattle.nofs_shared.specs.Served.{AllServed, Served, two_users}
 use Rattle.nofs_shared.proofs.Collecting.{chosen_by, chosen_not, steps_of}
 

@@ -1,5 +1,5 @@
 -- What a step adds to a history, and what it claims.
-use Rattle.std.specs.Prelude.{◌≡◌, ℕ, Bool, true, false, List, [], ◌∷◌, ◌++◌, None, Contains}
+use Rattle.std.specs.Prelude.{◌≡◌, ℕ, true, false, List, [], ◌∷◌, ◌++◌, None, Contains}
 use Rattle.nofs_model.specs.Cells.{Pointer}
 use Rattle.nofs_model.specs.Image.{Image, owner}
 use Rattle.nofs_machine.specs.Claims.{claimed_blocks}

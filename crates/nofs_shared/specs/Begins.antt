@@ -1,5 +1,5 @@
 -- What comes before the mount number is raised, and why a disk is not mounted.
-use Rattle.std.specs.Prelude.{◌≡◌, ◌≢◌, ℕ, ◌+◌, ◌<◌, ◌≤◌, IsTrue, Some, Result, Ok, Err, IfOk, IfErr}
+use Rattle.std.specs.Prelude.{◌≡◌, ◌≢◌, ◌<◌, ◌≤◌, IsTrue, Some, Result, Err, IfOk, IfErr}
 use Rattle.nofs_disk.specs.Disk.{DiskState, IsSameDisk, KeepsCells, KeepsPast, Rose, cell_at}
 use Rattle.nofs_super.specs.Super.{CanMount, check_super, super_of}
 use Rattle.nofs_super.specs.declared.superblock.MountFault.{MountFault}

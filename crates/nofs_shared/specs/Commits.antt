@@ -1,7 +1,10 @@
 -- What a commit of an earlier verdict answers, and what it leaves in the maps.
-use Rattle.std.specs.Prelude.{◌≡◌, ℕ, Bool, true, false}
+use Rattle.std.specs.Prelude.{◌≡◌, ℕ, ◌+◌, ◌≤◌, Bool, true, false, List, Some, length}
+use mathlib.Core.List.{IsPrefix}
+use Rattle.nofs_turn.specs.declared.view.View.{View}
 use Rattle.nofs_disk.specs.Disk.{DiskState}
 use Rattle.nofs_machine.specs.Steps.{is_out_of_memory}
+use Rattle.nofs_machine.specs.declared.history.Entry1.{Entry1}
 use Rattle.nofs_machine.specs.declared.steps.ElementKind.{ElementKind}
 use Rattle.nofs_machine.specs.declared.replies.Reply.{Reply}
 use Rattle.nofs_machine.specs.declared.replies.Reply.TheVariants as reply
@@ -10,7 +13,7 @@ use Rattle.nofs_state.specs.Books.{with_history}
 use Rattle.nofs_state.specs.Verdicts.{Settles}
 use Rattle.nofs_state.specs.declared.books.Books.{Books}
 use Rattle.nofs_scan.specs.Elements.{is_used, learned, verdict_of}
-use Rattle.nofs_shared.specs.Mounts.{IsSoundDisk}
+use Rattle.nofs_shared.specs.Mounts.{IsMount, IsSoundDisk}
 
 -- the verdict that stands is seen: it stood before and nothing changed, or it is the one committed
 pub record SeesVerdict (k l : Books) (kind : ElementKind) (item : ℕ) (used : Bool) (r : Reply) : Type 0 where
@@ -27,3 +30,24 @@ pub record IsCommit (found d : DiskState) (k l : Books) (kind : ElementKind) (it
   pub seen : k.stopped ≡ false → is_out_of_memory r ≡ false → SeesVerdict k l kind item used r
   -- the answer is that of the scan of the disk as it is now, whatever was done since the element was looked at
   pub right : IsSoundDisk found → (v : Bool) → r ≡ reply.Seen v → v ≡ is_used kind d.now item
+
+-- the mount over `found`, whose history had these entries, met a commit in some state, and the commit says of it what `IsCommit` says
+pub record CommitsAt {D : Type 0} (state : D → DiskState) (found : D) (first : ℕ) (H : List Entry1) (kind : ElementKind) (item : ℕ) (used : Bool) (r : Reply) : Type 0
+  where
+    pub met : D
+    pub before : Books
+    pub after : Books
+    pub stood : IsMount (state found) (state met) first before
+    pub history : before.history.entries ≡ H
+    pub commit : IsCommit (state found) (state met) before after kind item used r
+
+-- A pass committed: the list of entries that the commit met begins with all that the pass had seen, at most one entry follows it, and
+-- what a commit says is said of that list
+pub record CommitRan {F : Type 0} (commits : F → List Entry1 → Reply → Type 0) (v w : View Entry1 F) (r : Reply) : Type 0 where
+  pub part : F
+  pub before : List Entry1
+  pub fixed : v.fixed ≡ Some part
+  pub begins : IsPrefix v.seen before
+  pub keeps : IsPrefix before w.seen
+  pub at_most_one : length w.seen ≤ length before + 1
+  pub says : commits part before r

@@ -10,3 +10,4 @@ pub mod Ends
 pub mod Served
 pub mod Passes
 pub mod Commits
+pub mod Settling

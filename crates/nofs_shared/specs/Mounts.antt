@@ -1,12 +1,12 @@
 -- What a mount stands on: the ONE invariant of it, from its beginning on.
-use Rattle.std.specs.Prelude.{◌≡◌, ◌⊎◌, ℕ, ◌+◌, ◌-◌, ◌^◌, ◌<◌, ◌≤◌, min, Bool, true, false, List, length, IsTrue, slice_set}
+use Rattle.std.specs.Prelude.{◌≡◌, ◌⊎◌, ℕ, ◌+◌, ◌-◌, ◌^◌, ◌<◌, ◌≤◌, min, false, length, IsTrue, slice_set}
 use Rattle.nofs_disk.specs.Disk.{DiskState, IsSameDisk, Picks, cell_at}
 use Rattle.nofs_disk.specs.Adds.{WasOr}
 use Rattle.nofs_super.specs.Format.{super_cell}
 use Rattle.nofs_super.specs.Raise.{IsSuperCell, raised}
 use Rattle.nofs_model.specs.Cells.{SuperBlock}
 use Rattle.nofs_model.specs.Image.{Image, super_at, IsSound}
-use Rattle.nofs_machine.specs.declared.history.Entry1.{Entry1}
+use Rattle.nofs_machine.specs.Allowed.{IsAllowed}
 use Rattle.nofs_state.specs.Books.{IsSafe}
 use Rattle.nofs_state.specs.Standing.{IsOpen, IsStopped, Past, Sounds}
 use Rattle.nofs_state.specs.declared.books.Books.{Books}
@@ -27,6 +27,8 @@ pub record IsMounted (found d : DiskState) (start : ℕ) (at : SuperBlock) : Typ
   pub begun : start ≡ found.moment + 4
   pub base : d.was start ≡ slice_set found.now 0 (super_cell at)
   pub before : (m : ℕ) (X : Image) → found.moment ≤ m → m ≤ start → d.left m X → IsFound at found X
+  -- and until the disk is written to, each image that picks from what may be left is one
+  pub resting : d.moment ≡ start → (X : Image) → Picks d.may d.blocks X → IsFound at found X
 
 -- over a disk that tells and was found sound: what holds between two steps, or after a fault of writing
 pub record MountStands (found d : DiskState) (first : ℕ) (k : Books) : Type 0 where
@@ -36,6 +38,8 @@ pub record MountStands (found d : DiskState) (first : ℕ) (k : Books) : Type 0 
   pub raised : k.at ≡ raised (super_at found.now)
   pub now : IsOpen d k k.history.entries past ⊎ IsStopped d k k.history.entries past
   pub sound : Sounds found.moment d
+  -- each image that picks from what may be left is allowed now: so it stays when a crash may leave it
+  pub rests : (X : Image) → Picks d.may d.blocks X → IsAllowed past.base k.history.entries d.moment X
 
 -- the invariant of a mount over the disk `found`: the first parts over any disk, the last one over a disk that tells and was found sound
 pub record IsMount (found d : DiskState) (first : ℕ) (k : Books) : Type 0 where

@@ -1,5 +1,5 @@
 -- What no step changes of a pass.
-use Rattle.std.proofs.Common.{◌≡◌, ℕ, refl, ◌∙◌}
+use Rattle.std.proofs.Common.{◌≡◌, refl, ◌∙◌}
 use mathlib.Core.List.{IsPrefix}
 use Rattle.nofs_turn.specs.declared.view.View.{View}
 use Rattle.nofs_turn.proofs.Words.{prefix_self, prefix_trans}

@@ -6,6 +6,7 @@ ghost use Rattle.nofs_machine.specs.declared.steps.Step.{Step};
 ghost use Rattle.nofs_state.specs.Books.{IsSafe};
 ghost use Rattle.nofs_state.specs.Steps.{Goes};
 ghost use Rattle.nofs_shared.specs.Sees.{is_see};
+ghost use Rattle.nofs_shared.specs.Settling.{Settles};
 
 use crate::file_acts::{act_flush, act_get, act_put, act_resize, act_stat};
 use crate::name_acts::{act_drop, act_link, act_list, act_look, act_make, act_rename};
@@ -50,6 +51,7 @@ pub(crate) fn act<D: Disk + Drop>(core: &mut Core<D>, alloc: Global, step: &Step
     ensures same { result.kept ≡ result.reply }
     ensures fits { Fits step.now result.reply }
     ensures sees { is_see step.now ≡ true → is_out_of_memory result.reply ≡ false }
+    ensures settled { Settles step.now result.reply (D.state core.new.disk) }
 {
     match step {
         Step::Look {

@@ -1,5 +1,6 @@
 //! The steps on files, with their replies.
 ghost use Rattle.std.specs.Prelude.{◌≡◌, length, vec_len, IfOk};
+ghost use Rattle.nofs_disk.specs.Disk.{IsSettled};
 ghost use Rattle.nofs_machine.specs.Steps.{Fits};
 ghost use Rattle.nofs_machine.specs.declared.steps.Step.TheVariants as step;
 ghost use Rattle.nofs_state.specs.Books.{IsSafe};
@@ -118,6 +119,7 @@ pub(crate) fn act_flush<D: Disk + Drop>(core: &mut Core<D>, inode: u32, generati
     ensures goes { Goes (D.state core.old.disk) core.old.books (D.state core.new.disk) core.new.books (step.Flush inode generation) result.claims result.reply }
     ensures same { result.kept ≡ result.reply }
     ensures fits { Fits (step.Flush inode generation) result.reply }
+    ensures settled { result.reply ≡ Reply.Flushed → IsSettled (D.state core.new.disk) }
 {
     match flush(core, inode, generation) {
         Ok(()) => Acted {

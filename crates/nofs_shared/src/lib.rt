@@ -9,6 +9,7 @@ mod looks;
 mod mount;
 mod name_acts;
 mod numbers;
+mod outs;
 mod room;
 mod see_acts;
 mod serves;

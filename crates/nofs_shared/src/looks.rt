@@ -4,6 +4,7 @@ ghost use Rattle.nofs_turn.specs.Turns.{view_of};
 ghost use Rattle.nofs_turn.specs.Passes.{MayRun};
 ghost use Rattle.nofs_machine.specs.Steps.{Fits, with_made};
 ghost use Rattle.nofs_scan.specs.Elements.{see_step};
+ghost use Rattle.nofs_shared.specs.Commits.{CommitRan};
 ghost use Rattle.nofs_shared.specs.Owned.{own_steps};
 ghost use Rattle.nofs_shared.specs.Seats.{SameSeat};
 
@@ -57,7 +58,7 @@ impl<V: Serves> Section<V> for Settle<'_, V> {
 
     ghost asks = { λ s f xs. V.is_of s.evidence.now f xs × (s.at < length (V.items_in s.evidence.now)) × (s.used ≡ V.verdict_in s.evidence.now s.at) };
 
-    ghost tells = { λ s _ xs ys r. TellsStep s.caller (see_step (V.kind_of s.evidence.now) (get_or (V.items_in s.evidence.now) s.at 0)) xs ys r };
+    ghost tells = { λ s f xs ys r. TellsStep s.caller (see_step (V.kind_of s.evidence.now) (get_or (V.items_in s.evidence.now) s.at 0)) xs ys r × V.commits s.evidence.now s.at f xs r };
 
     ghost lasts = { λ s f xs ys asked. (V.is_of_more s.evidence.now f xs ys asked.0, asked.1, asked.2) };
 
@@ -83,7 +84,8 @@ impl<R: Wait, V: Serves> SharedPass<'_, R, V> {
         self.turn.with(self.rt, &mut self.pass, look)
     }
 
-    /// Commits the verdict at a place, in one section, as one step of this caller.
+    /// Commits the verdict at a place, in one section, as one step of this caller. What a commit says holds of the entries that it met:
+    /// at a mount over a disk that tells and was found sound, the answer is the verdict of the disk of that moment.
     pub fn commit(&mut self, evidence: &V::Evidence, at: u32, used: bool) -> Reply
         requires own { MayRun (V.is_of evidence.now) (view_of self.old.pass) }
         requires within { at < length (V.items_in evidence.now) }
@@ -92,6 +94,7 @@ impl<R: Wait, V: Serves> SharedPass<'_, R, V> {
         ensures made { own_steps (view_of self.new.pass).mine ≡ with_made (own_steps (view_of self.old.pass).mine) (see_step (V.kind_of evidence.now) (get_or (V.items_in evidence.now) at 0)) result }
         ensures fits { Fits (see_step (V.kind_of evidence.now) (get_or (V.items_in evidence.now) at 0)) result }
         ensures own { MayRun (V.is_of evidence.now) (view_of self.new.pass) }
+        ensures right { CommitRan (V.commits evidence.now at) (view_of self.old.pass) (view_of self.new.pass) result }
     {
         let settle = Settle {
             alloc: self.alloc,

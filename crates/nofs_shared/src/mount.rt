@@ -5,7 +5,9 @@ ghost use Rattle.nofs_machine.specs.World.{World};
 ghost use Rattle.nofs_state.specs.Books.{IsSafe, Says};
 ghost use Rattle.nofs_state.specs.Counted.{CountsBlocks, CountsInodes};
 ghost use Rattle.nofs_scan.specs.Scanned.{AreExamined, IsFullScan};
+ghost use Rattle.nofs_state.specs.WritingOut.{WroteOne};
 ghost use Rattle.nofs_shared.specs.Sees.{is_of_sweep};
+ghost use Rattle.nofs_shared.specs.Settling.{Settles};
 ghost use Rattle.nofs_shared.specs.Mounts.{IsMount, IsSoundDisk};
 ghost use Rattle.nofs_shared.specs.Added.{AddsStep, Unowned};
 ghost use Rattle.nofs_shared.specs.Begins.{BeginFails};
@@ -14,7 +16,7 @@ ghost use Rattle.nofs_shared.specs.Ends.{Ends};
 use crate::begin::{Prepared, prepare};
 use crate::room::take_room;
 use crate::steps::step_in;
-use nofs_disk::Disk;
+use nofs_disk::{Disk, OutFault};
 use nofs_machine::{History, Refusal, Reply, Step};
 use nofs_state::{Core, Counts};
 use nofs_super::{MountFault, raise_mount};
@@ -75,6 +77,7 @@ impl<D: Disk + Drop> Mount<D> {
         ensures fits { Fits step result }
         ensures sweeps { is_of_sweep caller step ≡ true → 0 < self.old.kept → (is_out_of_memory result ≡ false) × (self.new.kept ≡ self.old.kept - 1) }
         ensures others { is_of_sweep caller step ≡ false → self.new.kept ≡ self.old.kept }
+        ensures settled { Settles step result (D.state self.new.core.disk) }
     {
         let history = &mut self.core.books.history;
         match take_room(history, self.kept, caller, &step) {
@@ -84,6 +87,19 @@ impl<D: Disk + Drop> Mount<D> {
                 step_in(&mut self.core, alloc, caller, step)
             }
         }
+    }
+
+    /// Writes out one block that the device kept back, and names it; `None` exactly where there is none. It makes no entry, no moment
+    /// passes, and each image that a crash may leave for it picks from what may be left.
+    ///
+    /// # Errors
+    ///
+    /// `Failed` only where the device's count of faults rose; `OutOfMemory`.
+    pub fn write_out(&mut self) -> Result<Option<u64>, OutFault>
+        ensures same { (self.new.core.books ≡ self.old.core.books) × (self.new.found ≡ self.old.found) × (self.new.first ≡ self.old.first) × (self.new.kept ≡ self.old.kept) }
+        ensures out { WroteOne (D.state self.old.core.disk) (D.state self.new.core.disk) result }
+    {
+        self.core.write_out()
     }
 
     /// How many inodes and blocks are known to be used, are known to be free, and were not examined. Over

@@ -1,13 +1,14 @@
 //! What lies behind a turn: a value at which callers make steps, and whose elements are examined in batches.
 //!
-//! Promise: a step adds its entry alone, and a look adds none. What was looked at may be committed in every later state of the value.
+//! Promise: a step adds its entry alone, and a look or a write-out adds none. What was looked at may be committed in every later state of the value.
 ghost use Rattle.std.specs.Prelude.{◌≡◌, ◌++◌, ◌<◌, ◌≤◌, ℕ, Bool, List, IfOk, get_or, length};
 ghost use Rattle.nofs_machine.specs.declared.history.Entry1.{Entry1};
 ghost use Rattle.nofs_machine.specs.declared.steps.ElementKind.{ElementKind};
+ghost use Rattle.nofs_machine.specs.declared.replies.Reply.{Reply};
 ghost use Rattle.nofs_scan.specs.Elements.{see_step};
 
 use crate::mount::Mount;
-use nofs_disk::Disk;
+use nofs_disk::{Disk, OutFault};
 use nofs_machine::{ElementKind, Entry1, Refusal, Reply, Step};
 use nofs_scan::{Evidence, judge};
 use nofs_super::SuperBlock;
@@ -57,6 +58,9 @@ pub trait Serves: Kept<Entry = Entry1> + Drop {
     /// It stays so with each entry.
     ghost is_of_more: { (e : Self.Evidence) (f : Self.Fixed) (xs ys : List Entry1) → is_of e f xs → is_of e f (xs ++ ys) };
 
+    /// What a commit of the verdict at a place says, where the entries before it were these.
+    ghost commits: { Self.Evidence → ℕ → Self.Fixed → List Entry1 → Reply → Type 0 };
+
     /// Makes one step of a caller.
     fn serve(&mut self, alloc: Global, caller: u32, step: Step) -> Reply
         ensures fixed { Self.fixed self.new ≡ Self.fixed self.old }
@@ -93,11 +97,18 @@ pub trait Serves: Kept<Entry = Entry1> + Drop {
         requires within { at < length (items_in evidence.now) }
         requires used { used ≡ verdict_in evidence.now at }
         ensures fixed { Self.fixed self.new ≡ Self.fixed self.old }
-        ensures tells { TellsStep caller (see_step (kind_of evidence.now) (get_or (items_in evidence.now) at 0)) (Self.entries self.old) (Self.entries self.new) result };
+        ensures tells { TellsStep caller (see_step (kind_of evidence.now) (get_or (items_in evidence.now) at 0)) (Self.entries self.old) (Self.entries self.new) result }
+        ensures commits { commits evidence.now at (Self.fixed self.old) (Self.entries self.old) result };
+
+    /// Writes out one block that the device kept back, and names it; `None` where there is none. It makes no entry.
+    fn write_out(&mut self) -> Result<Option<u64>, OutFault>
+        ensures fixed { Self.fixed self.new ≡ Self.fixed self.old }
+        ensures entries { Self.entries self.new ≡ Self.entries self.old };
 }
 
 impl<D: Disk + Drop> Serves for Mount<D> {
     ghost use Rattle.nofs_scan.specs.Elements.{items_of, verdict_at};
+    ghost use Rattle.nofs_shared.specs.Commits.{CommitsAt};
     ghost use Rattle.nofs_shared.specs.Earlier.{IsEarlier, earlier-more};
 
     type Evidence = Evidence<D>;
@@ -111,6 +122,8 @@ impl<D: Disk + Drop> Serves for Mount<D> {
     ghost is_of = { λ e f xs. IsEarlier (D.state f.found) (D.state e.core.value.disk) e.core.value.books f.first f.start f.at xs };
 
     ghost is_of_more = { λ e f xs ys h. earlier-more h ys };
+
+    ghost commits = { λ e at f xs r. ∥ CommitsAt D.state f.found f.first xs e.kind (verdict_at e.verdicts at).item (verdict_at e.verdicts at).used r ∥₁ };
 
     fn serve(&mut self, alloc: Global, caller: u32, step: Step) -> Reply {
         self.step(alloc, caller, step)
@@ -138,5 +151,9 @@ impl<D: Disk + Drop> Serves for Mount<D> {
         used: bool,
     ) -> Reply {
         self.commit(alloc, caller, evidence, at, used)
+    }
+
+    fn write_out(&mut self) -> Result<Option<u64>, OutFault> {
+        Mount::write_out(self)
     }
 }

@@ -3,6 +3,7 @@ ghost use Rattle.std.specs.Prelude.{◌≡◌, ◌+◌, ◌<◌, ◌≤◌, ℕ,
 ghost use Rattle.nofs_machine.specs.Steps.{Fits, is_out_of_memory};
 ghost use Rattle.nofs_state.specs.Books.{IsSafe};
 ghost use Rattle.nofs_shared.specs.Sees.{is_see};
+ghost use Rattle.nofs_shared.specs.Settling.{Settles};
 ghost use Rattle.nofs_shared.specs.Added.{AddsStep, Unowned};
 ghost use Rattle.nofs_shared.specs.Mounts.{IsMount, IsSoundDisk};
 
@@ -37,6 +38,7 @@ pub(crate) fn step_in<D: Disk + Drop>(
     ensures room { core.old.books.history.spare ≤ core.new.books.history.spare + 1 }
     ensures fits { Fits step result }
     ensures sees { is_see step ≡ true → is_out_of_memory result ≡ false }
+    ensures settled { Settles step result (D.state core.new.disk) }
     ensures stopped { core.old.books.stopped ≡ true → is_out_of_memory result ≡ false → result ≡ Reply.Refused Refusal.Stopped }
 {
     let from = core.disk.moment();

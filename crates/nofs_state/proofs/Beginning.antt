@@ -5,16 +5,16 @@ use Rattle.std.proofs.lemmas.Bool.Decides.{nat_tests}
 use Rattle.nofs_bits.specs.Bits.{is_set}
 use Rattle.nofs_disk.specs.Disk.{DiskState, IsDisk, IsSettled}
 use Rattle.nofs_model.specs.Cells.{SuperBlock}
-use Rattle.nofs_model.specs.Image.{Image, super_at, is_mountable, is_special, is_data_block, IsBelow, path_of, Home, home_at, owner}
+use Rattle.nofs_model.specs.Image.{Image, super_at, is_mountable, is_special, IsBelow, path_of, Home, owner}
 use Rattle.nofs_model.proofs.Find.{and-both, find-held}
 use Rattle.nofs_model.proofs.Owners.{owner-holds}
-use Rattle.nofs_machine.specs.World.{World, world_of, is_free_inode, is_free_block}
+use Rattle.nofs_machine.specs.World.{world_of}
 use Rattle.nofs_machine.specs.History.{agreed_files}
 use Rattle.nofs_machine.specs.HistoryState.{HistoryState}
 use Rattle.nofs_crashlaw.proofs.FirstStage.{law-first-stage}
 use Rattle.nofs_agree.specs.Reading.{IsAt}
-use Rattle.nofs_state.specs.Books.{IsRoom, Says, knows_inode, knows_block}
-use Rattle.nofs_state.specs.Standing.{IsOpen, Past}
+use Rattle.nofs_state.specs.Books.{IsRoom, Says}
+use Rattle.nofs_state.specs.Standing.{IsOpen}
 use Rattle.nofs_state.specs.Beginning.{first_past}
 use Rattle.nofs_state.specs.declared.books.Books.{Books}
 use Rattle.nofs_state.specs.declared.books.Room.{Room}

@@ -1,10 +1,10 @@
 -- A step that writes, and is done: the mount stands.
-use Rattle.std.proofs.Common.{◌≡◌, ℕ, ◌+◌, ◌*◌, ◌^◌, ◌%◌, ◌<◌, ◌≤◌, ◌⊎◌, inl, inr, Bool, true, false, List, [], ◌∷◌, ◌++◌, Option, Some, None, is_some, length, leb, ltb, ltb-true, ◌/◌, IsTrue, refl, sym, ap, ◌∙◌, subst, subst₂, arith, Contains}
+use Rattle.std.proofs.Common.{◌≡◌, ℕ, ◌+◌, ◌%◌, ◌<◌, ◌≤◌, ◌⊎◌, inl, inr, Bool, true, false, List, [], ◌∷◌, ◌++◌, Option, Some, None, length, leb, ltb, ltb-true, ◌/◌, IsTrue, refl, sym, ap, ◌∙◌, subst, subst₂, arith}
 use Rattle.nofs_disk.specs.Disk.{DiskState, IsDisk, IsSameDisk, KeepsPast, cell_at}
 use Rattle.nofs_disk.specs.Adds.{Adds, WasOr}
 use Rattle.nofs_super.specs.Geometry.{IsGeometry}
 use Rattle.nofs_model.specs.Cells.{Cell, SuperBlock}
-use Rattle.nofs_model.specs.Image.{Image, super_at, is_super, is_mountable, Files, Home, owner, CellBelow}
+use Rattle.nofs_model.specs.Image.{super_at, is_super, is_mountable, Files, Home}
 use Rattle.nofs_model.proofs.Sound.{supers, mountable-law}
 use Rattle.nofs_model.proofs.Find.{and-both, find-held}
 use Rattle.nofs_law_images.specs.Proper.{Proper}
@@ -27,20 +27,20 @@ use Rattle.nofs_machine.specs.declared.replies.Reply.{Reply}
 use Rattle.nofs_machine.specs.declared.replies.Reply.TheVariants as reply
 use Rattle.nofs_machine.proofs.Lives.{along-append}
 use Rattle.nofs_law_maps.specs.Fresh.{Numbered, CellNumbers}
-use Rattle.nofs_law_maps.specs.Homes.{HomesMove, HomesMatch, Houses}
+use Rattle.nofs_law_maps.specs.Homes.{HomesMove, HomesMatch}
 use Rattle.nofs_law_maps.proofs.Fresh.{law-fresh}
 use Rattle.nofs_law_maps.proofs.Homes.{law-homes}
 use Rattle.nofs_crashlaw.specs.Stage.{AddsProper, Stage}
 use Rattle.nofs_crashlaw.proofs.Staging.{law-stage}
 use Rattle.nofs_state.specs.Books.{IsSafe, Says, knows_inode, knows_block}
-use Rattle.nofs_state.specs.Standing.{IsOpen, IsRun, IsStopped, Past, Sounds}
+use Rattle.nofs_state.specs.Standing.{IsOpen, IsStopped, Past, Sounds}
 use Rattle.nofs_state.specs.Steps.{Goes, HasRange, entry}
 use Rattle.nofs_state.specs.Writing.{OneOf}
 use Rattle.nofs_state.specs.declared.books.Books.{Books}
 use Rattle.nofs_state.proofs.Idle.{run-more, takes-none}
 use Rattle.nofs_state.proofs.Replies.{open-files}
 use Rattle.nofs_state.proofs.Runs.{faults-append}
-use Rattle.nofs_state.proofs.Sounded.{AddsNumbered, sounds-adds}
+use Rattle.nofs_state.proofs.Sounded.{sounds-adds}
 
 -- weaker cells
 pub Adds-map : (P Q : ℕ → Cell → Type 0) (old new : DiskState) → ((b : ℕ) (c : Cell) → P b c → Q b c) → Adds P old new → Adds Q old new
@@ -215,6 +215,7 @@ goes-done old new k l s c r ws is_old is_new going at history runs safe accepted
     refused = λ t n. absurd (cc (t, accepted));
     memory = λ t. absurd (let z = no-memory r accepted in cc (t, z));
     range = has-range r accepted;
+    still = λ e. absurd (omega (arith, later, e));
   };
   safe = safe;
   at = at;

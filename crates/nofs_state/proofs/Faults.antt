@@ -1,24 +1,21 @@
 -- A write failed: all stays allowed, and the mount is stopped.
-use Rattle.std.proofs.Common.{◌≡◌, ℕ, ◌+◌, ◌<◌, ◌≤◌, ◌⊎◌, Bool, true, false, List, [], ◌∷◌, ◌++◌, Option, Some, None, IsTrue, inl, inr, refl, sym, ap, ◌∙◌, subst, arith}
+use Rattle.std.proofs.Common.{◌≡◌, ℕ, ◌<◌, ◌⊎◌, true, false, List, [], ◌∷◌, ◌++◌, None, IsTrue, inl, inr, refl, sym, ap, ◌∙◌, subst, arith}
 use Rattle.nofs_disk.specs.Disk.{DiskState, IsDisk, IsSameDisk, KeepsPast, Rose}
-use Rattle.nofs_model.specs.Image.{Image, super_at}
 use Rattle.nofs_machine.specs.Search.{first_of}
 use Rattle.nofs_machine.specs.World.{World}
 use Rattle.nofs_machine.specs.Claims.{next_stamp, IsClaim}
 use Rattle.nofs_machine.specs.Refusals.{rows, may_write}
-use Rattle.nofs_machine.specs.History.{is_flushed}
-use Rattle.nofs_machine.specs.Machine.{is_write_fault}
-use Rattle.nofs_machine.specs.Next.{Next, ByWrite, Learns, takes_time}
+use Rattle.nofs_machine.specs.Next.{Next, ByWrite, Learns}
 use Rattle.nofs_machine.specs.declared.history.Claims.{Claims}
 use Rattle.nofs_machine.specs.declared.history.Entry1.{Entry1}
 use Rattle.nofs_machine.specs.declared.steps.Step.{Step}
 use Rattle.nofs_machine.specs.declared.replies.Reply.TheVariants as reply
 use Rattle.nofs_machine.specs.declared.replies.Refusal.TheVariants as refusal
-use Rattle.nofs_crashlaw.specs.Stage.{AddsProper, IsStep, Lasts}
+use Rattle.nofs_crashlaw.specs.Stage.{AddsProper, Lasts}
 use Rattle.nofs_crashlaw.proofs.Staging.{law-lasts}
 use Rattle.nofs_state.specs.Books.{IsSafe}
 use Rattle.nofs_state.specs.Standing.{IsOpen, IsStopped, Past, Sounds}
-use Rattle.nofs_state.specs.Steps.{Goes, Follows, entry}
+use Rattle.nofs_state.specs.Steps.{Goes, entry}
 use Rattle.nofs_state.specs.declared.books.Books.{Books}
 use Rattle.nofs_state.proofs.Idle.{run-more}
 use Rattle.nofs_state.proofs.Sounded.{AddsNumbered, sounds-adds}
@@ -84,6 +81,7 @@ goes-fault old new k l s c is going at history stopped disk past rose later safe
     refused = λ t n. absurd (cc);
     memory = λ t. absurd (cc);
     range = tt;
+    still = λ e. absurd (omega (arith, later, e));
   };
   safe = safe;
   at = at;

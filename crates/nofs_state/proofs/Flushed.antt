@@ -1,6 +1,6 @@
 -- A flush: where it succeeds, what was written is the new mark.
-use Rattle.std.proofs.Common.{◌≡◌, ℕ, ◌+◌, ◌<◌, ◌≤◌, Bool, true, false, List, [], ◌∷◌, ◌++◌, Option, Some, None, IsTrue, Result, Ok, Err, refl, sym, ap, ◌∙◌, subst, arith, le_refl}
-use Rattle.nofs_disk.specs.Disk.{DiskState, IsDisk, Flushes, Rose}
+use Rattle.std.proofs.Common.{◌≡◌, ℕ, ◌+◌, Bool, true, false, List, [], ◌∷◌, ◌++◌, None, IsTrue, Result, Ok, Err, refl, sym, ap, ◌∙◌, subst, arith, le_refl}
+use Rattle.nofs_disk.specs.Disk.{DiskState, IsDisk, Flushes}
 use Rattle.nofs_disk.specs.Adds.{Adds-flushes}
 use Rattle.nofs_disk.specs.declared.Failed.{Failed}
 use Rattle.nofs_super.specs.Geometry.{IsGeometry}
@@ -10,7 +10,7 @@ use Rattle.nofs_law_images.specs.Moments.{during}
 use Rattle.nofs_machine.specs.Search.{first_of}
 use Rattle.nofs_machine.specs.Machine.{gives, given_by, files_by, nothing}
 use Rattle.nofs_machine.specs.World.{World}
-use Rattle.nofs_machine.specs.Claims.{no_claims, next_stamp, IsClaim, Unclaimed, NoInode}
+use Rattle.nofs_machine.specs.Claims.{no_claims, next_stamp, Unclaimed, NoInode}
 use Rattle.nofs_machine.specs.Refusals.{rows}
 use Rattle.nofs_machine.specs.History.{agreed_files, files_along, mark_at}
 use Rattle.nofs_machine.specs.Steady.{SteadyRest}
@@ -20,7 +20,7 @@ use Rattle.nofs_machine.specs.declared.replies.Reply.TheVariants as reply
 use Rattle.nofs_machine.specs.declared.replies.Refusal.TheVariants as refusal
 use Rattle.nofs_machine.proofs.Lives.{along-append}
 use Rattle.nofs_law_maps.specs.Fresh.{CellNumbers, Numbered}
-use Rattle.nofs_crashlaw.specs.Stage.{Stage, flush_entry}
+use Rattle.nofs_crashlaw.specs.Stage.{flush_entry}
 use Rattle.nofs_crashlaw.proofs.FlushStage.{law-flush-stage, files-stay}
 use Rattle.nofs_state.specs.Books.{IsSafe}
 use Rattle.nofs_state.specs.Standing.{IsOpen, IsRun, Past}
@@ -109,6 +109,7 @@ module _ (old new : DiskState) (k : Books) (i g : ℕ) (is_old : IsDisk old) (is
       refused = λ t. absurd (cc);
       memory = λ t. absurd (cc);
       range = tt;
+      still = λ e. absurd (let m = f.moment in omega (arith, m, e));
     };
     safe = safe-flushed old new k k.stopped f safe;
     at = refl;

@@ -1,11 +1,11 @@
 -- A step that leaves the disk and the files: the mount stands as before, with one more entry.
-use Rattle.std.proofs.Common.{◌≡◌, ℕ, ◌+◌, ◌*◌, ◌^◌, ◌<◌, ◌≤◌, Bool, true, false, List, [], ◌∷◌, ◌++◌, Option, Some, None, IsTrue, refl, sym, ap, ◌∙◌, subst, subst₂, arith}
+use Rattle.std.proofs.Common.{◌≡◌, ℕ, ◌+◌, ◌*◌, ◌^◌, ◌<◌, ◌≤◌, true, false, List, [], ◌∷◌, ◌++◌, IsTrue, refl, sym, ap, ◌∙◌, subst, subst₂, arith}
 use Rattle.nofs_disk.specs.Disk.{DiskState, IsDisk, StaysButFaults}
 use Rattle.nofs_model.specs.Image.{Image, super_at, is_mountable, Files, owner}
 use Rattle.nofs_machine.specs.Machine.{given_by, files_by, nothing, is_write_fault}
 use Rattle.nofs_machine.specs.World.{World, world_of}
 use Rattle.nofs_machine.specs.Claims.{next_stamp}
-use Rattle.nofs_machine.specs.History.{agreed_files, files_along, is_flushed, FilesMatch}
+use Rattle.nofs_machine.specs.History.{agreed_files, files_along, is_flushed}
 use Rattle.nofs_machine.specs.Steady.{SteadyRest}
 use Rattle.nofs_machine.specs.Next.{Keeps, Next, Run, takes_time}
 use Rattle.nofs_machine.specs.HistoryState.{HistoryState}
@@ -14,11 +14,10 @@ use Rattle.nofs_machine.specs.declared.replies.Reply.{Reply}
 use Rattle.nofs_machine.specs.declared.replies.Reply.TheVariants as reply
 use Rattle.nofs_machine.specs.declared.replies.Refusal.TheVariants as refusal
 use Rattle.nofs_machine.proofs.Lives.{along-append}
-use Rattle.nofs_law_maps.specs.Homes.{HomesMatch}
 use Rattle.nofs_crashlaw.specs.Stage.{Stage, Lasts}
 use Rattle.nofs_crashlaw.proofs.Staging.{law-idle-stage}
 use Rattle.nofs_state.specs.Books.{Says}
-use Rattle.nofs_state.specs.Standing.{IsOpen, IsRun, IsStopped, Past, ends_at}
+use Rattle.nofs_state.specs.Standing.{IsOpen, IsRun, IsStopped, Past}
 use Rattle.nofs_state.specs.declared.books.Books.{Books}
 use Rattle.nofs_state.proofs.Runs.{run-append, ends-append, faults-append, rest-idle, lasts-idle}
 

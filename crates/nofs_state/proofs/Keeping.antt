@@ -1,10 +1,10 @@
 -- What stands goes on where cells and moment stay: over reads, and over `ready`.
-use Rattle.std.proofs.Common.{◌≡◌, ℕ, ◌+◌, ◌<◌, ◌≤◌, ◌⊎◌, inl, inr, Bool, true, false, List, [], ◌∷◌, ◌++◌, IsTrue, Result, refl, sym, ap, ◌∙◌, subst, subst₂, arith, Contains}
-use Rattle.nofs_disk.specs.Disk.{DiskState, IsDisk, IsSameDisk, KeepsCells, KeepsPast, MakesReady, StaysButFaults, Rose}
-use Rattle.nofs_disk.specs.Chains.{IsSameDisk-trans, KeepsPast-trans, KeepsCells-trans, Rose-within}
-use Rattle.nofs_disk.specs.Moments.{AtEach, AtEach-stays}
+use Rattle.std.proofs.Common.{◌≡◌, ℕ, ◌+◌, ◌<◌, ◌⊎◌, inl, inr, Bool, true, List, IsTrue, Result, refl, sym, ap, ◌∙◌, subst, arith, Contains}
+use Rattle.nofs_disk.specs.Disk.{DiskState, IsSameDisk, KeepsCells, KeepsPast, MakesReady, StaysButFaults}
+use Rattle.nofs_disk.specs.Chains.{IsSameDisk-trans, KeepsPast-trans, KeepsCells-trans}
+use Rattle.nofs_disk.specs.Moments.{AtEach-stays}
 use Rattle.nofs_super.specs.Geometry.{IsGeometry}
-use Rattle.nofs_model.specs.Cells.{Cell, SuperBlock}
+use Rattle.nofs_model.specs.Cells.{Cell}
 use Rattle.nofs_model.specs.Image.{Image, super_at, is_mountable, owner, CellBelow}
 use Rattle.nofs_law_images.specs.Moments.{AllExplained}
 use Rattle.nofs_machine.specs.History.{FilesMatch, agreed_files, files_along, mark_at}
@@ -17,10 +17,9 @@ use Rattle.nofs_machine.specs.declared.replies.Reply.{Reply}
 use Rattle.nofs_machine.specs.declared.replies.Reply.TheVariants as reply
 use Rattle.nofs_machine.specs.declared.replies.Refusal.TheVariants as refusal
 use Rattle.nofs_crashlaw.specs.Stage.{AllBy, Lasts, Stage, CellsSurvive}
-use Rattle.nofs_agree.specs.Reading.{IsAt}
 use Rattle.nofs_state.specs.Books.{IsSafe}
 use Rattle.nofs_state.specs.Standing.{IsOpen, IsRun, IsStopped, Past}
-use Rattle.nofs_state.specs.Steps.{Causes, Follows, Goes, StaysStopped, entry}
+use Rattle.nofs_state.specs.Steps.{Follows, Goes, StaysStopped, entry}
 use Rattle.nofs_state.specs.declared.books.Books.{Books}
 use Rattle.nofs_state.proofs.Sounding.{sounds-keep}
 
@@ -167,6 +166,7 @@ module _ (old new : DiskState) (keep : Keeping old new) where
       refused = λ t n. KeepsCells-trans old new end keep.cells (g.cause.refused t n);
       memory = g.cause.memory;
       range = g.cause.range;
+      still = λ e. KeepsCells-trans old new end keep.cells (g.cause.still (e ∙ sym keep.cells.moment));
     };
     safe = g.safe;
     at = g.at;
@@ -207,6 +207,7 @@ module _ (old new : DiskState) (keep : Keeping old new) where
       refused = λ t n. keep.cells;
       memory = λ t. refl;
       range = tt;
+      still = λ e. keep.cells;
     };
     safe = safe-keeps k safe;
     at = refl;

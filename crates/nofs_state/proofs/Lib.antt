@@ -24,3 +24,4 @@ pub mod MarkedSlots
 pub mod MovedBlocks
 pub mod SafeSteps
 pub mod Tallying
+pub mod WritingOut

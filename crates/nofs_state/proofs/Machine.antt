@@ -1,25 +1,23 @@
 -- What the machine says of a file, in the words of the disk.
-use Rattle.std.proofs.Common.{◌≡◌, ℕ, ◌-◌, ◌≤◌, Bool, true, false, cond, ◌&&◌, not, eqb, leb, List, length, Option, Some, None, is_some, IsTrue, refl, sym, ap, ◌∙◌, subst, arith}
-use Rattle.std.specs.List.{list_any}
+use Rattle.std.proofs.Common.{◌≡◌, ℕ, ◌-◌, ◌≤◌, Bool, true, false, ◌&&◌, not, leb, List, length, Option, Some, None, is_some, refl, sym, ap, ◌∙◌, subst, arith}
 use Rattle.std.proofs.lemmas.Bool.{and_parts, leb-true}
 use Rattle.nofs_bits.specs.Bits.{is_set}
 use Rattle.nofs_disk.specs.Disk.{DiskState}
 use Rattle.nofs_model.specs.Cells.{BackLink, SuperBlock, is_live}
-use Rattle.nofs_model.specs.Image.{Image, inode, Files, FileState, files_in, agreed, is_pair, is_a, pairs}
+use Rattle.nofs_model.specs.Image.{Image, inode, Files, FileState, files_in, agreed, is_pair, pairs}
 use Rattle.nofs_machine.specs.Machine.{generation_of}
 use Rattle.nofs_machine.specs.World.{World}
 use Rattle.nofs_machine.specs.Refusals.{row, stale}
-use Rattle.nofs_machine.specs.History.{FilesMatch, SameFile, agreed_files}
+use Rattle.nofs_machine.specs.History.{FilesMatch, SameFile}
 use Rattle.nofs_machine.specs.Good.{MatchesSuper}
 use Rattle.nofs_machine.specs.declared.history.Entry1.{Entry1}
-use Rattle.nofs_machine.specs.declared.replies.Refusal.{Refusal}
 use Rattle.nofs_machine.specs.declared.replies.Refusal.TheVariants as refusal
 use Rattle.nofs_model.proofs.Chains.{agreed-holds}
 use Rattle.nofs_law_untouched.proofs.Matching.{agreed-files-is, matched-agreed, gen-of}
 use Rattle.nofs_law_untouched.proofs.Alike.{same-of, same-alike, pairs-alike, agreed-some, live-some}
 use Rattle.nofs_law_maps.proofs.Homes.{uses-inode}
-use Rattle.nofs_agree.specs.Chains.{AreAgreed, is_agreed_link, is_known}
-use Rattle.nofs_state.specs.Books.{IsSafe, Says}
+use Rattle.nofs_agree.specs.Chains.{AreAgreed, is_agreed_link}
+use Rattle.nofs_state.specs.Books.{IsSafe}
 use Rattle.nofs_state.specs.Standing.{IsOpen, Past}
 use Rattle.nofs_state.specs.Opening.{is_current}
 use Rattle.nofs_state.specs.declared.books.Books.{Books}

@@ -1,25 +1,21 @@
 -- The blocks of an inode in some slots, slot by slot.
-use Rattle.std.proofs.Common.{◌≡◌, ℕ, ◌+◌, ◌/◌, ◌^◌, ◌<◌, ◌≤◌, ◌⊎◌, inl, inr, Bool, true, false, eqb, eqb-true, eq-eqb, leb, ltb, leb-true, ltb-true, ◌&&◌, ◌||◌, List, length, replicate, Option, Some, None, IsTrue, Ok, Err, refl, sym, ap, ◌∙◌, subst, subst₂, arith, le_refl}
+use Rattle.std.proofs.Common.{◌≡◌, ℕ, ◌+◌, ◌/◌, ◌<◌, ◌≤◌, ◌⊎◌, inl, inr, Bool, true, List, length, IsTrue, Ok, Err, refl, sym, ap, ◌∙◌, subst, arith, le_refl}
 use Rattle.std.specs.Prelude.{slice_set}
-use Rattle.std.proofs.lemmas.Bool.{cases_lt, cases_eq, and_parts}
-use Rattle.std.proofs.lemmas.Bool.Decides.{nat_tests}
-use Rattle.std.proofs.lemmas.List.{length-replicate}
+use Rattle.std.proofs.lemmas.Bool.{cases_lt, cases_eq}
 use Rattle.nofs_bits.specs.Bits.{is_set}
 use Rattle.nofs_disk.specs.Disk.{DiskState, StaysButFaults}
 use Rattle.nofs_disk.specs.Chains.{StaysButFaults-refl, StaysButFaults-trans, Rose-within}
-use Rattle.nofs_disk.specs.declared.Failed.{Failed}
 use Rattle.nofs_model.specs.Cells.{Pointer, SuperBlock}
-use Rattle.nofs_model.specs.Image.{Image, path_of, find, files_in, agreed, is_slot, Home, owner}
+use Rattle.nofs_model.specs.Image.{Image, path_of, find}
 use Rattle.nofs_model.specs.Places.{InArea}
 use Rattle.nofs_model.specs.declared.path.PathAnswer.{PathAnswer}
 use Rattle.nofs_model.specs.declared.path.PathAnswer.TheVariants as answer
-use Rattle.nofs_model.proofs.Owners.{owner-of, owner-holds, owner-slot}
-use Rattle.nofs_model.proofs.Paths.{path_of-number}
+use Rattle.nofs_machine.specs.declared.replies.Refusal.{Refusal}
 use Rattle.nofs_agree.specs.Reading.{IsLast}
 use Rattle.nofs_agree.specs.declared.reads.LastRead.{LastRead}
 use Rattle.nofs_agree.proofs.Climbs.{told-on}
-use Rattle.nofs_state.proofs.Maps.{set-here, set-other, set-length, set-none}
-use Rattle.nofs_state.specs.Owning.{Marks, MarksAll, Marked, IsBlockAmong, marked}
+use Rattle.nofs_state.proofs.Maps.{set-here, set-other, set-length}
+use Rattle.nofs_state.specs.Owning.{MarkFails, Marks, MarksAll, Marked, IsBlockAmong, marked}
 
 pub marked-begins : (X : Image) (told : Bool) (at : SuperBlock) (i from : ℕ) (bits : List Bool) → Marked X told at i from from bits bits
 marked-begins X told at i from bits = record {
@@ -128,13 +124,18 @@ marking-goes old now new at i from slot bits b b2 last next g size m =
 pub marking-ends : (old now : DiskState) (at : SuperBlock) (i from to slot : ℕ) (bits b : List Bool) (last : LastRead)
     → Marking old now at i from slot bits b last → slot ≡ to → MarksAll old now at i from to bits b last (Ok tt)
 marking-ends old now at i from to slot bits b last g e = record
-    { stays = g.stays; marked_as = subst (λ (n : ℕ). Marked old.now old.tells at i from n bits b) e g.so_far; kept = g.kept; cause = tt }
+    { stays = g.stays; marked_as = subst (λ (n : ℕ). Marked old.now old.tells at i from n bits b) e g.so_far; kept = g.kept; refused = tt }
 
-pub marking-fails : (old now new : DiskState) (at : SuperBlock) (i from to slot : ℕ) (bits b b2 c : List Bool) (last next : LastRead) (f : Failed)
-    → Marking old now at i from slot bits b last → Marks now new at i slot b b2 next (Err f) → MarksAll old new at i from to bits c next (Err f)
-marking-fails old now new at i from to slot bits b b2 c last next f g m = record {
+-- what failed from a state on failed from the one before it
+pub fails-on : (old now new : DiskState) → StaysButFaults old now → (why : Refusal) → MarkFails now new why → MarkFails old new why
+fails-on old now new stays why (inl memory) = inl memory
+fails-on old now new stays why (inr (is, rose)) = inr (is, Rose-within old.faults now.faults new.faults new.faults stays.disk.faults rose (le_refl new.faults))
+
+pub marking-fails : (old now new : DiskState) (at : SuperBlock) (i from to slot : ℕ) (bits b b2 c : List Bool) (last next : LastRead) (why : Refusal)
+    → Marking old now at i from slot bits b last → Marks now new at i slot b b2 next (Err why) → MarksAll old new at i from to bits c next (Err why)
+marking-fails old now new at i from to slot bits b b2 c last next why g m = record {
   stays = StaysButFaults-trans old now new g.stays m.stays;
   marked_as = tt;
   kept = tt;
-  cause = Rose-within old.faults now.faults new.faults new.faults g.stays.disk.faults m.cause (le_refl new.faults);
+  refused = fails-on old now new g.stays why m.refused;
 }

@@ -1,19 +1,19 @@
 -- The exits of a step that writes nothing: each makes its contract.
-use Rattle.std.proofs.Common.{◌≡◌, ◌≢◌, ℕ, ◌+◌, ◌<◌, ◌≤◌, ◌⊎◌, inl, inr, Bool, true, false, cond, ltb, List, [], ◌∷◌, ◌++◌, Option, Some, None, is_some, IsTrue, refl, sym, ap, ◌∙◌, subst, subst₂, arith}
+use Rattle.std.proofs.Common.{◌≡◌, ℕ, ◌+◌, ◌≤◌, inl, inr, true, false, cond, ltb, List, Option, Some, None, IsTrue, refl, sym, ap, ◌∙◌, subst, arith}
 use Rattle.std.proofs.lemmas.Bool.{cases_lt}
 use Rattle.nofs_disk.specs.Disk.{DiskState, IsDisk, StaysButFaults, Rose}
 use Rattle.nofs_model.specs.Cells.{null}
-use Rattle.nofs_model.specs.Image.{Image, Files, Home, home_at, owner, path_of, IsSlot}
+use Rattle.nofs_model.specs.Image.{Image, Files, Home}
 use Rattle.nofs_model.proofs.Owners.{owner-holds, owner-slot}
 use Rattle.nofs_model.proofs.Paths.{path_of-number}
 use Rattle.nofs_machine.specs.Search.{first_of}
-use Rattle.nofs_machine.specs.Machine.{gives, given_by, files_by, files_after, nothing, is_write_fault, is_refused, may_give}
+use Rattle.nofs_machine.specs.Machine.{gives, files_after, is_write_fault, is_refused}
 use Rattle.nofs_machine.specs.World.{World, inodes_needed, blocks_needed}
 use Rattle.nofs_machine.specs.Claims.{no_claims, next_stamp, cell_slot, homes_after, has_block, claimed_home, IsClaim, IsBlockClaim, IsInodeClaim, Unclaimed, NoInode}
 use Rattle.nofs_machine.specs.Refusals.{rows, reads_nothing}
 use Rattle.nofs_machine.specs.Answers.{reply_of}
-use Rattle.nofs_machine.specs.History.{agreed_files, files_along, is_flushed, FilesMatch}
-use Rattle.nofs_machine.specs.Next.{Keeps, Learns, Next, AfterFault, ByRow, Done, ByRead, sees_inode, sees_block}
+use Rattle.nofs_machine.specs.History.{is_flushed, FilesMatch}
+use Rattle.nofs_machine.specs.Next.{Keeps, Learns, Next, AfterFault, ByRow, Done, ByRead}
 use Rattle.nofs_machine.specs.Steps.{is_out_of_memory, InRange}
 use Rattle.nofs_machine.specs.declared.history.Claims.{Claims}
 use Rattle.nofs_machine.specs.declared.history.Entry1.{Entry1}
@@ -25,11 +25,10 @@ use Rattle.nofs_machine.specs.declared.replies.Refusal.TheVariants as refusal
 use Rattle.nofs_law_maps.specs.Homes.{HomesMatch}
 use Rattle.nofs_law_maps.proofs.Homes.{holds-has}
 use Rattle.nofs_crashlaw.proofs.FlushStage.{files-stay}
-use Rattle.nofs_agree.specs.Reading.{IsAt}
 use Rattle.nofs_agree.proofs.Climbs.{IsAt-on}
-use Rattle.nofs_state.specs.Books.{IsSafe, Says}
-use Rattle.nofs_state.specs.Standing.{IsOpen, IsStopped, Past}
-use Rattle.nofs_state.specs.Steps.{Causes, Follows, Goes, HasRange, IsReading, Moves, StaysStopped, entry, is_plain}
+use Rattle.nofs_state.specs.Books.{IsSafe}
+use Rattle.nofs_state.specs.Standing.{IsOpen, Past}
+use Rattle.nofs_state.specs.Steps.{Goes, HasRange, IsReading, entry, is_plain}
 use Rattle.nofs_state.specs.declared.books.Books.{Books}
 use Rattle.nofs_state.proofs.Idle.{IsIdle, open-idle, stopped-idle}
 use Rattle.nofs_state.proofs.Sounding.{sounds-keep}
@@ -177,6 +176,7 @@ module _ (old new : DiskState) (k : Books) (s : Step) (is : IsDisk old) (safe : 
       refused = λ t n. stays.cells;
       memory = λ t. absurd (cc);
       range = tt;
+      still = λ e. stays.cells;
     };
     safe = safe-on old new k stays safe;
     at = refl;
@@ -208,6 +208,7 @@ module _ (old new : DiskState) (k : Books) (s : Step) (is : IsDisk old) (safe : 
       refused = λ t n. stays.cells;
       memory = λ t. absurd (let z = plain-memory why plain in cc (t, z));
       range = range;
+      still = λ e. stays.cells;
     };
     safe = safe-on old new k stays safe;
     at = refl;
@@ -248,6 +249,7 @@ module _ (old new : DiskState) (k : Books) (s : Step) (is : IsDisk old) (safe : 
       refused = λ t n. stays.cells;
       memory = λ t. absurd (cc);
       range = tt;
+      still = λ e. stays.cells;
     };
     safe = safe-on old new k stays safe;
     at = refl;
@@ -288,6 +290,7 @@ module _ (old new : DiskState) (k : Books) (s : Step) (is : IsDisk old) (safe : 
       refused = λ t n. absurd (cc (t, accepted));
       memory = λ t. absurd (let z = no-memory r accepted in cc (t, z));
       range = has-range r accepted;
+      still = λ e. stays.cells;
     };
     safe = safe-on old new k stays safe;
     at = refl;

@@ -1,21 +1,19 @@
 -- A run with one more entry, and what an entry that gives nothing leaves.
-use Rattle.std.proofs.Common.{◌≡◌, ℕ, ◌+◌, ◌<◌, ◌≤◌, Bool, true, false, ◌&&◌, leb, not, List, [], ◌∷◌, ◌++◌, append-nil, Option, Some, None, option_to_list, refl, sym, ap, ◌∙◌, subst, arith}
-use Rattle.nofs_disk.specs.Disk.{DiskState, StaysButFaults, KeepsPast, IsSameDisk}
-use Rattle.nofs_disk.specs.Moments.{AtEach}
+use Rattle.std.proofs.Common.{◌≡◌, ℕ, ◌+◌, ◌<◌, ◌≤◌, Bool, true, false, ◌&&◌, leb, List, [], ◌∷◌, ◌++◌, append-nil, option_to_list, refl, sym, ap, ◌∙◌, subst, arith}
+use Rattle.nofs_disk.specs.Disk.{DiskState, StaysButFaults}
 use Rattle.nofs_model.specs.Cells.{Cell}
-use Rattle.nofs_model.specs.Image.{Image, Files, inode}
+use Rattle.nofs_model.specs.Image.{Image, inode}
 use Rattle.nofs_law_images.specs.Moments.{during}
 use Rattle.nofs_machine.specs.Marks.{Mark}
 use Rattle.nofs_machine.specs.World.{World}
-use Rattle.nofs_machine.specs.Machine.{Given, given_by, files_by, nothing, is_write_fault}
-use Rattle.nofs_machine.specs.History.{NoWriteFault, agreed_files, files_along, values_given, metas_given, mark_at, is_flushed}
-use Rattle.nofs_machine.specs.Allowed.{IsAllowed}
+use Rattle.nofs_machine.specs.Machine.{Given, given_by, nothing, is_write_fault}
+use Rattle.nofs_machine.specs.History.{NoWriteFault, agreed_files, files_along, mark_at, is_flushed}
 use Rattle.nofs_machine.specs.Marks.{IsUnderWay}
 use Rattle.nofs_machine.specs.Steady.{SteadyRest, Untouched}
 use Rattle.nofs_machine.specs.Next.{Next, Run, takes_time}
 use Rattle.nofs_machine.specs.declared.history.Entry1.{Entry1}
-use Rattle.nofs_machine.proofs.Lives.{along-append, values-append, metas-append}
-use Rattle.nofs_crashlaw.specs.Stage.{AllBy, Lasts, CellsSurvive}
+use Rattle.nofs_machine.proofs.Lives.{values-append, metas-append}
+use Rattle.nofs_crashlaw.specs.Stage.{Lasts}
 use Rattle.nofs_crashlaw.proofs.Histories.{mark-during}
 use Rattle.nofs_crashlaw.proofs.Later.{law-later, mark-within}
 use Rattle.nofs_crashlaw.proofs.Staging.{all-begun, same-marks, by-more, by-append, begun-append, mark-plain}

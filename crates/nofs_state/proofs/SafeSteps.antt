@@ -1,6 +1,6 @@
 -- The exits of a step over any disk: no world is named.
-use Rattle.std.proofs.Common.{◌≡◌, ℕ, ◌+◌, ◌<◌, ◌≤◌, Bool, true, false, IsTrue, refl, sym, ap, ◌∙◌, arith}
-use Rattle.nofs_disk.specs.Disk.{DiskState, IsDisk, IsSameDisk, KeepsPast, StaysButFaults, Rose}
+use Rattle.std.proofs.Common.{◌≡◌, ◌<◌, true, false, refl, sym, ap, ◌∙◌, arith}
+use Rattle.nofs_disk.specs.Disk.{DiskState, IsSameDisk, KeepsPast, StaysButFaults, Rose}
 use Rattle.nofs_disk.specs.Chains.{IsSameDisk-trans, KeepsPast-trans, KeepsCells-trans}
 use Rattle.nofs_machine.specs.Machine.{is_refused}
 use Rattle.nofs_machine.specs.Steps.{InRange, is_out_of_memory}
@@ -37,6 +37,7 @@ module _ (old new : DiskState) (k : Books) (safe : IsSafe old k) (stays : StaysB
       refused = λ t n. stays.cells;
       memory = λ t. absurd (cc);
       range = tt;
+      still = λ e. stays.cells;
     };
     safe = safe-on old new k stays safe;
     at = refl;
@@ -61,6 +62,7 @@ module _ (old new : DiskState) (k : Books) (safe : IsSafe old k) (stays : StaysB
       refused = λ t n. stays.cells;
       memory = λ t. absurd (let z = plain-memory why plain in cc (t, z));
       range = range;
+      still = λ e. stays.cells;
     };
     safe = safe-on old new k stays safe;
     at = refl;
@@ -85,6 +87,7 @@ module _ (old new : DiskState) (k : Books) (safe : IsSafe old k) (stays : StaysB
       refused = λ t n. stays.cells;
       memory = λ t. absurd (cc);
       range = tt;
+      still = λ e. stays.cells;
     };
     safe = safe-on old new k stays safe;
     at = refl;
@@ -109,6 +112,7 @@ safely-memory old new keep k safe = record {
     refused = λ t n. keep.cells;
     memory = λ t. refl;
     range = tt;
+    still = λ e. keep.cells;
   };
   safe = safe-keeps old new keep k safe;
   at = refl;
@@ -133,6 +137,7 @@ safely-after old new keep end k l r g = record {
     refused = λ t n. KeepsCells-trans old new end keep.cells (g.cause.refused t n);
     memory = g.cause.memory;
     range = g.cause.range;
+    still = λ e. KeepsCells-trans old new end keep.cells (g.cause.still (e ∙ sym keep.cells.moment));
   };
   safe = g.safe;
   at = g.at;
@@ -157,6 +162,7 @@ safely-done old new k l r going at history runs safe accepted disk past later = 
     refused = λ t n. absurd (cc (t, accepted));
     memory = λ t. absurd (let z = no-memory r accepted in cc (t, z));
     range = has-range r accepted;
+    still = λ e. absurd (omega (arith, later, e));
   };
   safe = safe;
   at = at;
@@ -190,6 +196,7 @@ safely-fault old new k l going at history stopped safe disk past rose later = re
     refused = λ t n. absurd (cc);
     memory = λ t. absurd (cc);
     range = tt;
+    still = λ e. absurd (omega (arith, later, e));
   };
   safe = safe;
   at = at;

@@ -5,7 +5,7 @@ use Rattle.std.proofs.lemmas.Bool.{cases_eq, cases_lt, ne_eqb}
 use Rattle.std.proofs.lemmas.List.{get_or_past}
 use Rattle.std.proofs.lemmas.Bool.Decides.{nat_tests}
 use Rattle.nofs_bits.specs.Bits.{is_set}
-use Rattle.nofs_disk.specs.Disk.{DiskState, IsDisk, StaysButFaults}
+use Rattle.nofs_disk.specs.Disk.{DiskState, IsDisk, KeepsCells, StaysButFaults}
 use Rattle.nofs_model.specs.Cells.{null}
 use Rattle.nofs_model.specs.Image.{super_at, Files, is_special, is_used_inode, is_used_block}
 use Rattle.nofs_machine.specs.Search.{first_of}
@@ -103,8 +103,8 @@ module _ (old new : DiskState) (k l : Books) (s : Step) (used : Bool) (is : IsDi
     fault = λ t. cc;
   }
 
-pub seen-causes : (old new : DiskState) (k l : Books) (used : Bool) → k.stopped ≡ false → l.stopped ≡ false → Causes old new k l (reply.Seen used)
-seen-causes old new k l used going still = record {
+pub seen-causes : (old new : DiskState) (k l : Books) (used : Bool) → KeepsCells old new → k.stopped ≡ false → l.stopped ≡ false → Causes old new k l (reply.Seen used)
+seen-causes old new k l used cells going still = record {
   stopped = λ t n. absurd (cc (t, going));
   not_stopped = λ e. cc;
   read = λ e. cc;
@@ -116,6 +116,7 @@ seen-causes old new k l used going still = record {
   refused = λ t n. cc;
   memory = λ t. cc;
   range = tt;
+  still = λ e. cells;
 }
 
 -- a place that is set is one of the map

@@ -1,7 +1,7 @@
 -- Sound images stay so over the writes of a step, whichever of them failed.
 use Rattle.std.proofs.Common.{◌≡◌, ℕ, ◌+◌, ◌*◌, ◌/◌, ◌%◌, ◌^◌, ◌<◌, ◌≤◌, IsTrue, true, inl, inr, leb, leb-true, ltb, List, [], ◌∷◌, length, refl, sym, ap, ◌∙◌, subst, arith, Contains}
 use Rattle.std.proofs.lemmas.Bool.{cases_lt}
-use Rattle.nofs_disk.specs.Disk.{DiskState, IsDisk, Picks}
+use Rattle.nofs_disk.specs.Disk.{DiskState, IsDisk}
 use Rattle.nofs_disk.specs.Adds.{Adds, WasOr}
 use Rattle.nofs_model.specs.Cells.{Cell, SuperBlock}
 use Rattle.nofs_model.specs.Image.{Image, IsSound, cell_at, super_at}

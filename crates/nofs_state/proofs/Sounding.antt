@@ -1,7 +1,7 @@
 -- Sound images stay so over calls that write nothing.
-use Rattle.std.proofs.Common.{◌≡◌, ℕ, ◌+◌, ◌<◌, ◌≤◌, IsTrue, Result, inl, inr, refl, sym, ap, ◌∙◌, subst, subst₂, arith, List, Contains}
+use Rattle.std.proofs.Common.{ℕ, Result, ◌∙◌, subst₂, arith, List}
 use Rattle.nofs_disk.specs.Disk.{DiskState, IsDisk, IsSameDisk, KeepsCells, KeepsPast, Flushes, Picks}
-use Rattle.nofs_disk.specs.Moments.{AtEach, AtEach-stays, AtEach-flushes}
+use Rattle.nofs_disk.specs.Moments.{AtEach-stays, AtEach-flushes}
 use Rattle.nofs_disk.specs.declared.Failed.{Failed}
 use Rattle.nofs_model.specs.Cells.{Cell}
 use Rattle.nofs_model.specs.Image.{Image, IsSound, cell_at}

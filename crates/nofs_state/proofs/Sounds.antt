@@ -1,5 +1,5 @@
 -- Between two steps each image that a crash may leave is sound.
-use Rattle.std.proofs.Common.{◌≡◌, ℕ, ◌+◌, ◌*◌, ◌^◌, ◌<◌, ◌≤◌, List, length, Contains, IsTrue, sym, ap, ◌∙◌, subst, arith}
+use Rattle.std.proofs.Common.{◌≡◌, ℕ, ◌+◌, ◌*◌, ◌^◌, ◌<◌, ◌≤◌, List, length, Contains, sym, ap, subst, arith}
 use Rattle.nofs_disk.specs.Disk.{DiskState, cell_at}
 use Rattle.nofs_model.specs.Cells.{SuperBlock}
 use Rattle.nofs_model.specs.Image.{Image, IsSound, super_at}

@@ -1,10 +1,10 @@
 -- One record of the inode table is written.
-use Rattle.std.proofs.Common.{◌≡◌, ◌≢◌, ℕ, ◌+◌, ◌-◌, ◌/◌, ◌%◌, ◌<◌, ◌≤◌, ◌⊎◌, inl, inr, Bool, true, false, cond, leb, ltb, leb-true, ◌&&◌, List, Option, Some, None, refl, sym, ap, ◌∙◌, subst, arith}
+use Rattle.std.proofs.Common.{◌≡◌, ◌≢◌, ℕ, ◌+◌, ◌-◌, ◌/◌, ◌%◌, ◌<◌, ◌≤◌, ◌⊎◌, inl, inr, Bool, true, false, leb, leb-true, ◌&&◌, List, Some, refl, sym, ap, ◌∙◌, subst, arith}
 use Rattle.std.proofs.lemmas.Bool.{cases_eq}
 use Rattle.nofs_disk.specs.Disk.{cell_at}
 use Rattle.nofs_model.specs.Cells.{Cell, Record, SuperBlock, record_at, record_of, free_record}
 use Rattle.nofs_inode.specs.InodeRecords.{record_or_free}
-use Rattle.nofs_model.specs.Image.{Image, super_at, is_inode, inode, is_data_block}
+use Rattle.nofs_model.specs.Image.{Image, super_at, is_inode, inode}
 use Rattle.nofs_model.proofs.Find.{and-both}
 use Rattle.nofs_model.proofs.Sound.{supers}
 

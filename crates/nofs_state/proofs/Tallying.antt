@@ -1,5 +1,5 @@
 -- The counts of used, free and unknown elements.
-use Rattle.std.proofs.Common.{◌≡◌, ℕ, zero, suc, ◌+◌, ◌-◌, ◌<◌, ◌≤◌, min, Bool, true, false, cond, not, ◌&&◌, leb, ltb, lt-ltb, List, length, refl, sym, ap, ◌∙◌, arith, le-leb}
+use Rattle.std.proofs.Common.{◌≡◌, ℕ, zero, suc, ◌+◌, ◌-◌, ◌<◌, min, Bool, true, false, cond, not, ◌&&◌, leb, ltb, lt-ltb, length, refl, sym, ap, ◌∙◌, arith, le-leb}
 use Rattle.nofs_bits.specs.Bits.{count_set, is_set}
 use Rattle.nofs_machine.specs.Search.{count_below}
 use Rattle.nofs_machine.specs.World.{World, free_blocks, free_inodes, is_free_block, is_free_inode, unverified_blocks, unverified_inodes, uses_block, uses_inode}

@@ -1,5 +1,5 @@
 -- Two writes, one after the other.
-use Rattle.std.proofs.Common.{◌≡◌, ◌≢◌, ℕ, ◌+◌, ◌<◌, ◌≤◌, ◌⊎◌, ◌/◌, Bool, IsTrue, inl, inr, List, [], ◌∷◌, Result, Ok, Err, refl, sym, ap, ◌∙◌, subst, arith, le_refl}
+use Rattle.std.proofs.Common.{◌≡◌, ◌≢◌, ℕ, ◌⊎◌, Bool, IsTrue, inl, inr, List, [], ◌∷◌, Result, Ok, Err, refl, sym, ap, ◌∙◌, subst, arith, le_refl}
 use Rattle.std.specs.Prelude.{OnOk, OnErr, slice_set}
 use Rattle.nofs_disk.specs.Disk.{DiskState, IsDisk, Writes, Rose, cell_at, no_cell}
 use Rattle.std.proofs.lemmas.List.{get_or-set_other}
@@ -7,7 +7,7 @@ use Rattle.nofs_super.specs.Geometry.{IsGeometry}
 use Rattle.nofs_model.proofs.Sound.{supers}
 use Rattle.nofs_state.specs.Books.{IsSafe}
 use Rattle.nofs_state.specs.declared.books.Books.{Books}
-use Rattle.nofs_disk.specs.Adds.{Adds, Adds-trans, Adds-writes}
+use Rattle.nofs_disk.specs.Adds.{Adds-trans, Adds-writes}
 use Rattle.nofs_disk.specs.Chains.{Rose-within}
 use Rattle.nofs_disk.specs.declared.Failed.{Failed}
 use Rattle.nofs_model.specs.Cells.{Cell}
@@ -34,6 +34,17 @@ first-fails old new b c ws x is w = record {
   others = λ n apart. write-other old new b c (Err x) n w apart.0;
   now = tt;
   cause = w.cause;
+}
+
+-- one write, whatever comes of it
+pub one-write : (old new : DiskState) (b : ℕ) (c : Cell) (r : Result (Unit {0}) Failed) → IsDisk new → Writes old new b c r → WritesAll old new ((b, c) ∷ []) r
+one-write old new b c (Err x) is w = first-fails old new b c [] x is w
+one-write old new b c (Ok done) is w = record {
+  adds = Adds-writes (OneOf ((b, c) ∷ [])) old new b c is w (inl (refl, refl));
+  later = (let m = w.moment in omega (arith, m));
+  others = λ n apart. write-other old new b c (Ok done) n w apart.0;
+  now = w.ok;
+  cause = tt;
 }
 
 -- the second is done, whatever comes of it

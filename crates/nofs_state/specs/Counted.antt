@@ -1,5 +1,5 @@
 -- How many elements of the machine's world are used, free, and not known.
-use Rattle.std.specs.Prelude.{◌≡◌, ℕ, suc, Bool, ◌&&◌}
+use Rattle.std.specs.Prelude.{◌≡◌, ℕ, suc, ◌&&◌}
 use Rattle.nofs_machine.specs.Search.{count_below}
 use Rattle.nofs_machine.specs.World.{World, free_blocks, free_inodes, unverified_blocks, unverified_inodes, uses_block, uses_inode}
 use Rattle.nofs_state.specs.declared.books.Counts.{Counts}

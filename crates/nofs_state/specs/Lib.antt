@@ -8,3 +8,5 @@ pub mod Verdicts
 pub mod Owning
 pub mod Counted
 pub mod Owing
+pub mod WritingOut
+pub mod Pointing

@@ -1,13 +1,14 @@
 -- Which blocks stand in some slots of an inode, read slot by slot, and what is known of them once they are free.
-use Rattle.std.specs.Prelude.{◌≡◌, ℕ, ◌+◌, ◌/◌, ◌<◌, ◌≤◌, ◌⊎◌, Bool, true, false, ◌&&◌, ◌||◌, not, List, length, IsTrue, Result, OnOk, OnErr, slice_set, if◌then◌else◌}
+use Rattle.std.specs.Prelude.{◌≡◌, ℕ, ◌+◌, ◌/◌, ◌<◌, ◌≤◌, ◌⊎◌, Bool, true, ◌&&◌, ◌||◌, not, List, [], ◌∷◌, length, IsTrue, Result, IfErr, OnOk, slice_set}
 use Rattle.nofs_bits.specs.Bits.{is_set}
-use Rattle.nofs_disk.specs.declared.Failed.{Failed}
 use Rattle.nofs_disk.specs.Disk.{DiskState, StaysButFaults, Rose}
 use Rattle.nofs_model.specs.Cells.{Pointer, SuperBlock}
 use Rattle.nofs_model.specs.Image.{Image, path_of, find}
 use Rattle.nofs_model.specs.Places.{InArea}
 use Rattle.nofs_model.specs.declared.path.PathAnswer.{PathAnswer}
 use Rattle.nofs_model.specs.declared.path.PathAnswer.TheVariants as answer
+use Rattle.nofs_machine.specs.declared.replies.Refusal.{Refusal}
+use Rattle.nofs_machine.specs.declared.replies.Refusal.TheVariants as refusal
 use Rattle.nofs_agree.specs.Reading.{IsLast}
 use Rattle.nofs_agree.specs.declared.reads.LastRead.{LastRead}
 use Rattle.nofs_state.specs.declared.books.Books.{Books}
@@ -18,12 +19,21 @@ marked answer.Hole bits = bits
 marked answer.Lost bits = bits
 marked (answer.Holds x) bits = slice_set bits x.block true
 
-pub record Marks (old new : DiskState) (at : SuperBlock) (i slot : ℕ) (bits bits2 : List Bool) (last : LastRead) (result : Result (Unit {0}) Failed) : Type 0
+-- the map with these blocks, too
+abbrev pub with_all : List Bool → List ℕ → List Bool
+with_all bits [] = bits
+with_all bits (b ∷ bs) = with_all (slice_set bits b true) bs
+
+-- why blocks are not found: memory is wanting, or a read failed
+abbrev pub MarkFails : DiskState → DiskState → Refusal → Type 0
+MarkFails old new why = (why ≡ refusal.OutOfMemory) ⊎ ((why ≡ refusal.ReadFault) × Rose old.faults new.faults)
+
+pub record Marks (old new : DiskState) (at : SuperBlock) (i slot : ℕ) (bits bits2 : List Bool) (last : LastRead) (result : Result (Unit {0}) Refusal) : Type 0
   where
     pub stays : StaysButFaults old new
     pub marked_as : OnOk result ((a : PathAnswer) × (IsTrue old.tells → a ≡ find old.now i (path_of slot)) × InArea at a × (bits2 ≡ marked a bits))
     pub kept : OnOk result (IsLast new last)
-    pub cause : OnErr result (Rose old.faults new.faults)
+    pub refused : IfErr result (MarkFails old new)
 
 -- the block of a slot among some
 abbrev pub IsBlockAmong : Image → ℕ → ℕ → ℕ → ℕ → Type 0
@@ -38,18 +48,13 @@ pub record Marked (X : Image) (told : Bool) (at : SuperBlock) (i from to : ℕ) 
   pub whole : IsTrue told → (k : ℕ) (x : Pointer) → from ≤ k → k < to → find X i (path_of k) ≡ answer.Holds x → is_set bits2 x.block ≡ true
 
 pub record MarksAll (old new : DiskState) (at : SuperBlock) (i from to : ℕ) (bits bits2 : List Bool) (last : LastRead)
-    (result : Result (Unit {0}) Failed) : Type 0 where
+    (result : Result (Unit {0}) Refusal) : Type 0 where
   pub stays : StaysButFaults old new
   pub marked_as : OnOk result (Marked old.now old.tells at i from to bits bits2)
   pub kept : OnOk result (IsLast new last)
-  pub cause : OnErr result (Rose old.faults new.faults)
+  pub refused : IfErr result (MarkFails old new)
 
--- a block is moved from one map to the other, where it is freed
-pub record MovesBlock (freed : List Bool) (block : ℕ) (free unknown free2 unknown2 : List Bool) : Type 0 where
-  pub freeing : free2 ≡ (if is_set freed block then slice_set free block true else free)
-  pub knowing : unknown2 ≡ (if is_set freed block then slice_set unknown block false else unknown)
-
--- so are all below a bound
+-- the blocks below a bound that are freed are known and free
 pub record AreFreed (freed : List Bool) (bound : ℕ) (free unknown free2 unknown2 : List Bool) : Type 0 where
   pub free_size : length free2 ≡ length free
   pub unknown_size : length unknown2 ≡ length unknown

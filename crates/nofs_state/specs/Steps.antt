@@ -63,6 +63,8 @@ pub record Causes (old new : DiskState) (k l : Books) (r : Reply) : Type 0 where
   pub keeps : k.stopped ≡ true → l.stopped ≡ true
   -- a flush takes time
   pub flush : r ≡ reply.Flushed → old.moment < new.moment
+  -- a step that takes no time leaves the cells
+  pub still : new.moment ≡ old.moment → KeepsCells old new
   -- every other refusal leaves the cells, and want of memory leaves the maps
   pub refused : is_refused r ≡ true → is_write_fault r ≡ false → KeepsCells old new
   pub memory : is_out_of_memory r ≡ true → l ≡ k

@@ -1,5 +1,5 @@
 -- The writes of one step.
-use Rattle.std.specs.Prelude.{◌≡◌, ◌≢◌, ℕ, ◌+◌, ◌<◌, ◌⊎◌, List, [], ◌∷◌, Bool, true, Result, Ok, Err, OnOk, OnErr, slice_set}
+use Rattle.std.specs.Prelude.{◌≡◌, ◌≢◌, ℕ, ◌<◌, ◌⊎◌, List, [], ◌∷◌, true, Result, Ok, Err, OnOk, OnErr, slice_set}
 use Rattle.nofs_disk.specs.Disk.{DiskState, Rose, cell_at}
 use Rattle.nofs_disk.specs.Adds.{Adds}
 use Rattle.nofs_disk.specs.declared.Failed.{Failed}

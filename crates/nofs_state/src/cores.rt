@@ -6,9 +6,10 @@ ghost use Rattle.nofs_agree.specs.Reading.{IsAt};
 ghost use Rattle.nofs_state.specs.Books.{IsRoom, IsSafe, with_history};
 ghost use Rattle.nofs_state.specs.Standing.{IsOpen};
 ghost use Rattle.nofs_state.specs.Beginning.{first_past};
+ghost use Rattle.nofs_state.specs.WritingOut.{WroteOne};
 
 use crate::books::{Books, Room};
-use nofs_disk::Disk;
+use nofs_disk::{Disk, OutFault};
 use nofs_machine::{Claims, Entry1, Reply, Step};
 use nofs_super::SuperBlock;
 
@@ -67,5 +68,20 @@ impl<D: Disk + Drop> Core<D> {
             reply,
             claims,
         });
+    }
+
+    /// Writes out one block that the device kept back, and names it; `None` where there is none. It makes room for one call first.
+    pub fn write_out(&mut self) -> Result<Option<u64>, OutFault>
+        ensures books { self.new.books ≡ self.old.books }
+        ensures out { WroteOne (D.state self.old.disk) (D.state self.new.disk) result }
+    {
+        match self.disk.ready(1) {
+            Ok(()) => {}
+            Err(_) => return Err(OutFault::OutOfMemory),
+        }
+        match self.disk.write_out() {
+            Ok(block) => Ok(block),
+            Err(_) => Err(OutFault::Failed),
+        }
     }
 }

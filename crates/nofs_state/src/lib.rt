@@ -7,14 +7,18 @@ mod books;
 mod checks;
 mod cores;
 mod counts;
+mod freed;
 mod learning;
 mod opening;
 mod owning;
+mod pointing;
 mod writing;
 
 pub use books::{Books, Counts, InodeClaim, Room};
 pub use checks::{check_block, check_inode};
 pub use cores::Core;
+pub use freed::FreedBlocks;
 pub use opening::{Opened, open_inode};
 pub use owning::mark_slots;
+pub use pointing::{SlotCells, Spot};
 pub use writing::{write_four, write_three, write_two};

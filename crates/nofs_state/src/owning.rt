@@ -1,22 +1,23 @@
-//! The blocks in some slots of an inode, and how they become free.
-ghost use Rattle.std.specs.Prelude.{◌≡◌, ◌≤◌, ◌<◌, ℕ, length, IsTrue};
+//! The blocks in some slots of an inode.
+ghost use Rattle.std.specs.Prelude.{◌≡◌, ◌≤◌, ◌<◌, ℕ, true, length, slice_set, IfErr, IsTrue, OnOk};
+ghost use Rattle.nofs_machine.specs.declared.replies.Refusal.TheVariants as refusal;
 ghost use Rattle.nofs_model.specs.Slots.{is_slot};
 ghost use Rattle.nofs_agree.specs.Reading.{IsLast, KnowsInode};
-ghost use Rattle.nofs_state.specs.Owning.{AreFreed, BlocksFreed, Marks, MarksAll, MovesBlock};
+ghost use Rattle.nofs_state.specs.Owning.{Marks, MarksAll};
 
-use crate::books::Books;
+use crate::freed::FreedBlocks;
 use nofs_agree::{LastRead, find_slot};
-use nofs_bits::Bits;
-use nofs_disk::{Disk, Failed};
+use nofs_disk::Disk;
 use nofs_inode::Record;
+use nofs_machine::Refusal;
 use nofs_model::{PathAnswer, place_of};
 use nofs_super::SuperBlock;
 
-/// Marks the blocks of some slots of an inode in a map with a place for each block of the disk.
+/// Adds the blocks of some slots of an inode to those that are freed.
 ///
 /// # Errors
 ///
-/// `Failed` where a read failed.
+/// `ReadFault` where a read failed, and `OutOfMemory`.
 pub fn mark_slots<D: Disk>(
     disk: &mut D,
     at: &SuperBlock,
@@ -24,9 +25,9 @@ pub fn mark_slots<D: Disk>(
     it: &Record,
     from: u64,
     to: u64,
-    owned: &mut Bits,
+    owned: &mut FreedBlocks,
     last: &mut LastRead,
-) -> Result<(), Failed>
+) -> Result<(), Refusal>
     requires known { KnowsInode (D.state disk.old) at.now inode it.now }
     requires slots { (k : ℕ) → from ≤ k → k < to → IsTrue (is_slot k) }
     requires order { from ≤ to }
@@ -40,68 +41,37 @@ pub fn mark_slots<D: Disk>(
     Ok(())
 }
 
-// Marks the block of a slot, where it holds.
+// Adds the block of a slot, where it holds.
 fn mark_slot<D: Disk>(
     disk: &mut D,
     at: &SuperBlock,
     inode: u32,
     it: &Record,
     slot: u64,
-    owned: &mut Bits,
+    owned: &mut FreedBlocks,
     last: &mut LastRead,
-) -> Result<(), Failed>
+) -> Result<(), Refusal>
     requires known { KnowsInode (D.state disk.old) at.now inode it.now }
     requires slot { IsTrue (is_slot slot) }
     requires size { length owned.old ≡ at.now.blocks }
     requires last { IsLast (D.state disk.old) last.old }
     ensures { Marks (D.state disk.old) (D.state disk.new) at.now inode slot owned.old owned.new last.new result }
 {
-    match find_slot(disk, at, inode, it, place_of(slot), last)? {
-        PathAnswer::Hole => {}
-        PathAnswer::Lost => {}
-        PathAnswer::Holds(pointer) => owned.set(pointer.block, true),
+    match find_slot(disk, at, inode, it, place_of(slot), last) {
+        Ok(PathAnswer::Holds(pointer)) => add_block(owned, pointer.block),
+        Ok(PathAnswer::Hole) => Ok(()),
+        Ok(PathAnswer::Lost) => Ok(()),
+        Err(_) => Err(Refusal::ReadFault),
     }
-    Ok(())
 }
 
-// Marks a block as known and free, where it is among those that are freed.
-fn move_block(free: &mut Bits, unknown: &mut Bits, freed: &Bits, block: u64)
-    requires place { block < length freed.now }
-    requires free { length free.old ≡ length freed.now }
-    requires unknown { length unknown.old ≡ length freed.now }
-    ensures { MovesBlock freed.now block free.old unknown.old free.new unknown.new }
+fn add_block(owned: &mut FreedBlocks, block: u64) -> Result<(), Refusal>
+    requires { block < length owned.old }
+    ensures added { OnOk result (owned.new ≡ slice_set owned.old block true) }
+    ensures refused { IfErr result (λ why. why ≡ refusal.OutOfMemory) }
 {
-    if freed.get(block) {
-        free.set(block, true);
-        unknown.set(block, false);
-    }
-}
-
-// Marks these blocks as known and free.
-fn free_blocks(free: &mut Bits, unknown: &mut Bits, freed: &Bits, blocks: u64)
-    requires blocks { length freed.now ≡ blocks }
-    requires free { length free.old ≡ blocks }
-    requires unknown { length unknown.old ≡ blocks }
-    ensures { AreFreed freed.now blocks free.old unknown.old free.new unknown.new }
-{
-    for block in 0..blocks {
-        move_block(free, unknown, freed, block);
-    }
-}
-
-impl Books {
-    /// Marks blocks as examined and free. None of them may be used from then on.
-    pub fn free_blocks(&mut self, freed: &Bits)
-        requires free { length self.old.free_blocks ≡ self.old.at.blocks }
-        requires unknown { length self.old.unknown_blocks ≡ self.old.at.blocks }
-        requires freed { length freed.now ≡ self.old.at.blocks }
-        ensures { BlocksFreed self.old self.new freed.now }
-    {
-        free_blocks(
-            &mut self.free_blocks,
-            &mut self.unknown_blocks,
-            freed,
-            self.at.blocks,
-        );
+    match owned.add(block) {
+        Ok(()) => Ok(()),
+        Err(_) => Err(Refusal::OutOfMemory),
     }
 }

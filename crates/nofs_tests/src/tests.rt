@@ -4,3 +4,4 @@ mod cache;
 mod disks;
 mod mirror;
 mod superblock;
+mod upgrade;

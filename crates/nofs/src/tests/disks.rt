@@ -1,9 +1,12 @@
 //! Disks that hold given cells, the cells that a disk holds, and the line that a scan of them prints.
 ghost use Rattle.nofs_disk.specs.Disk.{IsSettled};
+ghost use Rattle.nofs_memdisk.specs.Memory.{PicksVersions};
 ghost use Rattle.nofs_memdisk.specs.Parts.{memory_state};
+ghost use Rattle.std.specs.Prelude.{IsTrue, ◌↔◌};
 
+use nofs_cache::Cached;
 use nofs_disk::{Cell, Disk};
-use nofs_memdisk::MemDisk;
+use nofs_memdisk::{MemDisk, Pick};
 use nofs_model::{ScanResult, full_scan, is_mountable};
 use std::alloc::{AllocError, Global};
 
@@ -60,6 +63,31 @@ pub fn bytes_of(alloc: Global, cells: &[Cell]) -> Result<Vec<u8>, AllocError> {
         bytes.extend_from_slice(&cell.tag)?;
     }
     Ok(bytes)
+}
+
+// Whether a crash may leave this version of this block.
+fn is_pick(disk: &MemDisk, pick: Pick) -> bool
+    ensures { IsTrue result ↔ PicksVersions (memory_state disk.now) pick }
+{
+    pick.block < disk.blocks() && pick.version < disk.choices(pick.block)
+}
+
+/// The disk that a crash leaves with these versions, and the last one of each other block; `None`
+/// where some can't be picked.
+pub fn left(alloc: Global, disk: &MemDisk, picks: &[Pick]) -> Result<Option<MemDisk>, AllocError> {
+    if picks.iter().all(|pick| is_pick(disk, *pick)) {
+        Ok(Some(disk.image(alloc, picks)?))
+    } else {
+        Ok(None)
+    }
+}
+
+/// A cache over a disk, where there is memory.
+pub fn cached<D: Disk + Drop>(alloc: Global, below: D) -> Result<Cached<D>, AllocError> {
+    match Cached::new(alloc, below) {
+        Ok(disk) => Ok(disk),
+        Err(_) => Err(AllocError),
+    }
 }
 
 /// How many inodes and how many blocks the definitions say are used; `None` where the cells are no

@@ -1,6 +1,6 @@
 //! Drills. The numbers of longer ones were computed from the definition by a program of its own, in another language.
 
-use crate::tests::{run_on, words};
+use crate::tests::{USAGE, run_on, words};
 use crate::tool::{Outcome, tool};
 use nofs_io::{MemSink, MemSource};
 use nofs_memdisk::{CallKind, FaultAt, MemDisk};
@@ -42,21 +42,9 @@ fn each_drill_prints_its_line(rt: HostRuntime) -> Result<(), Fail> {
             "drill 2 4000: commands 16012, refused 3268, bytes 12989, sum 1111727, wrong 0\n",
             0,
         ),
-        (
-            "drill 1 4001",
-            "usage: nofs IMAGE new BLOCKS INODES | run | scan | drill START STEPS\n",
-            1,
-        ),
-        (
-            "drill 1",
-            "usage: nofs IMAGE new BLOCKS INODES | run | scan | drill START STEPS\n",
-            1,
-        ),
-        (
-            "drill 01 1",
-            "usage: nofs IMAGE new BLOCKS INODES | run | scan | drill START STEPS\n",
-            1,
-        ),
+        ("drill 1 4001", USAGE, 1),
+        ("drill 1", USAGE, 1),
+        ("drill 01 1", USAGE, 1),
     ] {
         let disk = MemDisk::new(alloc, 4096)?;
         let (ended, sink, _) = run_on(&rt, alloc, command, b"".as_slice(), disk)?;

@@ -9,7 +9,7 @@ use std::test::Fail;
 
 /// Images of 16 blocks and 4 inodes, but for the last two.
 #[derive(Clone, Copy)]
-enum Image {
+pub enum Image {
     /// A root with one block and no entry, and an empty label file.
     Empty,
     Version2,
@@ -36,11 +36,11 @@ enum Image {
 
 // Where bytes differ from those of another image: the block, the place in its cell, whose tag
 // follows the payload, and the bytes in hexadecimal digits.
-type Patch = (usize, usize, &'static str);
+pub type Patch = (usize, usize, &'static str);
 
-const VERSION_2: Patch = (0, 8, "02000000");
+pub const VERSION_2: Patch = (0, 8, "02000000");
 
-fn image_cells(alloc: Global, image: Image) -> Result<Vec<Cell>, Fail> {
+pub fn image_cells(alloc: Global, image: Image) -> Result<Vec<Cell>, Fail> {
     match image {
         Image::Empty => patched_empty(alloc, &[]),
         Image::Version2 => patched_empty(alloc, &[VERSION_2]),
@@ -89,12 +89,12 @@ fn first_cell(cells: Vec<Cell>) -> Vec<Cell> {
     cells
 }
 
-fn patched_empty(alloc: Global, patches: &[Patch]) -> Result<Vec<Cell>, Fail> {
+pub fn patched_empty(alloc: Global, patches: &[Patch]) -> Result<Vec<Cell>, Fail> {
     patched(alloc, images::empty(alloc)?, patches)
 }
 
 // Cells with other bytes at these places.
-fn patched(alloc: Global, cells: Vec<Cell>, patches: &[Patch]) -> Result<Vec<Cell>, Fail> {
+pub fn patched(alloc: Global, cells: Vec<Cell>, patches: &[Patch]) -> Result<Vec<Cell>, Fail> {
     let mut cells = cells;
     for patch in patches {
         put_patch(alloc, &mut cells, *patch)?;
@@ -253,7 +253,7 @@ fn larger_images_are_counted(rt: HostRuntime) -> Result<(), Fail> {
 }
 
 // A field of the superblock that is not as it should be, and the line of the fault.
-const FAULTS: [(Image, Patch, &str); 11] = [
+pub const FAULTS: [(Image, Patch, &str); 11] = [
     (
         Image::Zeros,
         (0, 0, "4e6f4653"),

@@ -40,7 +40,7 @@ fn a_text_that_is_no_session_is_told_by_its_line(rt: HostRuntime) -> Result<(), 
 }
 
 // So many times the same line.
-fn many(alloc: Global, count: usize, line: &str) -> Result<Vec<u8>, AllocError> {
+pub fn many(alloc: Global, count: usize, line: &str) -> Result<Vec<u8>, AllocError> {
     let mut text = Vec::new(alloc);
     for _ in 0..count {
         text.extend_from_slice(line.as_bytes())?;
@@ -193,7 +193,7 @@ fn a_sink_that_fails_has_a_prefix_of_the_lines(rt: HostRuntime) -> Result<(), Fa
 // Whether a run may end with this status on a device that finds memory so often.
 fn may_end(rooms: u64, status: u8) -> bool {
     match status {
-        7 => rooms < 60,
+        7 => rooms < 125,
         0 => rooms > 2,
         _ => false,
     }
@@ -203,7 +203,7 @@ fn may_end(rooms: u64, status: u8) -> bool {
 fn where_memory_is_wanting_no_line_is_written(rt: HostRuntime) -> Result<(), Fail> {
     let alloc = rt.alloc();
     let session = b"make /a\nput /a 0 6162\nfsync /a".as_slice();
-    for rooms in 0..64 {
+    for rooms in 0..132 {
         let disk = Unready::over(MemDisk::new(alloc, 64)?, rooms);
         let (status, sink, _) = run_on(&rt, alloc, "new 64 16", session, disk)?;
         let want = if status == 7 {

@@ -87,6 +87,48 @@ fn a_call_that_fails_below_is_reported_by_the_flush_and_made_again(
 }
 
 #[test]
+fn a_flush_writes_the_dirty_blocks_in_rising_order(rt: HostRuntime) -> Result<(), Fail> {
+    for number in [1, 2, 3, 4] {
+        let mut disk = cached(
+            rt.alloc(),
+            failing(rt.alloc(), CallKind::Write, number, false)?,
+        )?;
+        for (block, byte) in [(2, 12), (0, 10), (3, 9), (1, 11), (3, 13)] {
+            assert!(rt; wrote(&mut disk, block, byte)?, "block {block}");
+        }
+        assert!(rt; !flushed(&mut disk)?, "write {number}");
+        let mut below = disk.below();
+        for (place, block, byte) in [(1, 0, 10), (2, 1, 11), (3, 2, 12), (4, 3, 13)] {
+            let left = if place < number { byte } else { 0 };
+            assert_eq!(rt;
+                byte_of(&mut below, block),
+                Some(left),
+                "write {number}, block {block}"
+            );
+        }
+    }
+    Ok(())
+}
+
+#[test]
+fn a_flush_that_failed_is_made_again_with_the_blocks_that_are_left(
+    rt: HostRuntime,
+) -> Result<(), Fail> {
+    let below = failing(rt.alloc(), CallKind::Write, 2, false)?;
+    let mut disk = cached(rt.alloc(), below)?;
+    assert!(rt; wrote(&mut disk, 3, 7)? && wrote(&mut disk, 0, 5)? && wrote(&mut disk, 2, 6)?);
+    assert!(rt; !flushed(&mut disk)?);
+    assert!(rt; wrote(&mut disk, 3, 9)? && wrote(&mut disk, 0, 4)? && wrote(&mut disk, 1, 8)?);
+    assert_eq!(rt; written_out(&mut disk)?, Ok(Some(1)));
+    assert!(rt; flushed(&mut disk)?);
+    let mut below = disk.below();
+    for (block, byte) in [(0, 4), (1, 8), (2, 6), (3, 9)] {
+        assert_eq!(rt; byte_of(&mut below, block), Some(byte), "block {block}");
+    }
+    Ok(())
+}
+
+#[test]
 fn a_write_out_that_fails_keeps_its_block_dirty(rt: HostRuntime) -> Result<(), Fail> {
     let below = failing(rt.alloc(), CallKind::Write, 1, false)?;
     let mut disk = cached(rt.alloc(), below)?;

@@ -1,5 +1,3 @@
-use Rattle.std.proofs.Common.{map}
-use Rattle.nofs_gen.specs.Script.{script_of}
 use Rattle.nofs.specs.Drill.{drill_session}
 use Rattle.nofs.proofs.Sessions.{plans-formed}
 use Rattle.nofs.proofs.DrillEnds.{drill-session, plans-whole}

@@ -1,6 +1,11 @@
 use Rattle.std.proofs.Common.{sym, ◌∙◌}
-use Rattle.nofs.proofs.Drills.{adds-own}
+use Rattle.nofs.proofs.Drills.{none-asked, one-asked}
 use Rattle.nofs.proofs.reads.ask.Goals as goal
 
-pub returns-clause-adds : goal.returns-clause-adds
-returns-clause-adds g c = adds-own c.args.asked c.step-reply.result _ _ c.step-reply.ensures.adds (sym c.is_memory_wanting.ensures ∙ c.if-is_memory_wanting.false)
+pub returns-then-is_memory_wanting-clause-reads : goal.returns-then-is_memory_wanting-clause-reads
+returns-then-is_memory_wanting-clause-reads g c = none-asked c.args.asked c.step-reply.result _ _ _ c.step-reply.ensures.adds
+    (sym c.is_memory_wanting.ensures ∙ c.if-is_memory_wanting.true)
+
+pub returns-clause-reads : goal.returns-clause-reads
+returns-clause-reads g c = one-asked c.args.asked c.step-reply.result _ _ c.requires c.step-reply.ensures.adds
+    (sym c.is_memory_wanting.ensures ∙ c.if-is_memory_wanting.false)

@@ -1,4 +1,4 @@
-use Rattle.std.proofs.Common.{ℕ, sym, subst₂}
+use Rattle.std.proofs.Common.{sym, subst₂}
 use Rattle.std.proofs.Math.Logic.{∥∥₁_elim, ∥∥₁_prop}
 use Rattle.nofs_machine.specs.HistoryState.{HistoryState}
 use Rattle.nofs.specs.Whole.{Finished}

@@ -20,7 +20,7 @@ returns-in-Ok-clause-ends g c =
     (subst (λ d. MountEnds old (disk d) (sink c.args.sink.now) (sink w.new.sink) w.result.status w.result.history) (sym e.disk.0)
     (subst (λ d. MountEnds (disk d) (disk ran.disk) (sink c.args.sink.now) (sink w.new.sink) w.result.status w.result.history) c.in-Ok.ensures.mount.0
     (written-ends (disk mount.found.value) (disk ran.disk) _ _ mount.first w.result.status ran.history _ e.disk.1
-    c.run_scan.ensures.ends e.named e.device e.sink)))
+    c.run_scan.ensures.ends e.named e.device e.faulty e.sink)))
 
 pub returns-in-Ok-clause-headline : goal.returns-in-Ok-clause-headline
 returns-in-Ok-clause-headline g c =
@@ -33,7 +33,7 @@ returns-in-Ok-clause-headline g c =
     old-headline S [] c.args.disk m.found.value (S w.result.disk) w.result.status w.result.history c.in-Ok.ensures.mount.0
     (subst (λ (d : g.row.D.Denot). IfSome w.result.history (λ h. ∥ IsHeadline [] found (S d) w.result.status h ∥₁)) (sym e.disk.0)
     (headline-of [] found (S m.core.disk) (S ran.disk) m.first w.result.status m.core.books ran.text ran.history w.result.history c.in-Ok.ensures.mount.1
-    e.disk.1 m.stands c.run_scan.ensures.ends c.run_scan.ensures.follows e.unsaid (λ d. (e.done d).0)))
+    e.disk.1 m.stands c.run_scan.ensures.ends c.run_scan.ensures.follows c.run_scan.ensures.closed e.unsaid (λ d. (e.done d).0)))
 
 pub returns-in-Ok-clause-done : goal.returns-in-Ok-clause-done
 returns-in-Ok-clause-done g c = λ done.

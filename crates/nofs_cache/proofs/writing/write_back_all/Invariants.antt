@@ -1,4 +1,4 @@
-use Rattle.std.proofs.Common.{◌≡◌, ◌+◌, ◌-◌, ◌≤◌, length}
+use Rattle.std.proofs.Common.{◌≡◌, ◌+◌, ◌-◌, ◌≤◌, length, take}
 use Rattle.nofs_cache.specs.DirtyBlocks.{block_count, entries_of, room_of}
 use Rattle.nofs_cache.specs.Cache.{WrittenBack}
 use Rattle.nofs_cache.proofs.writing.write_back_all.Given as goal
@@ -11,3 +11,4 @@ invariant-loop g l =
     × (block_count l.dirty ≡ block_count l.initial.dirty)
     × (room_of l.initial.dirty ≤ room_of l.dirty)
     × ((g.D.Disk.state l.under).faults ≡ (g.D.Disk.state l.initial.under).faults)
+    × (entries_of l.dirty ≡ take (length (entries_of l.dirty)) (entries_of l.initial.dirty))

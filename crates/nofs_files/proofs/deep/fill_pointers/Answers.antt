@@ -1,5 +1,5 @@
-use Rattle.std.proofs.Common.{◌≡◌, ℕ, List, sym, ap, ◌∙◌}
-use Rattle.nofs_model.specs.Cells.{Pointer, is_null, pointer_at}
+use Rattle.std.proofs.Common.{ℕ, List, ap, ◌∙◌}
+use Rattle.nofs_model.specs.Cells.{is_null, pointer_at}
 use Rattle.nofs_files.proofs.ZeroPointers.{zeros-null}
 use Rattle.nofs_files.proofs.deep.fill_pointers.Goals as goal
 

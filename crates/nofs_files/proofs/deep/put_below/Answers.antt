@@ -1,7 +1,7 @@
 use Rattle.std.proofs.Common.{◌≡◌, ℕ, ◌+◌, ◌-◌, ◌*◌, ◌/◌, max, length, refl, sym, ap, ◌∙◌, subst, subst₂, Some, [], ◌∷◌, le_refl}
 use Rattle.nofs_disk.specs.Chains.{StaysButFaults-trans, Rose-within}
 use Rattle.nofs_disk.specs.Disk.{cell_at}
-use Rattle.nofs_model.specs.Cells.{Cell, Content, Pointer, Record, null}
+use Rattle.nofs_model.specs.Cells.{Content, Pointer, Record, null}
 use Rattle.nofs_model.specs.Places.{place_path}
 use Rattle.nofs_machine.specs.declared.steps.Step.TheVariants as step
 use Rattle.nofs_state.specs.Writing.{Stores}

@@ -1,6 +1,6 @@
-use Rattle.std.proofs.Common.{◌≡◌, ℕ, ◌+◌, ◌-◌, ◌*◌, ◌/◌, max, length, refl, sym, ap, ◌∙◌, subst, subst₂, Some, [], ◌∷◌}
+use Rattle.std.proofs.Common.{◌≡◌, ℕ, ◌+◌, ◌*◌, max, length, refl, sym, ap, ◌∙◌, subst, subst₂, Some, [], ◌∷◌}
 use Rattle.nofs_disk.specs.Disk.{cell_at}
-use Rattle.nofs_model.specs.Cells.{Cell, Content, Leaf, Pointer, Record, null}
+use Rattle.nofs_model.specs.Cells.{Content, Leaf, Pointer, Record, null}
 use Rattle.nofs_machine.specs.declared.steps.Step.TheVariants as step
 use Rattle.nofs_state.specs.Writing.{Stores}
 use Rattle.nofs_state.specs.Books.{claimed_books, claimed_pointer}

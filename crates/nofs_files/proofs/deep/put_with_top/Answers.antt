@@ -1,18 +1,17 @@
-use Rattle.std.proofs.Common.{◌≡◌, ℕ, ◌+◌, ◌-◌, ◌*◌, ◌/◌, max, length, refl, sym, ap, ◌∙◌, subst, subst₂, Some, [], ◌∷◌, le_refl}
-use Rattle.nofs_disk.specs.Chains.{StaysButFaults-trans, Rose-within}
+use Rattle.std.proofs.Common.{◌≡◌, ℕ, ◌+◌, ◌*◌, max, length, refl, sym, ap, ◌∙◌, subst, subst₂, Some, [], ◌∷◌}
 use Rattle.nofs_disk.specs.Disk.{cell_at}
-use Rattle.nofs_model.specs.Cells.{Cell, Content, Leaf, Pointer, Record, null}
+use Rattle.nofs_model.specs.Cells.{Content, Leaf, Pointer, Record}
 use Rattle.nofs_model.specs.Image.{InRecord, Under, slot_of}
 use Rattle.nofs_machine.specs.declared.steps.Step.TheVariants as step
 use Rattle.nofs_state.specs.Writing.{Stores}
 use Rattle.nofs_state.specs.Books.{claimed_books, claimed_pointer}
 use Rattle.nofs_state.specs.Steps.{Goes}
 use Rattle.nofs_state.specs.declared.books.Books.{Books}
-use Rattle.nofs_files.specs.Putting.{put_answer, rooted, sized}
+use Rattle.nofs_files.specs.Putting.{put_answer, rooted}
 use Rattle.nofs_state.specs.Owing.{RecordIn}
 use Rattle.nofs_files.specs.declared.puts.Ended.{Ended}
-use Rattle.nofs_files.proofs.Below.{goes-unread-late, later-cell}
-use Rattle.nofs_files.proofs.Grown.{child-ends, top-ends}
+use Rattle.nofs_files.proofs.Below.{goes-unread-late}
+use Rattle.nofs_files.proofs.Grown.{top-ends}
 use Rattle.nofs_files.proofs.Needs.{claims_are}
 use Rattle.nofs_files.proofs.deep.put_with_top.Goals as goal
 

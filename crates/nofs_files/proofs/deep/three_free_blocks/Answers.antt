@@ -1,4 +1,4 @@
-use Rattle.std.proofs.Common.{◌≡◌, ℕ, ◌+◌, ◌<◌, refl, arith}
+use Rattle.std.proofs.Common.{refl, arith}
 use Rattle.nofs_files.proofs.Several.{just-two}
 use Rattle.nofs_files.proofs.deep.three_free_blocks.Goals as goal
 

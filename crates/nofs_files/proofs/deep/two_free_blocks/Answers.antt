@@ -1,4 +1,4 @@
-use Rattle.std.proofs.Common.{◌≡◌, ℕ, ◌+◌, ◌<◌, refl, sym, ap, ◌∙◌, subst, arith, Some}
+use Rattle.std.proofs.Common.{refl, arith}
 use Rattle.nofs_files.proofs.Several.{one-free}
 use Rattle.nofs_state.proofs.Counting.{none-free}
 use Rattle.nofs_files.proofs.deep.two_free_blocks.Goals as goal

@@ -1,4 +1,4 @@
-use Rattle.std.proofs.Common.{◌≡◌, ℕ, ◌+◌, refl, sym, ap, ◌∙◌, subst, Ok, Err}
+use Rattle.std.proofs.Common.{ℕ, ◌+◌, refl, ap, ◌∙◌, subst, Ok, Err}
 use Rattle.nofs_disk.specs.Disk.{cell_at}
 use Rattle.nofs_model.specs.Cells.{Record}
 use Rattle.nofs_machine.specs.declared.steps.Step.TheVariants as step

@@ -1,5 +1,4 @@
 use Rattle.std.proofs.Common.{[], ◌∷◌}
-use Rattle.nofs_files.specs.Resizing.{maybe}
 use Rattle.nofs_files.proofs.CutBlocks.{maybe-fails, maybe-then}
 use Rattle.nofs_files.proofs.resizes.write_above.Goals as goal
 

@@ -1,4 +1,4 @@
-use Rattle.nofs_files.proofs.CutBlocks.{one-write}
+use Rattle.nofs_state.proofs.TwoWrites.{one-write}
 use Rattle.nofs_files.proofs.resizes.write_table.Goals as goal
 
 pub returns : goal.returns

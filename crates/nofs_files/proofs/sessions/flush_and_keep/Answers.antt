@@ -1,4 +1,4 @@
-use Rattle.std.proofs.Common.{◌≡◌, ◌-◌, ◌∙◌, sym, ap, subst, subst₂}
+use Rattle.std.proofs.Common.{◌-◌, ◌∙◌, sym, ap, subst, subst₂}
 use Rattle.nofs_disk.specs.Disk.{DiskState}
 use Rattle.nofs_machine.specs.Claims.{no_claims}
 use Rattle.nofs_machine.specs.declared.steps.Step.TheVariants as step
@@ -15,7 +15,7 @@ returns-then-not-is_out_of_memory-clause-stands g c tells base first stands =
     (stands-kept (g.D.Disk.state c.args.core.now.disk) c.args.core.now.books (g.D.Disk.state c.flush-done.new.core.disk) c.flush-done.new.core.books
     (step.Flush c.args.inode c.args.generation) no_claims c.flush_reply-reply.result
     (subst (λ (r : Reply). Goes (g.D.Disk.state c.args.core.now.disk) c.args.core.now.books (g.D.Disk.state c.flush-done.new.core.disk)
-    c.flush-done.new.core.books (step.Flush c.args.inode c.args.generation) no_claims r) (sym c.flush_reply-reply.ensures) c.flush-done.ensures)
+    c.flush-done.new.core.books (step.Flush c.args.inode c.args.generation) no_claims r) (sym c.flush_reply-reply.ensures) c.flush-done.ensures.goes)
     tells base first c.args.caller c.moment-from.result (c.flush-done.new.core.books.history.spare - 1) c.moment-from.ensures
     (sym c.is_out_of_memory.ensures ∙ c.if-not-is_out_of_memory.true) stands)
 
@@ -24,5 +24,5 @@ returns-else-not-is_out_of_memory-clause-stands g c tells base first stands =
     stands-still (g.D.Disk.state c.args.core.now.disk) c.args.core.now.books (g.D.Disk.state c.flush-done.new.core.disk) c.flush-done.new.core.books
     (step.Flush c.args.inode c.args.generation) no_claims c.flush_reply-reply.result
     (subst (λ (r : Reply). Goes (g.D.Disk.state c.args.core.now.disk) c.args.core.now.books (g.D.Disk.state c.flush-done.new.core.disk)
-    c.flush-done.new.core.books (step.Flush c.args.inode c.args.generation) no_claims r) (sym c.flush_reply-reply.ensures) c.flush-done.ensures)
+    c.flush-done.new.core.books (step.Flush c.args.inode c.args.generation) no_claims r) (sym c.flush_reply-reply.ensures) c.flush-done.ensures.goes)
     tells base first (sym c.is_out_of_memory.ensures ∙ c.if-not-is_out_of_memory.false) stands

@@ -1,5 +1,3 @@
-use Rattle.std.proofs.Common.{◌≡◌, sym, ap}
-use Rattle.nofs_machine.specs.HistoryState.{HistoryState}
 use Rattle.nofs_state.proofs.Sessions.{stands-with}
 use Rattle.nofs_files.proofs.sessions.flush_step.Goals as goal
 

@@ -1,4 +1,3 @@
-use Rattle.std.proofs.Common.{refl}
 use Rattle.nofs_machine.specs.Claims.{no_claims}
 use Rattle.nofs_machine.specs.declared.steps.Step.TheVariants as step
 use Rattle.nofs_state.proofs.Keeping.{goes-after, goes-memory, ready-keeps}

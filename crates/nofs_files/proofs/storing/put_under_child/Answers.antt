@@ -1,9 +1,8 @@
-use Rattle.std.proofs.Common.{◌≡◌, ℕ, true, false, ◌-◌, ◌/◌, ◌%◌, ◌<◌, ◌≤◌, ◌∙◌, refl, sym, ap, arith}
-use Rattle.nofs_model.specs.Image.{Path, InRecord, Under, find, node_in}
+use Rattle.std.proofs.Common.{ℕ, ◌∙◌, ap}
+use Rattle.nofs_model.specs.Image.{InRecord, Under, find, node_in}
 use Rattle.nofs_model.specs.declared.path.PathAnswer.{PathAnswer}
-use Rattle.nofs_model.proofs.Paths.{path-leaf, path-far}
-use Rattle.nofs_files.proofs.Damage.{IsReached, after-reads, child-sound, ended, goes-lost-above, goes-unread-above, is_ruined, lead-above, reach-above}
-use Rattle.nofs_files.proofs.Damage.{ruin-is, top-ruins, top-spares}
+use Rattle.nofs_files.proofs.Damage.{IsReached, after-reads, child-sound, ended, goes-lost-above, goes-unread-above, is_ruined, lead-above}
+use Rattle.nofs_files.proofs.Damage.{ruin-is}
 use Rattle.nofs_files.proofs.storing.put_under_child.Goals as goal
 
 pub returns-in-Err : goal.returns-in-Err

@@ -1,4 +1,4 @@
-use Rattle.std.proofs.Common.{◌≡◌, ◌<◌, ◌≤◌, ◌∙◌, sym, inr, arith}
+use Rattle.std.proofs.Common.{◌∙◌, sym, inr, arith}
 use Rattle.nofs_disk.specs.Chains.{StaysButFaults-refl}
 use Rattle.nofs_machine.specs.declared.steps.Step.TheVariants as step
 use Rattle.nofs_state.proofs.Replies.{goes-stopped}

@@ -1,4 +1,4 @@
-use Rattle.std.proofs.Common.{inl, inr, refl}
+use Rattle.std.proofs.Common.{inl, refl}
 use Rattle.nofs_names.proofs.makes.free_inode.Goals as goal
 
 pub returns-in-None : goal.returns-in-None

@@ -1,4 +1,4 @@
-use Rattle.std.proofs.Common.{◌≡◌, ℕ, ◌+◌, ◌-◌, ◌*◌, ◌/◌, ◌^◌, ◌≤◌, ◌<◌, Bool, IsTrue, Result, refl, arith, ap, ◌∙◌, subst, subst₂, sym}
+use Rattle.std.proofs.Common.{◌≡◌, ◌+◌, ◌-◌, ◌/◌, ◌≤◌, Bool, IsTrue, Result, refl, arith, ap, ◌∙◌, subst, subst₂, sym}
 use Rattle.nofs_disk.specs.Disk.{cell_at}
 use Rattle.nofs_model.specs.Image.{Image}
 use Rattle.nofs_machine.specs.declared.history.Claims.{Claims}

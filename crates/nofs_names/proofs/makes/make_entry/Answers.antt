@@ -1,5 +1,4 @@
-use Rattle.std.proofs.Common.{◌≡◌, ◌+◌, ◌/◌, ◌^◌, ◌≤◌, ℕ, Bool, IsTrue, Result, Ok, Err, arith, subst, sym, ap}
-use Rattle.nofs_disk.specs.Chains.{StaysButFaults-refl}
+use Rattle.std.proofs.Common.{◌+◌, ◌/◌, ◌^◌, ◌≤◌, ℕ, Bool, IsTrue, Result, arith, subst, sym}
 use Rattle.nofs_model.specs.Image.{Image}
 use Rattle.nofs_machine.specs.Claims.{no_claims}
 use Rattle.nofs_machine.specs.declared.steps.Step.TheVariants as step

@@ -1,11 +1,8 @@
-use Rattle.std.proofs.Common.{◌-◌, ℕ, List, refl, sym, ap, ◌∙◌, subst, subst₂}
+use Rattle.std.proofs.Common.{◌-◌, sym, ap, ◌∙◌, subst, subst₂}
 use Rattle.nofs_disk.specs.Disk.{DiskState}
 use Rattle.nofs_state.specs.Books.{IsSafe}
 use Rattle.nofs_state.specs.declared.books.Books.{Books}
-use Rattle.nofs_machine.specs.Steps.{Fits}
-use Rattle.nofs_machine.specs.declared.steps.Step.{Step}
 use Rattle.nofs_scan.specs.Elements.{see_step, verdict_at}
-use Rattle.nofs_shared.specs.Added.{AddsStep}
 use Rattle.nofs_shared.specs.Mounts.{IsMount}
 use Rattle.nofs_shared.proofs.Mounting.{safe-history}
 use Rattle.nofs_machine.specs.declared.replies.Reply.TheVariants as reply

@@ -1,4 +1,4 @@
-use Rattle.std.proofs.Common.{◌≡◌, ◌≢◌, ◌∙◌, sym, ap, Err}
+use Rattle.std.proofs.Common.{◌≡◌, ◌∙◌, sym, ap, Err}
 use Rattle.nofs_super.specs.declared.superblock.MountFault.TheVariants as fault
 use Rattle.nofs_shared.proofs.Refusing.{read_no_write}
 use Rattle.nofs_shared.proofs.begin.prepare.Goals as goal

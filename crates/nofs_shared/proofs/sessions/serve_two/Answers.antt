@@ -1,6 +1,5 @@
-use Rattle.std.proofs.Common.{◌≡◌, ◌+◌, ◌<◌, Bool, sym, subst, arith, rules}
+use Rattle.std.proofs.Common.{Bool, sym, subst, arith}
 use Rattle.nofs_turn.specs.Turns.{view_of, IsFreshPass}
-use Rattle.nofs_turn.specs.Views.{fresh}
 use Rattle.nofs_shared.specs.Served.{AllServed, two_users}
 use Rattle.nofs_shared.proofs.Two.{last-two, two-stand, two-served}
 use Rattle.nofs_shared.proofs.sessions.serve_two.Goals as goal

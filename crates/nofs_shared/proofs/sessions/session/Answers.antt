@@ -1,12 +1,11 @@
-use Rattle.std.proofs.Common.{◌≡◌, ℕ, List, refl, sym, ap, ◌∙◌, subst, subst₂}
+use Rattle.std.proofs.Common.{◌≡◌, ℕ, sym, ap, ◌∙◌, subst, subst₂}
 use Rattle.std.proofs.Math.Logic.{∥∥₁_elim, ∥∥₁_prop}
-use Rattle.nofs_machine.specs.declared.history.Entry1.{Entry1}
-use Rattle.nofs_shared.specs.Ends.{AllFollow, Ends, Headline}
+use Rattle.nofs_shared.specs.Ends.{AllFollow, Ends}
 use Rattle.nofs_shared.specs.Served.{two_users}
 use denote.Param.{param}
 use denote.Exit.{no}
 use mir.Syntax.{of_param}
-use denote.Param.Send.{IsSend, Quiet-if}
+use denote.Param.Send.{Quiet-if}
 use Rattle.nofs_shared.proofs.Sends.{evidence-send, mount-send}
 use Rattle.nofs_shared.proofs.Two.{all-follow}
 use Rattle.nofs_shared.proofs.sessions.session.Goals as goal

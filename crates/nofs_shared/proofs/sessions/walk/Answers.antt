@@ -1,5 +1,4 @@
-use Rattle.std.proofs.Common.{◌≡◌, ◌∷◌, [], length, ◌∙◌, List, sym, rules, arith}
-use Rattle.nofs_machine.specs.declared.steps.Step.{Step}
+use Rattle.std.proofs.Common.{◌≡◌, ◌∷◌, [], length, ◌∙◌, sym, rules}
 use Rattle.nofs_shared.proofs.Walking.{nil-of, walks-more, walks-stop, walks-end}
 use Rattle.nofs_shared.proofs.sessions.walk.Goals as goal
 

@@ -1,4 +1,4 @@
-use Rattle.std.proofs.Common.{ℕ, refl, sym, ap, ◌∙◌, subst, rules}
+use Rattle.std.proofs.Common.{sym, ap, ◌∙◌, rules}
 use Rattle.nofs_state.specs.Steps.{goes-safely}
 use Rattle.nofs_shared.proofs.Claiming.{unowned-none, unowned-more}
 use Rattle.nofs_shared.proofs.Mounting.{mount-none, mount-goes}

@@ -1,4 +1,4 @@
-use Rattle.std.proofs.Common.{◌≡◌, ℕ, false, true, ◌+◌, arith, sym, subst, List, Bool, le_refl}
+use Rattle.std.proofs.Common.{◌+◌, arith, sym, subst, List, Bool, le_refl}
 use Rattle.nofs_state.specs.Books.{SetsFrom}
 use Rattle.nofs_state.proofs.Maps.{sets-begins, sets-goes, sets-ends}
 use Rattle.nofs_state.proofs.books.all_from.Goals as goal

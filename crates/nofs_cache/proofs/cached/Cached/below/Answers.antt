@@ -1,6 +1,3 @@
-use Rattle.std.proofs.Common.{List, [], ◌≡◌, map, length, ap, sym, arith, ◌∙◌}
-use Rattle.std.proofs.lemmas.List.{length-map}
-use Rattle.nofs_cache.specs.declared.dirty.DirtyEntry.{DirtyEntry}
 use Rattle.nofs_cache.specs.DirtyBlocks.{entries_of}
 use Rattle.nofs_cache.specs.Past.{past_calls}
 use Rattle.nofs_cache.proofs.CacheCalls.{agrees_of, not_dirty_clean}

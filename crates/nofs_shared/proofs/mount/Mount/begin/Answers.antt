@@ -1,4 +1,4 @@
-use Rattle.std.proofs.Common.{ℕ, Bool, IsTrue, ◌≡◌, ◌≢◌, refl, sym, ap, ◌∙◌, subst, arith, length}
+use Rattle.std.proofs.Common.{ℕ, sym, ap, subst, arith, length}
 use Rattle.nofs_disk.specs.Chains.{IsSameDisk-trans, KeepsPast-trans}
 use Rattle.nofs_agree.specs.Reading.{IsAt}
 use Rattle.nofs_model.specs.Cells.{SuperBlock}

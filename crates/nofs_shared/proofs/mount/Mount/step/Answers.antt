@@ -1,11 +1,10 @@
-use Rattle.std.proofs.Common.{◌≡◌, ◌-◌, ℕ, ◌+◌, ◌^◌, ◌<◌, ◌≤◌, List, Option, Some, length, refl, sym, ap, ◌∙◌, subst, arith}
+use Rattle.std.proofs.Common.{◌+◌, ◌^◌, ◌≤◌, List, length, sym, ◌∙◌, subst, arith}
 use Rattle.std.proofs.Math.Logic.{∥∥₁_elim, ∥∥₁_prop}
 use Rattle.nofs_machine.specs.declared.history.Entry1.{Entry1}
-use Rattle.nofs_shared.specs.Sees.{is_of_sweep}
 use Rattle.nofs_shared.specs.Added.{AddsStep, Unowned}
 use Rattle.nofs_shared.proofs.Claiming.{unowned-none}
 use Rattle.nofs_shared.proofs.Mounting.{mount-history, safe-history}
-use Rattle.nofs_shared.proofs.Rooming.{adds-none, few-left, sweep-served}
+use Rattle.nofs_shared.proofs.Rooming.{adds-none, few-left, settles-memory, sweep-served}
 use Rattle.nofs_shared.proofs.mount.Mount.step.Goals as goal
 
 pub invariant_of-self : goal.invariant_of-self
@@ -50,3 +49,6 @@ returns-in-None-clause-sweeps g c = λ e some. absurd (let t = c.take_room.ensur
 
 pub returns-in-Some-clause-others : goal.returns-in-Some-clause-others
 returns-in-Some-clause-others g c = λ e. c.in-Some.ensures.others e
+
+pub returns-in-None-clause-settled : goal.returns-in-None-clause-settled
+returns-in-None-clause-settled g c = settles-memory c.args.step (g.D.Disk.state c.args.self.now.core.disk)

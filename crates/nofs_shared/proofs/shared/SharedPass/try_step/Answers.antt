@@ -1,4 +1,3 @@
-use Rattle.std.proofs.Common.{rules, ◌≡◌, ◌%◌}
 use Rattle.nofs_shared.proofs.Owning.{tried_owns, ran_made}
 use Rattle.nofs_shared.proofs.shared.SharedPass.try_step.Goals as goal
 

@@ -1,4 +1,4 @@
-use Rattle.std.proofs.Common.{◌≡◌, ◌-◌, min, sym, ◌∙◌}
+use Rattle.std.proofs.Common.{◌-◌, min, ◌∙◌}
 use Rattle.nofs_machine.specs.World.{free_blocks, free_inodes, unverified_blocks, unverified_inodes}
 use Rattle.nofs_state.specs.Counted.{used_blocks, used_inodes}
 use Rattle.nofs_state.proofs.Tallying.{all-blocks, all-inodes, free-blocks-count, free-inodes-count, split-is, unknown-blocks-count, unknown-inodes-count}

@@ -1,0 +1,500 @@
+//! Runs over a cache that keeps writes back, and over the images that a crash in an ordinary day may leave.
+
+use crate::tests::disks::{cached, left};
+use crate::tests::{run_on, run_with};
+use nofs_disk::Disk;
+use nofs_io::{MemSink, MemSource};
+use nofs_memdisk::{CallKind, FaultAt, MemDisk, Pick};
+use std::alloc::{AllocError, Global};
+use std::sync::Wait;
+use std::test::Fail;
+use std::thread::Threads;
+
+const SESSION: &str = "put @ 0 616263\nget @ 0 3\nfsync @";
+
+const LINES: &str = "put 3\ngot bytes:616263\nsynced\n";
+
+#[test]
+fn what_was_synced_over_a_cache_stands_on_the_disk_below(rt: HostRuntime) -> Result<(), Fail> {
+    let alloc = rt.alloc();
+    let disk = cached(alloc, MemDisk::new(alloc, 64)?)?;
+    let (status, sink, disk) = run_on(&rt, alloc, "new 64 16", SESSION.as_bytes(), disk)?;
+    assert_eq!(rt; sink.bytes(), LINES.as_bytes());
+    assert_eq!(rt; status, 0);
+    let session = b"get @ 0 3".as_slice();
+    let (status, sink, _) = run_on(&rt, alloc, "run", session, disk.below())?;
+    assert_eq!(rt; sink.bytes(), b"got bytes:616263\n".as_slice());
+    assert_eq!(rt; status, 0);
+    Ok(())
+}
+
+// Whether these lines may stand at this status, where one write below has failed. A write-out that
+// fails is made again by the next flush, and then nothing is told. At status 3 with all lines it was
+// the flush at the end that failed.
+fn may_tell(status: u8, lines: &[u8]) -> bool {
+    match status {
+        0 => lines == LINES.as_bytes(),
+        3 => lines == LINES.as_bytes() || tells_a_fault(lines),
+        _ => false,
+    }
+}
+
+// Whether some line says that a write failed, or that the mount was stopped by one.
+fn tells_a_fault(lines: &[u8]) -> bool {
+    lines.split(|byte| *byte == b'\n').any(|line| {
+        line.starts_with(b"refused 19 write fault".as_slice())
+            || line.starts_with(b"refused 20 stopped".as_slice())
+    })
+}
+
+// A format makes 64 writes and a mount one.
+#[test]
+fn a_write_below_that_fails_is_made_again_or_told(rt: HostRuntime) -> Result<(), Fail> {
+    let alloc = rt.alloc();
+    for _ in 0..20 {
+        let mut below = MemDisk::new(alloc, 64)?;
+        below.fail_at(&[FaultAt {
+            call: CallKind::Write,
+            number: 66,
+            taken: false,
+        }])?;
+        let disk = cached(alloc, below)?;
+        let (status, sink, _) = run_on(&rt, alloc, "new 64 16", SESSION.as_bytes(), disk)?;
+        assert!(rt; may_tell(status, sink.bytes()), "{status}");
+    }
+    Ok(())
+}
+
+/// A line of a session: its words, and behind them so many times this byte in hexadecimal digits.
+type Line = (&'static str, u8, usize);
+
+const KEPT: usize = 3_072;
+
+/// Two sessions over an image of 16 inodes: one that ends well, and one that is stopped by a call that fails.
+#[derive(Clone, Copy)]
+struct Story {
+    blocks: u64,
+    is_upgraded: bool,
+    /// All of it is durable.
+    evening: &'static [Line],
+    /// Each file has bytes of its own, and a name is never given to a second file. The blocks of files
+    /// that were dropped are needed again.
+    day: &'static [Line],
+    /// Where the files are or were, and the byte of each.
+    files: &'static [(&'static str, u8)],
+    /// How often the day is stopped, and how many images are drawn of each.
+    draws: (u64, u64),
+}
+
+const SMALL: Story = Story {
+    blocks: 96,
+    is_upgraded: false,
+    evening: &EVENING,
+    day: &DAY,
+    files: &FILES,
+    draws: (10, 25),
+};
+
+const LARGE: Story = Story {
+    blocks: 320,
+    is_upgraded: true,
+    evening: &LARGE_EVENING,
+    day: &LARGE_DAY,
+    files: &LARGE_FILES,
+    draws: (8, 20),
+};
+
+const EVENING: [Line; 10] = [
+    ("make /kept", 0, 0),
+    ("put /kept 0 ", 16, KEPT),
+    ("mkdir /d", 0, 0),
+    ("make /a", 0, 0),
+    ("put /a 0 ", 17, 9_000),
+    ("make /d/b", 0, 0),
+    ("put /d/b 0 ", 18, 12_000),
+    ("make /c", 0, 0),
+    ("put /c 0 ", 19, 5_000),
+    ("put @ 0 ", 26, 2_000),
+];
+
+const DAY: [Line; 24] = [
+    ("put /a 4096 ", 17, 7_000),
+    ("make /f", 0, 0),
+    ("put /f 0 ", 20, 14_000),
+    ("rename /c e", 0, 0),
+    ("link /a /d/l", 0, 0),
+    ("drop /d/b", 0, 0),
+    ("fsync /f", 0, 0),
+    ("make /d/g", 0, 0),
+    ("put /d/g 0 ", 21, 13_000),
+    ("size /a 2000", 0, 0),
+    ("drop /a", 0, 0),
+    ("put /e 5000 ", 19, 3_000),
+    ("size /f 20000", 0, 0),
+    ("put /f 19456 ", 20, 500),
+    ("fsync /f", 0, 0),
+    ("drop /d/l", 0, 0),
+    ("make /h", 0, 0),
+    ("put /h 0 ", 22, 16_000),
+    ("move /d/g /m", 0, 0),
+    ("put @ 1000 ", 26, 9_000),
+    ("drop /f", 0, 0),
+    ("make /d/i", 0, 0),
+    ("put /d/i 0 ", 23, 20_000),
+    ("put /e 0 ", 19, 8_000),
+];
+
+const FILES: [(&str, u8); 12] = [
+    ("/kept", 16),
+    ("/a", 17),
+    ("/d/b", 18),
+    ("/c", 19),
+    ("@", 26),
+    ("/f", 20),
+    ("/e", 19),
+    ("/d/l", 17),
+    ("/d/g", 21),
+    ("/m", 21),
+    ("/h", 22),
+    ("/d/i", 23),
+];
+
+// A file has 72 blocks before it needs a top, and 64 more below each child.
+const LARGE_EVENING: [Line; 4] = [
+    ("make /kept", 0, 0),
+    ("put /kept 0 ", 16, KEPT),
+    ("make /a", 0, 0),
+    ("put /a 70000 ", 17, 9_000),
+];
+
+const LARGE_DAY: [Line; 14] = [
+    ("put /a 0 ", 17, 60_000),
+    ("put /a 137000 ", 17, 9_000),
+    ("fsync /a", 0, 0),
+    ("size /a 73728", 0, 0),
+    ("make /b", 0, 0),
+    ("put /b 72000 ", 18, 20_000),
+    ("put /b 4260000 ", 18, 8_000),
+    ("drop /a", 0, 0),
+    ("fsync /b", 0, 0),
+    ("make /c", 0, 0),
+    ("put /c 73728 ", 19, 60_000),
+    ("size /b 139264", 0, 0),
+    ("size /b 4268032", 0, 0),
+    ("put /b 139264 ", 18, 5_000),
+];
+
+const LARGE_FILES: [(&str, u8); 4] = [("/kept", 16), ("/a", 17), ("/b", 18), ("/c", 19)];
+
+fn push_bytes(alloc: Global, text: &mut Vec<u8>, byte: u8, count: usize) -> Result<(), Fail> {
+    let bytes = vec![in alloc; byte; count]?;
+    let digits = hex::encode(alloc, bytes.as_slice())?;
+    text.extend_from_slice(digits.as_bytes())?;
+    Ok(())
+}
+
+fn session(alloc: Global, lines: &[Line]) -> Result<Vec<u8>, Fail> {
+    let mut text = Vec::new(alloc);
+    for line in lines {
+        let (words, byte, count) = *line;
+        text.extend_from_slice(words.as_bytes())?;
+        push_bytes(alloc, &mut text, byte, count)?;
+        text.push(b'\n')?;
+    }
+    Ok(text)
+}
+
+// Gets every file, in order, and lists the directories.
+fn reading(alloc: Global, story: Story) -> Result<Vec<u8>, AllocError> {
+    let mut text = Vec::new(alloc);
+    for file in story.files {
+        let line = format!(in alloc; "get {} 0 200000\n", file.0)?;
+        text.extend_from_slice(line.as_bytes())?;
+    }
+    text.extend_from_slice(b"list /\nlist /d\n".as_slice())?;
+    Ok(text)
+}
+
+// The line that gets the file of the evening that nobody changed.
+fn kept_line(alloc: Global) -> Result<Vec<u8>, Fail> {
+    let mut line = Vec::new(alloc);
+    line.extend_from_slice(b"got".as_slice())?;
+    for _ in 0..KEPT / 1_024 {
+        line.extend_from_slice(b" bytes:".as_slice())?;
+        push_bytes(alloc, &mut line, 16, 1_024)?;
+    }
+    line.push(b'\n')?;
+    Ok(line)
+}
+
+// A number below this one, or 0.
+fn draw(state: &mut u64, below: u64) -> u64 {
+    *state = state
+        .wrapping_mul(6_364_136_223_846_793_005)
+        .wrapping_add(1_442_695_040_888_963_407);
+    (*state >> 33).checked_rem(below).unwrap_or(0)
+}
+
+// A disk with the files of the evening.
+fn evening<R: Threads + Wait + Sync>(rt: &R, alloc: Global, story: Story) -> Result<MemDisk, Fail> {
+    let disk = MemDisk::new(alloc, story.blocks)?;
+    let new = format!(in alloc; "new {} 16", story.blocks)?;
+    let (_, _, mut disk) = run_on(rt, alloc, new.as_str(), b"".as_slice(), disk)?;
+    if story.is_upgraded {
+        (_, _, disk) = run_on(rt, alloc, "upgrade", b"".as_slice(), disk)?;
+    }
+    let text = session(alloc, story.evening)?;
+    let (_, _, disk) = run_on(rt, alloc, "run", &text, disk)?;
+    Ok(disk)
+}
+
+// How many writes and flushes were made on a disk.
+fn made(disk: &MemDisk) -> (u64, u64) {
+    let calls = disk.calls();
+    (calls.writes, calls.flushes)
+}
+
+// How many writes and flushes a whole day makes after its mount, which makes one of each.
+fn day_calls<R: Threads + Wait + Sync>(
+    rt: &R,
+    alloc: Global,
+    story: Story,
+) -> Result<(u64, u64), Fail> {
+    let disk = evening(rt, alloc, story)?;
+    let before = made(&disk);
+    let (_, _, disk) = run_on(rt, alloc, "run", &session(alloc, story.day)?, disk)?;
+    let after = made(&disk);
+    Ok((
+        after.0.saturating_sub(before.0).saturating_sub(1),
+        after.1.saturating_sub(before.1).saturating_sub(1),
+    ))
+}
+
+// One of the calls of a day, of which one in four is a flush.
+fn drawn_call(state: &mut u64, calls: (u64, u64)) -> (CallKind, u64) {
+    if draw(state, 4) == 0 {
+        (CallKind::Flush, draw(state, calls.1).saturating_add(2))
+    } else {
+        (CallKind::Write, draw(state, calls.0).saturating_add(2))
+    }
+}
+
+// The fault of a call that comes so many calls of its kind after those that were made.
+fn fault_after(disk: &MemDisk, call: (CallKind, u64), taken: bool) -> FaultAt {
+    let (writes, flushes) = made(disk);
+    let before = match call.0 {
+        CallKind::Flush => flushes,
+        _ => writes,
+    };
+    FaultAt {
+        call: call.0,
+        number: before.saturating_add(call.1),
+        taken,
+    }
+}
+
+// A disk on which a day was stopped by a call that failed, and the status.
+fn stopped<R: Threads + Wait + Sync>(
+    rt: &R,
+    alloc: Global,
+    story: Story,
+    state: &mut u64,
+    calls: (u64, u64),
+) -> Result<(u8, MemDisk), Fail> {
+    let mut disk = evening(rt, alloc, story)?;
+    let call = drawn_call(state, calls);
+    let fault = fault_after(&disk, call, draw(state, 2) == 0);
+    disk.fail_at(&[fault])?;
+    let (status, _, disk) = run_on(rt, alloc, "run", &session(alloc, story.day)?, disk)?;
+    Ok((status, disk))
+}
+
+fn choices_of(disk: &MemDisk, block: u64) -> u64 {
+    if block < disk.blocks() {
+        disk.choices(block)
+    } else {
+        0
+    }
+}
+
+// One of the cells of each block that may hold several.
+fn drawn_picks(alloc: Global, disk: &MemDisk, state: &mut u64) -> Result<Vec<Pick>, AllocError> {
+    let mut picks = Vec::new(alloc);
+    for block in 0..disk.blocks() {
+        let choices = choices_of(disk, block);
+        if choices > 1 {
+            let version = draw(state, choices);
+            picks.push(Pick { block, version })?;
+        }
+    }
+    Ok(picks)
+}
+
+/// What was read of the files in all images.
+#[derive(Clone, Copy, Debug, PartialEq, Eq)]
+struct Seen {
+    bytes: u64,
+    holes: u64,
+    lost: u64,
+    refused: u64,
+    /// How many parts had a byte that is neither zero nor the file's own.
+    foreign: u64,
+}
+
+impl Seen {
+    const NOTHING: Seen = Seen {
+        bytes: 0,
+        holes: 0,
+        lost: 0,
+        refused: 0,
+        foreign: 0,
+    };
+}
+
+fn count(number: &mut u64) {
+    *number = number.saturating_add(1);
+}
+
+// Whether these digits spell this byte and zeros alone.
+fn is_own(alloc: Global, digits: &[u8], own: u8) -> Result<bool, Fail> {
+    let bytes = hex::decode(alloc, digits)?;
+    Ok(bytes.iter().all(|byte| *byte == 0 || *byte == own))
+}
+
+fn see_part(alloc: Global, seen: &mut Seen, part: &[u8], own: u8) -> Result<(), Fail> {
+    if part.starts_with(b"hole:".as_slice()) {
+        count(&mut seen.holes);
+    } else if part.starts_with(b"lost:".as_slice()) {
+        count(&mut seen.lost);
+    } else if part.starts_with(b"refused".as_slice()) {
+        count(&mut seen.refused);
+    } else if let Some(digits) = part.strip_prefix(b"bytes:".as_slice()) {
+        count(&mut seen.bytes);
+        if !is_own(alloc, digits, own)? {
+            count(&mut seen.foreign);
+        }
+    }
+    Ok(())
+}
+
+fn see_line(alloc: Global, seen: &mut Seen, line: &[u8], own: u8) -> Result<(), Fail> {
+    for part in line.split(|byte| *byte == b' ') {
+        see_part(alloc, seen, part, own)?;
+    }
+    Ok(())
+}
+
+// The lines of a reading, one a file.
+fn see(alloc: Global, story: Story, seen: &mut Seen, lines: &[u8]) -> Result<(), Fail> {
+    for (at, line) in lines.split(|byte| *byte == b'\n').enumerate() {
+        if let Some(file) = story.files.get(at) {
+            see_line(alloc, seen, line, file.1)?;
+        }
+    }
+    Ok(())
+}
+
+// Whether an image can be scanned and read, and has the file that was durable.
+fn is_served<R: Threads + Wait + Sync>(
+    rt: &R,
+    alloc: Global,
+    story: Story,
+    seen: &mut Seen,
+    image: MemDisk,
+) -> Result<bool, Fail> {
+    let (scanned, _, image) = run_on(rt, alloc, "scan", b"".as_slice(), image)?;
+    let mut source = MemSource::new(alloc, &reading(alloc, story)?, 65_536, &[])?;
+    let mut sink = MemSink::new(alloc, 2_000_000, &[])?;
+    let (read, _) = run_with(rt, alloc, "run", &mut source, &mut sink, image)?;
+    see(alloc, story, seen, sink.bytes())?;
+    Ok(scanned == 0 && read == 0 && sink.bytes().starts_with(&kept_line(alloc)?))
+}
+
+// Whether each image that is drawn of days that were stopped is served, and what was read of them.
+fn served_images<R: Threads + Wait + Sync>(
+    rt: &R,
+    alloc: Global,
+    story: Story,
+    start: u64,
+) -> Result<(bool, Seen), Fail> {
+    let calls = day_calls(rt, alloc, story)?;
+    let (mut state, mut seen, mut served) = (start, Seen::NOTHING, true);
+    for _ in 0..story.draws.0 {
+        let (status, disk) = stopped(rt, alloc, story, &mut state, calls)?;
+        served = served && status == 3;
+        for _ in 0..story.draws.1 {
+            let picks = drawn_picks(alloc, &disk, &mut state)?;
+            match left(alloc, &disk, &picks)? {
+                Some(image) => served = is_served(rt, alloc, story, &mut seen, image)? && served,
+                None => served = false,
+            }
+        }
+    }
+    Ok((served, seen))
+}
+
+// Whether all images are served, and every part that was read is of its file.
+fn survives<R: Threads + Wait + Sync>(
+    rt: &R,
+    alloc: Global,
+    story: Story,
+    start: u64,
+) -> Result<bool, Fail> {
+    let (served, seen) = served_images(rt, alloc, story, start)?;
+    Ok(served && seen.foreign == 0 && seen.bytes > 0 && seen.lost > 0)
+}
+
+// Two thousand images of one day, in eight tests.
+#[test]
+fn a_day_survives_its_first_crashes(rt: HostRuntime) -> Result<(), Fail> {
+    assert!(rt; survives(&rt, rt.alloc(), SMALL, 1)?);
+    Ok(())
+}
+
+#[test]
+fn a_day_survives_its_second_crashes(rt: HostRuntime) -> Result<(), Fail> {
+    assert!(rt; survives(&rt, rt.alloc(), SMALL, 2)?);
+    Ok(())
+}
+
+#[test]
+fn a_day_survives_its_third_crashes(rt: HostRuntime) -> Result<(), Fail> {
+    assert!(rt; survives(&rt, rt.alloc(), SMALL, 3)?);
+    Ok(())
+}
+
+#[test]
+fn a_day_survives_its_fourth_crashes(rt: HostRuntime) -> Result<(), Fail> {
+    assert!(rt; survives(&rt, rt.alloc(), SMALL, 4)?);
+    Ok(())
+}
+
+#[test]
+fn a_day_survives_its_fifth_crashes(rt: HostRuntime) -> Result<(), Fail> {
+    assert!(rt; survives(&rt, rt.alloc(), SMALL, 5)?);
+    Ok(())
+}
+
+#[test]
+fn a_day_survives_its_sixth_crashes(rt: HostRuntime) -> Result<(), Fail> {
+    assert!(rt; survives(&rt, rt.alloc(), SMALL, 6)?);
+    Ok(())
+}
+
+#[test]
+fn a_day_survives_its_seventh_crashes(rt: HostRuntime) -> Result<(), Fail> {
+    assert!(rt; survives(&rt, rt.alloc(), SMALL, 7)?);
+    Ok(())
+}
+
+#[test]
+fn a_day_survives_its_eighth_crashes(rt: HostRuntime) -> Result<(), Fail> {
+    assert!(rt; survives(&rt, rt.alloc(), SMALL, 8)?);
+    Ok(())
+}
+
+#[test]
+fn a_day_of_large_files_survives_its_crashes(rt: HostRuntime) -> Result<(), Fail> {
+    assert!(rt; survives(&rt, rt.alloc(), LARGE, 9)?);
+    Ok(())
+}

@@ -1,0 +1,199 @@
+//! Moves over a stand-in for a mount, with the steps and the line of each.
+
+mod told;
+
+use crate::move_file;
+use crate::tests::told::{Past, Told};
+use nofs_client::{Client, Line, Path, PathNames};
+use nofs_lists::Name;
+use nofs_machine::{FileKind, Found, Refusal, Reply};
+use std::alloc::{AllocError, Global};
+use std::test::Fail;
+
+/// A reply of a table.
+#[derive(Clone, Copy)]
+enum Answer {
+    /// Inode 3 of generation 7, a file.
+    File,
+    /// Inode 4 of generation 9, a directory.
+    Folder,
+    Flushed,
+    Linked,
+    Dropped,
+    Seen,
+    /// So many blocks are unverified, 24 the least.
+    Full(u64),
+    No(Refusal),
+}
+
+fn found(inode: u32, generation: u64, kind: FileKind) -> Reply {
+    Reply::Found(Found {
+        inode,
+        generation,
+        kind,
+    })
+}
+
+fn reply(answer: Answer) -> Reply {
+    match answer {
+        Answer::File => found(3, 7, FileKind::File),
+        Answer::Folder => found(4, 9, FileKind::Directory),
+        Answer::Flushed => Reply::Flushed,
+        Answer::Linked => Reply::Linked,
+        Answer::Dropped => Reply::Dropped { removed: false },
+        Answer::Seen => Reply::Seen { used: false },
+        Answer::Full(unverified) => Reply::Refused(Refusal::Full {
+            needed: 1,
+            free: 0,
+            unverified,
+            next: 24,
+        }),
+        Answer::No(refusal) => Reply::Refused(refusal),
+    }
+}
+
+fn stand_in(alloc: Global, answers: &[Answer]) -> Result<Told, AllocError> {
+    let mut replies = Vec::new(alloc);
+    for answer in answers.iter().rev() {
+        replies.push(reply(*answer))?;
+    }
+    Ok(Told {
+        alloc,
+        replies,
+        asked: String::new(alloc),
+        past: Past::Start,
+    })
+}
+
+fn path(alloc: Global, text: &str) -> Result<Path, AllocError> {
+    let mut names = PathNames::new(alloc);
+    for name in text.as_bytes().split(|byte| *byte == b'/') {
+        if !name.is_empty() {
+            names.push(Name::from_slice(alloc, name)?)?;
+        }
+    }
+    Ok(Path::Names(names))
+}
+
+fn line_text(line: &Line) -> &'static str {
+    match line {
+        Line::Moved => "moved",
+        Line::Refused(Refusal::Missing) => "missing",
+        Line::Refused(Refusal::IsDirectory) => "is directory",
+        Line::Refused(Refusal::Exists) => "exists",
+        Line::Refused(Refusal::WriteFault) => "write fault",
+        _ => "another line",
+    }
+}
+
+/// The steps and the line of a move to which these replies come.
+fn run(alloc: Global, from: &str, to: &str, answers: &[Answer]) -> Result<String, AllocError> {
+    let (from, to) = (path(alloc, from)?, path(alloc, to)?);
+    if !from.has_name() || !to.has_name() {
+        return String::from_str(alloc, "no name");
+    }
+    let mut client = Client::new(stand_in(alloc, answers)?);
+    let ended = move_file(alloc, &mut client, &from, &to);
+    let mut text = client.into_inner().asked;
+    text.push_str(match &ended {
+        Ok(line) => line_text(line),
+        Err(_) => "no memory",
+    })?;
+    Ok(text)
+}
+
+type Row<'a> = (&'a str, &'a str, &'a [Answer], &'a str);
+
+#[test]
+fn a_move_makes_its_steps_and_says_moved(rt: HostRuntime) -> Result<(), Fail> {
+    let table: [Row<'_>; 3] = [
+        (
+            "/a",
+            "/d/b",
+            &[
+                Answer::File,
+                Answer::Folder,
+                Answer::Flushed,
+                Answer::Linked,
+                Answer::Flushed,
+                Answer::Dropped,
+            ],
+            "look 1 1 a; look 1 1 d; flush 3 7; link 4 9 b; flush 3 7; drop 1 1 a; moved",
+        ),
+        (
+            "/d/a",
+            "/b",
+            &[
+                Answer::Folder,
+                Answer::File,
+                Answer::Flushed,
+                Answer::Full(2),
+                Answer::Seen,
+                Answer::Linked,
+                Answer::Flushed,
+                Answer::Dropped,
+            ],
+            "look 1 1 d; look 4 9 a; flush 3 7; link 1 1 b; block 0 24; link 1 1 b; flush 3 7; drop 4 9 a; moved",
+        ),
+        ("/", "/b", &[], "no name"),
+    ];
+    for (from, to, answers, want) in table {
+        assert_eq!(rt; run(rt.alloc(), from, to, answers)?.as_str(), want);
+    }
+    Ok(())
+}
+
+#[test]
+fn a_refused_step_ends_a_move_with_its_line(rt: HostRuntime) -> Result<(), Fail> {
+    let table: [Row<'_>; 5] = [
+        (
+            "/a",
+            "/b",
+            &[Answer::No(Refusal::Missing)],
+            "look 1 1 a; missing",
+        ),
+        (
+            "/d",
+            "/e",
+            &[
+                Answer::Folder,
+                Answer::Flushed,
+                Answer::No(Refusal::IsDirectory),
+            ],
+            "look 1 1 d; flush 4 9; link 1 1 e; is directory",
+        ),
+        (
+            "/a",
+            "/a",
+            &[Answer::File, Answer::Flushed, Answer::No(Refusal::Exists)],
+            "look 1 1 a; flush 3 7; link 1 1 a; exists",
+        ),
+        (
+            "/a",
+            "/b",
+            &[
+                Answer::File,
+                Answer::Flushed,
+                Answer::Linked,
+                Answer::No(Refusal::WriteFault),
+            ],
+            "look 1 1 a; flush 3 7; link 1 1 b; flush 3 7; write fault",
+        ),
+        (
+            "/a",
+            "/b",
+            &[
+                Answer::File,
+                Answer::Flushed,
+                Answer::Linked,
+                Answer::No(Refusal::OutOfMemory),
+                Answer::Dropped,
+            ],
+            "look 1 1 a; flush 3 7; link 1 1 b; flush 3 7; no memory",
+        ),
+    ];
+    for (from, to, answers, want) in table {
+        assert_eq!(rt; run(rt.alloc(), from, to, answers)?.as_str(), want);
+    }
+    Ok(())
+}

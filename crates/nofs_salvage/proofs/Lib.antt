@@ -1,0 +1,7 @@
+pub mod Adding
+pub mod Answers
+pub mod Growing
+pub mod LostSlots
+pub mod Names
+pub mod Reading
+pub mod Walking

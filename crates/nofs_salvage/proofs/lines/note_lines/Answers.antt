@@ -1,0 +1,38 @@
+use Rattle.std.proofs.Common.{◌≡◌, ◌<◌, ◌+◌, ◌++◌, [], ◌∷◌, length, get_or, take, sym, ap, ◌∙◌, rules}
+use Rattle.std.proofs.lemmas.List.{take_more}
+use Rattle.nofs_salvage.specs.Reads.{Reads, refusal_by}
+use Rattle.nofs_salvage.proofs.Reading.{reads-none, reads-on, answered-both}
+use Rattle.nofs_salvage.proofs.Adding.{lines-none, lines-on, seen-none, seen-on}
+use Rattle.nofs_salvage.proofs.lines.note_lines.Goals as goal
+
+pub loop-line-init : goal.loop-line-init
+loop-line-init g c = record {
+  reads = reads-none _;
+  goes = g.met.S.Steps.goes_none _;
+  names = λ earlier h. seen-none c.args.seen.now earlier h;
+  noted = λ W earlier h a. lines-none W (g.R.NameRule.picks c.args.filter.now.rule) c.args.at.inode earlier c.args.findings.now;
+}
+
+pub returns-in_err-note_line-clause-reads : goal.returns-in_err-note_line-clause-reads
+returns-in_err-note_line-clause-reads g c =
+    let last : Reads (g.S.Steps.made c.loop-line.steps) (g.S.Steps.made c.note_line.new.steps) (refusal_by c.from_residual.result) = search rules in
+    reads-on _ _ _ _ c.loop-line.invariant.reads last
+
+pub loop-line-preserved : goal.loop-line-preserved
+loop-line-preserved g c =
+    let lines = c.args.lines.now in
+    let i = c.loop-line.line-index in
+    let item = c.line-item.result in
+    let inv = c.loop-line.invariant in
+    let lt : i < length lines = rw c.as_slice-line-items.ensures at c.loop-line-test.true in
+    let is : item ≡ get_or lines i item = rw c.as_slice-line-items.ensures at c.line-item.is in
+    let front : take (i + 1) lines ≡ take i lines ++ item ∷ [] = take_more lines i item lt ∙ ap (λ d. take i lines ++ d ∷ []) (sym is) in record {
+      reads = reads-on _ _ _ _ inv.reads c.in_ok-note_line.ensures.reads;
+      goes = g.met.S.Steps.goes_on _ _ _ inv.goes c.note_line.ensures.goes;
+      names = λ earlier h. seen-on c.note_line.new.seen earlier (take i lines) (take (i + 1) lines) item front
+          (c.in_ok-note_line.ensures.names (earlier ++ take i lines) (inv.names earlier h));
+      noted = λ W earlier h a.
+          let both = answered-both W _ _ _ _ _ inv.reads c.in_ok-note_line.ensures.reads a in
+          lines-on W (g.R.NameRule.picks c.args.filter.now.rule) c.args.at.inode earlier (take i lines) (take (i + 1) lines) item _ _ _ front
+          (inv.noted W earlier h both.0) (c.in_ok-note_line.ensures.noted W (earlier ++ take i lines) (inv.names earlier h) both.1);
+    }

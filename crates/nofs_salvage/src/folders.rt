@@ -1,0 +1,93 @@
+//! The slots of a directory.
+//!
+//! Promise: each lost slot is noted, and each line of each slot that has lines, in order.
+ghost use Rattle.std.specs.Prelude.{◌≡◌, ◌+◌, ◌<◌, ◌≤◌, ℕ, Bool, List, IfOk, OnOk};
+ghost use Rattle.std.specs.Fn.{FnReturnsAt};
+ghost use Rattle.nofs_machine.specs.World.{World};
+ghost use Rattle.nofs_salvage.specs.declared.findings.Findings.{Findings as Found};
+ghost use Rattle.nofs_salvage.specs.Reads.{Reads, refusal_by};
+ghost use Rattle.nofs_salvage.specs.Report.{losses_below, folders_below};
+ghost use Rattle.nofs_salvage.specs.Answered.{AreAnswered};
+ghost use Rattle.nofs_salvage.specs.Trees.{Adds, IsWalked};
+
+use crate::fault::SalvageFault;
+use crate::filter::{NameFilter, NameRule};
+use crate::findings::Findings;
+use crate::lines::note_lines;
+use crate::report::Loss;
+use crate::seen::SeenNames;
+use crate::steps::{Handle, Listed, list};
+use nofs_machine::Steps;
+use std::alloc::Global;
+
+// How many slots a directory has.
+const SLOTS: u64 = 72;
+
+// The slot behind the one that was listed from a slot on.
+fn slot_behind(slot: u64, held: u64) -> u64
+    requires slot { slot < 72 }
+    requires held { held < 72 }
+    ensures later { (slot < result) × (result ≤ 72) }
+    ensures is { slot ≤ held → result ≡ held + 1 }
+{
+    held.max(slot) + 1
+}
+
+// Notes the first slot from a given one on that isn't a hole. The slot behind it.
+fn note_next<S: Steps, P: Fn(&[u8]) -> bool, R: NameRule>(
+    alloc: Global,
+    steps: &mut S,
+    filter: &NameFilter<P, R>,
+    at: Handle,
+    slot: u64,
+    seen: &mut SeenNames,
+    findings: &mut Findings,
+) -> Result<u64, SalvageFault>
+    requires may { P.IsAlwaysCallable filter.now.keep }
+    requires decides { (name : List ℕ) (yes : Bool) → FnReturnsAt P.Fn filter.now.keep name yes → yes ≡ R.picks filter.now.rule name }
+    requires slot { slot < 72 }
+    ensures reads { Reads (S.made steps.old) (S.made steps.new) (refusal_by result) }
+    ensures later { IfOk result (λ next. (slot < next) × (next ≤ 72)) }
+    ensures walked { IfOk result (λ next. (W : World) (start : Found) → IsWalked W (R.picks filter.now.rule) at.inode slot start findings.old seen.old
+        → AreAnswered W (S.made steps.old) (S.made steps.new) → IsWalked W (R.picks filter.now.rule) at.inode next start findings.new seen.new) }
+    ensures goes { S.goes steps.old steps.new }
+{
+    let listed = list(steps, at, slot)?;
+    match listed {
+        Listed::Names(held, lines) => {
+            note_lines(alloc, steps, filter, at, &lines, seen, findings)?;
+            Ok(slot_behind(slot, held))
+        }
+        Listed::LostNames(held) => {
+            findings.report.push(Loss::Slot {
+                inode: at.inode,
+                slot: held,
+            })?;
+            Ok(slot_behind(slot, held))
+        }
+        Listed::NoMore => Ok(SLOTS),
+    }
+}
+
+/// Notes the lost slots and the names of a directory.
+pub fn note_folder<S: Steps, P: Fn(&[u8]) -> bool, R: NameRule>(
+    alloc: Global,
+    steps: &mut S,
+    filter: &NameFilter<P, R>,
+    at: Handle,
+    findings: &mut Findings,
+) -> Result<(), SalvageFault>
+    requires may { P.IsAlwaysCallable filter.now.keep }
+    requires decides { (name : List ℕ) (yes : Bool) → FnReturnsAt P.Fn filter.now.keep name yes → yes ≡ R.picks filter.now.rule name }
+    ensures reads { Reads (S.made steps.old) (S.made steps.new) (refusal_by result) }
+    ensures noted { OnOk result ((W : World) → AreAnswered W (S.made steps.old) (S.made steps.new)
+        → Adds (losses_below W (R.picks filter.now.rule) at.inode 72) (folders_below W.files at.inode 72) findings.old findings.new) }
+    ensures goes { S.goes steps.old steps.new }
+{
+    let mut seen = SeenNames::new(alloc);
+    let mut slot = 0;
+    while slot < SLOTS {
+        slot = note_next(alloc, steps, filter, at, slot, &mut seen, findings)?;
+    }
+    Ok(())
+}

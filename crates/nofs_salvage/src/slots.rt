@@ -1,0 +1,81 @@
+//! The lost slots of a file.
+//!
+//! Promise: each lost slot below the size is noted, in order, and no other.
+ghost use Rattle.std.specs.Prelude.{◌≡◌, ◌++◌, min, IfOk, OnOk};
+ghost use Rattle.nofs_machine.specs.Machine.{slots_in as slots_of_size};
+ghost use Rattle.nofs_machine.specs.Refusals.{slots as slots_of};
+ghost use Rattle.nofs_machine.specs.World.{World};
+ghost use Rattle.nofs_salvage.specs.Reads.{Reads, refusal_by};
+ghost use Rattle.nofs_salvage.specs.Report.{lost_below, file_losses};
+ghost use Rattle.nofs_salvage.specs.Answered.{AreAnswered, IsNoted};
+
+use crate::fault::SalvageFault;
+use crate::report::{Loss, Report};
+use crate::steps::{Got, Handle, get, size_of};
+use nofs_machine::Steps;
+
+// How many slots a size reaches into.
+fn slots_in(size: u64) -> u64
+    ensures { result ≡ slots_of_size size }
+{
+    size / 1024 + u64::from(size % 1024 != 0)
+}
+
+// Notes a slot where it is lost. Whether files have such a slot.
+fn note_slot<S: Steps>(
+    steps: &mut S,
+    at: Handle,
+    slot: u64,
+    report: &mut Report,
+) -> Result<bool, SalvageFault>
+    ensures reads { Reads (S.made steps.old) (S.made steps.new) (refusal_by result) }
+    ensures noted { IfOk result (λ more. (W : World) → AreAnswered W (S.made steps.old) (S.made steps.new)
+        → IsNoted W at.inode slot more report.old report.new) }
+    ensures goes { S.goes steps.old steps.new }
+{
+    match get(steps, at, slot)? {
+        Got::Kept => Ok(true),
+        Got::Lost => {
+            report.push(Loss::Slot {
+                inode: at.inode,
+                slot,
+            })?;
+            Ok(true)
+        }
+        Got::NoSlot => Ok(false),
+    }
+}
+
+// Notes the lost slots below a size.
+fn note_slots<S: Steps>(
+    steps: &mut S,
+    at: Handle,
+    size: u64,
+    report: &mut Report,
+) -> Result<(), SalvageFault>
+    ensures reads { Reads (S.made steps.old) (S.made steps.new) (refusal_by result) }
+    ensures noted { OnOk result ((W : World) → AreAnswered W (S.made steps.old) (S.made steps.new)
+        → report.new ≡ report.old ++ lost_below W.files at.inode (min (slots_of_size size) (slots_of W))) }
+    ensures goes { S.goes steps.old steps.new }
+{
+    for slot in 0..slots_in(size) {
+        if !note_slot(steps, at, slot, report)? {
+            return Ok(());
+        }
+    }
+    Ok(())
+}
+
+/// Notes the lost slots of a file.
+pub fn note_file<S: Steps>(
+    steps: &mut S,
+    at: Handle,
+    report: &mut Report,
+) -> Result<(), SalvageFault>
+    ensures reads { Reads (S.made steps.old) (S.made steps.new) (refusal_by result) }
+    ensures noted { OnOk result ((W : World) → AreAnswered W (S.made steps.old) (S.made steps.new) → report.new ≡ report.old ++ file_losses W at.inode) }
+    ensures goes { S.goes steps.old steps.new }
+{
+    let size = size_of(steps, at)?;
+    note_slots(steps, at, size, report)
+}

@@ -1,0 +1,174 @@
+//! The steps of a walk, one by one.
+//!
+//! Promise: each only reads. A refusal is the fault that it ends with, but for a slot beyond what a file can have. Where the
+//! machine answers, what is told holds in its files.
+ghost use Rattle.std.specs.Prelude.{◌≡◌, IfOk, None, false};
+ghost use Rattle.nofs_machine.specs.Machine.{size_of as size_of_file};
+ghost use Rattle.nofs_machine.specs.World.{World};
+ghost use Rattle.nofs_salvage.specs.Reads.{IsRead, is_get, Reads, IsAccepted, refusal_by, found_by, size_by, listed_by, got_by, is_too_large as too_large_by};
+ghost use Rattle.nofs_salvage.specs.Report.{inode_found};
+ghost use Rattle.nofs_salvage.specs.Answered.{AreAnswered, IsListedFrom, IsInFolder, IsGot};
+
+use crate::fault::{SalvageFault, fault_of};
+use nofs_lists::Name;
+use nofs_machine::{NameList, Refusal, Reply, Step, Steps};
+
+/// A file or a directory: its inode, with the generation that tells it from an earlier one.
+#[derive(Clone, Copy, Debug, PartialEq, Eq)]
+pub struct Handle {
+    pub inode: u32,
+    pub generation: u64,
+}
+
+/// What a list gives of a directory: its next slot that isn't a hole.
+#[derive(Drop)]
+pub enum Listed {
+    Names(u64, NameList),
+    LostNames(u64),
+    NoMore,
+}
+
+/// What a slot has, as far as a report wants to know.
+#[derive(Clone, Copy, Debug, PartialEq, Eq)]
+pub enum Got {
+    /// Content, or nothing was ever put there.
+    Kept,
+    Lost,
+    /// No file has such a slot.
+    NoSlot,
+}
+
+// Makes a step that reads.
+fn ask<S: Steps>(steps: &mut S, step: Step) -> Result<Reply, SalvageFault>
+    requires read { IsRead step }
+    requires no_get { is_get step ≡ false }
+    ensures reads { Reads (S.made steps.old) (S.made steps.new) (refusal_by result) }
+    ensures accepted { IfOk result (λ reply. IsAccepted (S.made steps.old) (S.made steps.new) step reply) }
+    ensures goes { S.goes steps.old steps.new }
+{
+    match steps.step(step) {
+        Reply::Refused(why) => Err(fault_of(why)),
+        reply => Ok(reply),
+    }
+}
+
+// What the reply to a look says.
+fn found_in(reply: Reply) -> Result<Handle, SalvageFault>
+    ensures is { result ≡ found_by reply }
+    ensures no_refusal { refusal_by result ≡ None }
+{
+    match reply {
+        Reply::Found(found) => Ok(Handle {
+            inode: found.inode,
+            generation: found.generation,
+        }),
+        _ => Err(SalvageFault::OutOfMemory),
+    }
+}
+
+/// The file or directory that a name finds.
+pub fn look<S: Steps>(steps: &mut S, at: Handle, name: Name) -> Result<Handle, SalvageFault>
+    ensures reads { Reads (S.made steps.old) (S.made steps.new) (refusal_by result) }
+    ensures found { IfOk result (λ found. (W : World) → AreAnswered W (S.made steps.old) (S.made steps.new) → inode_found W.files at.inode name ≡ found.inode) }
+    ensures goes { S.goes steps.old steps.new }
+{
+    let step = Step::Look {
+        directory: at.inode,
+        generation: at.generation,
+        name,
+    };
+    let reply = ask(steps, step)?;
+    found_in(reply)
+}
+
+// What the reply to a stat says.
+fn size_in(reply: Reply) -> Result<u64, SalvageFault>
+    ensures is { result ≡ size_by reply }
+    ensures no_refusal { refusal_by result ≡ None }
+{
+    match reply {
+        Reply::Stat(stat) => Ok(stat.size),
+        _ => Err(SalvageFault::OutOfMemory),
+    }
+}
+
+/// The size of a file in bytes.
+pub fn size_of<S: Steps>(steps: &mut S, at: Handle) -> Result<u64, SalvageFault>
+    ensures reads { Reads (S.made steps.old) (S.made steps.new) (refusal_by result) }
+    ensures size { IfOk result (λ size. (W : World) → AreAnswered W (S.made steps.old) (S.made steps.new) → size_of_file W.files at.inode ≡ size) }
+    ensures goes { S.goes steps.old steps.new }
+{
+    let step = Step::Stat {
+        inode: at.inode,
+        generation: at.generation,
+    };
+    let reply = ask(steps, step)?;
+    size_in(reply)
+}
+
+// What the reply to a list says.
+fn listed_in(reply: Reply) -> Result<Listed, SalvageFault>
+    ensures is { result ≡ listed_by reply }
+    ensures no_refusal { refusal_by result ≡ None }
+{
+    match reply {
+        Reply::Names(slot, names) => Ok(Listed::Names(slot, names)),
+        Reply::LostNames(slot) => Ok(Listed::LostNames(slot)),
+        Reply::NoMore => Ok(Listed::NoMore),
+        _ => Err(SalvageFault::OutOfMemory),
+    }
+}
+
+/// The first slot of a directory, from the given one on, that isn't a hole.
+pub fn list<S: Steps>(steps: &mut S, at: Handle, slot: u64) -> Result<Listed, SalvageFault>
+    ensures reads { Reads (S.made steps.old) (S.made steps.new) (refusal_by result) }
+    ensures below { IfOk result IsInFolder }
+    ensures listed { IfOk result (λ listed. (W : World) → AreAnswered W (S.made steps.old) (S.made steps.new) → IsListedFrom W.files at.inode slot listed) }
+    ensures goes { S.goes steps.old steps.new }
+{
+    let step = Step::List {
+        directory: at.inode,
+        generation: at.generation,
+        slot,
+    };
+    let reply = ask(steps, step)?;
+    listed_in(reply)
+}
+
+fn is_too_large(why: Refusal) -> bool
+    ensures { result ≡ too_large_by why }
+{
+    matches!(why, Refusal::TooLarge)
+}
+
+// What the reply to a get says.
+fn told(reply: Reply) -> Result<Got, SalvageFault>
+    ensures { result ≡ got_by reply }
+{
+    match reply {
+        Reply::Refused(why) => {
+            if is_too_large(why) {
+                Ok(Got::NoSlot)
+            } else {
+                Err(fault_of(why))
+            }
+        }
+        Reply::Lost => Ok(Got::Lost),
+        _ => Ok(Got::Kept),
+    }
+}
+
+/// What a slot of a file has.
+pub fn get<S: Steps>(steps: &mut S, at: Handle, slot: u64) -> Result<Got, SalvageFault>
+    ensures reads { Reads (S.made steps.old) (S.made steps.new) (refusal_by result) }
+    ensures got { IfOk result (λ got. (W : World) → AreAnswered W (S.made steps.old) (S.made steps.new) → IsGot W at.inode slot got) }
+    ensures goes { S.goes steps.old steps.new }
+{
+    let step = Step::Get {
+        inode: at.inode,
+        generation: at.generation,
+        slot,
+    };
+    let reply = steps.step(step);
+    told(reply)
+}

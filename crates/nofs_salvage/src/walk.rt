@@ -1,0 +1,72 @@
+//! The walk: the label file, and then all directories from the root on.
+//!
+//! Promise: it only reads, ends with the refusal of any step but one for a slot beyond what a file can have, and else, where no
+//! file changed meanwhile, gives the report of the definition.
+ghost use Rattle.std.specs.Prelude.{◌≡◌, ◌++◌, ℕ, Bool, List, [], ◌∷◌, IfOk, OnOk};
+ghost use Rattle.std.specs.Fn.{FnReturnsAt};
+ghost use Rattle.nofs_machine.specs.World.{World};
+ghost use Rattle.nofs_salvage.specs.Reads.{Reads, refusal_by};
+ghost use Rattle.nofs_salvage.specs.Report.{tree_losses, tree_of, report_of};
+ghost use Rattle.nofs_salvage.specs.Answered.{AreAnswered};
+ghost use Rattle.nofs_salvage.specs.Trees.{inodes_in};
+
+use crate::fault::SalvageFault;
+use crate::filter::{NameFilter, NameRule};
+use crate::findings::Findings;
+use crate::folders::note_folder;
+use crate::report::Report;
+use crate::slots::note_file;
+use crate::steps::Handle;
+use nofs_machine::Steps;
+use std::alloc::Global;
+
+// Notes what is lost in all directories.
+fn note_tree<S: Steps, P: Fn(&[u8]) -> bool, R: NameRule>(
+    alloc: Global,
+    steps: &mut S,
+    filter: &NameFilter<P, R>,
+    findings: &mut Findings,
+) -> Result<(), SalvageFault>
+    requires may { P.IsAlwaysCallable filter.now.keep }
+    requires decides { (name : List ℕ) (yes : Bool) → FnReturnsAt P.Fn filter.now.keep name yes → yes ≡ R.picks filter.now.rule name }
+    requires root { inodes_in findings.old.tree ≡ 1 ∷ [] }
+    ensures reads { Reads (S.made steps.old) (S.made steps.new) (refusal_by result) }
+    ensures noted { OnOk result ((W : World) → AreAnswered W (S.made steps.old) (S.made steps.new)
+        → findings.new.report ≡ findings.old.report ++ tree_losses W (R.picks filter.now.rule) (tree_of W.files)) }
+    ensures goes { S.goes steps.old steps.new }
+{
+    let mut at: usize = 0;
+    while let Some(directory) = findings.tree.get(at) {
+        note_folder(alloc, steps, filter, directory, findings)?;
+        at += 1;
+    }
+    Ok(())
+}
+
+/// What is lost on a disk: the lost slots of the label file and of the files whose names the filter picks, the lost slots of all
+/// directories, and of the names that the filter picks those that lead to no file and those that an earlier one hides.
+///
+/// The steps that are made only look, list, tell sizes and read. Where one is refused, other than for a slot beyond what a file
+/// can have, the walk ends with its refusal; want of memory may end it anywhere.
+pub fn salvage<S: Steps, P: Fn(&[u8]) -> bool, R: NameRule>(
+    alloc: Global,
+    steps: &mut S,
+    filter: &NameFilter<P, R>,
+) -> Result<Report, SalvageFault>
+    requires may { P.IsAlwaysCallable filter.now.keep }
+    requires decides { (name : List ℕ) (yes : Bool) → FnReturnsAt P.Fn filter.now.keep name yes → yes ≡ R.picks filter.now.rule name }
+    ensures reads { Reads (S.made steps.old) (S.made steps.new) (refusal_by result) }
+    ensures report { IfOk result (λ report. (W : World) → AreAnswered W (S.made steps.old) (S.made steps.new)
+        → report ≡ report_of W (R.picks filter.now.rule)) }
+    ensures goes { S.goes steps.old steps.new }
+{
+    let mut findings = Findings::new(alloc)?;
+    let label = Handle {
+        inode: 2,
+        generation: 2,
+    };
+    note_file(steps, label, &mut findings.report)?;
+    note_tree(alloc, steps, filter, &mut findings)?;
+    let Findings { report, .. } = findings;
+    Ok(report)
+}

@@ -1,0 +1,82 @@
+//! A verdict that a mount commits late: a block that was found free was claimed since, or was not.
+ghost use Rattle.nofs_memdisk.specs.Parts.{memory_state};
+ghost use Rattle.nofs_shared.specs.Earlier.{IsEarlier};
+
+use crate::rows::{full_below_24, is_stored, is_used, put, put_step, seen};
+use nofs_machine::{ElementKind, Reply, Step};
+use nofs_memdisk::MemDisk;
+use nofs_scan::{Evidence, judge};
+use nofs_shared::Mount;
+use std::alloc::{AllocError, Global};
+use std::test::Fail;
+
+// A step that comes after a look.
+fn step_after(
+    alloc: Global,
+    mount: &mut Mount<MemDisk>,
+    evidence: &Evidence<MemDisk>,
+    step: Step,
+) -> Reply
+    requires { IsEarlier (memory_state mount.old.found.value) (memory_state evidence.now.core.value.disk) evidence.now.core.value.books mount.old.first mount.old.core.books.history.start mount.old.core.books.at mount.old.core.books.history.entries }
+    ensures { IsEarlier (memory_state mount.new.found.value) (memory_state evidence.now.core.value.disk) evidence.now.core.value.books mount.new.first mount.new.core.books.history.start mount.new.core.books.at mount.new.core.books.history.entries }
+{
+    let _ = evidence;
+    mount.step(alloc, 1, step)
+}
+
+// After a look, examines block 24 and lets a put claim it. Whether it is stored.
+fn claim(
+    alloc: Global,
+    mount: &mut Mount<MemDisk>,
+    evidence: &Evidence<MemDisk>,
+) -> Result<bool, AllocError>
+    requires { IsEarlier (memory_state mount.old.found.value) (memory_state evidence.now.core.value.disk) evidence.now.core.value.books mount.old.first mount.old.core.books.history.start mount.old.core.books.at mount.old.core.books.history.entries }
+    ensures { IsEarlier (memory_state mount.new.found.value) (memory_state evidence.now.core.value.disk) evidence.now.core.value.books mount.new.first mount.new.core.books.history.start mount.new.core.books.at mount.new.core.books.history.entries }
+{
+    let step = put_step(alloc, 18)?;
+    step_after(alloc, mount, evidence, Step::SeeBlock { block: 24 });
+    Ok(is_stored(&step_after(alloc, mount, evidence, step)))
+}
+
+// Commits what was found, where that is a free block: whether it stands as used then.
+fn settle(alloc: Global, mount: &mut Mount<MemDisk>, evidence: &Evidence<MemDisk>) -> Option<bool>
+    requires { IsEarlier (memory_state mount.old.found.value) (memory_state evidence.now.core.value.disk) evidence.now.core.value.books mount.old.first mount.old.core.books.history.start mount.old.core.books.at mount.old.core.books.history.entries }
+{
+    if evidence.verdicts.len() != 1 {
+        return None;
+    }
+    let used = judge(evidence, 0);
+    if used {
+        return None;
+    }
+    seen(&mount.commit(alloc, 10, evidence, 0, used))
+}
+
+#[test]
+fn a_verdict_of_a_mount_does_not_undo_a_claim(rt: HostRuntime) -> Result<(), Fail> {
+    let alloc = rt.alloc();
+    let mut mount = full_below_24(alloc)?;
+    let Ok(evidence) = mount.look_batch(alloc, ElementKind::Block, &[24]) else {
+        panic!(rt; "no evidence")
+    };
+    assert!(rt; claim(alloc, &mut mount, &evidence)?);
+    assert_eq!(rt; settle(alloc, &mut mount, &evidence), Some(true));
+    assert_eq!(rt; is_used(alloc, &mut mount, 24), Some(true));
+    assert_eq!(rt; mount.history().len(), 42);
+    Ok(())
+}
+
+#[test]
+fn a_block_that_a_mount_found_free_is_claimed(rt: HostRuntime) -> Result<(), Fail> {
+    let alloc = rt.alloc();
+    let mut mount = full_below_24(alloc)?;
+    let Ok(evidence) = mount.look_batch(alloc, ElementKind::Block, &[24]) else {
+        panic!(rt; "no evidence")
+    };
+    assert_eq!(rt; settle(alloc, &mut mount, &evidence), Some(false));
+    assert_eq!(rt; mount.counts().blocks_free, 1);
+    assert!(rt; is_stored(&put(alloc, &mut mount, 18)?));
+    assert_eq!(rt; mount.counts().blocks_free, 0);
+    assert_eq!(rt; is_used(alloc, &mut mount, 24), Some(true));
+    Ok(())
+}

@@ -1,0 +1,208 @@
+//! Rows of steps at a mount of a disk in memory: what is refused for want of blocks, stamps or a read,
+//! and what a mount costs the device.
+ghost use Rattle.std.specs.Prelude.{◌≤◌, ◌^◌};
+
+use nofs_disk::{Cell, Disk};
+use nofs_lists::Content;
+use nofs_machine::{Refusal, Reply, Step};
+use nofs_memdisk::{CallCounts, CallKind, FaultAt, MemDisk};
+use nofs_shared::{BeginFault, Mount};
+use nofs_super::{MountFault, SuperBlock, format, write_super};
+use std::alloc::{AllocError, Global};
+use std::test::Fail;
+
+pub fn formatted(alloc: Global, blocks: u64, inodes: u64) -> Result<MemDisk, Fail> {
+    let mut disk = MemDisk::new(alloc, blocks)?;
+    match format(&mut disk, blocks, inodes) {
+        Ok(()) => Ok(disk),
+        Err(_) => Err("not formatted".into()),
+    }
+}
+
+pub fn mounted<D: Disk + Drop>(alloc: Global, disk: D, first: u64) -> Result<Mount<D>, Fail>
+    requires { first ≤ 2 ^ 40 }
+{
+    match Mount::begin(alloc, disk, first) {
+        Ok(mount) => Ok(mount),
+        Err(_) => Err("not mounted".into()),
+    }
+}
+
+/// Puts 1,024 bytes into a slot of the label file.
+pub fn put_step(alloc: Global, slot: u64) -> Result<Step, AllocError> {
+    Ok(Step::Put {
+        inode: 2,
+        generation: 2,
+        slot,
+        at: 0,
+        bytes: Content::from_slice(alloc, &[0x41; 1024])?,
+    })
+}
+
+pub fn put<D: Disk + Drop>(
+    alloc: Global,
+    mount: &mut Mount<D>,
+    slot: u64,
+) -> Result<Reply, AllocError> {
+    let step = put_step(alloc, slot)?;
+    Ok(mount.step(alloc, 1, step))
+}
+
+fn get(alloc: Global, mount: &mut Mount<MemDisk>, slot: u64) -> Reply {
+    let step = Step::Get {
+        inode: 2,
+        generation: 2,
+        slot,
+    };
+    mount.step(alloc, 1, step)
+}
+
+/// Whether a reply is that of a put which stored its bytes.
+pub fn is_stored(reply: &Reply) -> bool {
+    matches!(reply, Reply::Stored)
+}
+
+/// The verdict in the reply of a step that examined.
+pub fn seen(reply: &Reply) -> Option<bool> {
+    match reply {
+        Reply::Seen { used } => Some(*used),
+        _ => None,
+    }
+}
+
+/// Whether this block is used, as a step examines it.
+pub fn is_used<D: Disk + Drop>(alloc: Global, mount: &mut Mount<D>, block: u64) -> Option<bool> {
+    seen(&mount.step(alloc, 10, Step::SeeBlock { block }))
+}
+
+// The stamp of the cell that the last step claimed, 0 where it claimed none.
+fn last_stamp(mount: &Mount<MemDisk>) -> u64 {
+    let history = mount.history();
+    match history.entry(history.len().saturating_sub(1)) {
+        Some(entry) => entry.claims.cell.stamp,
+        None => 0,
+    }
+}
+
+// Whether no block is left among those that were examined, all below 24.
+fn is_full_below_24(reply: &Reply) -> bool {
+    matches!(
+        reply,
+        Reply::Refused(Refusal::Full {
+            needed: 1,
+            free: 0,
+            unverified: 40,
+            next: 24
+        })
+    )
+}
+
+/// A mount of a new disk of 64 blocks, whose blocks 5 to 23 were examined and hold the first 18 slots of
+/// the label file and a leaf. A put into the next slot finds the disk full.
+pub fn full_below_24(alloc: Global) -> Result<Mount<MemDisk>, Fail> {
+    let mut mount = mounted(alloc, formatted(alloc, 64, 16)?, 0)?;
+    for block in 5..24 {
+        if is_used(alloc, &mut mount, block) != Some(false) {
+            return Err("not free".into());
+        }
+    }
+    for slot in 0..18 {
+        if !is_stored(&put(alloc, &mut mount, slot)?) {
+            return Err("not stored".into());
+        }
+    }
+    if !is_full_below_24(&put(alloc, &mut mount, 18)?) {
+        return Err("not full".into());
+    }
+    Ok(mount)
+}
+
+#[test]
+fn a_put_that_found_the_disk_full_is_stored_in_a_block_examined_then(
+    rt: HostRuntime,
+) -> Result<(), Fail> {
+    let alloc = rt.alloc();
+    let mut mount = full_below_24(alloc)?;
+    assert_eq!(rt; is_used(alloc, &mut mount, 24), Some(false));
+    assert!(rt; is_stored(&put(alloc, &mut mount, 18)?));
+    assert_eq!(rt; last_stamp(&mount), 1_099_511_627_795);
+    assert_eq!(rt; is_used(alloc, &mut mount, 24), Some(true));
+    assert_eq!(rt; mount.history().len(), 41);
+    Ok(())
+}
+
+#[test]
+fn the_last_stamp_of_a_mount_is_given_once(rt: HostRuntime) -> Result<(), Fail> {
+    let alloc = rt.alloc();
+    let mut mount = mounted(alloc, formatted(alloc, 16, 4)?, 1_099_511_627_775)?;
+    for block in 2..4 {
+        assert_eq!(rt; is_used(alloc, &mut mount, block), Some(false));
+    }
+    assert!(rt; is_stored(&put(alloc, &mut mount, 0)?));
+    assert_eq!(rt; last_stamp(&mount), 2_199_023_255_551);
+    let spent = put(alloc, &mut mount, 1)?;
+    assert!(rt; matches!(spent, Reply::Refused(Refusal::SerialsSpent)));
+    Ok(())
+}
+
+#[test]
+fn a_read_that_fails_refuses_one_step_and_stops_nothing(rt: HostRuntime) -> Result<(), Fail> {
+    let alloc = rt.alloc();
+    let mut disk = formatted(alloc, 16, 4)?;
+    disk.fail_at(&[FaultAt {
+        call: CallKind::Read,
+        number: 2,
+        taken: false,
+    }])?;
+    let mut mount = mounted(alloc, disk, 0)?;
+    let first = get(alloc, &mut mount, 0);
+    assert!(rt; matches!(first, Reply::Refused(Refusal::ReadFault)));
+    assert!(rt; matches!(get(alloc, &mut mount, 0), Reply::Hole));
+    Ok(())
+}
+
+#[test]
+fn a_mount_makes_one_read_one_write_and_one_flush(rt: HostRuntime) -> Result<(), Fail> {
+    let alloc = rt.alloc();
+    let disk = formatted(alloc, 16, 4)?;
+    let CallCounts {
+        reads,
+        writes,
+        flushes,
+    } = disk.calls();
+    let (disk, history) = mounted(alloc, disk, 0)?.end();
+    let calls = disk.calls();
+    assert_eq!(rt; (reads, writes, flushes), (0, 16, 1));
+    assert_eq!(rt; (calls.reads, calls.writes, calls.flushes), (1, 17, 2));
+    assert_eq!(rt; history.len(), 0);
+    Ok(())
+}
+
+#[test]
+fn a_disk_that_is_not_mounted_comes_back_as_it_was(rt: HostRuntime) -> Result<(), Fail> {
+    let alloc = rt.alloc();
+    let spent = SuperBlock {
+        version: 1,
+        blocks: 16,
+        inodes: 4,
+        mount: 16_777_215,
+    };
+    let mut cell = Cell::ZERO;
+    write_super(&spent, &mut cell);
+    for (cell, want) in [
+        (cell, MountFault::MountsSpent { found: 16_777_215 }),
+        (Cell::ZERO, MountFault::BadMagic { found: [0; 8] }),
+    ] {
+        let mut disk = MemDisk::new(alloc, 16)?;
+        disk.put_cell(0, &cell);
+        match Mount::begin(alloc, disk, 0) {
+            Ok(_) => panic!(rt; "mounted"),
+            Err(BeginFault { disk, cause }) => {
+                assert_eq!(rt; cause, want);
+                assert_eq!(rt; disk.calls().writes, 0);
+                assert_eq!(rt; disk.calls().flushes, 0);
+            }
+        }
+    }
+    Ok(())
+}

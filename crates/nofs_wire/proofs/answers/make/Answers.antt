@@ -1,0 +1,14 @@
+use Rattle.std.proofs.Common.{◌≡◌, true, false, arith}
+use Rattle.nofs_machine.specs.Steps.{is_out_of_memory}
+use Rattle.nofs_wire.proofs.Answering.{answers-made, answers-unmade}
+use Rattle.nofs_wire.proofs.answers.make.Goals as goal
+
+pub returns-then-found_memory-clause-so : goal.returns-then-found_memory-clause-so
+returns-then-found_memory-clause-so g c =
+    let room : is_out_of_memory c.step-reply.result ≡ false = grind arith in
+    answers-made c.give_reply.result c.args.step c.step-reply.result _ _ _ _ room c.step-reply.ensures.made c.give_reply.ensures.so
+
+pub returns-clause-so : goal.returns-clause-so
+returns-clause-so g c =
+    let none : is_out_of_memory c.step-reply.result ≡ true = grind arith in
+    answers-unmade c.args.step c.step-reply.result _ _ _ none c.step-reply.ensures.made
