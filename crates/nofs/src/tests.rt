@@ -8,6 +8,7 @@ mod files;
 mod images;
 mod mirrors;
 mod moves;
+mod recorder;
 mod second;
 mod statuses;
 mod unready;

@@ -1,8 +1,10 @@
 //! Runs over a cache that keeps writes back, and over the images that a crash in an ordinary day may leave.
 
-use crate::tests::disks::{cached, left};
+use crate::tests::disks::{bytes_of, cached, cells_of, left};
+use crate::tests::recorder::{Recorder, draw};
 use crate::tests::{run_on, run_with};
 use nofs_disk::Disk;
+use nofs_filedisk::{FileDisk, MemFile};
 use nofs_io::{MemSink, MemSource};
 use nofs_memdisk::{CallKind, FaultAt, MemDisk, Pick};
 use std::alloc::{AllocError, Global};
@@ -70,7 +72,7 @@ type Line = (&'static str, u8, usize);
 
 const KEPT: usize = 3_072;
 
-/// Two sessions over an image of 16 inodes: one that ends well, and one that is stopped by a call that fails.
+/// Two sessions over an image of 16 inodes: one that ends well, and one in which a crash comes.
 #[derive(Clone, Copy)]
 struct Story {
     blocks: u64,
@@ -82,8 +84,6 @@ struct Story {
     day: &'static [Line],
     /// Where the files are or were, and the byte of each.
     files: &'static [(&'static str, u8)],
-    /// How often the day is stopped, and how many images are drawn of each.
-    draws: (u64, u64),
 }
 
 const SMALL: Story = Story {
@@ -92,7 +92,6 @@ const SMALL: Story = Story {
     evening: &EVENING,
     day: &DAY,
     files: &FILES,
-    draws: (10, 25),
 };
 
 const LARGE: Story = Story {
@@ -101,7 +100,6 @@ const LARGE: Story = Story {
     evening: &LARGE_EVENING,
     day: &LARGE_DAY,
     files: &LARGE_FILES,
-    draws: (8, 20),
 };
 
 const EVENING: [Line; 10] = [
@@ -227,14 +225,6 @@ fn kept_line(alloc: Global) -> Result<Vec<u8>, Fail> {
     Ok(line)
 }
 
-// A number below this one, or 0.
-fn draw(state: &mut u64, below: u64) -> u64 {
-    *state = state
-        .wrapping_mul(6_364_136_223_846_793_005)
-        .wrapping_add(1_442_695_040_888_963_407);
-    (*state >> 33).checked_rem(below).unwrap_or(0)
-}
-
 // A disk with the files of the evening.
 fn evening<R: Threads + Wait + Sync>(rt: &R, alloc: Global, story: Story) -> Result<MemDisk, Fail> {
     let disk = MemDisk::new(alloc, story.blocks)?;
@@ -333,6 +323,7 @@ fn drawn_picks(alloc: Global, disk: &MemDisk, state: &mut u64) -> Result<Vec<Pic
 /// What was read of the files in all images.
 #[derive(Clone, Copy, Debug, PartialEq, Eq)]
 struct Seen {
+    images: u64,
     bytes: u64,
     holes: u64,
     lost: u64,
@@ -343,6 +334,7 @@ struct Seen {
 
 impl Seen {
     const NOTHING: Seen = Seen {
+        images: 0,
         bytes: 0,
         holes: 0,
         lost: 0,
@@ -395,56 +387,85 @@ fn see(alloc: Global, story: Story, seen: &mut Seen, lines: &[u8]) -> Result<(),
 }
 
 // Whether an image can be scanned and read, and has the file that was durable.
-fn is_served<R: Threads + Wait + Sync>(
+fn is_served<R: Threads + Wait + Sync, D: Disk + Drop + Send>(
     rt: &R,
     alloc: Global,
     story: Story,
     seen: &mut Seen,
-    image: MemDisk,
+    image: D,
 ) -> Result<bool, Fail> {
     let (scanned, _, image) = run_on(rt, alloc, "scan", b"".as_slice(), image)?;
     let mut source = MemSource::new(alloc, &reading(alloc, story)?, 65_536, &[])?;
     let mut sink = MemSink::new(alloc, 2_000_000, &[])?;
     let (read, _) = run_with(rt, alloc, "run", &mut source, &mut sink, image)?;
     see(alloc, story, seen, sink.bytes())?;
+    count(&mut seen.images);
     Ok(scanned == 0 && read == 0 && sink.bytes().starts_with(&kept_line(alloc)?))
 }
 
-// Whether each image that is drawn of days that were stopped is served, and what was read of them.
+// A file in which a day was served through the cache, and the status.
+fn recorded_day<R: Threads + Wait + Sync>(
+    rt: &R,
+    alloc: Global,
+    story: Story,
+) -> Result<(u8, Recorder), Fail> {
+    let mut disk = evening(rt, alloc, story)?;
+    let cells = cells_of(alloc, &mut disk, story.blocks)?;
+    let file = Recorder::new(alloc, &bytes_of(alloc, &cells)?)?;
+    let disk = cached(alloc, FileDisk::over(alloc, file)?)?;
+    let (status, _, disk) = run_on(rt, alloc, "run", &session(alloc, story.day)?, disk)?;
+    Ok((status, disk.below().file()))
+}
+
+/// How many images are drawn of a recorded day at least.
+const LEAST_IMAGES: usize = 250;
+
+/// How many calls the small day has at least. At its end stand 67 slots that it wrote: of `/d/i` 20, of
+/// `/h` 16, of `/m` 13, of `@` 10 and of `/e` 8. It syncs at its mount, at each `fsync` and at its end.
+const LEAST_CALLS: usize = 67 + 4;
+
+// A disk in a file with these bytes.
+fn file_disk(alloc: Global, bytes: &[u8]) -> Result<FileDisk<MemFile>, AllocError> {
+    FileDisk::over(alloc, MemFile::new(alloc, bytes, 1_048_576, &[])?)
+}
+
+// Whether each image that is drawn of crashes in the calls of a file is served, and what was read of
+// them. The calls take turns, so that each has one image or more.
 fn served_images<R: Threads + Wait + Sync>(
     rt: &R,
     alloc: Global,
     story: Story,
+    file: &Recorder,
     start: u64,
 ) -> Result<(bool, Seen), Fail> {
-    let calls = day_calls(rt, alloc, story)?;
     let (mut state, mut seen, mut served) = (start, Seen::NOTHING, true);
-    for _ in 0..story.draws.0 {
-        let (status, disk) = stopped(rt, alloc, story, &mut state, calls)?;
-        served = served && status == 3;
-        for _ in 0..story.draws.1 {
-            let picks = drawn_picks(alloc, &disk, &mut state)?;
-            match left(alloc, &disk, &picks)? {
-                Some(image) => served = is_served(rt, alloc, story, &mut seen, image)? && served,
-                None => served = false,
-            }
-        }
+    for number in 0..LEAST_IMAGES.max(file.calls()) {
+        let call = number.checked_rem(file.calls()).unwrap_or(0);
+        let image = file_disk(alloc, &file.image(call, &mut state)?)?;
+        served = is_served(rt, alloc, story, &mut seen, image)? && served;
     }
     Ok((served, seen))
 }
 
-// Whether all images are served, and every part that was read is of its file.
+// Whether every part that was read of so many images is of its file, and some were lost.
+fn are_own(seen: Seen, images: u64) -> bool {
+    seen.images >= images && seen.foreign == 0 && seen.bytes > 0 && seen.lost > 0
+}
+
+// Whether a day ends well in a file that keeps its calls, and survives a crash in each of them.
 fn survives<R: Threads + Wait + Sync>(
     rt: &R,
     alloc: Global,
     story: Story,
     start: u64,
 ) -> Result<bool, Fail> {
-    let (served, seen) = served_images(rt, alloc, story, start)?;
-    Ok(served && seen.foreign == 0 && seen.bytes > 0 && seen.lost > 0)
+    let (status, file) = recorded_day(rt, alloc, story)?;
+    let is_recorded = status == 0 && file.tells_all()? && file.calls() >= LEAST_CALLS;
+    let (served, seen) = served_images(rt, alloc, story, &file, start)?;
+    Ok(is_recorded && served && are_own(seen, LEAST_IMAGES as u64))
 }
 
-// Two thousand images of one day, in eight tests.
+// Two thousand images in eight tests, each of which serves a day anew and draws at every call of its file.
 #[test]
 fn a_day_survives_its_first_crashes(rt: HostRuntime) -> Result<(), Fail> {
     assert!(rt; survives(&rt, rt.alloc(), SMALL, 1)?);
@@ -493,8 +514,35 @@ fn a_day_survives_its_eighth_crashes(rt: HostRuntime) -> Result<(), Fail> {
     Ok(())
 }
 
+/// How often the day of large files is stopped, and how many images are drawn of each.
+const STOPS: (u64, u64) = (8, 20);
+
+// Whether each image that is drawn of days that were stopped is served, and what was read of them.
+fn served_stops<R: Threads + Wait + Sync>(
+    rt: &R,
+    alloc: Global,
+    story: Story,
+    start: u64,
+) -> Result<(bool, Seen), Fail> {
+    let calls = day_calls(rt, alloc, story)?;
+    let (mut state, mut seen, mut served) = (start, Seen::NOTHING, true);
+    for _ in 0..STOPS.0 {
+        let (status, disk) = stopped(rt, alloc, story, &mut state, calls)?;
+        served = served && status == 3;
+        for _ in 0..STOPS.1 {
+            let picks = drawn_picks(alloc, &disk, &mut state)?;
+            match left(alloc, &disk, &picks)? {
+                Some(image) => served = is_served(rt, alloc, story, &mut seen, image)? && served,
+                None => served = false,
+            }
+        }
+    }
+    Ok((served, seen))
+}
+
 #[test]
 fn a_day_of_large_files_survives_its_crashes(rt: HostRuntime) -> Result<(), Fail> {
-    assert!(rt; survives(&rt, rt.alloc(), LARGE, 9)?);
+    let (served, seen) = served_stops(&rt, rt.alloc(), LARGE, 9)?;
+    assert!(rt; served && are_own(seen, STOPS.0 * STOPS.1));
     Ok(())
 }
