@@ -30,7 +30,7 @@ use Rattle.nofs_salvage.specs.Report.{inode_in, inode_at, inode_found}
 use Rattle.nofs_salvage.specs.Answered.{IsAnswered, AreAnswered, first_held, IsListedFrom, IsInFolder, IsGot}
 use Rattle.nofs_salvage.proofs.Reading.{answered-one}
 
-clash : (b : Bool) → b ≡ true → b ≡ false → ⊥
+pub clash : (b : Bool) → b ≡ true → b ≡ false → ⊥
 clash b t f = cc (t, f)
 
 -- a step that was done in a world with the files of W
@@ -58,7 +58,7 @@ done W s r ok a =
     let at : IsDone W a.entry.step a.entry.reply = done-by W a.before a.after a.entry a.version a.files (ap is_refused a.replied ∙ ok) a.next in
     subst (λ (x : Reply). IsDone W s x) a.replied (subst (λ (t : Step). IsDone W t a.entry.reply) a.asked at)
 
-accepted-done : (W : World) (old new : List Made) (s : Step) (r : Reply) → IsAccepted old new s r → AreAnswered W old new → IsDone W s r
+pub accepted-done : (W : World) (old new : List Made) (s : Step) (r : Reply) → IsAccepted old new s r → AreAnswered W old new → IsDone W s r
 accepted-done W old new s r is a = done W s r is.accepted (answered-one W old new (s, r) is.more a)
 
 -- Look
@@ -192,7 +192,7 @@ large-row false true v h = absurd (cc h)
 large-row false false true h = absurd (cc h)
 large-row false false false h = absurd (cc h)
 
-no-value : (why : Refusal) (v : Value) → reply.Refused why ≡ got_reply v → ⊥
+pub no-value : (why : Refusal) (v : Value) → reply.Refused why ≡ got_reply v → ⊥
 no-value why value.Hole h = cc h
 no-value why (value.Bytes c) h = cc h
 no-value why value.Lost h = cc h

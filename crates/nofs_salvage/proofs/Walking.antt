@@ -155,6 +155,11 @@ module _ (W : World) (picks : List ℕ → Bool) (d : ℕ) (start : Findings) wh
         walked-hole l now seen hole (walked-holes k l now seen (record { late = below; before = λ j low high. h.before j low (omega arith) }) w)
   ]
 
+  -- the names that were seen below the slot that is listed
+  pub walked-seen : (k l : ℕ) (now : Findings) (seen : SeenNames) → first_held W.files d k ≡ Some l → IsWalked W picks d k start now seen
+      → AreSeen seen (lines_below W.files d l)
+  walked-seen k l now seen h w = (walked-holes k l now seen (least-found (λ j. not (is_hole (value_of W.files d j))) k (72 - k) l h) w).names
+
   -- a slot with names
   pub walked-names : (k l next : ℕ) (names : List NameLine) (mid new : Findings) (old seen : SeenNames) → (k ≤ l → next ≡ l + 1)
       → (first_held W.files d k ≡ Some l) × (is_lost (value_of W.files d l) ≡ false) × (names ≡ lines_in_slot W.files d l) → IsWalked W picks d k start mid old

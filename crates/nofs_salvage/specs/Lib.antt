@@ -1,6 +1,9 @@
 pub mod Answered
+pub mod Asks
 pub mod Handles
 pub mod Picks
 pub mod Reads
+pub mod Refusing
 pub mod Report
+pub mod Told
 pub mod Trees

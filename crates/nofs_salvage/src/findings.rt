@@ -5,6 +5,8 @@ ghost use Rattle.std.specs.Prelude.{◌≡◌, ◌++◌, [], ◌∷◌, IfOk, On
 ghost use Rattle.nofs_salvage.specs.Report.{if_so};
 ghost use Rattle.nofs_salvage.specs.declared.report.Loss.TheVariants.{Dead as dead_loss, Twice as twice_loss};
 ghost use Rattle.nofs_salvage.specs.Trees.{inodes_in};
+ghost use Rattle.nofs_salvage.specs.Handles.{root_handle};
+ghost use Rattle.nofs_salvage.specs.Told.{handles_in};
 
 use crate::report::{Loss, Report};
 use crate::steps::Handle;
@@ -22,7 +24,8 @@ pub struct Findings {
 impl Findings {
     /// No losses, and the root.
     pub fn new(alloc: Global) -> Result<Self, AllocError>
-        ensures { IfOk result (λ findings. (findings.report ≡ []) × (inodes_in findings.tree ≡ 1 ∷ [])) }
+        ensures begins { IfOk result (λ findings. (findings.report ≡ []) × (inodes_in findings.tree ≡ 1 ∷ [])) }
+        ensures root { IfOk result (λ findings. handles_in findings.tree ≡ root_handle ∷ []) }
     {
         let mut tree = Tree::new(alloc);
         tree.add(Handle {

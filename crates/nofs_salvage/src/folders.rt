@@ -1,14 +1,18 @@
 //! The slots of a directory.
 //!
 //! Promise: each lost slot is noted, and each line of each slot that has lines, in order.
-ghost use Rattle.std.specs.Prelude.{◌≡◌, ◌+◌, ◌<◌, ◌≤◌, ℕ, Bool, List, IfOk, OnOk};
+ghost use Rattle.std.specs.Prelude.{◌≡◌, ◌+◌, ◌<◌, ◌≤◌, ℕ, Bool, true, List, IfOk, OnOk};
 ghost use Rattle.std.specs.Fn.{FnReturnsAt};
 ghost use Rattle.nofs_machine.specs.World.{World};
+ghost use Rattle.nofs_machine.specs.Steps.{Made};
 ghost use Rattle.nofs_salvage.specs.declared.findings.Findings.{Findings as Found};
 ghost use Rattle.nofs_salvage.specs.Reads.{Reads, refusal_by};
 ghost use Rattle.nofs_salvage.specs.Report.{losses_below, folders_below};
 ghost use Rattle.nofs_salvage.specs.Answered.{AreAnswered};
 ghost use Rattle.nofs_salvage.specs.Trees.{Adds, IsWalked};
+ghost use Rattle.nofs_salvage.specs.Refusing.{is_there, AreFair, MayAsk};
+ghost use Rattle.nofs_salvage.specs.Told.{AreFolders};
+ghost use Rattle.nofs_salvage.specs.Asks.{Asks, HasReached, AreReached};
 
 use crate::fault::SalvageFault;
 use crate::filter::{NameFilter, NameRule};
@@ -50,6 +54,14 @@ fn note_next<S: Steps, P: Fn(&[u8]) -> bool, R: NameRule>(
     ensures later { IfOk result (λ next. (slot < next) × (next ≤ 72)) }
     ensures walked { IfOk result (λ next. (W : World) (start : Found) → IsWalked W (R.picks filter.now.rule) at.inode slot start findings.old seen.old
         → AreAnswered W (S.made steps.old) (S.made steps.new) → IsWalked W (R.picks filter.now.rule) at.inode next start findings.new seen.new) }
+    ensures there { IfOk result (λ next. (W : World) → AreAnswered W (S.made steps.old) (S.made steps.new) → is_there W.files at.inode at.generation ≡ true) }
+    ensures right { (W : World) (start : Found) → IsWalked W (R.picks filter.now.rule) at.inode slot start findings.old seen.old
+        → AreAnswered W (S.made steps.old) (S.made steps.new) → MayAsk W.files true at → AreFair W.files (S.made steps.old) (S.made steps.new) }
+    ensures folders { IfOk result (λ next. (W : World) (start : Found) → IsWalked W (R.picks filter.now.rule) at.inode slot start findings.old seen.old
+        → AreAnswered W (S.made steps.old) (S.made steps.new) → AreFolders W.files findings.old.tree → AreFolders W.files findings.new.tree) }
+    ensures asks { (first : List Made) → Asks first (S.made steps.old) → HasReached first (S.made steps.old) at → Asks first (S.made steps.new) }
+    ensures met { IfOk result (λ next. (first : List Made) → Asks first (S.made steps.old) → HasReached first (S.made steps.old) at
+        → AreReached first (S.made steps.old) findings.old.tree → AreReached first (S.made steps.new) findings.new.tree) }
     ensures goes { S.goes steps.old steps.new }
 {
     let listed = list(steps, at, slot)?;
@@ -82,6 +94,14 @@ pub fn note_folder<S: Steps, P: Fn(&[u8]) -> bool, R: NameRule>(
     ensures reads { Reads (S.made steps.old) (S.made steps.new) (refusal_by result) }
     ensures noted { OnOk result ((W : World) → AreAnswered W (S.made steps.old) (S.made steps.new)
         → Adds (losses_below W (R.picks filter.now.rule) at.inode 72) (folders_below W.files at.inode 72) findings.old findings.new) }
+    ensures there { OnOk result ((W : World) → AreAnswered W (S.made steps.old) (S.made steps.new) → is_there W.files at.inode at.generation ≡ true) }
+    ensures right { (W : World) → AreAnswered W (S.made steps.old) (S.made steps.new) → MayAsk W.files true at
+        → AreFair W.files (S.made steps.old) (S.made steps.new) }
+    ensures folders { OnOk result ((W : World) → AreAnswered W (S.made steps.old) (S.made steps.new)
+        → AreFolders W.files findings.old.tree → AreFolders W.files findings.new.tree) }
+    ensures asks { (first : List Made) → Asks first (S.made steps.old) → HasReached first (S.made steps.old) at → Asks first (S.made steps.new) }
+    ensures met { OnOk result ((first : List Made) → Asks first (S.made steps.old) → HasReached first (S.made steps.old) at
+        → AreReached first (S.made steps.old) findings.old.tree → AreReached first (S.made steps.new) findings.new.tree) }
     ensures goes { S.goes steps.old steps.new }
 {
     let mut seen = SeenNames::new(alloc);

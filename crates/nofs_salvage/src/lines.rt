@@ -1,14 +1,19 @@
 //! The names of a directory, line by line.
 //!
 //! Promise: each line is noted as what it is: dead, doubled, a file with its lost slots, or a directory.
-ghost use Rattle.std.specs.Prelude.{◌≡◌, ◌++◌, ℕ, Bool, List, [], ◌∷◌, OnOk};
+ghost use Rattle.std.specs.Prelude.{◌≡◌, ◌++◌, ℕ, Bool, true, false, List, [], ◌∷◌, OnOk};
+ghost use Rattle.nofs_model.specs.Image.{is_folder};
 ghost use Rattle.std.specs.Fn.{FnReturnsAt};
 ghost use Rattle.nofs_machine.specs.World.{World};
+ghost use Rattle.nofs_machine.specs.Steps.{Made};
 ghost use Rattle.nofs_machine.specs.declared.replies.NameLine.{NameLine as Line};
 ghost use Rattle.nofs_salvage.specs.Reads.{Reads, refusal_by};
 ghost use Rattle.nofs_salvage.specs.Report.{inode_found, file_losses, pair_losses, pair_folders, line_losses, line_folders, lines_losses, lines_folders};
 ghost use Rattle.nofs_salvage.specs.Answered.{AreAnswered};
 ghost use Rattle.nofs_salvage.specs.Trees.{AreSeen, Adds};
+ghost use Rattle.nofs_salvage.specs.Refusing.{AreFair, MayAsk, LeadsTo};
+ghost use Rattle.nofs_salvage.specs.Told.{IsTold, AreTold, AreFolders};
+ghost use Rattle.nofs_salvage.specs.Asks.{Asks, HasGiven, AreGiven, AreReached};
 
 use crate::fault::SalvageFault;
 use crate::filter::{NameFilter, NameRule};
@@ -31,6 +36,13 @@ fn note_directory<S: Steps>(
     ensures reads { Reads (S.made steps.old) (S.made steps.new) (refusal_by result) }
     ensures noted { OnOk result ((W : World) → AreAnswered W (S.made steps.old) (S.made steps.new)
         → Adds [] (inode_found W.files at.inode name.now ∷ []) findings.old findings.new) }
+    ensures right { (W : World) → AreAnswered W (S.made steps.old) (S.made steps.new) → MayAsk W.files true at
+        → LeadsTo W.files at.inode name.now true → AreFair W.files (S.made steps.old) (S.made steps.new) }
+    ensures folders { OnOk result ((W : World) → AreAnswered W (S.made steps.old) (S.made steps.new)
+        → LeadsTo W.files at.inode name.now true → AreFolders W.files findings.old.tree → AreFolders W.files findings.new.tree) }
+    ensures asks { (first : List Made) → Asks first (S.made steps.old) → HasGiven first (S.made steps.old) at name.now → Asks first (S.made steps.new) }
+    ensures met { OnOk result ((first : List Made) → Asks first (S.made steps.old) → AreReached first (S.made steps.old) findings.old.tree
+        → AreReached first (S.made steps.new) findings.new.tree) }
     ensures goes { S.goes steps.old steps.new }
 {
     let name = name.copy(alloc)?;
@@ -50,6 +62,12 @@ fn note_named<S: Steps>(
     ensures reads { Reads (S.made steps.old) (S.made steps.new) (refusal_by result) }
     ensures noted { OnOk result ((W : World) → AreAnswered W (S.made steps.old) (S.made steps.new)
         → Adds (file_losses W (inode_found W.files at.inode name.now)) [] findings.old findings.new) }
+    ensures right { (W : World) → AreAnswered W (S.made steps.old) (S.made steps.new) → MayAsk W.files true at
+        → LeadsTo W.files at.inode name.now false → AreFair W.files (S.made steps.old) (S.made steps.new) }
+    ensures tree { findings.new.tree ≡ findings.old.tree }
+    ensures asks { (first : List Made) → Asks first (S.made steps.old) → HasGiven first (S.made steps.old) at name.now → Asks first (S.made steps.new) }
+    ensures met { OnOk result ((first : List Made) → Asks first (S.made steps.old) → AreReached first (S.made steps.old) findings.old.tree
+        → AreReached first (S.made steps.new) findings.new.tree) }
     ensures goes { S.goes steps.old steps.new }
 {
     let name = name.copy(alloc)?;
@@ -69,6 +87,13 @@ fn note_pair<S: Steps>(
     ensures reads { Reads (S.made steps.old) (S.made steps.new) (refusal_by result) }
     ensures noted { OnOk result ((W : World) → AreAnswered W (S.made steps.old) (S.made steps.new)
         → Adds (pair_losses W wanted at.inode line.now) (pair_folders W.files at.inode line.now) findings.old findings.new) }
+    ensures right { (W : World) → AreAnswered W (S.made steps.old) (S.made steps.new) → MayAsk W.files true at
+        → LeadsTo W.files at.inode line.now.name (is_folder line.now.kind) → AreFair W.files (S.made steps.old) (S.made steps.new) }
+    ensures folders { OnOk result ((W : World) → AreAnswered W (S.made steps.old) (S.made steps.new)
+        → LeadsTo W.files at.inode line.now.name (is_folder line.now.kind) → AreFolders W.files findings.old.tree → AreFolders W.files findings.new.tree) }
+    ensures asks { (first : List Made) → Asks first (S.made steps.old) → HasGiven first (S.made steps.old) at line.now.name → Asks first (S.made steps.new) }
+    ensures met { OnOk result ((first : List Made) → Asks first (S.made steps.old) → AreReached first (S.made steps.old) findings.old.tree
+        → AreReached first (S.made steps.new) findings.new.tree) }
     ensures goes { S.goes steps.old steps.new }
 {
     match line.kind {
@@ -99,6 +124,14 @@ fn note_line<S: Steps, P: Fn(&[u8]) -> bool, R: NameRule>(
     ensures names { OnOk result ((earlier : List Line) → AreSeen seen.old earlier → AreSeen seen.new (earlier ++ line.now ∷ [])) }
     ensures noted { OnOk result ((W : World) (earlier : List Line) → AreSeen seen.old earlier → AreAnswered W (S.made steps.old) (S.made steps.new)
         → Adds (line_losses W (R.picks filter.now.rule) at.inode earlier line.now) (line_folders W.files at.inode earlier line.now) findings.old findings.new) }
+    ensures right { (W : World) (earlier : List Line) → AreSeen seen.old earlier → AreAnswered W (S.made steps.old) (S.made steps.new) → MayAsk W.files true at
+        → IsTold W.files at.inode earlier line.now → AreFair W.files (S.made steps.old) (S.made steps.new) }
+    ensures folders { OnOk result ((W : World) (earlier : List Line) → AreSeen seen.old earlier → AreAnswered W (S.made steps.old) (S.made steps.new)
+        → IsTold W.files at.inode earlier line.now → AreFolders W.files findings.old.tree → AreFolders W.files findings.new.tree) }
+    ensures asks { (first : List Made) → Asks first (S.made steps.old) → (line.now.dead ≡ false → HasGiven first (S.made steps.old) at line.now.name)
+        → Asks first (S.made steps.new) }
+    ensures met { OnOk result ((first : List Made) → Asks first (S.made steps.old) → AreReached first (S.made steps.old) findings.old.tree
+        → AreReached first (S.made steps.new) findings.new.tree) }
     ensures goes { S.goes steps.old steps.new }
 {
     let wanted = filter.picks(line.name.as_slice());
@@ -130,6 +163,13 @@ pub fn note_lines<S: Steps, P: Fn(&[u8]) -> bool, R: NameRule>(
     ensures noted { OnOk result ((W : World) (earlier : List Line) → AreSeen seen.old earlier → AreAnswered W (S.made steps.old) (S.made steps.new)
         → Adds (lines_losses W (R.picks filter.now.rule) at.inode earlier lines.now)
         (lines_folders W.files at.inode earlier lines.now) findings.old findings.new) }
+    ensures right { (W : World) (earlier : List Line) → AreSeen seen.old earlier → AreAnswered W (S.made steps.old) (S.made steps.new) → MayAsk W.files true at
+        → AreTold W.files at.inode earlier lines.now → AreFair W.files (S.made steps.old) (S.made steps.new) }
+    ensures folders { OnOk result ((W : World) (earlier : List Line) → AreSeen seen.old earlier → AreAnswered W (S.made steps.old) (S.made steps.new)
+        → AreTold W.files at.inode earlier lines.now → AreFolders W.files findings.old.tree → AreFolders W.files findings.new.tree) }
+    ensures asks { (first : List Made) → Asks first (S.made steps.old) → AreGiven first (S.made steps.old) at lines.now → Asks first (S.made steps.new) }
+    ensures met { OnOk result ((first : List Made) → Asks first (S.made steps.old) → AreGiven first (S.made steps.old) at lines.now
+        → AreReached first (S.made steps.old) findings.old.tree → AreReached first (S.made steps.new) findings.new.tree) }
     ensures goes { S.goes steps.old steps.new }
 {
     for line in lines.as_slice() {

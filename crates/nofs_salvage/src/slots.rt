@@ -1,13 +1,16 @@
 //! The lost slots of a file.
 //!
 //! Promise: each lost slot below the size is noted, in order, and no other.
-ghost use Rattle.std.specs.Prelude.{◌≡◌, ◌++◌, min, IfOk, OnOk};
+ghost use Rattle.std.specs.Prelude.{◌≡◌, ◌<◌, ℕ, List, ◌++◌, min, true, false, IfOk, OnOk};
+ghost use Rattle.nofs_machine.specs.Steps.{Made};
 ghost use Rattle.nofs_machine.specs.Machine.{slots_in as slots_of_size};
 ghost use Rattle.nofs_machine.specs.Refusals.{slots as slots_of};
 ghost use Rattle.nofs_machine.specs.World.{World};
 ghost use Rattle.nofs_salvage.specs.Reads.{Reads, refusal_by};
 ghost use Rattle.nofs_salvage.specs.Report.{lost_below, file_losses};
 ghost use Rattle.nofs_salvage.specs.Answered.{AreAnswered, IsNoted};
+ghost use Rattle.nofs_salvage.specs.Refusing.{is_there, AreFair, MayAsk};
+ghost use Rattle.nofs_salvage.specs.Asks.{Asks, HasReached, HasTold};
 
 use crate::fault::SalvageFault;
 use crate::report::{Loss, Report};
@@ -31,6 +34,12 @@ fn note_slot<S: Steps>(
     ensures reads { Reads (S.made steps.old) (S.made steps.new) (refusal_by result) }
     ensures noted { IfOk result (λ more. (W : World) → AreAnswered W (S.made steps.old) (S.made steps.new)
         → IsNoted W at.inode slot more report.old report.new) }
+    ensures right { (W : World) → AreAnswered W (S.made steps.old) (S.made steps.new) → MayAsk W.files false at
+        → AreFair W.files (S.made steps.old) (S.made steps.new) }
+    ensures asks { (first : List Made) (size : ℕ) → slot < slots_of_size size → Asks first (S.made steps.old) → HasReached first (S.made steps.old) at
+        → HasTold first (S.made steps.old) at size → Asks first (S.made steps.new) }
+    ensures told { IfOk result (λ more. (first : List Made) (size : ℕ) → more ≡ true → HasTold first (S.made steps.old) at size
+        → HasTold first (S.made steps.new) at size) }
     ensures goes { S.goes steps.old steps.new }
 {
     match get(steps, at, slot)? {
@@ -56,6 +65,10 @@ fn note_slots<S: Steps>(
     ensures reads { Reads (S.made steps.old) (S.made steps.new) (refusal_by result) }
     ensures noted { OnOk result ((W : World) → AreAnswered W (S.made steps.old) (S.made steps.new)
         → report.new ≡ report.old ++ lost_below W.files at.inode (min (slots_of_size size) (slots_of W))) }
+    ensures right { (W : World) → AreAnswered W (S.made steps.old) (S.made steps.new) → MayAsk W.files false at
+        → AreFair W.files (S.made steps.old) (S.made steps.new) }
+    ensures asks { (first : List Made) → Asks first (S.made steps.old) → HasReached first (S.made steps.old) at
+        → HasTold first (S.made steps.old) at size → Asks first (S.made steps.new) }
     ensures goes { S.goes steps.old steps.new }
 {
     for slot in 0..slots_in(size) {
@@ -74,6 +87,10 @@ pub fn note_file<S: Steps>(
 ) -> Result<(), SalvageFault>
     ensures reads { Reads (S.made steps.old) (S.made steps.new) (refusal_by result) }
     ensures noted { OnOk result ((W : World) → AreAnswered W (S.made steps.old) (S.made steps.new) → report.new ≡ report.old ++ file_losses W at.inode) }
+    ensures there { OnOk result ((W : World) → AreAnswered W (S.made steps.old) (S.made steps.new) → is_there W.files at.inode at.generation ≡ true) }
+    ensures right { (W : World) → AreAnswered W (S.made steps.old) (S.made steps.new) → MayAsk W.files false at
+        → AreFair W.files (S.made steps.old) (S.made steps.new) }
+    ensures asks { (first : List Made) → Asks first (S.made steps.old) → HasReached first (S.made steps.old) at → Asks first (S.made steps.new) }
     ensures goes { S.goes steps.old steps.new }
 {
     let size = size_of(steps, at)?;

@@ -2,12 +2,16 @@
 //!
 //! Promise: each only reads. A refusal is the fault that it ends with, but for a slot beyond what a file can have. Where the
 //! machine answers, what is told holds in its files.
-ghost use Rattle.std.specs.Prelude.{◌≡◌, IfOk, None, false};
-ghost use Rattle.nofs_machine.specs.Machine.{size_of as size_of_file};
+ghost use Rattle.std.specs.Prelude.{◌≡◌, ◌<◌, ℕ, IfOk, Bool, List, None, true, false};
+ghost use Rattle.nofs_machine.specs.Machine.{size_of as size_of_file, slots_in as slots_of_size};
+ghost use Rattle.nofs_machine.specs.Steps.{Made};
 ghost use Rattle.nofs_machine.specs.World.{World};
 ghost use Rattle.nofs_salvage.specs.Reads.{IsRead, is_get, Reads, IsAccepted, refusal_by, found_by, size_by, listed_by, got_by, is_too_large as too_large_by};
 ghost use Rattle.nofs_salvage.specs.Report.{inode_found};
 ghost use Rattle.nofs_salvage.specs.Answered.{AreAnswered, IsListedFrom, IsInFolder, IsGot};
+ghost use Rattle.nofs_salvage.specs.Refusing.{is_there, AreFair, MakesOne, MayAsk, LeadsTo};
+ghost use Rattle.nofs_salvage.specs.Told.{AreNames};
+ghost use Rattle.nofs_salvage.specs.Asks.{Asks, HasReached, HasGiven, HasTold, ListGives, has_slot};
 
 use crate::fault::{SalvageFault, fault_of};
 use nofs_lists::Name;
@@ -44,6 +48,7 @@ fn ask<S: Steps>(steps: &mut S, step: Step) -> Result<Reply, SalvageFault>
     requires no_get { is_get step ≡ false }
     ensures reads { Reads (S.made steps.old) (S.made steps.new) (refusal_by result) }
     ensures accepted { IfOk result (λ reply. IsAccepted (S.made steps.old) (S.made steps.new) step reply) }
+    ensures one { MakesOne (S.made steps.old) (S.made steps.new) step }
     ensures goes { S.goes steps.old steps.new }
 {
     match steps.step(step) {
@@ -70,6 +75,12 @@ fn found_in(reply: Reply) -> Result<Handle, SalvageFault>
 pub fn look<S: Steps>(steps: &mut S, at: Handle, name: Name) -> Result<Handle, SalvageFault>
     ensures reads { Reads (S.made steps.old) (S.made steps.new) (refusal_by result) }
     ensures found { IfOk result (λ found. (W : World) → AreAnswered W (S.made steps.old) (S.made steps.new) → inode_found W.files at.inode name ≡ found.inode) }
+    ensures there { IfOk result (λ found. (W : World) → AreAnswered W (S.made steps.old) (S.made steps.new)
+        → is_there W.files found.inode found.generation ≡ true) }
+    ensures right { (W : World) (folder : Bool) → AreAnswered W (S.made steps.old) (S.made steps.new) → MayAsk W.files true at
+        → LeadsTo W.files at.inode name folder → AreFair W.files (S.made steps.old) (S.made steps.new) }
+    ensures asks { (first : List Made) → Asks first (S.made steps.old) → HasGiven first (S.made steps.old) at name → Asks first (S.made steps.new) }
+    ensures met { IfOk result (λ found. (first : List Made) → Asks first (S.made steps.old) → HasReached first (S.made steps.new) found) }
     ensures goes { S.goes steps.old steps.new }
 {
     let step = Step::Look {
@@ -96,6 +107,11 @@ fn size_in(reply: Reply) -> Result<u64, SalvageFault>
 pub fn size_of<S: Steps>(steps: &mut S, at: Handle) -> Result<u64, SalvageFault>
     ensures reads { Reads (S.made steps.old) (S.made steps.new) (refusal_by result) }
     ensures size { IfOk result (λ size. (W : World) → AreAnswered W (S.made steps.old) (S.made steps.new) → size_of_file W.files at.inode ≡ size) }
+    ensures there { IfOk result (λ size. (W : World) → AreAnswered W (S.made steps.old) (S.made steps.new) → is_there W.files at.inode at.generation ≡ true) }
+    ensures right { (W : World) (folder : Bool) → AreAnswered W (S.made steps.old) (S.made steps.new) → MayAsk W.files folder at
+        → AreFair W.files (S.made steps.old) (S.made steps.new) }
+    ensures asks { (first : List Made) → Asks first (S.made steps.old) → HasReached first (S.made steps.old) at → Asks first (S.made steps.new) }
+    ensures told { IfOk result (λ size. (first : List Made) → Asks first (S.made steps.old) → HasTold first (S.made steps.new) at size) }
     ensures goes { S.goes steps.old steps.new }
 {
     let step = Step::Stat {
@@ -123,7 +139,13 @@ fn listed_in(reply: Reply) -> Result<Listed, SalvageFault>
 pub fn list<S: Steps>(steps: &mut S, at: Handle, slot: u64) -> Result<Listed, SalvageFault>
     ensures reads { Reads (S.made steps.old) (S.made steps.new) (refusal_by result) }
     ensures below { IfOk result IsInFolder }
+    ensures names { IfOk result AreNames }
     ensures listed { IfOk result (λ listed. (W : World) → AreAnswered W (S.made steps.old) (S.made steps.new) → IsListedFrom W.files at.inode slot listed) }
+    ensures there { IfOk result (λ listed. (W : World) → AreAnswered W (S.made steps.old) (S.made steps.new) → is_there W.files at.inode at.generation ≡ true) }
+    ensures right { (W : World) → AreAnswered W (S.made steps.old) (S.made steps.new) → MayAsk W.files true at
+        → AreFair W.files (S.made steps.old) (S.made steps.new) }
+    ensures asks { (first : List Made) → Asks first (S.made steps.old) → HasReached first (S.made steps.old) at → Asks first (S.made steps.new) }
+    ensures gives { IfOk result (λ listed. (first : List Made) → Asks first (S.made steps.old) → ListGives first (S.made steps.new) at listed) }
     ensures goes { S.goes steps.old steps.new }
 {
     let step = Step::List {
@@ -162,6 +184,12 @@ fn told(reply: Reply) -> Result<Got, SalvageFault>
 pub fn get<S: Steps>(steps: &mut S, at: Handle, slot: u64) -> Result<Got, SalvageFault>
     ensures reads { Reads (S.made steps.old) (S.made steps.new) (refusal_by result) }
     ensures got { IfOk result (λ got. (W : World) → AreAnswered W (S.made steps.old) (S.made steps.new) → IsGot W at.inode slot got) }
+    ensures right { (W : World) → AreAnswered W (S.made steps.old) (S.made steps.new) → MayAsk W.files false at
+        → AreFair W.files (S.made steps.old) (S.made steps.new) }
+    ensures asks { (first : List Made) (size : ℕ) → slot < slots_of_size size → Asks first (S.made steps.old) → HasReached first (S.made steps.old) at
+        → HasTold first (S.made steps.old) at size → Asks first (S.made steps.new) }
+    ensures told { IfOk result (λ got. (first : List Made) (size : ℕ) → has_slot got ≡ true → HasTold first (S.made steps.old) at size
+        → HasTold first (S.made steps.new) at size) }
     ensures goes { S.goes steps.old steps.new }
 {
     let step = Step::Get {

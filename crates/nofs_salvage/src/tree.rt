@@ -6,7 +6,7 @@ ghost use Rattle.std.specs.List.{list_any};
 ghost use Rattle.std.specs.Ordering.{nat_cmp};
 ghost use Rattle.std.specs.BTreeSet.{contains};
 ghost use Rattle.nofs_salvage.specs.Report.{with_one};
-ghost use Rattle.nofs_salvage.specs.Handles.{inode_of};
+ghost use Rattle.nofs_salvage.specs.Handles.{inode_of, with_handle};
 
 use crate::steps::Handle;
 use std::alloc::{AllocError, Global};
@@ -23,7 +23,8 @@ pub struct Tree {
 impl Tree {
     /// A list without directories.
     pub fn new(alloc: Global) -> Self
-        ensures { map inode_of result.list.items ≡ [] }
+        ensures empty { map inode_of result.list.items ≡ [] }
+        ensures none { result.list.items ≡ [] }
     {
         Tree {
             list: Vec::new(alloc),
@@ -33,7 +34,8 @@ impl Tree {
 
     /// Puts a directory at the end, where its inode isn't there yet.
     pub fn add(&mut self, directory: Handle) -> Result<(), AllocError>
-        ensures { OnOk result (map inode_of self.new.list.items ≡ with_one (map inode_of self.old.list.items) directory.inode) }
+        ensures inodes { OnOk result (map inode_of self.new.list.items ≡ with_one (map inode_of self.old.list.items) directory.inode) }
+        ensures handles { OnOk result (self.new.list.items ≡ with_handle self.old.list.items directory) }
     {
         if self.numbers.contains(&directory.inode) {
             return Ok(());
@@ -52,6 +54,7 @@ impl Tree {
     /// The directory at a place counted from 0, and `None` exactly where there is none.
     pub fn get(&self, at: usize) -> Option<Handle>
         ensures is { option_map inode_of result ≡ slice_get (map inode_of self.now.list.items) at }
+        ensures handle { result ≡ slice_get self.now.list.items at }
         ensures early { IfSome result (λ directory. at < 2 ^ 64 - 1) }
     {
         if at < self.list.len() {

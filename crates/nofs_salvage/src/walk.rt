@@ -1,14 +1,19 @@
 //! The walk: the label file, and then all directories from the root on.
 //!
-//! Promise: it only reads, ends with the refusal of any step but one for a slot beyond what a file can have, and else, where no
-//! file changed meanwhile, gives the report of the definition.
-ghost use Rattle.std.specs.Prelude.{◌≡◌, ◌++◌, ℕ, Bool, List, [], ◌∷◌, IfOk, OnOk};
+//! Promise: it only reads, asks only of the two first files and of what it was told itself, ends with the refusal of any step but
+//! one for a slot beyond what a file can have, and else, where no file changed meanwhile, gives the report of the definition.
+ghost use Rattle.std.specs.Prelude.{◌≡◌, ◌++◌, ℕ, Bool, true, List, [], ◌∷◌, IfOk, OnOk, IfSome};
 ghost use Rattle.std.specs.Fn.{FnReturnsAt};
 ghost use Rattle.nofs_machine.specs.World.{World};
+ghost use Rattle.nofs_machine.specs.Steps.{Made};
 ghost use Rattle.nofs_salvage.specs.Reads.{Reads, refusal_by};
 ghost use Rattle.nofs_salvage.specs.Report.{tree_losses, tree_of, report_of};
 ghost use Rattle.nofs_salvage.specs.Answered.{AreAnswered};
 ghost use Rattle.nofs_salvage.specs.Trees.{inodes_in};
+ghost use Rattle.nofs_salvage.specs.Refusing.{is_there, HasRoots, MayRefuse, AreFair};
+ghost use Rattle.nofs_salvage.specs.Handles.{root_handle};
+ghost use Rattle.nofs_salvage.specs.Told.{handles_in};
+ghost use Rattle.nofs_salvage.specs.Asks.{Asks};
 
 use crate::fault::SalvageFault;
 use crate::filter::{NameFilter, NameRule};
@@ -30,9 +35,14 @@ fn note_tree<S: Steps, P: Fn(&[u8]) -> bool, R: NameRule>(
     requires may { P.IsAlwaysCallable filter.now.keep }
     requires decides { (name : List ℕ) (yes : Bool) → FnReturnsAt P.Fn filter.now.keep name yes → yes ≡ R.picks filter.now.rule name }
     requires root { inodes_in findings.old.tree ≡ 1 ∷ [] }
+    requires handle { handles_in findings.old.tree ≡ root_handle ∷ [] }
     ensures reads { Reads (S.made steps.old) (S.made steps.new) (refusal_by result) }
     ensures noted { OnOk result ((W : World) → AreAnswered W (S.made steps.old) (S.made steps.new)
         → findings.new.report ≡ findings.old.report ++ tree_losses W (R.picks filter.now.rule) (tree_of W.files)) }
+    ensures right { (W : World) → HasRoots W.files → AreAnswered W (S.made steps.old) (S.made steps.new)
+        → AreFair W.files (S.made steps.old) (S.made steps.new) }
+    ensures there { OnOk result ((W : World) → AreAnswered W (S.made steps.old) (S.made steps.new) → is_there W.files 1 1 ≡ true) }
+    ensures asks { (first : List Made) → Asks first (S.made steps.old) → Asks first (S.made steps.new) }
     ensures goes { S.goes steps.old steps.new }
 {
     let mut at: usize = 0;
@@ -48,6 +58,12 @@ fn note_tree<S: Steps, P: Fn(&[u8]) -> bool, R: NameRule>(
 ///
 /// The steps that are made only look, list, tell sizes and read. Where one is refused, other than for a slot beyond what a file
 /// can have, the walk ends with its refusal; want of memory may end it anywhere.
+///
+/// Names are looked up only where a list gave them as not dead. Lists, sizes and slots are asked only of the root, of the label
+/// file and of what such a look found, and slots only below the size.
+///
+/// Where no file changes meanwhile, it is refused only for a read that failed, a mount that has stopped, or since inode 1 or 2
+/// isn't there with its generation. Where one of them isn't, it gives no report.
 pub fn salvage<S: Steps, P: Fn(&[u8]) -> bool, R: NameRule>(
     alloc: Global,
     steps: &mut S,
@@ -58,6 +74,10 @@ pub fn salvage<S: Steps, P: Fn(&[u8]) -> bool, R: NameRule>(
     ensures reads { Reads (S.made steps.old) (S.made steps.new) (refusal_by result) }
     ensures report { IfOk result (λ report. (W : World) → AreAnswered W (S.made steps.old) (S.made steps.new)
         → report ≡ report_of W (R.picks filter.now.rule)) }
+    ensures refused { (W : World) → HasRoots W.files → AreAnswered W (S.made steps.old) (S.made steps.new) → IfSome (refusal_by result) (MayRefuse W.files) }
+    ensures agreed { IfOk result (λ report. (W : World) → AreAnswered W (S.made steps.old) (S.made steps.new)
+        → (is_there W.files 1 1 ≡ true) × (is_there W.files 2 2 ≡ true)) }
+    ensures asks { Asks (S.made steps.old) (S.made steps.new) }
     ensures goes { S.goes steps.old steps.new }
 {
     let mut findings = Findings::new(alloc)?;

@@ -3,6 +3,9 @@ use Rattle.std.proofs.lemmas.List.{take_more}
 use Rattle.nofs_salvage.specs.Reads.{Reads, refusal_by}
 use Rattle.nofs_salvage.proofs.Reading.{reads-none, reads-on, answered-both}
 use Rattle.nofs_salvage.proofs.Adding.{lines-none, lines-on, seen-none, seen-on}
+use Rattle.nofs_salvage.proofs.Refusing.{right-none, right-on}
+use Rattle.nofs_salvage.proofs.Telling.{told-at}
+use Rattle.nofs_salvage.proofs.Asking.{given-at}
 use Rattle.nofs_salvage.proofs.lines.note_lines.Goals as goal
 
 pub loop-line-init : goal.loop-line-init
@@ -11,6 +14,10 @@ loop-line-init g c = record {
   goes = g.met.S.Steps.goes_none _;
   names = λ earlier h. seen-none c.args.seen.now earlier h;
   noted = λ W earlier h a. lines-none W (g.R.NameRule.picks c.args.filter.now.rule) c.args.at.inode earlier c.args.findings.now;
+  right = λ W earlier h a ask told. right-none W.files _;
+  folders = λ W earlier h a told f. f;
+  asks = λ first asks given. asks;
+  met = λ first asks given met. met;
 }
 
 pub returns-in_err-note_line-clause-reads : goal.returns-in_err-note_line-clause-reads
@@ -35,4 +42,37 @@ loop-line-preserved g c =
           let both = answered-both W _ _ _ _ _ inv.reads c.in_ok-note_line.ensures.reads a in
           lines-on W (g.R.NameRule.picks c.args.filter.now.rule) c.args.at.inode earlier (take i lines) (take (i + 1) lines) item _ _ _ front
           (inv.noted W earlier h both.0) (c.in_ok-note_line.ensures.noted W (earlier ++ take i lines) (inv.names earlier h) both.1);
+      right = λ W earlier h a ask told. right-on W _ _ _ _ _ inv.reads c.in_ok-note_line.ensures.reads a (λ b. inv.right W earlier h b ask told)
+          (λ b. c.in_ok-note_line.ensures.right W (earlier ++ take i lines) (inv.names earlier h) b ask
+          (told-at W.files c.args.at.inode i earlier lines item front told));
+      folders = λ W earlier h a told f.
+          let both = answered-both W _ _ _ _ _ inv.reads c.in_ok-note_line.ensures.reads a in
+          c.in_ok-note_line.ensures.folders W (earlier ++ take i lines) (inv.names earlier h) both.1
+          (told-at W.files c.args.at.inode i earlier lines item front told) (inv.folders W earlier h both.0 told f);
+      asks = λ first asks given. c.in_ok-note_line.ensures.asks first (inv.asks first asks given)
+          (given-at first _ _ _ c.args.at lines i item lt is inv.reads given);
+      met = λ first asks given met. c.in_ok-note_line.ensures.met first (inv.asks first asks given) (inv.met first asks given met);
     }
+
+pub returns-in_err-note_line-clause-right : goal.returns-in_err-note_line-clause-right
+returns-in_err-note_line-clause-right g c = λ W earlier h a ask told.
+    let lines = c.args.lines.now in
+    let i = c.loop-line.line-index in
+    let item = c.line-item.result in
+    let inv = c.loop-line.invariant in
+    let lt : i < length lines = rw c.as_slice-line-items.ensures at c.loop-line-test.true in
+    let is : item ≡ get_or lines i item = rw c.as_slice-line-items.ensures at c.line-item.is in
+    let front : take (i + 1) lines ≡ take i lines ++ item ∷ [] = take_more lines i item lt ∙ ap (λ d. take i lines ++ d ∷ []) (sym is) in
+    right-on W _ _ _ _ _ inv.reads c.note_line.ensures.reads a (λ b. inv.right W earlier h b ask told)
+    (λ b. c.note_line.ensures.right W (earlier ++ take i lines) (inv.names earlier h) b ask
+    (told-at W.files c.args.at.inode i earlier lines item front told))
+
+pub returns-in_err-note_line-clause-asks : goal.returns-in_err-note_line-clause-asks
+returns-in_err-note_line-clause-asks g c = λ first asks given.
+    let lines = c.args.lines.now in
+    let i = c.loop-line.line-index in
+    let item = c.line-item.result in
+    let inv = c.loop-line.invariant in
+    let lt : i < length lines = rw c.as_slice-line-items.ensures at c.loop-line-test.true in
+    let is : item ≡ get_or lines i item = rw c.as_slice-line-items.ensures at c.line-item.is in
+    c.note_line.ensures.asks first (inv.asks first asks given) (given-at first _ _ _ c.args.at lines i item lt is inv.reads given)

@@ -1,10 +1,14 @@
-use Rattle.std.proofs.Common.{◌++◌, List, take, None}
+use Rattle.std.proofs.Common.{◌++◌, List, take, true, None}
 use Rattle.nofs_machine.specs.World.{World}
+use Rattle.nofs_machine.specs.Steps.{Made}
 use Rattle.nofs_machine.specs.declared.replies.NameLine.{NameLine}
 use Rattle.nofs_salvage.specs.Reads.{Reads}
 use Rattle.nofs_salvage.specs.Report.{lines_losses, lines_folders}
 use Rattle.nofs_salvage.specs.Answered.{AreAnswered}
 use Rattle.nofs_salvage.specs.Trees.{AreSeen, Adds}
+use Rattle.nofs_salvage.specs.Refusing.{MayAsk, AreFair}
+use Rattle.nofs_salvage.specs.Told.{AreTold, AreFolders}
+use Rattle.nofs_salvage.specs.Asks.{Asks, AreGiven, AreReached}
 use Rattle.nofs_salvage.proofs.lines.note_lines.Given as goal
 
 abbrev pub invariant-loop-line : goal.invariant-loop-line
@@ -15,4 +19,13 @@ invariant-loop-line g l = record {
   noted : (W : World) (earlier : List NameLine) → AreSeen l.initial.seen earlier → AreAnswered W (g.S.Steps.made l.initial.steps) (g.S.Steps.made l.steps)
       → Adds (lines_losses W (g.R.NameRule.picks l.filter.rule) l.at.inode earlier (take l.line-index l.lines))
       (lines_folders W.files l.at.inode earlier (take l.line-index l.lines)) l.initial.findings l.findings;
+  right : (W : World) (earlier : List NameLine) → AreSeen l.initial.seen earlier → AreAnswered W (g.S.Steps.made l.initial.steps) (g.S.Steps.made l.steps)
+      → MayAsk W.files true l.at → AreTold W.files l.at.inode earlier l.lines
+      → AreFair W.files (g.S.Steps.made l.initial.steps) (g.S.Steps.made l.steps);
+  folders : (W : World) (earlier : List NameLine) → AreSeen l.initial.seen earlier → AreAnswered W (g.S.Steps.made l.initial.steps) (g.S.Steps.made l.steps)
+      → AreTold W.files l.at.inode earlier l.lines → AreFolders W.files l.initial.findings.tree → AreFolders W.files l.findings.tree;
+  asks : (first : List Made) → Asks first (g.S.Steps.made l.initial.steps) → AreGiven first (g.S.Steps.made l.initial.steps) l.at l.lines
+      → Asks first (g.S.Steps.made l.steps);
+  met : (first : List Made) → Asks first (g.S.Steps.made l.initial.steps) → AreGiven first (g.S.Steps.made l.initial.steps) l.at l.lines
+      → AreReached first (g.S.Steps.made l.initial.steps) l.initial.findings.tree → AreReached first (g.S.Steps.made l.steps) l.findings.tree;
 }

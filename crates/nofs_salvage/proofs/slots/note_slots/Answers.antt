@@ -3,6 +3,8 @@ use Rattle.nofs_machine.specs.Machine.{slots_in}
 use Rattle.nofs_salvage.specs.Reads.{Reads, refusal_by}
 use Rattle.nofs_salvage.proofs.Reading.{reads-none, reads-on, answered-both}
 use Rattle.nofs_salvage.proofs.LostSlots.{lost-none, noted-on, noted-end}
+use Rattle.nofs_salvage.proofs.Refusing.{right-none, right-on}
+use Rattle.nofs_salvage.proofs.Asking.{met-on}
 use Rattle.nofs_salvage.proofs.slots.note_slots.Goals as goal
 
 pub loop-slot-init : goal.loop-slot-init
@@ -10,6 +12,9 @@ loop-slot-init g c = record {
   reads = reads-none _;
   goes = g.met.S.Steps.goes_none _;
   noted = λ W a. (omega arith, lost-none W.files c.args.at.inode c.args.report.now);
+  right = λ W a ask. right-none W.files _;
+  asks = λ first asks met told. asks;
+  told = λ first told. told;
 }
 
 pub returns-in_err-note_slot-clause-reads : goal.returns-in_err-note_slot-clause-reads
@@ -37,4 +42,31 @@ loop-slot-preserved g c =
           let both = answered-both W _ _ _ _ _ c.loop-slot.invariant.reads c.in_ok-note_slot.ensures.reads a in
           noted-on W c.args.at.inode c.loop-slot.slot c.in_ok-note_slot.field-0 _ _ _ more (c.loop-slot.invariant.noted W both.0)
           (c.in_ok-note_slot.ensures.noted W both.1);
+      right = λ W a ask. right-on W _ _ _ _ _ c.loop-slot.invariant.reads c.in_ok-note_slot.ensures.reads a
+          (λ b. c.loop-slot.invariant.right W b ask) (λ b. c.in_ok-note_slot.ensures.right W b ask);
+      asks = λ first asks met told.
+          let low : c.loop-slot.slot < slots_in c.args.size = rw c.slots_in-slot-end.ensures at c.loop-slot-test.true in
+          c.in_ok-note_slot.ensures.asks first c.args.size low (c.loop-slot.invariant.asks first asks met told)
+          (met-on first _ _ _ c.args.at c.loop-slot.invariant.reads met) (c.loop-slot.invariant.told first told);
+      told = λ first told. c.in_ok-note_slot.ensures.told first c.args.size more (c.loop-slot.invariant.told first told);
     }
+
+pub returns-in_err-note_slot-clause-right : goal.returns-in_err-note_slot-clause-right
+returns-in_err-note_slot-clause-right g c = λ W a ask. right-on W _ _ _ _ _ c.loop-slot.invariant.reads c.note_slot.ensures.reads a
+    (λ b. c.loop-slot.invariant.right W b ask) (λ b. c.note_slot.ensures.right W b ask)
+
+pub returns-then-not-branch-clause-right : goal.returns-then-not-branch-clause-right
+returns-then-not-branch-clause-right g c = λ W a ask. right-on W _ _ _ _ _ c.loop-slot.invariant.reads c.note_slot.ensures.reads a
+    (λ b. c.loop-slot.invariant.right W b ask) (λ b. c.note_slot.ensures.right W b ask)
+
+pub returns-in_err-note_slot-clause-asks : goal.returns-in_err-note_slot-clause-asks
+returns-in_err-note_slot-clause-asks g c = λ first asks met told.
+    let low : c.loop-slot.slot < slots_in c.args.size = rw c.slots_in-slot-end.ensures at c.loop-slot-test.true in
+    c.note_slot.ensures.asks first c.args.size low (c.loop-slot.invariant.asks first asks met told)
+    (met-on first _ _ _ c.args.at c.loop-slot.invariant.reads met) (c.loop-slot.invariant.told first told)
+
+pub returns-then-not-branch-clause-asks : goal.returns-then-not-branch-clause-asks
+returns-then-not-branch-clause-asks g c = λ first asks met told.
+    let low : c.loop-slot.slot < slots_in c.args.size = rw c.slots_in-slot-end.ensures at c.loop-slot-test.true in
+    c.note_slot.ensures.asks first c.args.size low (c.loop-slot.invariant.asks first asks met told)
+    (met-on first _ _ _ c.args.at c.loop-slot.invariant.reads met) (c.loop-slot.invariant.told first told)

@@ -1,9 +1,12 @@
-use Rattle.std.proofs.Common.{◌≡◌, ◌≤◌, ◌++◌, None}
+use Rattle.std.proofs.Common.{◌≡◌, ◌≤◌, ◌++◌, List, false, None}
 use Rattle.nofs_machine.specs.Refusals.{slots}
 use Rattle.nofs_machine.specs.World.{World}
+use Rattle.nofs_machine.specs.Steps.{Made}
 use Rattle.nofs_salvage.specs.Reads.{Reads}
 use Rattle.nofs_salvage.specs.Report.{lost_below}
 use Rattle.nofs_salvage.specs.Answered.{AreAnswered}
+use Rattle.nofs_salvage.specs.Refusing.{MayAsk, AreFair}
+use Rattle.nofs_salvage.specs.Asks.{Asks, HasReached, HasTold}
 use Rattle.nofs_salvage.proofs.slots.note_slots.Given as goal
 
 abbrev pub invariant-loop-slot : goal.invariant-loop-slot
@@ -12,4 +15,9 @@ invariant-loop-slot g l = record {
   goes : g.S.Steps.goes l.initial.steps l.steps;
   noted : (W : World) → AreAnswered W (g.S.Steps.made l.initial.steps) (g.S.Steps.made l.steps)
       → (l.slot ≤ slots W) × (l.report ≡ l.initial.report ++ lost_below W.files l.at.inode l.slot);
+  right : (W : World) → AreAnswered W (g.S.Steps.made l.initial.steps) (g.S.Steps.made l.steps) → MayAsk W.files false l.at
+      → AreFair W.files (g.S.Steps.made l.initial.steps) (g.S.Steps.made l.steps);
+  asks : (first : List Made) → Asks first (g.S.Steps.made l.initial.steps) → HasReached first (g.S.Steps.made l.initial.steps) l.at
+      → HasTold first (g.S.Steps.made l.initial.steps) l.at l.size → Asks first (g.S.Steps.made l.steps);
+  told : (first : List Made) → HasTold first (g.S.Steps.made l.initial.steps) l.at l.size → HasTold first (g.S.Steps.made l.steps) l.at l.size;
 }

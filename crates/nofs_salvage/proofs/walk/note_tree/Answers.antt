@@ -1,8 +1,11 @@
-use Rattle.std.proofs.Common.{◌≡◌, ◌≤◌, ◌^◌, None, sym, arith, rules}
+use Rattle.std.proofs.Common.{◌≡◌, ◌≤◌, ◌^◌, None, inl, refl, sym, ◌∙◌, arith, rules}
 use Rattle.nofs_salvage.specs.Handles.{inode_of}
 use Rattle.nofs_salvage.specs.Reads.{Reads, refusal_by}
 use Rattle.nofs_salvage.proofs.Reading.{reads-none, reads-on, answered-both}
 use Rattle.nofs_salvage.proofs.Growing.{grown-none, grown-on, grown-end, none-left}
+use Rattle.nofs_salvage.proofs.Refusing.{right-none, right-on}
+use Rattle.nofs_salvage.proofs.Handing.{folders-root, folder-at, rooted-on, rooted-end}
+use Rattle.nofs_salvage.proofs.Asking.{met-root, met-at}
 use Rattle.nofs_salvage.proofs.walk.note_tree.Goals as goal
 
 pub loop-directory-init : goal.loop-directory-init
@@ -10,6 +13,11 @@ loop-directory-init g c = record {
   reads = reads-none _;
   goes = g.met.S.Steps.goes_none _;
   grown = λ W a. grown-none W (g.R.NameRule.picks c.args.filter.now.rule) c.args.findings.now c.requires.root;
+  right = λ W roots a. right-none W.files _;
+  folders = λ W roots a. folders-root W.files c.args.findings.now.tree roots c.requires.handle;
+  rooted = λ W a. inl (refl, c.requires.handle);
+  asks = λ first asks. asks;
+  met = λ first asks. met-root first _ c.args.findings.now.tree asks c.requires.handle;
 }
 
 pub returns-in_err-note_folder-clause-reads : goal.returns-in_err-note_folder-clause-reads
@@ -27,6 +35,23 @@ loop-directory-preserved g c =
           grown-on W (g.R.NameRule.picks c.args.filter.now.rule) c.loop-directory.at c.in-Some.directory.inode c.args.findings.now.report
           c.loop-directory.findings c.note_folder.new.findings
           (inv.grown W both.0) (sym c.in-Some.ensures.is) (c.in_ok-note_folder.ensures.noted W both.1);
+      right = λ W roots a.
+          let both = answered-both W _ _ _ _ _ inv.reads c.in_ok-note_folder.ensures.reads a in
+          right-on W _ _ _ _ _ inv.reads c.in_ok-note_folder.ensures.reads a (λ b. inv.right W roots b)
+          (λ b. c.in_ok-note_folder.ensures.right W b (folder-at W.files c.loop-directory.findings.tree c.loop-directory.at c.in-Some.directory
+          (sym c.in-Some.ensures.handle) (inv.folders W roots both.0)));
+      folders = λ W roots a.
+          let both = answered-both W _ _ _ _ _ inv.reads c.in_ok-note_folder.ensures.reads a in
+          c.in_ok-note_folder.ensures.folders W both.1 (inv.folders W roots both.0);
+      rooted = λ W a.
+          let both = answered-both W _ _ _ _ _ inv.reads c.in_ok-note_folder.ensures.reads a in
+          rooted-on W.files c.loop-directory.at c.loop-directory.findings.tree c.note_folder.new.findings.tree c.in-Some.directory
+          (sym c.in-Some.ensures.handle) (c.in_ok-note_folder.ensures.there W both.1) (inv.rooted W both.0);
+      asks = λ first asks. c.in_ok-note_folder.ensures.asks first (inv.asks first asks)
+          (met-at first _ c.loop-directory.findings.tree c.loop-directory.at c.in-Some.directory (sym c.in-Some.ensures.handle) (inv.met first asks));
+      met = λ first asks. c.in_ok-note_folder.ensures.met first (inv.asks first asks)
+          (met-at first _ c.loop-directory.findings.tree c.loop-directory.at c.in-Some.directory (sym c.in-Some.ensures.handle) (inv.met first asks))
+          (inv.met first asks);
     }
 
 pub returns-clause-noted : goal.returns-clause-noted
@@ -36,3 +61,22 @@ returns-clause-noted g c = λ W a.
     grown-end W (g.R.NameRule.picks c.args.filter.now.rule) c.loop-directory.at c.args.findings.now.report c.loop-directory.findings low
     (c.loop-directory.invariant.grown W a)
     (none-left c.get.result inode_of _ c.get.ensures.is none)
+
+pub returns-in_err-note_folder-clause-right : goal.returns-in_err-note_folder-clause-right
+returns-in_err-note_folder-clause-right g c = λ W roots a.
+    let inv = c.loop-directory.invariant in
+    let both = answered-both W _ _ _ _ _ inv.reads c.note_folder.ensures.reads a in
+    right-on W _ _ _ _ _ inv.reads c.note_folder.ensures.reads a (λ b. inv.right W roots b)
+    (λ b. c.note_folder.ensures.right W b (folder-at W.files c.loop-directory.findings.tree c.loop-directory.at c.in-Some.directory
+    (sym c.in-Some.ensures.handle) (inv.folders W roots both.0)))
+
+pub returns-clause-there : goal.returns-clause-there
+returns-clause-there g c = λ W a.
+    let none : c.get.result ≡ None = c.in_default.is in
+    rooted-end W.files c.loop-directory.at c.loop-directory.findings.tree (sym c.get.ensures.handle ∙ none) (c.loop-directory.invariant.rooted W a)
+
+pub returns-in_err-note_folder-clause-asks : goal.returns-in_err-note_folder-clause-asks
+returns-in_err-note_folder-clause-asks g c = λ first asks.
+    let inv = c.loop-directory.invariant in
+    c.note_folder.ensures.asks first (inv.asks first asks)
+    (met-at first _ c.loop-directory.findings.tree c.loop-directory.at c.in-Some.directory (sym c.in-Some.ensures.handle) (inv.met first asks))

@@ -1,7 +1,11 @@
-use Rattle.std.proofs.Common.{◌-◌, ◌^◌, None}
+use Rattle.std.proofs.Common.{◌-◌, ◌^◌, List, None}
 use Rattle.nofs_machine.specs.World.{World}
+use Rattle.nofs_machine.specs.Steps.{Made}
 use Rattle.nofs_salvage.specs.Reads.{Reads}
 use Rattle.nofs_salvage.specs.Answered.{AreAnswered}
+use Rattle.nofs_salvage.specs.Refusing.{HasRoots, AreFair}
+use Rattle.nofs_salvage.specs.Told.{AreFolders, IsRooted}
+use Rattle.nofs_salvage.specs.Asks.{Asks, AreReached}
 use Rattle.nofs_salvage.proofs.Growing.{IsGrown}
 use Rattle.nofs_salvage.proofs.walk.note_tree.Given as goal
 
@@ -11,6 +15,13 @@ invariant-loop-directory g l = record {
   goes : g.S.Steps.goes l.initial.steps l.steps;
   grown : (W : World) → AreAnswered W (g.S.Steps.made l.initial.steps) (g.S.Steps.made l.steps)
       → IsGrown W (g.R.NameRule.picks l.filter.rule) l.at l.initial.findings.report l.findings;
+  right : (W : World) → HasRoots W.files → AreAnswered W (g.S.Steps.made l.initial.steps) (g.S.Steps.made l.steps)
+      → AreFair W.files (g.S.Steps.made l.initial.steps) (g.S.Steps.made l.steps);
+  folders : (W : World) → HasRoots W.files → AreAnswered W (g.S.Steps.made l.initial.steps) (g.S.Steps.made l.steps)
+      → AreFolders W.files l.findings.tree;
+  rooted : (W : World) → AreAnswered W (g.S.Steps.made l.initial.steps) (g.S.Steps.made l.steps) → IsRooted W.files l.at l.findings.tree;
+  asks : (first : List Made) → Asks first (g.S.Steps.made l.initial.steps) → Asks first (g.S.Steps.made l.steps);
+  met : (first : List Made) → Asks first (g.S.Steps.made l.initial.steps) → AreReached first (g.S.Steps.made l.steps) l.findings.tree;
 }
 
 abbrev pub decreases-loop-directory : goal.decreases-loop-directory
