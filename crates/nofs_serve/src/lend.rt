@@ -1,7 +1,8 @@
 //! All workers at once.
 ghost use Rattle.std.specs.Prelude.{◌≡◌, ℕ, ◌<◌, length, slice_index_or};
 
-use crate::works::Works;
+use crate::works::{Visits, Works};
+use nofs_machine::Steps;
 use std::thread;
 use std::thread::Threads;
 
@@ -43,6 +44,32 @@ pub fn work_team<
         rt,
         &mut || work_all(rt, users.as_mut_slice()),
         &mut || work_three(rt, inodes, blocks, flusher),
+    );
+}
+
+/// Lends both sweepers and the flusher to threads at once, while a visitor works on this one. Each has then done its work once.
+pub fn work_beside<
+    R: Threads + Sync,
+    I: Works + Send,
+    B: Works + Send,
+    F: Works + Send,
+    G: Visits,
+    S: Steps,
+>(rt: &R, inodes: &mut I, blocks: &mut B, flusher: &mut F, visitor: &mut G, steps: &mut S)
+    requires { G.is_ready visitor.old }
+    ensures inodes { I.worked inodes.old inodes.new }
+    ensures blocks { B.worked blocks.old blocks.new }
+    ensures flusher { F.worked flusher.old flusher.new }
+    ensures visited { G.visited visitor.old visitor.new (S.made steps.old) (S.made steps.new) }
+    ensures goes { S.goes steps.old steps.new }
+{
+    thread::join_mut(
+        rt,
+        &mut || work_three(rt, inodes, blocks, flusher),
+        &mut ||
+            requires { G.is_ready visitor.now }
+            ensures { G.visited visitor.entry.now visitor.exit.now (S.made steps.entry.now) (S.made steps.exit.now) × S.goes steps.entry.now steps.exit.now }
+        { visitor.visit(steps) },
     );
 }
 

@@ -50,8 +50,8 @@ pub struct TeamRoom<'a, R: Wait, V: Serves, T: Gate> {
     pub lines: Vec<LineList>,
 }
 
-// The pass that comes last, for this caller.
-fn seat<'a, R, V: Serves>(
+/// The pass that comes last, for this caller.
+pub fn seat<'a, R, V: Serves>(
     rt: &'a R,
     alloc: Global,
     shared: &'a SharedMount<V>,

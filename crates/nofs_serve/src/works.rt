@@ -1,5 +1,6 @@
 //! What works, and what each kind of worker has then done.
-ghost use Rattle.std.specs.Prelude.{◌≡◌};
+ghost use Rattle.std.specs.Prelude.{◌≡◌, List};
+ghost use Rattle.nofs_machine.specs.Steps.{Made};
 
 use nofs_machine::Steps;
 use nofs_workers::{
@@ -14,6 +15,24 @@ pub trait Works {
     /// Does its work.
     fn work(&mut self)
         ensures { worked self.old self.new };
+}
+
+/// Someone who works at a mount through one way to it.
+pub trait Visits {
+    /// What a visitor must bring.
+    ghost is_ready: { Self → Type 0 };
+
+    /// What a call of `visit` has done, by the steps that were made before it and those after it.
+    ghost visited: { Self → Self → List Made → List Made → Type 0 };
+
+    /// Where memory was wanting to begin, no step was made, and the visitor stays as it was.
+    ghost visited_none: { (visitor : Self) (made : List Made) → is_ready visitor → visited visitor visitor made made };
+
+    /// Works by making steps.
+    fn visit<S: Steps>(&mut self, steps: &mut S)
+        requires { is_ready self.old }
+        ensures visited { visited self.old self.new (S.made steps.old) (S.made steps.new) }
+        ensures goes { S.goes steps.old steps.new };
 }
 
 impl<S: Steps, T: Gate> Works for UserWorker<S, T> {
