@@ -22,19 +22,25 @@ use Rattle.nofs.specs.Complete.{CanBeFormatted, CanBeMounted, HoldsSession, None
 use Rattle.nofs.specs.Tool.{IsBad, IsFaulty, IsRefusedBy, IsFaultless, IsStatus, WithText}
 
 -- all that was left was taken
-consumed : (old new : Option (List ℕ)) (text bytes : List ℕ) → old ≡ Some text → Consumes old new bytes → IsAtEnd new → bytes ≡ text
+pub consumed : (old new : Option (List ℕ)) (text bytes : List ℕ) → old ≡ Some text → Consumes old new bytes → IsAtEnd new → bytes ≡ text
 consumed None new text bytes is c e = absurd (cc is)
 consumed (Some xs) None text bytes is c e = absurd c
 consumed (Some xs) (Some ys) text bytes is c e =
     sym (append-nil bytes) ∙ (ap (λ l. bytes ++ l) (sym e) ∙ (sym c ∙ ap (λ (o : Option (List ℕ)). unwrap_or o []) is))
 
-consumed-most : (old new : Option (List ℕ)) (text bytes : List ℕ) → old ≡ Some text → Consumes old new bytes → length bytes ≤ length text
+pub consumed-most : (old new : Option (List ℕ)) (text bytes : List ℕ) → old ≡ Some text → Consumes old new bytes → length bytes ≤ length text
 consumed-most None new text bytes is c = absurd (cc is)
 consumed-most (Some xs) None text bytes is c = absurd c
 consumed-most (Some xs) (Some ys) text bytes is c =
     let whole : bytes ++ ys ≡ text = sym c ∙ ap (λ (o : Option (List ℕ)). unwrap_or o []) is in
     let n = ap length whole in
     omega (arith, n, length-append bytes ys)
+
+-- what was taken is a front of it
+pub consumed-front : (old new : Option (List ℕ)) (text bytes : List ℕ) → old ≡ Some text → Consumes old new bytes → (back : List ℕ) × (text ≡ bytes ++ back)
+consumed-front None new text bytes is c = absurd (cc is)
+consumed-front (Some xs) None text bytes is c = absurd c
+consumed-front (Some xs) (Some ys) text bytes is c = (ys, ap (λ (o : Option (List ℕ)). unwrap_or o []) (sym is) ∙ c)
 
 -- a text that holds a session is none of the others
 pub held-not-bad : (old new : SourceState) (limit : ℕ) → HoldsSession old limit → WithText old new limit IsBad → ⊥

@@ -14,6 +14,7 @@ use Rattle.nofs_model.proofs.Formatted.{formatted-law}
 use Rattle.nofs_io.specs.Calls.{SourceState}
 use Rattle.nofs_io.specs.Texts.{IsWhole}
 use Rattle.nofs_machine.specs.HistoryState.{HistoryState}
+use Rattle.nofs_machine.specs.Steps.{Made}
 use Rattle.nofs_machine.specs.declared.history.Entry1.{Entry1}
 use Rattle.nofs_machine.specs.declared.replies.Reply.TheVariants as reply
 use Rattle.nofs_machine.specs.declared.replies.Refusal.TheVariants as refusal
@@ -31,8 +32,10 @@ use Rattle.nofs.specs.Headline.{FollowsDrill, FollowsScripts, HeadlineOf, IsDril
 use Rattle.nofs.specs.Serving.{IsClosed, IsSessionRun}
 use Rattle.nofs.specs.Tool.{WithSession, WithText}
 use Rattle.nofs.specs.Entries.{has_fault}
+use Rattle.nofs.specs.Visits.{FollowsVisit, IsVisitFollowed}
 use Rattle.nofs.specs.Whole.{Finished, IsMet, IsWholeScan, ShowsDisk}
 use Rattle.nofs.proofs.Sessions.{run-closed}
+use Rattle.nofs.proofs.Visits.{whole-visit}
 use Rattle.nofs.proofs.Whole.{settled-end, whole-drill, whole-scan}
 
 -- a format leaves a disk on which the premises are met, where it tells
@@ -132,6 +135,15 @@ pub drill-of : (start steps : ℕ) (found before last : DiskState) (first status
 drill-of start steps found before last first status k text ran h zero some stands ends f closed unsaid sound =
     headline-any (FollowsDrill start steps) found before last first status k text ran h zero some stands ends f.short f.early f.follows closed unsaid sound
     (λ at B V follows run ok shows. whole-drill start steps at ran.entries ran.start 0 B V last.now follows run ok shows)
+
+-- of a visit
+pub visit-of : (P : List Made → Type 0) (found before last : DiskState) (first status : ℕ) (k : Books) (text : Option (List ℕ)) (ran : HistoryState)
+    (h : Option HistoryState) → first ≡ 0 → h ≡ Some ran → ∥ IsMount found before first k ∥₁ → ∥ Finished found last first ran ∥₁
+    → IsVisitFollowed P k.at text ran.entries → IfSome text (λ _. IsClosed last ran.entries) → (text ≡ None → status ≡ 7)
+    → (status ≡ 0 → has_fault ran.entries ≡ false) → IfSome h (λ x. ∥ IsHeadlineOf (FollowsVisit P) found last status x ∥₁)
+visit-of P found before last first status k text ran h zero some stands ends f closed unsaid sound =
+    headline-any (FollowsVisit P) found before last first status k text ran h zero some stands ends f.short f.early f.follows closed unsaid sound
+    (λ at B V follows run ok shows. whole-visit P at ran.entries ran.start 0 B V last.now follows run ok shows)
 
 module _ {D : Type 0} (state : D → DiskState) where
   pub new-headline : (numbers : Numbers) (scripts : List (List Command)) (old found : D) (last : DiskState) (status : ℕ) (h : Option HistoryState)

@@ -12,3 +12,6 @@ pub mod Counted
 pub mod Complete
 pub mod Causes
 pub mod Saying
+pub mod Visits
+pub mod Frames
+pub mod Salvages

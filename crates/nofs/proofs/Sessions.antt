@@ -57,7 +57,7 @@ sweeps-shorter Item kind count out short made less s = record {
   makes = s.makes;
 }
 
-twice : (b : Bool) → not (not b) ≡ false → b ≡ false
+pub twice : (b : Bool) → not (not b) ≡ false → b ≡ false
 twice true e = e
 twice false e = refl
 

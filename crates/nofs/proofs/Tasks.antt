@@ -2,10 +2,10 @@
 use Rattle.std.proofs.Common.{◌≡◌, ◌≢◌, ℕ, List, [], ◌∷◌, length, None, refl}
 use Rattle.nofs.specs.Words.{task_in}
 
--- a command has one word or three
-pub task-none : (words : List (List ℕ)) → length words ≢ 1 → length words ≢ 3 → task_in words ≡ None
-task-none [] one three = refl
-task-none (a ∷ []) one three = absurd (one refl)
-task-none (a ∷ b ∷ []) one three = refl
-task-none (a ∷ b ∷ c ∷ []) one three = absurd (three refl)
-task-none (a ∷ b ∷ c ∷ d ∷ rest) one three = refl
+-- a command has one word, two or three
+pub task-none : (words : List (List ℕ)) → length words ≢ 1 → length words ≢ 2 → length words ≢ 3 → task_in words ≡ None
+task-none [] one two three = refl
+task-none (a ∷ []) one two three = absurd (one refl)
+task-none (a ∷ b ∷ []) one two three = absurd (two refl)
+task-none (a ∷ b ∷ c ∷ []) one two three = absurd (three refl)
+task-none (a ∷ b ∷ c ∷ d ∷ rest) one two three = refl

@@ -36,11 +36,11 @@ use Rattle.nofs.specs.Serving.{IsClosed, IsSessionRun}
 use Rattle.nofs.specs.Whole.{Finished, IsWholeScan, ShowsDisk}
 use Rattle.nofs.proofs.Known.{flushed-last, blocks-seen, has-added, inodes-seen, no-fault, run-goes}
 
-not-write : (r : Reply) → is_fault r ≡ false → is_write_fault r ≡ false
+pub not-write : (r : Reply) → is_fault r ≡ false → is_write_fault r ≡ false
 not-write (reply.Refused refusal.WriteFault) e = absurd (cc e)
 not-write _ e = refl
 
-or-none : (a b : Bool) → b ≡ false → (a || b) ≡ a
+pub or-none : (a b : Bool) → b ≡ false → (a || b) ≡ a
 or-none true b e = refl
 or-none false b e = e
 
@@ -125,7 +125,7 @@ world-going B first = refl
 module _ (at : SuperBlock) (served H : List Entry1) (flush : Reply) (closes : AddsStep 0 (step.Flush 0 0) flush served H)
     (inodes_seen : Sweeps (λ place item. item ≡ place) Inode 0 at.inodes false [] (steps_by 9 served))
     (blocks_seen : Sweeps (λ place item. item ≡ at.blocks - 1 - place) Block 0 at.blocks false [] (steps_by 10 served)) where
-  whole-by : (start first : ℕ) (B : Image) (V : World) (X : Image) → Run start (world_of B first) H V → has_fault H ≡ false → ShowsDisk at V X → IsWholeScan V X
+  pub whole-by : (start first : ℕ) (B : Image) (V : World) (X : Image) → Run start (world_of B first) H V → has_fault H ≡ false → ShowsDisk at V X → IsWholeScan V X
   whole-by start first B V X r ok shows =
       let g = run-goes H start (world_of B first) V r (world-going B first) ok in
       let inodes : (super_at X).inodes ≡ at.inodes = ap (λ (s : SuperBlock). s.inodes) shows.numbers in

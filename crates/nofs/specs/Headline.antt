@@ -14,10 +14,13 @@ use Rattle.nofs_client.specs.declared.lines.Line.{Line}
 use Rattle.nofs_shared.specs.Ends.{Ends}
 use Rattle.nofs.specs.declared.begin.Numbers.{Numbers}
 use Rattle.nofs.specs.declared.words.Request.{Request}
-use Rattle.nofs.specs.declared.words.Request.TheVariants.{New, Run, Scan, Drill, Upgrade}
+use Rattle.nofs.specs.declared.words.Request.TheVariants.{New, Run, Scan, Drill, Upgrade, Salvage, Wire}
 use Rattle.nofs.specs.Drill.{IsDrillRun}
 use Rattle.nofs.specs.Serving.{IsSessionRun}
+use Rattle.nofs.specs.Salvaging.{AreReads}
 use Rattle.nofs.specs.Tool.{WithText, WithSession}
+use Rattle.nofs.specs.Visits.{FollowsVisit}
+use Rattle.nofs.specs.Wiring.{IsWired}
 use Rattle.nofs.specs.Whole.{IsMet, IsWholeScan}
 
 -- The entries of a history are just the steps that a session asks for: of each user those of its commands, in order, by the replies
@@ -76,10 +79,14 @@ module _ {D : Type 0} (state : D → DiskState) where
     pub met : IsTrue (state old).tells → IsMet (state found)
     pub headline : ∥ IsHeadlineOf (FollowsDrill start steps) (state found) last status h ∥₁
 
-  -- of a task: the session is the one that its source spells, and a scan has no users
+  -- of a task: the session is the one that its source spells, and a scan has no users; a salvage has one caller that reads, and
+  -- frames have one whose steps are theirs
   abbrev pub HeadlineIn : Option Request → SourceState → SourceState → ℕ → D → DiskState → ℕ → HistoryState → Type 0
   HeadlineIn None source_old source_new limit old last status h = ⊥
   HeadlineIn (Some Upgrade) source_old source_new limit old last status h = ⊥
+  HeadlineIn (Some Salvage) source_old source_new limit old last status h = ∥ IsHeadlineOf (FollowsVisit AreReads) (state old) last status h ∥₁
+  HeadlineIn (Some Wire) source_old source_new limit old last status h =
+      ∥ IsHeadlineOf (FollowsVisit (IsWired source_old.left source_new.left)) (state old) last status h ∥₁
   HeadlineIn (Some Scan) source_old source_new limit old last status h = HeadlineOf None [] old last status h
   HeadlineIn (Some (Drill start steps)) source_old source_new limit old last status h = IsDrillHeadline start steps old last status h
   HeadlineIn (Some Run) source_old source_new limit old last status h = WithText source_old source_new limit (λ text.

@@ -6,6 +6,9 @@ pub mod Drill
 pub mod Whole
 pub mod Counts
 pub mod Tool
+pub mod Visits
+pub mod Wiring
+pub mod Salvaging
 pub mod Headline
 pub mod Complete
 pub mod Upgrading

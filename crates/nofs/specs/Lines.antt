@@ -16,7 +16,7 @@ use Rattle.nofs.specs.declared.begin.Cause.TheVariants as cause
 
 -- of words that are no command
 unfoldable pub usage_line : List ℕ
-usage_line = codes "usage: nofs IMAGE new BLOCKS INODES | run | scan | drill START STEPS | upgrade\n"
+usage_line = codes "usage: nofs IMAGE new BLOCKS INODES | run | scan | drill START STEPS | upgrade | salvage [PREFIX] | wire\n"
 
 -- of a source that failed
 unfoldable pub source_fault_line : List ℕ

@@ -1,5 +1,5 @@
 -- What a sink was told, by the status of the run.
-use Rattle.std.specs.Prelude.{◌≡◌, ◌⊎◌, ℕ, List, [], Err, IfSome, Some, None}
+use Rattle.std.specs.Prelude.{◌≡◌, ◌⊎◌, ℕ, List, [], Result, Err, IfSome, Some, None}
 use Rattle.std.specs.declared.option.Option.{Option}
 use Rattle.nofs_disk.specs.Disk.{Rose}
 use Rattle.nofs_io.specs.Calls.{SourceState, SinkState}
@@ -8,17 +8,20 @@ use Rattle.nofs_machine.specs.HistoryState.{HistoryState}
 use Rattle.nofs_client.specs.declared.commands.Command.{Command}
 use Rattle.nofs_script.specs.Sessions.{session_of}
 use Rattle.nofs_script.specs.declared.faults.ScriptFault.{ScriptFault}
+use Rattle.nofs_salvage.specs.declared.report.Loss.{Loss}
+use Rattle.nofs_salvage.specs.declared.fault.SalvageFault.{SalvageFault}
 use Rattle.nofs_state.specs.declared.books.Counts.{Counts}
 use Rattle.nofs_upgrade.specs.declared.fault.UpgradeFault.{UpgradeFault}
 use Rattle.nofs.specs.declared.begin.Cause.{Cause}
 use Rattle.nofs.specs.declared.words.Request.{Request}
-use Rattle.nofs.specs.declared.words.Request.TheVariants.{New, Run, Scan, Drill, Upgrade}
+use Rattle.nofs.specs.declared.words.Request.TheVariants.{New, Run, Scan, Drill, Upgrade, Salvage, Wire}
 use Rattle.nofs.specs.Begin.{status_of}
 use Rattle.nofs.specs.Counts.{counts_line}
 use Rattle.nofs.specs.Drill.{IsDrilled}
 use Rattle.nofs.specs.Entries.{session_text}
 use Rattle.nofs.specs.Lines.{cause_line, script_line, source_fault_line, too_long_line, upgrade_line, upgraded_line, usage_line}
-use Rattle.nofs.specs.Tool.{WithSession, WithText}
+use Rattle.nofs.specs.Salvaging.{walk_text}
+use Rattle.nofs.specs.Tool.{UnlessWire, WithSession, WithText}
 use Rattle.nofs.specs.Upgrading.{upgrade_status}
 
 -- the sink took this text, or a part of it where it failed
@@ -54,6 +57,10 @@ SaysCounts old new = (c : Counts) × Says old new (counts_line c)
 abbrev pub SaysDrill : SinkState → SinkState → ℕ → ℕ → Option HistoryState → Type 0
 SaysDrill old new start steps h = IfSome h (λ x. (text : List ℕ) × IsDrilled start steps x.entries text × Says old new text)
 
+-- the text of a walk
+abbrev pub SaysWalk : SinkState → SinkState → Type 0
+SaysWalk old new = (result : Result (List Loss) SalvageFault) × Says old new (walk_text result)
+
 -- why nothing was served, where no mount stood
 abbrev pub SaysRefusal : Option Request → SinkState → SinkState → ℕ → Type 0
 SaysRefusal (Some Upgrade) old new status = SaysUpgrade old new status
@@ -63,6 +70,8 @@ SaysRefusal _ old new status = SaysCause old new status
 abbrev pub SaysText : Option Request → SourceState → SourceState → ℕ → SinkState → SinkState → Option HistoryState → Type 0
 SaysText None source_old source_new limit old new h = Unit {0}
 SaysText (Some Upgrade) source_old source_new limit old new h = Unit {0}
+SaysText (Some Wire) source_old source_new limit old new h = Unit {0}
+SaysText (Some Salvage) source_old source_new limit old new h = SaysWalk old new
 SaysText (Some Scan) source_old source_new limit old new h = SaysCounts old new
 SaysText (Some (Drill start steps)) source_old source_new limit old new h = SaysDrill old new start steps h
 SaysText (Some Run) source_old source_new limit old new h = WithText source_old source_new limit (λ text.
@@ -70,12 +79,13 @@ SaysText (Some Run) source_old source_new limit old new h = WithText source_old 
 SaysText (Some (New blocks inodes)) source_old source_new limit old new h = WithText source_old source_new limit (λ text.
     WithSession text (λ session. SaysSession old new session h))
 
--- What the sink was told at each status. At 0 it took the whole text (`IsDone`), and at 7, for want of memory, nothing is said of it
+-- What the sink was told at each status. At 0 it took the whole text (`IsDone`), and at 7, for want of memory, nothing is said of it. Where
+-- frames were served it took their replies alone, at each status (`IsWireRun`)
 pub record Said (task : Option Request) (source_old source_new : SourceState) (limit : ℕ) (old new : SinkState) (status : ℕ) (h : Option HistoryState) : Type 0
   where
     pub usage : status ≡ 1 → Says old new usage_line
-    pub source : status ≡ 6 → Says old new source_fault_line
-    pub too_long : status ≡ 8 → Says old new too_long_line
-    pub script : status ≡ 2 → WithText source_old source_new limit (λ text. SaysFault old new text)
+    pub source : status ≡ 6 → UnlessWire task (Says old new source_fault_line)
+    pub too_long : status ≡ 8 → UnlessWire task (Says old new too_long_line)
+    pub script : status ≡ 2 → UnlessWire task (WithText source_old source_new limit (λ text. SaysFault old new text))
     pub refused : (status ≡ 3) ⊎ (status ≡ 4) → h ≡ None → SaysRefusal task old new status
     pub part : (status ≡ 3) ⊎ (status ≡ 5) → (x : HistoryState) → h ≡ Some x → SaysText task source_old source_new limit old new h

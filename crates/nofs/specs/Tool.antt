@@ -10,7 +10,7 @@ use Rattle.nofs_client.specs.declared.commands.Command.{Command}
 use Rattle.nofs_script.specs.declared.faults.ScriptFault.{ScriptFault}
 use Rattle.nofs_script.specs.Sessions.{session_of}
 use Rattle.nofs.specs.declared.words.Request.{Request}
-use Rattle.nofs.specs.declared.words.Request.TheVariants.{New, Run, Scan, Drill, Upgrade}
+use Rattle.nofs.specs.declared.words.Request.TheVariants.{New, Run, Scan, Drill, Upgrade, Salvage, Wire}
 use Rattle.nofs.specs.declared.begin.Numbers.{Numbers}
 use Rattle.nofs.specs.Begin.{IsMountRefusal, IsRefusedFormat}
 use Rattle.nofs.specs.Entries.{session_text, has_fault}
@@ -40,6 +40,8 @@ HasSession None old new limit = ⊥
 HasSession (Some Scan) old new limit = Unit {0}
 HasSession (Some (Drill start steps)) old new limit = Unit {0}
 HasSession (Some Upgrade) old new limit = Unit {0}
+HasSession (Some Salvage) old new limit = Unit {0}
+HasSession (Some Wire) old new limit = Unit {0}
 HasSession (Some Run) old new limit = WithText old new limit (λ text. WithSession text (λ _. Unit {0}))
 HasSession (Some (New blocks inodes)) old new limit = WithText old new limit (λ text. WithSession text (λ _. Unit {0}))
 
@@ -52,6 +54,11 @@ IsAnswered session (Some h) old new = AppendsAll old new (session_text session h
 abbrev pub IsFaultless : Option HistoryState → Type 0
 IsFaultless None = ⊥
 IsFaultless (Some h) = has_fault h.entries ≡ false
+
+-- This is said of each task but the frames', which end with status 2, 6 and 8 at a mount
+abbrev pub UnlessWire : Option Request → Type 0 → Type 0
+UnlessWire (Some Wire) P = Unit {0}
+UnlessWire _ P = P
 
 -- so it is of a task; an upgrade has no mount
 abbrev pub IsFaultlessIn : Option Request → Option HistoryState → Type 0
@@ -102,6 +109,8 @@ IsRefusedTask (Some (New blocks inodes)) old new = IsRefusedBy (Some (record { b
 IsRefusedTask (Some Run) old new = IsRefusedBy None old new
 IsRefusedTask (Some Scan) old new = IsRefusedBy None old new
 IsRefusedTask (Some Upgrade) old new = IsRefusedUpgrade old new
+IsRefusedTask (Some Salvage) old new = IsRefusedBy None old new
+IsRefusedTask (Some Wire) old new = IsRefusedBy None old new
 IsRefusedTask (Some (Drill start steps)) old new = IsRefusedBy (Some (record { blocks = 4096; inodes = 256 })) old new
 
 -- a scan was made: no call of the device failed, and the sink took the line of these counts. Where the premises are met, they are
@@ -110,11 +119,13 @@ abbrev pub IsScanned : DiskState → DiskState → Option HistoryState → SinkS
 IsScanned found last None old new = ⊥
 IsScanned found last (Some h) old new = (has_fault h.entries ≡ false) × ((c : Counts) × AppendsAll old new (counts_line c) × ∥ (IsMet found → CountsDisk last.now c) ∥₁)
 
--- a session was read and served, or the device was scanned, or upgraded
+-- a session was read and served, or the device was scanned, or upgraded; what is said of a salvage and of frames has clauses of its own
 abbrev pub IsDone : Option Request → SourceState → SourceState → ℕ → SinkState → SinkState → DiskState → DiskState → Option HistoryState → Type 0
 IsDone None source_old source_new limit old new found last h = ⊥
 IsDone (Some Scan) source_old source_new limit old new found last h = IsScanned found last h old new
 IsDone (Some (Drill start steps)) source_old source_new limit old new found last h = IsDrillDone start steps h old new
+IsDone (Some Salvage) source_old source_new limit old new found last h = IsFaultless h
+IsDone (Some Wire) source_old source_new limit old new found last h = IsFaultless h
 IsDone (Some Upgrade) source_old source_new limit old new found last h = IsUpgraded found last × AppendsAll old new upgraded_line
 IsDone (Some Run) source_old source_new limit old new found last h = WithText source_old source_new limit (λ text.
     WithSession text (λ session. IsAnswered session h old new))

@@ -17,7 +17,7 @@ use std::alloc::{AllocError, Global};
 pub fn usage() -> &'static str
     ensures { result.now ≡ usage_line }
 {
-    "usage: nofs IMAGE new BLOCKS INODES | run | scan | drill START STEPS | upgrade\n"
+    "usage: nofs IMAGE new BLOCKS INODES | run | scan | drill START STEPS | upgrade | salvage [PREFIX] | wire\n"
 }
 
 /// The line of a source that failed.

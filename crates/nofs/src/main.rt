@@ -12,6 +12,7 @@ mod image;
 #[cfg(test)]
 mod instance;
 mod reads;
+mod salvaging;
 mod scan;
 mod serve;
 mod tally;
@@ -19,6 +20,8 @@ mod tally;
 mod tests;
 mod tool;
 mod upgrading;
+mod visiting;
+mod wiring;
 mod words;
 
 use crate::cached::{tool_cached, tool_mirrored};

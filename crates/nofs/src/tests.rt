@@ -5,10 +5,12 @@ mod days;
 mod disks;
 mod drills;
 mod files;
+mod frames;
 mod images;
 mod mirrors;
 mod moves;
 mod recorder;
+mod salvages;
 mod second;
 mod statuses;
 mod unready;
@@ -67,7 +69,7 @@ pub fn run_with<R: Threads + Wait + Sync, D: Disk + Drop + Send>(
 }
 
 pub const USAGE: &str =
-    "usage: nofs IMAGE new BLOCKS INODES | run | scan | drill START STEPS | upgrade\n";
+    "usage: nofs IMAGE new BLOCKS INODES | run | scan | drill START STEPS | upgrade | salvage [PREFIX] | wire\n";
 
 #[test]
 fn each_run_prints_its_lines_and_ends_with_its_status(rt: HostRuntime) -> Result<(), Fail> {

@@ -10,20 +10,25 @@ ghost use Rattle.nofs_io.specs.Texts.{AppendsAll, TakesJust};
 ghost use Rattle.nofs_script.specs.Sessions.{IsSession};
 ghost use Rattle.nofs_upgrade.specs.Upgrades.{StaysOrUpgrades};
 ghost use Rattle.nofs.specs.Begin.{status_of as status_in};
-ghost use Rattle.nofs.specs.Words.{task_in};
+ghost use Rattle.nofs.specs.Salvaging.{AreReads, IsSalvaged};
+ghost use Rattle.nofs.specs.Visits.{FollowsVisit};
+ghost use Rattle.nofs.specs.Wiring.{WireEnds};
+ghost use Rattle.nofs.specs.Words.{picks_in, task_in};
 ghost use Rattle.nofs.specs.Entries.{has_fault};
 ghost use Rattle.nofs.specs.Drill.{IsDrillDone};
 ghost use Rattle.nofs.specs.Lines.{source_fault_line, too_long_line};
-ghost use Rattle.nofs.specs.Said.{Said, Says, SaysCause, SaysCounts, SaysDrill, SaysFault, SaysOrNot, SaysSession};
-ghost use Rattle.nofs.specs.Headline.{HeadlineIn, HeadlineOf, IsDrillHeadline, IsHeadline};
+ghost use Rattle.nofs.specs.Said.{Said, Says, SaysCause, SaysCounts, SaysDrill, SaysFault, SaysOrNot, SaysSession, SaysWalk};
+ghost use Rattle.nofs.specs.Headline.{HeadlineIn, HeadlineOf, IsDrillHeadline, IsHeadline, IsHeadlineOf};
 ghost use Rattle.nofs.specs.Complete.{IsReady, NoneRose};
-ghost use Rattle.nofs.specs.Tool.{HasFaultOf, HasSession, IsBad, IsDone, IsFaulty, IsRefusedBy, IsRefusedTask, IsScanned, IsAnswered, IsFaultless, IsFaultlessIn, IsStatus, MountEnds, SessionEnds, WithSession, WithText};
+ghost use Rattle.nofs.specs.Tool.{HasFaultOf, HasSession, IsBad, IsDone, IsFaulty, IsRefusedBy, IsRefusedTask, IsScanned, IsAnswered, IsFaultless, IsFaultlessIn, IsStatus, MountEnds, SessionEnds, UnlessWire, WithSession, WithText};
 
 use crate::begin::{Numbers, Refused, format_and_mount, mount, status_of};
 use crate::drill::run_drill;
 use crate::faults::{cause_text, script_text, source_fault, too_long, usage};
+use crate::salvaging::run_salvage;
 use crate::serve::{Ran, has_fault_in, run_scan, run_session};
 use crate::upgrading::upgrade_outcome;
+use crate::wiring::wire_outcome;
 use crate::words::{Request, task_of};
 use nofs_disk::Disk;
 use nofs_io::{Failed, ReadFault, Sink, Source, TEXT_LIMIT, read_all, write_all};
@@ -130,8 +135,8 @@ fn written<K: Sink, D: Disk>(sink: &mut K, ran: Ran<D>) -> Outcome<D>
     }
 }
 
-// A device that was not mounted.
-fn refused<K: Sink, D: Disk>(alloc: Global, sink: &mut K, refused: Refused<D>) -> Outcome<D>
+/// A device that was not mounted.
+pub fn refused<K: Sink, D: Disk>(alloc: Global, sink: &mut K, refused: Refused<D>) -> Outcome<D>
     ensures is { (result.status ≡ status_in refused.cause) × (result.disk ≡ refused.disk) × (result.history ≡ None) }
     ensures says { SaysCause (K.state sink.old) (K.state sink.new) result.status }
 {
@@ -306,6 +311,26 @@ fn scan_outcome<R: Threads + Wait + Sync, K: Sink, D: Disk + Drop + Send>(
     }
 }
 
+// What comes of a salvage.
+fn salvage_outcome<R: Threads + Wait + Sync, K: Sink, D: Disk + Drop + Send>(
+    rt: &R,
+    alloc: Global,
+    sink: &mut K,
+    disk: D,
+    words: &[String],
+) -> Outcome<D>
+    ensures headline { IfSome result.history (λ h. ∥ IsHeadlineOf (FollowsVisit AreReads) (D.state disk) (D.state result.disk) result.status h ∥₁) }
+    ensures ends { SessionEnds (IsRefusedBy None (D.state disk) (D.state result.disk)) (D.state disk) (D.state result.disk) (K.state sink.old) (K.state sink.new) result.status result.history }
+    ensures done { result.status ≡ 0 → IsSalvaged (picks_in (map string_bytes words.now)) (D.state disk) result.history (K.state sink.old) (K.state sink.new) }
+    ensures unserved { result.history ≡ None → SaysCause (K.state sink.old) (K.state sink.new) result.status }
+    ensures part { (result.status ≡ 3) ⊎ (result.status ≡ 5) → result.history ≢ None → SaysWalk (K.state sink.old) (K.state sink.new) }
+{
+    match mount(alloc, disk) {
+        Ok(mount) => written(sink, run_salvage(rt, alloc, mount, words)),
+        Err(why) => refused(alloc, sink, why),
+    }
+}
+
 // The numbers of the file system of a drill.
 const DRILL: Numbers = Numbers {
     blocks: 4096,
@@ -340,21 +365,24 @@ fn drill_outcome<R: Threads + Wait + Sync, K: Sink, D: Disk + Drop + Send>(
 /// |---|---|
 /// | 1 | exactly where the words are no command |
 /// | 6 | only where the source failed |
-/// | 8 | only where the source of `new` or `run` had more than 16,777,216 bytes |
-/// | 2 | only where the text is no session |
+/// | 8 | only where the source of `new`, `run` or `wire` had more than 16,777,216 bytes |
+/// | 2 | only where the text is no session, or a frame is bad or cut |
 /// | 4 | only where format, mount or upgrade refused with another cause than the device or memory; no write was made but a format's. On a device that tells, by the table of the numbers or of the superblock's faults |
 /// | 7 | where memory was wanting |
 /// | 3 | only where the device failed: in format, mount or upgrade, or in a step of the history; where a step has a fault, 3 or 7 |
 /// | 5 | only where the sink failed |
 /// | 0 | where none of these came |
 ///
-/// At status 1, 2, 6 and 8 no call of the device was made. At 0, 3, 4 and 5 of `new` and `run` the text is a session.
+/// At status 1, and at 2, 6 and 8 but of `wire`, no call of the device was made. At 0, 3, 4 and 5 of `new` and `run` the text is a session.
 ///
 /// What the sink was told at each status is in `Said` (specs/Said.antt): the line of that status, or the session's text, or a part of it.
 ///
 /// Where there is a history, the headline holds of it (`IsHeadline` in specs/Headline.antt): its entries are the steps that the
 /// session asks for; and where the premises are met, it is a run of the machine, and at every moment a crash leaves only
 /// what it allows.
+///
+/// A salvage tells what is lost in the world that the mount found (`IsSalvaged` in specs/Salvaging.antt). Frames are served until they end
+/// (`WireEnds` in specs/Wiring.antt); of its statuses 6, 8, 2 and 7 come before 3, and 5 after it.
 ///
 /// An upgrade begins no mount: at each moment of it a crash leaves an image that it could leave before, or that one with version 2.
 ///
@@ -372,17 +400,20 @@ pub fn tool<R: Threads + Wait + Sync, S: Source, K: Sink, D: Disk + Drop + Send>
     ensures named { IsStatus result.status }
     ensures source { result.status ≡ 6 → Rose (S.state source.old).faults (S.state source.new).faults }
     ensures too_long { result.status ≡ 8 → TakesJust (S.state source.old) (S.state source.new) (TEXT_LIMIT + 1) }
-    ensures script { result.status ≡ 2 → WithText (S.state source.old) (S.state source.new) TEXT_LIMIT IsBad }
+    ensures script { result.status ≡ 2 → UnlessWire (task_in (map string_bytes words.now)) (WithText (S.state source.old) (S.state source.new) TEXT_LIMIT IsBad) }
     ensures session { (result.status ≡ 0) ⊎ (result.status ≡ 3) ⊎ (result.status ≡ 4) ⊎ (result.status ≡ 5) →
         HasSession (task_in (map string_bytes words.now)) (S.state source.old) (S.state source.new) TEXT_LIMIT }
     ensures device { result.status ≡ 3 → IsFaulty result.history × Rose (D.state disk).faults (D.state result.disk).faults }
-    ensures faulty { HasFaultOf result.history → (result.status ≡ 3) ⊎ (result.status ≡ 7) }
+    ensures faulty { HasFaultOf result.history → UnlessWire (task_in (map string_bytes words.now)) ((result.status ≡ 3) ⊎ (result.status ≡ 7)) }
     ensures sink { result.status ≡ 5 → Rose (K.state sink.old).faults (K.state sink.new).faults × IsFaultlessIn (task_in (map string_bytes words.now)) result.history }
     ensures done { result.status ≡ 0 → IsDone (task_in (map string_bytes words.now)) (S.state source.old) (S.state source.new) TEXT_LIMIT (K.state sink.old) (K.state sink.new) (D.state disk) (D.state result.disk) result.history }
-    ensures untouched { (result.status ≡ 1) ⊎ (result.status ≡ 2) ⊎ (result.status ≡ 6) ⊎ (result.status ≡ 8) → (result.disk ≡ disk) × (result.history ≡ None) }
+    ensures unmounted { result.status ≡ 1 → (result.disk ≡ disk) × (result.history ≡ None) }
+    ensures untouched { (result.status ≡ 2) ⊎ (result.status ≡ 6) ⊎ (result.status ≡ 8) → UnlessWire (task_in (map string_bytes words.now)) ((result.disk ≡ disk) × (result.history ≡ None)) }
     ensures refused { result.status ≡ 4 → (result.history ≡ None) × IsRefusedTask (task_in (map string_bytes words.now)) (D.state disk) (D.state result.disk) }
     ensures said { Said (task_in (map string_bytes words.now)) (S.state source.old) (S.state source.new) TEXT_LIMIT (K.state sink.old) (K.state sink.new) result.status result.history }
     ensures upgrade { task_in (map string_bytes words.now) ≡ Some Request.Upgrade → IsTrue (D.state disk).tells → StaysOrUpgrades (D.state disk) (D.state result.disk) }
+    ensures salvage { task_in (map string_bytes words.now) ≡ Some Request.Salvage → result.status ≡ 0 → IsSalvaged (picks_in (map string_bytes words.now)) (D.state disk) result.history (K.state sink.old) (K.state sink.new) }
+    ensures wire { task_in (map string_bytes words.now) ≡ Some Request.Wire → WireEnds (D.state disk) (D.state result.disk) (S.state source.old) (S.state source.new) (K.state sink.old) (K.state sink.new) result.status result.history }
     ensures complete { IsReady (task_in (map string_bytes words.now)) (S.state source.old) TEXT_LIMIT (D.state disk)
         → NoneRose (S.state source.old) (S.state source.new) (D.state disk) (D.state result.disk) (K.state sink.old) (K.state sink.new)
         → (result.status ≡ 0) ⊎ (result.status ≡ 7) }
@@ -397,5 +428,7 @@ pub fn tool<R: Threads + Wait + Sync, S: Source, K: Sink, D: Disk + Drop + Send>
         Some(Request::Scan) => scan_outcome(rt, alloc, sink, disk),
         Some(Request::Drill { start, steps }) => drill_outcome(rt, alloc, sink, disk, start, steps),
         Some(Request::Upgrade) => upgrade_outcome(alloc, sink, disk),
+        Some(Request::Salvage) => salvage_outcome(rt, alloc, sink, disk, words),
+        Some(Request::Wire) => wire_outcome(rt, alloc, source, sink, disk),
     }
 }

@@ -3,7 +3,7 @@
 //! Promise: words are a command exactly where they have a shape of one.
 
 ghost use Rattle.std.specs.Prelude.{◌≡◌, map, string_bytes};
-ghost use Rattle.nofs.specs.Words.{drill_in, new_in, plain_in, task_in};
+ghost use Rattle.nofs.specs.Words.{drill_in, new_in, plain_in, prefixed_in, task_in};
 
 use nofs_gen::MOST_STEPS;
 use nofs_script::number_of;
@@ -21,6 +21,10 @@ pub enum Request {
     Drill { start: u64, steps: u64 },
     /// Raises an image of version 1 to version 2.
     Upgrade,
+    /// Mounts the device and tells what is lost, of all names, or of those that begin with the word behind.
+    Salvage,
+    /// Mounts the device, and serves the frames of the source.
+    Wire,
 }
 
 fn new_task(blocks: &str, inodes: &str) -> Option<Request>
@@ -53,6 +57,22 @@ fn plain_task(word: &str) -> Option<Request>
         Some(Request::Scan)
     } else if word.as_bytes() == b"upgrade".as_slice() {
         Some(Request::Upgrade)
+    } else if word.as_bytes() == b"salvage".as_slice() {
+        Some(Request::Salvage)
+    } else if word.as_bytes() == b"wire".as_slice() {
+        Some(Request::Wire)
+    } else {
+        None
+    }
+}
+
+// A prefix has as many bytes as a name can have, and at least one.
+fn prefixed_task(word: &str, prefix: &str) -> Option<Request>
+    ensures { result ≡ prefixed_in word.now prefix.now }
+{
+    let count = prefix.len();
+    if word.as_bytes() == b"salvage".as_slice() && 1 <= count && count <= 48 {
+        Some(Request::Salvage)
     } else {
         None
     }
@@ -64,6 +84,7 @@ pub fn task_of(words: &[String]) -> Option<Request>
 {
     match words {
         [word] => plain_task(word),
+        [word, prefix] => prefixed_task(word, prefix),
         [first, one, two] => {
             if first.as_bytes() == b"new".as_slice() {
                 new_task(one, two)

@@ -1,11 +1,13 @@
 use Rattle.std.proofs.Common.{◌≡◌, Option, Some, None, map, string_bytes, sym, ap, ◌∙◌, subst}
 use Rattle.nofs_io.specs.declared.texts.TheConstants.{TEXT_LIMIT}
 use Rattle.nofs.specs.declared.words.Request.{Request}
-use Rattle.nofs.specs.declared.words.Request.TheVariants.{New, Run, Scan, Drill, Upgrade}
+use Rattle.nofs.specs.declared.words.Request.TheVariants.{New, Run, Scan, Drill, Upgrade, Salvage, Wire}
 use Rattle.nofs.specs.Complete.{IsReady}
+use Rattle.nofs.specs.Said.{Said}
 use Rattle.nofs.specs.Tool.{IsRefusedTask}
 use Rattle.nofs.specs.Words.{task_in}
 use Rattle.nofs.proofs.Complete.{scan-completes, session-completes, upgrade-completes}
+use Rattle.nofs.proofs.Frames.{wire-completes}
 use Rattle.nofs.proofs.tool.tool.Goals as goal
 
 pub returns-in-Some-Run-clause-complete : goal.returns-in-Some-Run-clause-complete
@@ -52,3 +54,31 @@ returns-in-Some-Upgrade-clause-refused g c = λ e.
       subst (λ (t : Option Request). IsRefusedTask t (g.D.Disk.state c.args.disk) (g.D.Disk.state c.upgrade_outcome.result.disk)) (sym task)
           (c.upgrade_outcome.ensures.ends.refused e),
     )
+
+pub returns-in-Some-Salvage-clause-complete : goal.returns-in-Some-Salvage-clause-complete
+returns-in-Some-Salvage-clause-complete g c = λ ready none.
+    let task : task_in (map string_bytes c.args.words.now) ≡ Some Salvage = sym c.task_of.ensures ∙ (c.in-Some-Salvage.is ∙ ap Some c.in-Some-Salvage.field-0-is) in
+    let r = subst (λ (t : Option Request). IsReady t (g.S.Source.state c.args.source.now) TEXT_LIMIT (g.D.Disk.state c.args.disk)) task ready in
+    let e = c.salvage_outcome.ensures.ends in
+    scan-completes None _ _ TEXT_LIMIT _ _ _ _ _ _ none r e.device e.sink e.refused e.named
+
+pub returns-in-Some-Wire-clause-complete : goal.returns-in-Some-Wire-clause-complete
+returns-in-Some-Wire-clause-complete g c = λ ready none.
+    let task : task_in (map string_bytes c.args.words.now) ≡ Some Wire = sym c.task_of.ensures ∙ (c.in-Some-Wire.is ∙ ap Some c.in-Some-Wire.field-0-is) in
+    let r = subst (λ (t : Option Request). IsReady t (g.S.Source.state c.args.source.now) TEXT_LIMIT (g.D.Disk.state c.args.disk)) task ready in
+    wire-completes _ _ _ _ _ _ _ _ none r.0 r.1 c.wire_outcome.ensures.ends
+
+pub returns-in-Some-Wire-clause-said : goal.returns-in-Some-Wire-clause-said
+returns-in-Some-Wire-clause-said g c =
+    let task : task_in (map string_bytes c.args.words.now) ≡ Some Wire = sym c.task_of.ensures ∙ (c.in-Some-Wire.is ∙ ap Some c.in-Some-Wire.field-0-is) in
+    let S = g.S.Source.state in
+    let K = g.K.Sink.state in
+    let w = c.wire_outcome in
+    subst (λ (t : Option Request). Said t (S c.args.source.now) (S w.new.source) TEXT_LIMIT (K c.args.sink.now) (K w.new.sink) w.result.status w.result.history) (sym task) (record {
+      usage = λ e. absurd (w.ensures.ends.named.1 e);
+      source = λ e. tt;
+      too_long = λ e. tt;
+      script = λ e. tt;
+      refused = λ e none. w.ensures.unserved none;
+      part = λ e x is. tt;
+    })

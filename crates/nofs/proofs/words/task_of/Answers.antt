@@ -7,11 +7,4 @@ pub returns-in_default-2 : goal.returns-in_default-2
 returns-in_default-2 c =
     let n = length-map c.args.words.now string_bytes in
     let a = c.in_default.len_at_least in
-    let b = c.in_default.len_below in
-    sym (task-none (map string_bytes c.args.words.now) (λ e. omega (arith, n, a, b, e)) (λ e. omega (arith, n, a, b, e)))
-
-pub returns-in_default-3 : goal.returns-in_default-3
-returns-in_default-3 c =
-    let n = length-map c.args.words.now string_bytes in
-    let a = c.in_default.len_at_least in
-    sym (task-none (map string_bytes c.args.words.now) (λ e. omega (arith, n, a, e)) (λ e. omega (arith, n, a, e)))
+    sym (task-none (map string_bytes c.args.words.now) (λ e. omega (arith, n, a, e)) (λ e. omega (arith, n, a, e)) (λ e. omega (arith, n, a, e)))
