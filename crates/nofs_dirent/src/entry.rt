@@ -39,6 +39,18 @@ pub fn read_entry(alloc: Global, payload: &[u8; 1024], at: u32) -> Result<Option
     spelled_entry(alloc, payload, at)
 }
 
+/// Whether the entry at a place of a directory cell has this name. It looks at these 64 bytes alone.
+#[tactic(auto, unfolding(crate::specs::Entries::has_name))]
+pub fn has_name(payload: &[u8; 1024], name: &[u8], at: u32) -> bool
+    requires { at < 16 }
+    ensures { result ≡ has_name payload.now name.now at }
+{
+    match name_of(bytes_of(payload, at)) {
+        None => false,
+        Some(found) => found == name,
+    }
+}
+
 /// The first place at or after `from` whose entry has this name; `None` exactly where there is none.
 /// It takes no memory.
 pub fn find_name(payload: &[u8; 1024], name: &[u8], from: u32) -> Option<u32>
@@ -139,17 +151,6 @@ fn are_zero(bytes: &[u8]) -> bool
     ensures { result ≡ list_all (λ b. nat_eq b 0) bytes.now }
 {
     bytes.iter().all(|&byte| byte == 0)
-}
-
-#[tactic(auto, unfolding(crate::specs::Entries::has_name))]
-fn has_name(payload: &[u8; 1024], name: &[u8], at: u32) -> bool
-    requires { at < 16 }
-    ensures { result ≡ has_name payload.now name.now at }
-{
-    match name_of(bytes_of(payload, at)) {
-        None => false,
-        Some(found) => found == name,
-    }
 }
 
 // The 64 bytes of an entry.

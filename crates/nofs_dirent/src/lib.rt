@@ -9,5 +9,5 @@ mod name;
 #[cfg(test)]
 mod tests;
 
-pub use entry::{ENTRY_LIMIT, Entry, clear_entry, find_name, read_entry, write_entry};
+pub use entry::{ENTRY_LIMIT, Entry, clear_entry, find_name, has_name, read_entry, write_entry};
 pub use name::name_ok;

@@ -1,10 +1,9 @@
 //! One entry of a directory's cell. It takes no memory.
 ghost use Rattle.std.specs.Prelude.{◌≡◌, ◌<◌, IfSome};
 ghost use Rattle.nofs_disk.specs.Number.{number_at};
-ghost use Rattle.nofs_dirent.specs.Entries.{entry_bytes, entry_in, has_name};
+ghost use Rattle.nofs_dirent.specs.Entries.{entry_bytes, entry_in};
 ghost use Rattle.nofs_names.specs.Searching.{IsEntrySpelled, named_in};
 
-use nofs_dirent::find_name;
 use nofs_disk::{read_u32_at, read_u64_at};
 use nofs_model::names_inode;
 
@@ -39,16 +38,5 @@ fn fields_at(payload: &[u8; 1024], at: u32) -> Named
     Named {
         inode: read_u32_at(bytes, 0),
         generation: read_u64_at(bytes, 8),
-    }
-}
-
-/// Whether the entry at a place has this name.
-pub(crate) fn has_name(payload: &[u8; 1024], name: &[u8], at: u32) -> bool
-    requires { at < 16 }
-    ensures { result ≡ has_name payload.now name.now at }
-{
-    match find_name(payload, name, at) {
-        None => false,
-        Some(found) => found == at,
     }
 }

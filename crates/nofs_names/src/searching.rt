@@ -6,9 +6,10 @@ ghost use Rattle.nofs_model.specs.declared.value.Value.TheVariants.{Bytes};
 ghost use Rattle.nofs_agree.specs.Reading.{IsAt, IsLast, KnowsDirectory};
 ghost use Rattle.nofs_names.specs.Searching.{IsEntrySpelled, Searches, SearchesOn, SeesNamed, SeesPlace, first_or};
 
-use crate::entries::{Named, has_name, named_at};
+use crate::entries::{Named, named_at};
 use crate::pairing::paired_kind;
 use nofs_agree::{LastRead, find_slot, read_inode};
+use nofs_dirent::has_name;
 use nofs_disk::{Disk, Failed};
 use nofs_inode::{BackLink, FileKind, Record};
 use nofs_model::{PathAnswer, place_of};
