@@ -2,6 +2,19 @@
 //!
 //! Promise: it keeps every promise of a disk, over any disk below. A write is kept in memory and
 //! never fails, a read gives the last cell that was written, and a flush makes all of it last below.
+//!
+//! What it goes through, block by block:
+//!
+//! ```text
+//!            write                      write_out, or a flush that reaches the block
+//!   clean ----------> dirty --------------------------------------------------------> clean
+//!                    |     ^
+//!                    +-----+  write; a write-out or a flush of it that failed below
+//! ```
+//!
+//! - clean: the disk below has the cell; nothing of it is kept here.
+//! - dirty: the cell is in `dirty`, and a crash leaves what the disk below may leave of the block.
+//! - After a flush that succeeded every block is clean, and all of it lasts.
 ghost use Rattle.std.specs.Prelude.{◌≡◌, ℕ, ◌+◌, ◌*◌, ◌^◌, ◌<◌, ◌≤◌, ◌∷◌, [], length, List, IfOk, IfErr, IsOk, IsTrue, Contains};
 ghost use Rattle.nofs_disk.specs.declared.tag.Cell.{Cell};
 ghost use Rattle.nofs_cache.specs.DirtyBlocks.{block_count, entries_of, room_of};

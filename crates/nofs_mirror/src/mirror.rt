@@ -2,6 +2,20 @@
 //!
 //! Promise: it keeps every promise of a disk, over any two disks below. It goes on as long as one
 //! of them does, and each side that is in holds its cells.
+//!
+//! Which sides are in:
+//!
+//! ```text
+//!             a write or flush of the other fails, at `open` too
+//!   both in -----------------------------------------------------> lead in
+//!      |   \                      both fail: the call answers Failed   ^
+//!      |    +-----------------------------------------------------------+
+//!      +--> other in      a write or flush of the lead alone fails
+//! ```
+//!
+//! - both in: each call goes to both, and a read asks the lead first.
+//! - one in: each call goes to that side alone. It stays in for good, also where a call of it fails.
+//! - A read puts no side out. The side that went out is not touched again.
 ghost use Rattle.std.specs.Prelude.{◌≡◌, ◌+◌, ◌<◌, ◌≤◌, ◌⊎◌, ◌||◌, [], IfOk, IfErr, IsFalse, IsTrue, OnOk, OnErr};
 ghost use Rattle.nofs_disk.specs.Disk.{Flushes, IsSettled, Reads, Rose, StaysButFaults, Writes, WritesOut};
 ghost use Rattle.nofs_mirror.specs.Asking.{Rests};

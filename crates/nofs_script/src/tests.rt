@@ -1,3 +1,5 @@
+//! Sessions and lines with their worked texts.
+
 use crate::{ParseFault, line_text, parse};
 use nofs_client::{GotPart, GotParts, Line, ListPart, ListParts};
 use nofs_lists::{Content, Name};

@@ -1,4 +1,21 @@
 //! A mounted disk with its history.
+//!
+//! Promise: one history stands over one base, from the flush of the mount on; what holds of it at the end is `Ends`.
+//!
+//! What a mount goes through (the ghost field `stands`, `IsMount`):
+//!
+//! ```text
+//!                raise_mount                a write or a flush fails in a step
+//!   unmounted ----------------> open ------------------------------------------> stopped
+//!                              |    ^                                           |       ^
+//!                              +----+ any other step, a look, a commit          +-------+ any step: Stopped
+//! ```
+//!
+//! - unmounted: `begin` may still refuse. All memory of the mount is taken before the write that raises its number.
+//! - open: over a disk that tells and was found sound, files, maps and history are the machine's, and every image that a crash
+//!   may leave is allowed (`IsOpen`).
+//! - stopped: every such image is still allowed (`IsStopped`), but the maps may be wrong, so no step is served.
+//! - A write-out that failed is no step: the mount stays open.
 ghost use Rattle.std.specs.Prelude.{◌≡◌, ◌+◌, ◌-◌, ◌^◌, ◌<◌, ◌≤◌, true, false, [], length, IfOk, IfErr};
 ghost use Rattle.nofs_machine.specs.Steps.{Fits, is_out_of_memory};
 ghost use Rattle.nofs_machine.specs.World.{World};

@@ -1,3 +1,5 @@
+//! Turns and passes on one thread and on several: who waits, who is refused, and what is handed back.
+
 ghost use Rattle.std.specs.Prelude.{◌≡◌, ◌+◌, ◌<◌, All, IfOk, IfSome, length, vec_len};
 ghost use Rattle.nofs_turn.specs.Turns.{view_of, IsPassOf};
 

@@ -1,4 +1,20 @@
 //! The turn and its passes, and what refused calls hand back.
+//!
+//! What the turn goes through (`Counted` is the rule of it):
+//!
+//! ```text
+//!                    take: the word from 2n to 2n + 1
+//!   free, n entries -----------------------------------> taken, n entries
+//!         ^                                                     |
+//!         +-----------------------------------------------------+
+//!                give: the word to 2n, or to 2n + 2 with one entry more
+//! ```
+//!
+//! - free: the value is at home, and each pass has seen a beginning of its list.
+//! - taken: one pass has the value, and no other can take it.
+//!
+//! A pass rests, or its section runs and it has the turn. It stands for itself and those that were joined to it; the one that stands
+//! for all can close the turn.
 ghost use Rattle.std.specs.Prelude.{◌≡◌, ℕ, ◌<◌, ◌≤◌, false, true, [], length};
 ghost use Rattle.nofs_turn.specs.Lists.{rises};
 
