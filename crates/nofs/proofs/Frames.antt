@@ -109,18 +109,6 @@ three false ended.SinkFault false h = absurd (cc h)
 three false ended.End true h = refl
 three false ended.End false h = absurd (cc h)
 
-pub zero-end : (b : Bool) (e : WireEnd) (f : Bool) → wire_status b e f ≡ 0 → (e ≡ ended.End) × (f ≡ false)
-zero-end true e f h = absurd (cc h)
-zero-end false ended.SourceFault f h = absurd (cc h)
-zero-end false ended.TooLong f h = absurd (cc h)
-zero-end false (ended.Cut at) f h = absurd (cc h)
-zero-end false (ended.Bad at) f h = absurd (cc h)
-zero-end false ended.OutOfMemory f h = absurd (cc h)
-zero-end false ended.SinkFault true h = absurd (cc h)
-zero-end false ended.SinkFault false h = absurd (cc h)
-zero-end false ended.End true h = absurd (cc h)
-zero-end false ended.End false h = (refl, refl)
-
 -- a bad frame, or one that is cut
 abbrev pub IsTorn : WireEnd → Type 0
 IsTorn (ended.Cut at) = Unit {0}
@@ -292,12 +280,3 @@ wire-headline P found before last first status k out ran begins stands ends run 
 pub short-seven : (b : Bool) (e : WireEnd) (f : Bool) → b ≡ true → wire_status b e f ≡ 7
 short-seven true e f h = refl
 short-seven false e f h = absurd (cc h)
-
--- at status 0 no call of the device failed
-pub wire-faultless : (old new : DiskState) (source_old source_new : SourceState) (sink_old sink_new : SinkState) (s : ℕ) (h : Option HistoryState)
-    → WireEnds old new source_old source_new sink_old sink_new s h → s ≡ 0 → IsFaultless h
-wire-faultless old new source_old source_new sink_old sink_new s h ends e = go h (ends.stood (inl e)) ends.run
-  where
-    go : (o : Option HistoryState) → o ≢ None → IfSome o (IsWireRun source_old source_new sink_old sink_new s) → IsFaultless o
-    go None some r = absurd (some refl)
-    go (Some x) some r = (zero-end r.short r.end (has_fault x.entries) (sym r.status_is ∙ e)).1

@@ -69,9 +69,3 @@ pub record WireEnds (old new : DiskState) (source_old source_new : SourceState) 
   pub device : status ≡ 3 → IsFaulty h × Rose old.faults new.faults
   pub sink : status ≡ 5 → Rose sink_old.faults sink_new.faults × IsFaultless h
   pub refused : status ≡ 4 → (h ≡ None) × IsRefusedBy None old new
-
--- at status 0 each byte was one of a whole frame, and the sink took the replies of all
-abbrev pub IsWireDone : SourceState → SourceState → SinkState → SinkState → Option HistoryState → Type 0
-IsWireDone source_old source_new sink_old sink_new None = ⊥
-IsWireDone source_old source_new sink_old sink_new (Some h) =
-    (has_fault h.entries ≡ false) × Serves 16777216 ended.End source_old.left source_new.left sink_old.given sink_new.given [] (steps_by 1 h.entries)
