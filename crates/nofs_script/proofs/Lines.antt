@@ -1,41 +1,16 @@
 -- Reading line by line, as a loop does.
-use Rattle.std.proofs.Common.{◌≡◌, ◌≢◌, ℕ, suc, ◌+◌, ◌<◌, ◌≤◌, ◌==◌, Bool, true, false, List, [], ◌∷◌, ◌++◌, All, Option, Some, length, take, drop, Result, Ok, Err, add-one, arith, refl, sym, ap, subst, ◌∙◌, take-append-drop}
+use Rattle.std.proofs.Common.{◌≡◌, ℕ, ◌+◌, ◌<◌, ◌==◌, List, [], ◌∷◌, Some, length, take, Result, Ok, Err, arith, refl, sym, ap, subst, ◌∙◌}
 use Rattle.std.specs.Prelude.{slice_get}
 use Rattle.std.specs.Str.Lines.{strip_carriage_return}
-use Rattle.std.proofs.Math.Seq.{drop-cons}
-use Rattle.std.proofs.lemmas.Bool.{ne_eqb}
-use Rattle.std.proofs.lemmas.Option.{slice_get_within, get_or_from_slice_get}
-use Rattle.std.proofs.lemmas.List.Splits.{slice_split_none, slice_split_at, length-slice_split}
+use Rattle.std.proofs.lemmas.List.Splits.{length-slice_split}
 use Rattle.nofs_script.specs.declared.session.Reading.{Reading}
 use Rattle.nofs_script.specs.declared.faults.ScriptFault.{ScriptFault}
 use Rattle.nofs_script.specs.declared.faults.ParseFault.{ParseFault}
 use Rattle.nofs_script.specs.declared.faults.ParseFault.TheVariants as parse
 use Rattle.nofs_script.specs.Words.{text_lines}
 use Rattle.nofs_script.specs.Grammar.{◌>>=◌}
+use Rattle.nofs_script.proofs.Cuts.{Lacks, after, one_part, first_part}
 use Rattle.nofs_script.specs.Sessions.{FailsText, GivesText, at_line, line_to_break, read_line, read_from}
-
--- no byte is a line feed
-abbrev pub HasNoFeed : List ℕ → Type 0
-HasNoFeed text = All (λ byte. byte ≢ 10) text
-
-no_feed : (text : List ℕ) → HasNoFeed text → All (λ byte. (byte == 10) ≡ false) text
-no_feed text none = λ k d l. ne_eqb _ 10 (none k d l)
-
--- the rest of a text after a line that ends at a place
-abbrev pub after : ℕ → List ℕ → List ℕ
-after end text = drop (end + 1) text
-
--- a text without a line feed is one line
-one_line : (text : List ℕ) → HasNoFeed text → text_lines text ≡ text ∷ []
-one_line text none = slice_split_none (λ byte. byte == 10) text (no_feed text none)
-
--- the first line ends at the first line feed
-first_line : (text : List ℕ) (end : ℕ) → slice_get text end ≡ Some 10 → HasNoFeed (take end text) → text_lines text ≡ take end text ∷ text_lines (after end text)
-first_line text end feed none =
-    let within = slice_get_within text end 10 feed in
-    let cut : drop end text ≡ 10 ∷ after end text = drop-cons text end 0 within ∙ ap (λ b. b ∷ drop (suc end) text) (get_or_from_slice_get text end 10 0 feed) ∙ ap (λ n. 10 ∷ drop n text) (sym (add-one end)) in
-    let whole : take end text ++ (10 ∷ after end text) ≡ text = ap (λ l. take end text ++ l) (sym cut) ∙ take-append-drop end text in
-    ap text_lines (sym whole) ∙ slice_split_at (λ byte. byte == 10) (take end text) 10 (after end text) (no_feed (take end text) none) refl
 
 -- a line with lines after it may end in a carriage return
 ended : (line : List ℕ) (rest : List (List ℕ)) → 0 < length rest → line_to_break line rest ≡ strip_carriage_return line
@@ -43,16 +18,16 @@ ended line [] some = absurd (omega arith)
 ended line (x ∷ xs) some = refl
 
 -- one line is read
-step : (n : ℕ) (r : Reading) (text : List ℕ) (end : ℕ) → slice_get text end ≡ Some 10 → HasNoFeed (take end text)
+step : (n : ℕ) (r : Reading) (text : List ℕ) (end : ℕ) → slice_get text end ≡ Some 10 → Lacks 10 (take end text)
     → read_from n r (text_lines text) ≡ (at_line n (read_line r (strip_carriage_return (take end text))) >>= λ next. read_from (n + 1) next (text_lines (after end text)))
 unfolding read_from
 step n r text end feed none =
-    let some : 0 < length (text_lines (after end text)) = omega (arith, length-slice_split (λ byte. byte == 10) (after end text)) in
-    ap (read_from n r) (first_line text end feed none)
+    let some : 0 < length (text_lines (after end text)) = omega (arith, length-slice_split (λ other. other == 10) (after end text)) in
+    ap (read_from n r) (first_part 10 text end feed none)
     ∙ ap (λ line. at_line n (read_line r line) >>= λ next. read_from (n + 1) next (text_lines (after end text))) (ended (take end text) (text_lines (after end text)) some)
 
 module _ (n : ℕ) (r : Reading) (text line rest : List ℕ) (end : ℕ) (total : Result Reading ScriptFault)
-    (feed : slice_get text end ≡ Some 10) (none : HasNoFeed (take end text)) (is_line : line ≡ strip_carriage_return (take end text)) (so_far : read_from n r (text_lines text) ≡ total) where
+    (feed : slice_get text end ≡ Some 10) (none : Lacks 10 (take end text)) (is_line : line ≡ strip_carriage_return (take end text)) (so_far : read_from n r (text_lines text) ≡ total) where
   read : at_line n (read_line r (strip_carriage_return (take end text))) ≡ at_line n (read_line r line)
   read = ap (λ l. at_line n (read_line r l)) (sym is_line)
 
@@ -74,11 +49,11 @@ unfolding read_from
 last (Ok r) n = refl
 last (Err e) n = refl
 
-all_read : (n : ℕ) (r : Reading) (text : List ℕ) → HasNoFeed text → read_from n r (text_lines text) ≡ at_line n (read_line r text)
+all_read : (n : ℕ) (r : Reading) (text : List ℕ) → Lacks 10 text → read_from n r (text_lines text) ≡ at_line n (read_line r text)
 unfolding read_from
-all_read n r text none = ap (read_from n r) (one_line text none) ∙ last (at_line n (read_line r text)) (n + 1)
+all_read n r text none = ap (read_from n r) (one_part 10 text none) ∙ last (at_line n (read_line r text)) (n + 1)
 
-pub gives_last : (result : Result Reading ParseFault) (n : ℕ) (r : Reading) (text : List ℕ) (total : Result Reading ScriptFault) → HasNoFeed text
+pub gives_last : (result : Result Reading ParseFault) (n : ℕ) (r : Reading) (text : List ℕ) (total : Result Reading ScriptFault) → Lacks 10 text
     → GivesText (λ r. r) result (at_line n (read_line r text)) → read_from n r (text_lines text) ≡ total → GivesText (λ r. r) result total
 gives_last result n r text total none gives so_far =
     subst (GivesText (λ r. r) result) (sym (all_read n r text none) ∙ so_far) gives

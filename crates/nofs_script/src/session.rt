@@ -1,6 +1,6 @@
 //! Sessions: the scripts of a text, read line by line.
 
-ghost use Rattle.std.specs.Prelude.{◌≡◌, ◌≢◌, ◌+◌, ◌<◌, All, Some, [], map, length, MatchOption, IfOk, IfSome, slice_get, take, drop};
+ghost use Rattle.std.specs.Prelude.{◌≡◌, ◌≢◌, ◌<◌, All, Some, [], map, length, MatchOption, IfOk, IfSome, slice_get, take};
 ghost use Rattle.std.specs.Str.Lines.{strip_carriage_return};
 ghost use Rattle.nofs_script.specs.Words.{piece_of, text_lines};
 ghost use Rattle.nofs_script.specs.Grammar.{GivesLine};
@@ -8,7 +8,7 @@ ghost use Rattle.nofs_script.specs.Sessions.{GivesText, IsSession, asked_by as a
 
 use crate::commands::{Verb, command, verb_of};
 use crate::faults::{LineFault, ParseFault, ScriptFault, ScriptKind};
-use crate::words::words;
+use crate::words::{place_of, text_after, words};
 use nofs_client::{Command, CommandList};
 use nofs_lists::ListOf;
 use std::alloc::Global;
@@ -161,7 +161,7 @@ fn end_of(text: &[u8]) -> Option<usize>
         (λ end. (slice_get text.now end ≡ Some 10) × All (λ byte. byte ≢ 10) (take end text.now)) }
     ensures within { IfSome result (λ end. end < length text.now) }
 {
-    text.iter().position(|byte| *byte == b'\n')
+    place_of(b'\n', text)
 }
 
 // The line that ends at this line feed.
@@ -170,14 +170,6 @@ fn line_before(text: &[u8], end: usize) -> &[u8]
     ensures { result.now ≡ strip_carriage_return (take end text.now) }
 {
     without_return(&text[..end])
-}
-
-// The lines behind this line feed.
-fn text_after(text: &[u8], end: usize) -> &[u8]
-    requires { end < length text.now }
-    ensures { result.now ≡ drop (end + 1) text.now }
-{
-    &text[end + 1..]
 }
 
 fn read_at(alloc: Global, number: u64, reading: Reading, line: &[u8]) -> Result<Reading, ParseFault>

@@ -1,24 +1,64 @@
 //! The words of a line, and the numbers among them.
 
-ghost use Rattle.std.specs.Prelude.{◌≡◌, ◌+◌, ◌<◌, ◌≤◌, ◌*◌, ◌^◌, ◌==◌, IfOk, map, take, true};
+ghost use Rattle.std.specs.Prelude.{◌≡◌, ◌≢◌, ◌+◌, ◌<◌, ◌≤◌, ◌*◌, ◌^◌, ◌==◌, ◌∷◌, ◌++◌, [], All, IfOk, IfSome, MatchOption, OnOk, Some, drop, filter, length, map, slice_get, take, true};
 ghost use Rattle.std.specs.List.{list_all};
 ghost use Rattle.std.specs.Char.{is_ascii_digit};
 ghost use Rattle.std.specs.Option.{SomeIff};
-ghost use Rattle.nofs_script.specs.Words.{words_of, number_of as number_in, piece_of, is_number as is_number_word, digits_value as value_in};
+ghost use Rattle.nofs_script.specs.Words.{words_of, number_of as number_in, piece_of, is_word, is_number as is_number_word, digits_value as value_in};
 
+use memchr::memchr;
 use std::alloc::{AllocError, Global};
 
 // No command has more words than 4, so a fifth one tells enough.
 const MOST_WORDS: usize = 5;
 
+/// The first place of a byte. The lines of puts are long, so the search is one by vectors.
+pub fn place_of(byte: u8, text: &[u8]) -> Option<usize>
+    ensures first { MatchOption result (All (λ other. other ≢ byte) text.now)
+        (λ end. (slice_get text.now end ≡ Some byte) × All (λ other. other ≢ byte) (take end text.now)) }
+    ensures within { IfSome result (λ end. end < length text.now) }
+{
+    memchr(byte, text)
+}
+
+/// The text behind a place.
+pub fn text_after(text: &[u8], end: usize) -> &[u8]
+    requires { end < length text.now }
+    ensures { result.now ≡ drop (end + 1) text.now }
+{
+    &text[end + 1..]
+}
+
+// Adds a piece, if it is a word.
+fn push_word<'a>(words: &mut Vec<&'a [u8]>, piece: &'a [u8]) -> Result<(), AllocError>
+    ensures words { OnOk result (map piece_of words.new.items ≡ map piece_of words.old.items ++ filter is_word (piece.now ∷ [])) }
+    ensures one { OnOk result (length words.new.items ≤ length words.old.items + 1) }
+{
+    if !piece.is_empty() {
+        words.push(piece)?;
+    }
+    Ok(())
+}
+
 /// The first five words of a line: no command has as many.
 pub fn words<'a>(alloc: Global, line: &'a [u8]) -> Result<Vec<&'a [u8]>, AllocError>
     ensures { IfOk result (λ words. map piece_of words.items ≡ take 5 (words_of line.now)) }
 {
-    line.split(|byte| *byte == b' ')
-        .filter(|part| !part.is_empty())
-        .take(MOST_WORDS)
-        .collect(alloc)
+    let mut words = Vec::new(alloc);
+    let mut rest = line;
+    'spaces: while words.len() < MOST_WORDS {
+        match place_of(b' ', rest) {
+            None => {
+                push_word(&mut words, rest)?;
+                return Ok(words);
+            }
+            Some(end) => {
+                push_word(&mut words, &rest[..end])?;
+                rest = text_after(rest, end);
+            }
+        }
+    }
+    Ok(words)
 }
 
 fn all_digits(word: &[u8]) -> bool
