@@ -15,3 +15,4 @@ pub mod Examining
 pub mod Looking
 pub mod Scanning
 pub mod WritingOut
+pub mod Causing

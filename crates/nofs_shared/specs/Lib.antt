@@ -3,6 +3,8 @@ pub mod Sees
 pub mod Mounts
 pub mod Earlier
 pub mod Added
+pub mod StepCauses
+pub mod Batches
 pub mod Begins
 pub mod Owned
 pub mod Seats

@@ -1,10 +1,12 @@
 //! Several elements of a mount are looked at together, and their verdicts committed one by one.
-ghost use Rattle.std.specs.Prelude.{◌≡◌, ◌+◌, ◌-◌, ◌<◌, ◌≤◌, ◌^◌, ℕ, true, false, All, IfOk, length};
+ghost use Rattle.std.specs.Prelude.{◌≡◌, ◌+◌, ◌-◌, ◌<◌, ◌≤◌, ◌^◌, ℕ, true, false, All, IfOk, IfErr, length};
 ghost use Rattle.nofs_machine.specs.Steps.{Fits, is_out_of_memory};
 ghost use Rattle.nofs_state.specs.Books.{IsSafe};
+ghost use Rattle.nofs_disk.specs.Disk.{StaysButFaults};
 ghost use Rattle.nofs_scan.specs.Elements.{HasElement, items_of, see_step, verdict_at};
 ghost use Rattle.nofs_shared.specs.Sees.{is_of_sweep};
 ghost use Rattle.nofs_shared.specs.Added.{AddsStep};
+ghost use Rattle.nofs_shared.specs.Batches.{BatchFails};
 ghost use Rattle.nofs_shared.specs.Commits.{IsCommit};
 ghost use Rattle.nofs_shared.specs.Earlier.{IsEarlier, IsOfBooks};
 ghost use Rattle.nofs_shared.specs.Mounts.{IsMount};
@@ -22,7 +24,8 @@ use std::alloc::Global;
 
 // Whether the disk has no such element.
 fn is_beyond(kind: ElementKind, at: &SuperBlock, item: u64) -> bool
-    ensures { result ≡ false → HasElement kind at.now item }
+    ensures on { result ≡ false → HasElement kind at.now item }
+    ensures off { result ≡ true → HasElement kind at.now item → ⊥ }
 {
     match kind {
         ElementKind::Inode => item == 0 || item > at.inodes,
@@ -32,7 +35,8 @@ fn is_beyond(kind: ElementKind, at: &SuperBlock, item: u64) -> bool
 
 // Whether it has them all.
 fn are_elements(kind: ElementKind, at: &SuperBlock, items: &[u64]) -> bool
-    ensures { result ≡ true → All (HasElement kind at.now) items.now }
+    ensures all { result ≡ true → All (HasElement kind at.now) items.now }
+    ensures some { result ≡ false → All (HasElement kind at.now) items.now → ⊥ }
 {
     for place in 0..items.len() {
         if is_beyond(kind, at, items[place]) {
@@ -92,7 +96,8 @@ impl<D: Disk + Drop> Mount<D> {
     ///
     /// # Errors
     ///
-    /// `BadRange` where some element is not on the disk; `Stopped`; `ReadFault`; `OutOfMemory`.
+    /// `BadRange` exactly where some element is not on the disk; `Stopped` where a write failed before; `ReadFault` only where the
+    /// device's count of faults rose; `OutOfMemory`.
     pub fn look_batch(
         &mut self,
         alloc: Global,
@@ -101,6 +106,8 @@ impl<D: Disk + Drop> Mount<D> {
     ) -> Result<Evidence<D>, Refusal>
         requires count { (1 ≤ length items.now) × (length items.now ≤ 64) }
         ensures same { (self.new.core.books ≡ self.old.core.books) × (self.new.found ≡ self.old.found) × (self.new.first ≡ self.old.first) × (self.new.kept ≡ self.old.kept) }
+        ensures stays { StaysButFaults (D.state self.old.core.disk) (D.state self.new.core.disk) }
+        ensures refused { IfErr result (BatchFails (D.state self.old.core.disk) self.old.core.books (D.state self.new.core.disk) kind items.now) }
         ensures asked { IfOk result (λ evidence. (evidence.kind ≡ kind) × (items_of evidence.verdicts ≡ items.now)) }
         ensures own { IfOk result (λ evidence. IsEarlier (D.state self.new.found.value) (D.state evidence.core.value.disk) evidence.core.value.books self.new.first self.new.core.books.history.start self.new.core.books.at self.new.core.books.history.entries) }
     {

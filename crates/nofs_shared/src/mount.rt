@@ -28,6 +28,7 @@ ghost use Rattle.nofs_shared.specs.Settling.{Settles};
 ghost use Rattle.nofs_shared.specs.Mounts.{IsMount, IsSoundDisk};
 ghost use Rattle.nofs_shared.specs.Added.{AddsStep, Unowned};
 ghost use Rattle.nofs_shared.specs.Begins.{BeginFails};
+ghost use Rattle.nofs_shared.specs.StepCauses.{StepCauses};
 ghost use Rattle.nofs_shared.specs.Ends.{Ends};
 
 use crate::begin::{Prepared, prepare};
@@ -86,7 +87,9 @@ impl<D: Disk + Drop> Mount<D> {
     }
 
     /// Makes one step of a caller. Each See step of the sweeps, callers 9 and 10, has its memory while
-    /// some is kept for them.
+    /// some is kept for them. Over any disk, a read fault comes only where its count of faults rose, a
+    /// write fault only where it rose and a write or a flush was made, `Stopped` exactly where one of
+    /// them failed before, and every other refusal leaves the cells.
     pub fn step(&mut self, alloc: Global, caller: u32, step: Step) -> Reply
         ensures adds { AddsStep caller step result self.old.core.books.history.entries self.new.core.books.history.entries }
         ensures claims { IsSoundDisk (D.state self.old.found.value) → ∥ Unowned (D.state self.old.core.disk).now self.old.core.books.history.entries self.new.core.books.history.entries ∥₁ }
@@ -95,6 +98,7 @@ impl<D: Disk + Drop> Mount<D> {
         ensures sweeps { is_of_sweep caller step ≡ true → 0 < self.old.kept → (is_out_of_memory result ≡ false) × (self.new.kept ≡ self.old.kept - 1) }
         ensures others { is_of_sweep caller step ≡ false → self.new.kept ≡ self.old.kept }
         ensures settled { Settles step result (D.state self.new.core.disk) }
+        ensures causes { StepCauses (D.state self.old.core.disk) (D.state self.new.core.disk) self.old.core.books self.new.core.books result }
     {
         let history = &mut self.core.books.history;
         match take_room(history, self.kept, caller, &step) {

@@ -6,6 +6,7 @@ ghost use Rattle.nofs_shared.specs.Sees.{is_see};
 ghost use Rattle.nofs_shared.specs.Settling.{Settles};
 ghost use Rattle.nofs_shared.specs.Added.{AddsStep, Unowned};
 ghost use Rattle.nofs_shared.specs.Mounts.{IsMount, IsSoundDisk};
+ghost use Rattle.nofs_shared.specs.StepCauses.{StepCauses};
 
 use crate::acts::{Acted, act};
 use nofs_disk::Disk;
@@ -39,6 +40,7 @@ pub(crate) fn step_in<D: Disk + Drop>(
     ensures fits { Fits step result }
     ensures sees { is_see step ≡ true → is_out_of_memory result ≡ false }
     ensures settled { Settles step result (D.state core.new.disk) }
+    ensures causes { StepCauses (D.state core.old.disk) (D.state core.new.disk) core.old.books core.new.books result }
     ensures stopped { core.old.books.stopped ≡ true → is_out_of_memory result ≡ false → result ≡ Reply.Refused Refusal.Stopped }
 {
     let from = core.disk.moment();

@@ -1,6 +1,7 @@
 use Rattle.std.proofs.Common.{sym, ap, ◌∙◌, rules}
 use Rattle.nofs_state.specs.Steps.{goes-safely}
 use Rattle.nofs_shared.proofs.Claiming.{unowned-none, unowned-more}
+use Rattle.nofs_shared.proofs.Causing.{causes-kept, causes-none}
 use Rattle.nofs_shared.proofs.Mounting.{mount-none, mount-goes}
 use Rattle.nofs_shared.proofs.steps.step_in.Goals as goal
 
@@ -23,3 +24,11 @@ pub returns-clause-claims : goal.returns-clause-claims
 returns-clause-claims g c = λ found first m q.
     unowned-more (g.D.Disk.state found) (g.D.Disk.state c.args.core.now.disk) (g.D.Disk.state c.act-reply.new.core.disk) first c.args.core.now.books c.act-reply.new.core.books
     c.args.step c.act-reply.result.claims c.act-reply.result.reply c.args.caller c.act-reply.ensures.goes m (sym c.wants_memory.ensures ∙ c.if-wants_memory.false) q c.push.new.self.entries (search rules)
+
+pub returns-then-wants_memory-clause-causes : goal.returns-then-wants_memory-clause-causes
+returns-then-wants_memory-clause-causes g c = causes-none (g.D.Disk.state c.args.core.now.disk) (g.D.Disk.state c.act-reply.new.core.disk) c.args.core.now.books c.act-reply.new.core.books
+    c.act-reply.result.reply (goes-safely c.act-reply.ensures.goes)
+
+pub returns-clause-causes : goal.returns-clause-causes
+returns-clause-causes g c = causes-kept (g.D.Disk.state c.args.core.now.disk) (g.D.Disk.state c.act-reply.new.core.disk) c.args.core.now.books c.act-reply.new.core.books
+    c.act-reply.result.reply c.push.new.self (goes-safely c.act-reply.ensures.goes)

@@ -2,6 +2,7 @@ use Rattle.std.proofs.Common.{◌+◌, ◌^◌, ◌≤◌, List, length, sym, �
 use Rattle.std.proofs.Math.Logic.{∥∥₁_elim, ∥∥₁_prop}
 use Rattle.nofs_machine.specs.declared.history.Entry1.{Entry1}
 use Rattle.nofs_shared.specs.Added.{AddsStep, Unowned}
+use Rattle.nofs_shared.proofs.Causing.{causes-roomed, causes-unroomed}
 use Rattle.nofs_shared.proofs.Claiming.{unowned-none}
 use Rattle.nofs_shared.proofs.Mounting.{mount-history, safe-history}
 use Rattle.nofs_shared.proofs.Rooming.{adds-none, few-left, settles-memory, sweep-served}
@@ -52,3 +53,10 @@ returns-in-Some-clause-others g c = λ e. c.in-Some.ensures.others e
 
 pub returns-in-None-clause-settled : goal.returns-in-None-clause-settled
 returns-in-None-clause-settled g c = settles-memory c.args.step (g.D.Disk.state c.args.self.now.core.disk)
+
+pub returns-in-None-clause-causes : goal.returns-in-None-clause-causes
+returns-in-None-clause-causes g c = causes-unroomed (g.D.Disk.state c.args.self.now.core.disk) c.args.self.now.core.books c.take_room.new.history
+
+pub returns-in-Some-clause-causes : goal.returns-in-Some-clause-causes
+returns-in-Some-clause-causes g c = causes-roomed (g.D.Disk.state c.args.self.now.core.disk) (g.D.Disk.state c.step_in.new.core.disk) c.args.self.now.core.books c.step_in.new.core.books
+    c.step_in.result c.take_room.new.history c.step_in.ensures.causes
