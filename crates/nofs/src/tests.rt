@@ -4,6 +4,7 @@ mod caches;
 mod days;
 mod disks;
 mod drills;
+mod failing;
 mod files;
 mod frames;
 mod images;

@@ -32,7 +32,7 @@ fn a_file_moves_to_a_name_that_is_free_and_a_directory_does_not(
 }
 
 // A disk of 64 blocks of which a call fails.
-fn failing(alloc: Global, fault: FaultAt) -> Result<MemDisk, AllocError> {
+pub fn failing(alloc: Global, fault: FaultAt) -> Result<MemDisk, AllocError> {
     let mut disk = MemDisk::new(alloc, 64)?;
     disk.fail_at(&[fault])?;
     Ok(disk)
@@ -64,7 +64,7 @@ fn push_versions(
 }
 
 // The disks that a crash leaves with one block at any of its versions.
-fn images_of(alloc: Global, disk: &MemDisk) -> Result<Vec<MemDisk>, AllocError> {
+pub fn images_of(alloc: Global, disk: &MemDisk) -> Result<Vec<MemDisk>, AllocError> {
     let mut images = Vec::new(alloc);
     for block in 0..64 {
         push_versions(alloc, &mut images, disk, block)?;
@@ -96,7 +96,7 @@ fn a_move_whose_second_flush_fails_leaves_the_old_name(rt: HostRuntime) -> Resul
 
 // Each call of the session that writes, failing once. The format and the mount make 65 writes and
 // two flushes before them.
-fn faults_of(alloc: Global, calls: CallCounts) -> Result<Vec<FaultAt>, AllocError> {
+pub fn faults_of(alloc: Global, calls: CallCounts) -> Result<Vec<FaultAt>, AllocError> {
     let mut faults = Vec::new(alloc);
     for before in 65..calls.writes {
         push_fault(&mut faults, CallKind::Write, before, false)?;
@@ -109,7 +109,7 @@ fn faults_of(alloc: Global, calls: CallCounts) -> Result<Vec<FaultAt>, AllocErro
 }
 
 // Adds the fault of the call that comes after so many of its kind.
-fn push_fault(
+pub fn push_fault(
     faults: &mut Vec<FaultAt>,
     call: CallKind,
     before: u64,

@@ -149,17 +149,27 @@ fn a_read_that_fails_is_told_and_stops_nothing(rt: HostRuntime) -> Result<(), Fa
     Ok(())
 }
 
+const SESSION: &str = "put @ 0 616263\nget @ 0 3\nfsync @";
+
+const LINES: &str = "put 3\ngot bytes:616263\nsynced\n";
+
+// The 32 bytes of the session come in seven pieces, and its end is the eighth call.
 #[test]
 fn a_source_that_fails_leaves_the_disk_untouched(rt: HostRuntime) -> Result<(), Fail> {
     let alloc = rt.alloc();
-    for number in [1, 2, 4] {
-        let mut source = MemSource::new(alloc, b"put @ 0 616263".as_slice(), 5, &[number])?;
+    for number in 1..10 {
+        let mut source = MemSource::new(alloc, SESSION.as_bytes(), 5, &[number])?;
         let mut sink = MemSink::new(alloc, 100, &[])?;
         let disk = MemDisk::new(alloc, 64)?;
         let (status, disk) = run_with(&rt, alloc, "new 64 16", &mut source, &mut sink, disk)?;
-        assert_eq!(rt; sink.bytes(), b"source fault\n".as_slice());
-        assert_eq!(rt; status, 6);
-        assert_eq!(rt; disk.calls(), UNTOUCHED);
+        let (want, ended) = if number < 9 {
+            ("source fault\n", 6)
+        } else {
+            (LINES, 0)
+        };
+        assert_eq!(rt; sink.bytes(), want.as_bytes(), "{number}");
+        assert_eq!(rt; status, ended, "{number}");
+        assert_eq!(rt; disk.calls() == UNTOUCHED, number < 9, "{number}");
     }
     Ok(())
 }
@@ -170,11 +180,20 @@ fn a_sink_that_fails_has_a_prefix_of_the_lines(rt: HostRuntime) -> Result<(), Fa
     let alloc = rt.alloc();
     for (command, session, want, status) in [
         ("new 64 16", "size @ 0\nfsync @", "sized 0\nsynced\n", 5),
+        ("new 64 16", SESSION, LINES, 5),
         ("scan", "", "mount: bad magic 0000000000000000\n", 4),
         ("new 64 16", "frob", "line 1: unknown command\n", 2),
         ("new 64", "", "usage: nofs IMAGE new", 1),
     ] {
-        for (room, fails, taken) in [(7, 9, 7), (7, 1, 0)] {
+        for (room, fails, taken) in [
+            (7, 9, 7),
+            (7, 1, 0),
+            (7, 2, 7),
+            (0, 9, 0),
+            (1, 9, 1),
+            (14, 9, 14),
+            (100, 1, 0),
+        ] {
             let mut source = MemSource::new(alloc, session.as_bytes(), 64, &[])?;
             let mut sink = MemSink::new(alloc, room, &[fails])?;
             let disk = MemDisk::new(alloc, 64)?;
