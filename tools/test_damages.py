@@ -1,0 +1,319 @@
+#!/usr/bin/env python3
+"""Tests over damaged images, with the program $NOFS (the script `nofs` beside tools/): what each damage is told as, that no run
+panics, hangs, reads past its image or serves a cell that disagrees, and that a hostile image costs no more calls than it may.
+
+Each image is asked what the cases in `damages` say (`damage_cases.py` has their format), and what `slow_reader.py` finds by the
+definitions; both have to be what the program says. Images by the hundred are drawn from fixed seeds."""
+import os
+import random
+import subprocess
+import sys
+import tempfile
+import threading
+import unittest
+from concurrent.futures import ThreadPoolExecutor
+
+TOOLS = os.path.dirname(os.path.abspath(__file__))
+sys.path.insert(0, TOOLS)
+import damage_cases as damages  # noqa: E402
+import nofs_format as nofs  # noqa: E402
+from damage_cases import Laying  # noqa: E402
+from slow_reader import Reading, World, unmountable  # noqa: E402
+
+NOFS = os.environ.get("NOFS") or os.path.join(os.path.dirname(TOOLS), "nofs")
+SECONDS = 60
+READING = (b"list", b"stat", b"get")
+
+
+class Room:
+    """A folder for images, and the runs of the program in it, a thread each."""
+
+    def __init__(self, case):
+        room = tempfile.TemporaryDirectory(prefix="nofs-damages-")
+        case.addCleanup(room.cleanup)
+        self.folder, self.own = room.name, threading.local()
+
+    def path(self, name):
+        return os.path.join(self.folder, f"{threading.get_ident()}-{name}")
+
+    def put(self, data):
+        path = self.path("disk.img")
+        with open(path, "wb") as file:
+            file.write(data)
+        return path
+
+    def told(self, data, words, session=(), device=0):
+        """The status, the lines and the messages of a run on a fresh copy of an image."""
+        image = self.put(data)
+        word = f"mirror:{device}:{image}:{self.path('other.img')}" if device else image
+        done = subprocess.run([NOFS, word, *words], input=b"\n".join(session), stdout=subprocess.PIPE, stderr=subprocess.PIPE, timeout=SECONDS)
+        return done.returncode, done.stdout.split(b"\n")[:-1], done.stderr
+
+    def each(self, work, items):
+        """Does the work for each item, some at once."""
+        with ThreadPoolExecutor(os.cpu_count()) as pool:
+            return list(pool.map(work, items))
+
+
+def wanted_of(data, words, session=(), device=0):
+    """The status and the lines that the definitions give; None for the line of a command that writes, and those behind it."""
+    fault = unmountable(data, device or 1048576)
+    if fault:
+        return 4, [fault.encode()]
+    reading = Reading(World(data))
+    if words[0] == "scan":
+        return 0, [reading.scan()]
+    if words[0] == "salvage":
+        return 0, reading.salvage(*(word.encode() for word in words[1:]))
+    lines = []
+    for command in session:
+        reads = command.split(b" ")[0] in READING and None not in lines
+        lines.append(reading.line(command) if reads else None)
+    return 0, lines
+
+
+def same(one, other):
+    """Whether lines are the same, where both are known."""
+    return len(one) == len(other) and all(None in pair or pair[0] == pair[1] for pair in zip(one, other))
+
+
+def text(lines):
+    return "\n".join(damages.shown(line)[:300] if line is not None else "?" for line in lines[:12])
+
+
+def reads_of(data):
+    """A session that lists, tells and reads all that the names of an image lead to, and the label file."""
+    if unmountable(data):
+        return [b"stat /"]
+    reading = Reading(World(data))
+    session, folders = [b"stat /", b"stat @", b"get @ 0 4500000", b"stat /none"], [(nofs.ROOT, b"")]
+    for directory, path in folders:
+        session.append(b"list " + (path or b"/"))
+        for place, entry in reading.entries(directory) if directory in reading.world.agreed else []:
+            name = path + b"/" + entry.name
+            session += [b"stat " + name, b"get " + name + b" 0 100000", b"get " + name + b" 73000 70000"]
+            if leads_to_folder(reading, directory, place, entry):
+                folders.append((entry.inode, name))
+    return session[:400]
+
+
+def leads_to_folder(reading, directory, place, entry):
+    """Whether an entry is the one that its name finds, and a directory's."""
+    folder = reading.world.record(entry.inode).kind == nofs.FOLDER
+    pairs = [at for at, other in reading.entries(directory) if other.name == entry.name and reading.is_pair(directory, at, other)]
+    return folder and pairs[:1] == [place]
+
+
+class Cases(unittest.TestCase):
+    """The cases of the folder, each in a file of its own."""
+
+    def test_each_case_is_told_as_it_says(self):
+        room = Room(self)
+        runs = [(case, run) for case in damages.all_cases() for run in case.runs]
+        self.assertGreater(len(runs), 400)
+        faults = [fault for found in room.each(lambda pair: self.faults(room, *pair), runs) for fault in found]
+        self.assertEqual(faults, [], "\n".join(faults))
+
+    def faults(self, room, case, run):
+        """What is wrong with a run of a case: by the program, and by the reader of the definitions."""
+        want = (run.status, run.lines)
+        name = f"{case.name}, {' '.join(run.words)}"
+        *told, said = room.told(case.data, run.words, run.session, case.device)
+        if (*told, said) != (*want, b""):
+            yield f"{name}: the program ended with {told[0]} and\n{text(told[1])}\nfor\n{text(want[1])}\n{said[-300:].decode()}"
+        status, lines = wanted_of(case.data, run.words, run.session, case.device)
+        if status != run.status or not same(lines, run.lines):
+            yield f"{name}: by the definitions it is {status} and\n{text(lines)}\nfor\n{text(want[1])}"
+
+    def test_each_case_says_what_it_is(self):
+        for case in damages.all_cases():
+            self.assertRegex(case.says, r"^[A-Z/`].*\.$", case.name)
+            self.assertTrue(case.runs, case.name)
+            self.assertTrue(all(run.lines or run.words[0] == "salvage" for run in case.runs), case.name)
+
+
+class Drawn(unittest.TestCase):
+    """Damages by the hundred: what the program says is what the definitions give."""
+
+    def setUp(self):
+        self.room = Room(self)
+        self.day = damages.image("day2")
+
+    def judged(self, images, *choices):
+        """Runs each image with the commands of one of the choices after the other; all that is said has to be what is wanted."""
+        runs = [(f"{name}, {word}", data, word) for at, (name, data) in enumerate(images) for word in choices[at % len(choices)]]
+        self.assertTrue(runs)
+        faults = [fault for fault in self.room.each(lambda run: self.fault(*run), runs) if fault]
+        self.assertEqual(faults, [], "\n".join(faults))
+
+    def fault(self, name, data, word):
+        session = reads_of(data) if word == "run" else []
+        *told, said = self.room.told(data, [word], session)
+        status, lines = wanted_of(data, [word], session)
+        if (told, said) != ([status, lines], b""):
+            lines = [pair for pair in zip(told[1], lines) if pair[0] != pair[1]] or [(b"%d lines" % len(told[1]), b"%d lines" % len(lines))]
+            return f"{name}: the program {told[0]} {text(lines[0][:1])}\n   definitions {status} {text(lines[0][1:])} {said[-300:].decode()}"
+        return None
+
+    def test_an_image_is_cut_at_each_block(self):
+        self.judged(((f"cut at {block}", self.day[:block * nofs.CELL]) for block in range(24)), ["scan", "run"])
+
+    def test_an_image_is_cut_inside_each_cell(self):
+        cuts = ((block, 1055 if block % 2 else 100) for block in range(23))
+        self.judged(((f"cut at {block} and {at}", self.day[:block * nofs.CELL + at]) for block, at in cuts), ["scan", "run"])
+
+    def other(self):
+        """An image of as many blocks that the program made."""
+        session = b"make /x\nput /x 0 7878\nmkdir /y\nmake /y/z\nput /y/z 9000 7a\nsize /x 20000\nput /x 19000 79\nlink /x /y/x\nput @ 0 6c".split(b"\n")
+        path = self.room.put(b"")
+        subprocess.run([NOFS, path, "new", "32", "12"], input=b"\n".join(session), stdout=subprocess.DEVNULL, check=True, timeout=SECONDS)
+        with open(path, "rb") as file:
+            return file.read().ljust(32 * nofs.CELL, b"\0")
+
+    def test_cells_of_the_table_are_those_of_another_image(self):
+        other, images = self.other(), []
+        for one, two, name in ((self.day, other, "day"), (other, self.day, "made")):
+            for blocks in ([1], [2], [3], [1, 2], [1, 2, 3]):
+                images.append((f"{name} with {blocks}", with_cells(one, {block: cell_of(two, block) for block in blocks})))
+            images += [(f"{name} with {a} in {b}", with_cells(one, {b: cell_of(one, a)})) for a, b in ((1, 2), (2, 1), (3, 1), (2, 3))]
+            images.append((f"{name} with its data in the other", one[:4 * nofs.CELL] + two[4 * nofs.CELL:]))
+        self.judged(images, ["scan", "run", "salvage"])
+
+    def test_all_bytes_are_ff(self):
+        ones = bytes([255]) * len(self.day)
+        cell, table = nofs.CELL, 4 * nofs.CELL
+        tags = b"".join(self.day[at:at + nofs.PAYLOAD] + ones[:32] for at in range(0, len(self.day), cell))
+        payloads = self.day[:cell] + b"".join(ones[:nofs.PAYLOAD] + self.day[at + nofs.PAYLOAD:at + cell] for at in range(cell, len(self.day), cell))
+        self.judged([("all", ones), ("but the superblock", self.day[:nofs.PAYLOAD] + ones[nofs.PAYLOAD:]),
+                     ("the table", self.day[:cell] + ones[cell:table] + self.day[table:]), ("the data", self.day[:table] + ones[table:]),
+                     ("the tags", tags), ("the payloads", payloads)], ["scan", "run", "salvage"])
+
+    def test_bytes_are_random(self):
+        images, cell, table, end = [], nofs.CELL, 4 * nofs.CELL, len(self.day)
+        for seed in range(3):
+            noise = random.Random(seed).randbytes(end)
+            for name, first, last in (("the table", cell, table), ("the data", table, end), ("but the superblock", nofs.PAYLOAD, end), ("all", 0, end)):
+                images.append((f"{name} of {seed}", self.day[:first] + noise[first:last] + self.day[last:]))
+        self.judged(images, ["scan", "run"])
+
+    def test_structures_have_random_fields(self):
+        images = [(f"fields of {seed}", drawn_fields(self.day, random.Random(seed), 12)) for seed in range(24)]
+        self.judged(images, ["scan", "run", "salvage"])
+
+    def test_tables_and_tags_are_drawn_from_few_numbers(self):
+        self.judged([(f"few numbers of {seed}", few_numbers(random.Random(seed))) for seed in range(24)], ["scan", "run", "salvage"])
+
+    def test_single_bytes_are_damaged(self):
+        images = [(f"byte of {seed}", one_byte(self.day, random.Random(seed))) for seed in range(240)]
+        self.judged(images, ["scan"], ["run"], ["salvage"])
+
+    def test_tags_are_swapped(self):
+        images = []
+        for seed in range(24):
+            one, two = random.Random(seed).sample(range(4, 22), 2)
+            images.append((f"tags of {one} and {two}", with_cells(self.day, {
+                one: cell_of(self.day, one)[:nofs.PAYLOAD] + cell_of(self.day, two)[nofs.PAYLOAD:],
+                two: cell_of(self.day, two)[:nofs.PAYLOAD] + cell_of(self.day, one)[nofs.PAYLOAD:]})))
+        self.judged(images, ["scan", "run"])
+
+
+def cell_of(data, block):
+    return data[block * nofs.CELL:(block + 1) * nofs.CELL]
+
+
+def with_cells(data, cells):
+    """An image with other cells."""
+    data = bytearray(data)
+    for block, cell in cells.items():
+        data[block * nofs.CELL:(block + 1) * nofs.CELL] = cell
+    return bytes(data)
+
+
+def one_byte(data, draw):
+    """An image with one other byte, in most cases in a record, a tag, an entry or a pointer that is used."""
+    block = draw.randrange(22)
+    places = {0: [range(48), range(1024)], 8: [range(32)], 11: [range(32)], 4: [range(256)], 10: [range(192)], 14: [range(64)]}
+    if 1 <= block <= 3:
+        kept = places.get(block, [range(256 * record, 256 * record + part) for record in range(4) for part in (48, 112, 256)])
+    else:
+        kept = [*places.get(block, [range(32)]), range(1024, 1056)]
+    at = block * nofs.CELL + draw.choice(draw.choice(kept))
+    return data[:at] + bytes([data[at] ^ draw.choice([1, 2, 128, 255, draw.randrange(1, 256)])]) + data[at + 1:]
+
+
+def drawn_fields(data, draw, count):
+    """An image some of whose fields are drawn from numbers that mean something."""
+    laying = Laying(data)
+    small = ["0", "1", "2", "3", "4", "5", "7", "8", "10", "12", "13", "32", "2^32-1"]
+    wide = [*small, "S+1", "S+2", "S+3", "S+5", "S+8", "S+23", "S+30", "2^32", "2^32+1", "2^32+2", "2^64-1"]
+
+    def field(table):
+        name = draw.choice(list(table))
+        return name, ",".join(draw.choice(small if size == 4 else wide) for size in table[name][1:])
+
+    pointers = {name: place for name, place in damages.RECORD.items() if place[1:] == (8, 8)}
+    for _ in range(count):
+        draw.choice([lambda: laying.record(draw.randrange(1, 13), *field(damages.RECORD)),
+                     lambda: laying.record(draw.randrange(2, 11), *field(pointers)),
+                     lambda: laying.tag(draw.randrange(4, 22), *field(damages.TAG)),
+                     lambda: laying.entry(draw.choice([4, 10, 12, 14]), draw.randrange(4), *field(damages.ENTRY)),
+                     lambda: laying.pointer(draw.choice([8, 11, 17, 18, 19]), draw.randrange(2), field(pointers)[1])])()
+    return bytes(laying.data)
+
+
+class Drawing:
+    """An image whose files, names and blocks are drawn from so few numbers that many of them agree, and some of them don't."""
+
+    def __init__(self, draw):
+        self.draw, self.laying = draw, Laying()
+        self.laying.new("32", "12")
+        self.laying.super("version", str(draw.choice([1, 2])))
+        self.generation = {inode: draw.randrange(2, 12) for inode in range(3, 13)} | {1: 1, 2: 2}
+        self.kind = {inode: draw.choice([1, 2]) for inode in range(3, 13)} | {1: 2, 2: 1}
+        self.blocks, self.links = {}, {inode: [] for inode in self.kind}
+        self.draw_blocks()
+        self.draw_entries()
+        self.lay_records()
+
+    def often(self):
+        return self.draw.random() < 0.9
+
+    def draw_blocks(self):
+        """Gives each block of the data area to a slot, and most of them its tag."""
+        for block in range(4, 32):
+            inode = self.draw.choice([1, 1, *self.kind])
+            slot = self.draw.choice([0, 0, 1, 2, 7, 8, 71, nofs.LEAF_SLOT, nofs.LEAF_SLOT])
+            self.blocks.setdefault((inode, slot), block)
+            kind = nofs.LEAF if slot == nofs.LEAF_SLOT else nofs.DIRECTORY if self.kind[inode] == nofs.FOLDER else nofs.CONTENT
+            self.laying.tag(block, "kind", str(kind), "inode", str(inode), "generation", str(self.generation[inode]),
+                            "slot", str(slot if self.often() else 1), "stamp", str(block if self.often() else 0))
+
+    def draw_entries(self):
+        """Names in the blocks of directories, and for most of them the back link."""
+        for (directory, slot), block in self.blocks.items():
+            for place in self.draw.sample(range(16), 4) if self.kind[directory] == nofs.FOLDER and slot < 72 else []:
+                inode = self.draw.choice(list(self.kind))
+                generation = self.generation[inode] if self.often() else 3
+                self.laying.entry(block, place, "inode", str(inode), "generation", str(generation), "length", "1", "name", f"{self.draw.randrange(97, 103):02x}")
+                if self.often() and len(self.links[inode]) < (4 if self.kind[inode] == nofs.FILE else 1):
+                    self.links[inode].append(f"{directory},{16 * slot + place},{self.generation[directory]}")
+
+    def lay_records(self):
+        for inode, kind in self.kind.items():
+            words = ["generation", str(self.generation[inode]), "kind", str(kind), "links", str(len(self.links[inode]))]
+            words += [word for place, link in enumerate(self.links[inode]) for word in (f"link{place}", link)]
+            words += ["size", str(self.draw.choice([0, 1, 1024, 3000, 9000, 73728, 80000])) if kind == nofs.FILE else "0"]
+            for (owner, slot), block in self.blocks.items():
+                if owner == inode and (slot < 8 or slot == nofs.LEAF_SLOT):
+                    words += ["leaf" if slot == nofs.LEAF_SLOT else f"direct{slot}", f"{block},{block}"]
+                elif owner == inode:
+                    self.laying.pointer(self.blocks.get((inode, nofs.LEAF_SLOT), 31), slot - 8, f"{block},{block}")
+            self.laying.record(inode, *words)
+
+
+def few_numbers(draw):
+    return bytes(Drawing(draw).laying.data)
+
+
+if __name__ == "__main__":
+    unittest.main()
