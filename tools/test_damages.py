@@ -1,6 +1,6 @@
 #!/usr/bin/env python3
 """Tests over damaged images, with the program $NOFS (the script `nofs` beside tools/): what each damage is told as, that no run
-panics, hangs, reads past its image or serves a cell that disagrees, and that a hostile image costs no more calls than it may.
+panics, hangs, writes a cell but block 0 or serves one that disagrees, and what a scan of a hostile image costs.
 
 Each image is asked what the cases in `damages` say (`damage_cases.py` has their format), and what `slow_reader.py` finds by the
 definitions; both have to be what the program says. Images by the hundred are drawn from fixed seeds."""
@@ -31,7 +31,7 @@ class Room:
     def __init__(self, case):
         room = tempfile.TemporaryDirectory(prefix="nofs-damages-")
         case.addCleanup(room.cleanup)
-        self.folder, self.own = room.name, threading.local()
+        self.folder = room.name
 
     def path(self, name):
         return os.path.join(self.folder, f"{threading.get_ident()}-{name}")
@@ -48,6 +48,11 @@ class Room:
         word = f"mirror:{device}:{image}:{self.path('other.img')}" if device else image
         done = subprocess.run([NOFS, word, *words], input=b"\n".join(session), stdout=subprocess.PIPE, stderr=subprocess.PIPE, timeout=SECONDS)
         return done.returncode, done.stdout.split(b"\n")[:-1], done.stderr
+
+    def left(self):
+        """The image that this thread's last run left."""
+        with open(self.path("disk.img"), "rb") as file:
+            return file.read()
 
     def each(self, work, items):
         """Does the work for each item, some at once."""
@@ -104,7 +109,7 @@ def leads_to_folder(reading, directory, place, entry):
     return folder and pairs[:1] == [place]
 
 
-class Cases(unittest.TestCase):
+class DamageCases(unittest.TestCase):
     """The cases of the folder, each in a file of its own."""
 
     def test_each_case_is_told_as_it_says(self):
@@ -132,7 +137,7 @@ class Cases(unittest.TestCase):
             self.assertTrue(all(run.lines or run.words[0] == "salvage" for run in case.runs), case.name)
 
 
-class Drawn(unittest.TestCase):
+class DrawnDamages(unittest.TestCase):
     """Damages by the hundred: what the program says is what the definitions give."""
 
     def setUp(self):
@@ -151,9 +156,12 @@ class Drawn(unittest.TestCase):
         *told, said = self.room.told(data, [word], session)
         status, lines = wanted_of(data, [word], session)
         if (told, said) != ([status, lines], b""):
-            lines = [pair for pair in zip(told[1], lines) if pair[0] != pair[1]] or [(b"%d lines" % len(told[1]), b"%d lines" % len(lines))]
-            return f"{name}: the program {told[0]} {text(lines[0][:1])}\n   definitions {status} {text(lines[0][1:])} {said[-300:].decode()}"
-        return None
+            counts = tuple(b"%d lines" % len(each) for each in (told[1], lines))
+            one, other = next((pair for pair in zip(told[1], lines) if pair[0] != pair[1]), counts)
+            return f"{name}: the program {told[0]} {text([one])}\n   definitions {status} {text([other])} {said[-300:].decode()}"
+        kept = 0 if status else nofs.CELL       # a mount writes block 0 alone, and one that was refused nothing
+        left = self.room.left()
+        return None if left[kept:].rstrip(b"\0") == data[kept:].rstrip(b"\0") else f"{name}: cells were written"
 
     def test_an_image_is_cut_at_each_block(self):
         self.judged(((f"cut at {block}", self.day[:block * nofs.CELL]) for block in range(24)), ["scan", "run"])
@@ -164,9 +172,11 @@ class Drawn(unittest.TestCase):
 
     def other(self):
         """An image of as many blocks that the program made."""
-        session = b"make /x\nput /x 0 7878\nmkdir /y\nmake /y/z\nput /y/z 9000 7a\nsize /x 20000\nput /x 19000 79\nlink /x /y/x\nput @ 0 6c".split(b"\n")
+        session = ["make /x", "put /x 0 7878", "mkdir /y", "make /y/z", "size /y/z 9000", "put /y/z 8999 7a", "size /x 20000",
+                   "put /x 19000 79", "link /x /y/x", "put @ 0 6c", ""]
         path = self.room.put(b"")
-        subprocess.run([NOFS, path, "new", "32", "12"], input=b"\n".join(session), stdout=subprocess.DEVNULL, check=True, timeout=SECONDS)
+        done = subprocess.run([NOFS, path, "new", "32", "12"], input="\n".join(session).encode(), stdout=subprocess.PIPE, timeout=SECONDS)
+        self.assertEqual((done.returncode, done.stdout.count(b"refused")), (0, 0))
         with open(path, "rb") as file:
             return file.read().ljust(32 * nofs.CELL, b"\0")
 
@@ -183,7 +193,8 @@ class Drawn(unittest.TestCase):
         ones = bytes([255]) * len(self.day)
         cell, table = nofs.CELL, 4 * nofs.CELL
         tags = b"".join(self.day[at:at + nofs.PAYLOAD] + ones[:32] for at in range(0, len(self.day), cell))
-        payloads = self.day[:cell] + b"".join(ones[:nofs.PAYLOAD] + self.day[at + nofs.PAYLOAD:at + cell] for at in range(cell, len(self.day), cell))
+        payloads = self.day[:cell] + b"".join(ones[:nofs.PAYLOAD] + self.day[at + nofs.PAYLOAD:at + cell]
+                                              for at in range(cell, len(self.day), cell))
         self.judged([("all", ones), ("but the superblock", self.day[:nofs.PAYLOAD] + ones[nofs.PAYLOAD:]),
                      ("the table", self.day[:cell] + ones[cell:table] + self.day[table:]), ("the data", self.day[:table] + ones[table:]),
                      ("the tags", tags), ("the payloads", payloads)], ["scan", "run", "salvage"])
@@ -192,7 +203,8 @@ class Drawn(unittest.TestCase):
         images, cell, table, end = [], nofs.CELL, 4 * nofs.CELL, len(self.day)
         for seed in range(3):
             noise = random.Random(seed).randbytes(end)
-            for name, first, last in (("the table", cell, table), ("the data", table, end), ("but the superblock", nofs.PAYLOAD, end), ("all", 0, end)):
+            for name, first, last in (("the table", cell, table), ("the data", table, end),
+                                      ("but the superblock", nofs.PAYLOAD, end), ("all", 0, end)):
                 images.append((f"{name} of {seed}", self.day[:first] + noise[first:last] + self.day[last:]))
         self.judged(images, ["scan", "run"])
 
@@ -215,6 +227,143 @@ class Drawn(unittest.TestCase):
                 one: cell_of(self.day, one)[:nofs.PAYLOAD] + cell_of(self.day, two)[nofs.PAYLOAD:],
                 two: cell_of(self.day, two)[:nofs.PAYLOAD] + cell_of(self.day, one)[nofs.PAYLOAD:]})))
         self.judged(images, ["scan", "run"])
+
+
+class ScanTimes(unittest.TestCase):
+    """What a scan costs, in processor time.
+
+    A check of an inode or of a block's owner reads a record and an entry, and for each of four back links goes up from directory to
+    directory until it meets the root, an inode that is known to be agreed, or a link that is no pair. Generations fall on the way,
+    so it ends after as many directories as there are one below the other, and nothing else makes it longer: not the number of names,
+    of entries that name one inode, or of tags that name one slot. Known are only inodes whose own verdict was committed as used: not
+    those on the way to it, not those of the same batch, and none that isn't agreed. So a deep chain costs its depth for each inode
+    and block of it, and not a multiple of an honest tree."""
+
+    def setUp(self):
+        self.room = Room(self)
+
+    def cost(self, data):
+        """The processor time of a scan, which has the line of the definitions."""
+        with open(self.room.path("out"), "w+b") as out:
+            before = os.times()
+            done = subprocess.run([NOFS, self.room.put(data), "scan"], stdout=out, timeout=10 * SECONDS)
+            after = os.times()
+            out.seek(0)
+            self.assertEqual((done.returncode, out.read()), (0, Reading(World(data)).scan() + b"\n"))
+        return after.children_user - before.children_user + after.children_system - before.children_system
+
+    def test_an_image_of_small_depth_costs_at_most_ten_times_an_honest_one(self):
+        honest = self.cost(tree(1152, 16))
+        for name, data in (("1,152 pairs in the root", tree(1152, 1152)), ("entries that all name one inode", entries_of_one(1152)),
+                           ("loops of two directories", loops(1152)), ("tags that all name one slot", tags_of_one(1152))):
+            cost = self.cost(data)
+            self.assertLess(cost, 10 * max(honest, 0.01), name)
+
+    def test_a_chain_costs_at_most_its_depth_times_an_honest_tree(self):
+        depth = 96
+        honest = max(self.cost(tree(depth, 16)), 0.01)
+        for name, data in (("a chain", chain(depth)), ("a chain whose inodes fall", chain(depth, falling=True)),
+                           ("a chain that hangs on nothing", chain(depth, hangs=False)), ("a loop", chain(depth, hangs=False, loop=True))):
+            self.assertLess(self.cost(data), depth * honest, name)
+
+
+class Building:
+    """An image of so many inodes behind the first two, each of which can have a block, and of a root with blocks enough."""
+
+    def __init__(self, count):
+        inodes = -(-(count + 2) // 4) * 4
+        self.area, self.laying = 1 + inodes // 4, Laying()
+        self.laying.new(str(max(self.area + count + 80, 16)), str(inodes))
+        self.laying.record(2, "generation", "2", "kind", "1")
+        self.folder(1, 1, [])
+
+    def folder(self, inode, generation, links, slot=0):
+        """A directory with a block for a slot, whose stamp is the block's number."""
+        block = self.area + 79 + inode - 2 if inode > 2 else self.area + slot
+        links = [word for link in links for word in ("link0", link)]
+        self.laying.record(inode, "generation", str(generation), "kind", "2", "links", str(len(links) // 2), *links)
+        self.hold(inode, generation, slot, block)
+        return block
+
+    def hold(self, inode, generation, slot, block, kind=nofs.DIRECTORY):
+        """A block for a slot, through a leaf where there has to be one."""
+        self.laying.tag(block, "kind", str(kind), "inode", str(inode), "generation", str(generation), "slot", str(slot), "stamp", str(block))
+        if slot < 8 or kind == nofs.LEAF:
+            self.laying.record(inode, "leaf" if kind == nofs.LEAF else f"direct{slot}", f"{block},{block}")
+        else:
+            self.laying.pointer(self.area + 72, slot - 8, f"{block},{block}")
+
+    def root(self, entries):
+        """The root's blocks for so many entries."""
+        for slot in range(-(-entries // 16)):
+            self.hold(1, 1, slot, self.area + slot)
+        if entries > 128:
+            self.hold(1, 1, nofs.LEAF_SLOT, self.area + 72, nofs.LEAF)
+
+    def entry(self, block, place, inode, generation):
+        name = f"n{inode}-{place}".encode()
+        self.laying.entry(block, place % 16, "inode", str(inode), "generation", str(generation), "length", str(len(name)), "name", name.hex())
+
+    def data(self):
+        return bytes(self.laying.data)
+
+
+def tree(count, width):
+    """An honest image of so many directories, so many in each."""
+    building = Building(count)
+    building.root(min(width, count))
+    blocks = [building.area]
+    for at in range(count):
+        parent, place = divmod(at, width)
+        link = f"{parent + 2 if parent else 1},{place},{100 + parent - 1 if parent else 1}"
+        blocks.append(building.folder(3 + at, 100 + at, [link]))
+        building.entry(blocks[parent] + place // 16, place, 3 + at, 100 + at)
+    return building.data()
+
+
+def chain(count, falling=False, hangs=True, loop=False):
+    """A chain of directories; falling inodes; hanging on nothing; its first one named by its last."""
+    building = Building(count)
+    inodes = [2 + count - at if falling else 3 + at for at in range(count)]
+    above, generation, block = 1, 1, building.area
+    for at, inode in enumerate(inodes):
+        if at or hangs:
+            building.entry(block, 0, inode, 100 + at)
+        above, generation, block = inode, 100 + at, building.folder(inode, 100 + at, [f"{above},0,{generation}"])
+    if loop:
+        building.entry(block, 0, inodes[0], 100)
+        building.laying.record(inodes[0], "link0", f"{above},0,{generation}")
+    return building.data()
+
+
+def loops(count):
+    """Directories of which each two name each other."""
+    building = Building(count)
+    for inode in range(3, 3 + count, 2):
+        for one, two in ((inode, inode + 1), (inode + 1, inode)):
+            building.entry(building.folder(one, 100 + one, [f"{two},0,{100 + two}"]), 0, two, 100 + two)
+    return building.data()
+
+
+def entries_of_one(count):
+    """A root all of whose entries name one directory, and further directories with its back link."""
+    building = Building(count)
+    building.root(1152)
+    for entry in range(1152):
+        building.entry(building.area + entry // 16, entry, 3, 103)
+    for inode in range(3, 3 + count):
+        building.folder(inode, 100 + inode, ["1,1151,1"])
+    return building.data()
+
+
+def tags_of_one(count):
+    """Directories with blocks whose tags all name the slot of the first one."""
+    building = Building(count)
+    for inode in range(3, 3 + count):
+        block = building.folder(inode, 100 + inode, ["1,0,1"])
+        building.laying.tag(block, "inode", "3", "generation", "103", "stamp", str(building.area + 80))
+    building.entry(building.area, 0, 3, 103)
+    return building.data()
 
 
 def cell_of(data, block):
@@ -294,7 +443,8 @@ class Drawing:
             for place in self.draw.sample(range(16), 4) if self.kind[directory] == nofs.FOLDER and slot < 72 else []:
                 inode = self.draw.choice(list(self.kind))
                 generation = self.generation[inode] if self.often() else 3
-                self.laying.entry(block, place, "inode", str(inode), "generation", str(generation), "length", "1", "name", f"{self.draw.randrange(97, 103):02x}")
+                name = f"{self.draw.randrange(97, 103):02x}"
+                self.laying.entry(block, place, "inode", str(inode), "generation", str(generation), "length", "1", "name", name)
                 if self.often() and len(self.links[inode]) < (4 if self.kind[inode] == nofs.FILE else 1):
                     self.links[inode].append(f"{directory},{16 * slot + place},{self.generation[directory]}")
 
