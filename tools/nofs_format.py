@@ -257,6 +257,8 @@ class Tree:
             return "its inode is free"
         if record.generation != entry.generation:
             return "its inode is of another generation"
+        if entry.inode in (ROOT, LABEL) and entry.inode not in self.paths:
+            return "its inode is not the root or the label file"
         if Link(directory, place, own) not in record.links:
             return "no back link of its inode leads here"
         return "its directory is younger" if record.kind == FOLDER and own >= record.generation else None

@@ -229,6 +229,16 @@ class DrawnDamages(unittest.TestCase):
         self.judged(images, ["scan", "run"])
 
 
+    def test_the_page_finds_the_same_owners(self):
+        images = [case.data for case in damages.all_cases()]
+        for seed in range(100):
+            images += [few_numbers(random.Random(seed)), drawn_fields(self.day, random.Random(seed), 12), one_byte(self.day, random.Random(seed))]
+        for data in (data for data in images if not unmountable(data)):
+            tree, world = nofs.Tree(nofs.Image(self.room.put(data))), World(data)
+            owners = {block: (inode, slot.number) for block, (inode, slot) in tree.owners().items()}
+            self.assertEqual((set(tree.paths), owners), (world.agreed, world.owners()))
+
+
 class ScanTimes(unittest.TestCase):
     """What a scan costs, in processor time.
 
