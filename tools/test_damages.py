@@ -168,7 +168,7 @@ class DrawnDamages(unittest.TestCase):
 
     def test_an_image_is_cut_inside_each_cell(self):
         cuts = ((block, 1055 if block % 2 else 100) for block in range(23))
-        self.judged(((f"cut at {block} and {at}", self.day[:block * nofs.CELL + at]) for block, at in cuts), ["scan", "run"])
+        self.judged(((f"cut at {block} and {at}", self.day[:block * nofs.CELL + at]) for block, at in cuts), ["scan"], ["run"])
 
     def other(self):
         """An image of as many blocks that the program made."""
@@ -187,7 +187,7 @@ class DrawnDamages(unittest.TestCase):
                 images.append((f"{name} with {blocks}", with_cells(one, {block: cell_of(two, block) for block in blocks})))
             images += [(f"{name} with {a} in {b}", with_cells(one, {b: cell_of(one, a)})) for a, b in ((1, 2), (2, 1), (3, 1), (2, 3))]
             images.append((f"{name} with its data in the other", one[:4 * nofs.CELL] + two[4 * nofs.CELL:]))
-        self.judged(images, ["scan", "run", "salvage"])
+        self.judged(images, ["scan", "run"], ["run", "salvage"])
 
     def test_all_bytes_are_ff(self):
         ones = bytes([255]) * len(self.day)
@@ -216,7 +216,7 @@ class DrawnDamages(unittest.TestCase):
         self.judged([(f"few numbers of {seed}", few_numbers(random.Random(seed))) for seed in range(24)], ["scan", "run", "salvage"])
 
     def test_single_bytes_are_damaged(self):
-        images = [(f"byte of {seed}", one_byte(self.day, random.Random(seed))) for seed in range(240)]
+        images = [(f"byte of {seed}", one_byte(self.day, random.Random(seed))) for seed in range(201)]
         self.judged(images, ["scan"], ["run"], ["salvage"])
 
     def test_tags_are_swapped(self):
@@ -226,7 +226,7 @@ class DrawnDamages(unittest.TestCase):
             images.append((f"tags of {one} and {two}", with_cells(self.day, {
                 one: cell_of(self.day, one)[:nofs.PAYLOAD] + cell_of(self.day, two)[nofs.PAYLOAD:],
                 two: cell_of(self.day, two)[:nofs.PAYLOAD] + cell_of(self.day, one)[nofs.PAYLOAD:]})))
-        self.judged(images, ["scan", "run"])
+        self.judged(images, ["scan"], ["run"])
 
 
     def test_the_page_finds_the_same_owners(self):
