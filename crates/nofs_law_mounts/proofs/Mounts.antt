@@ -1,0 +1,99 @@
+-- One mount: its life, what a crash inside its raise leaves, and what the next one finds.
+use Rattle.std.proofs.Common.{◌≡◌, ◌≢◌, ℕ, ◌<◌, Bool, true, false, eqb, eqb-true, eq-eqb, inl, inr, IsTrue, Contains, length, set, refl, sym, ap, ◌∙◌, subst, arith}
+use Rattle.std.proofs.lemmas.List.{get_or-set_same, get_or-set_other, length-set}
+use Rattle.nofs_disk.specs.Disk.{DiskState, IsDisk, Picks, no_cell}
+use Rattle.nofs_disk.specs.Adds.{WasOr}
+use Rattle.nofs_super.specs.Format.{super_cell}
+use Rattle.nofs_super.specs.Raise.{IsSuperCell, raised}
+use Rattle.nofs_model.specs.Cells.{Cell, SuperBlock}
+use Rattle.nofs_model.specs.Image.{Image, cell_at, super_at, super_in, IsSound}
+use Rattle.nofs_law_lives.specs.Lives.{Raised}
+use Rattle.nofs_law_lives.proofs.Begin.{law-upgraded}
+use Rattle.nofs_shared.specs.Mounts.{IsFound, IsSoundDisk}
+use Rattle.nofs_law_mounts.specs.Mounts.{IsOfRaise, LawFoundSound, LawInRaise, LawMountLife, LawNextMount, Mount, SameOrSecond, contents_of}
+use Rattle.nofs_law_mounts.proofs.Raised.{has-cell, is-raised, raised-of, some}
+
+super-same : (X Y : Image) → cell_at Y 0 ≡ cell_at X 0 → super_at Y ≡ super_at X
+unfolding super_at
+super-same X Y e = ap (λ (c : Cell). super_in c.payload) e
+
+abbrev IsPick : DiskState → Image → Type 0
+IsPick d X = Picks d.may d.blocks X
+
+-- what a read gives is one of the images that the disk may hold
+pub now-picks : (d : DiskState) → IsDisk d → IsTrue d.tells → Picks d.may d.blocks d.now
+now-picks d is t = record { len = is.whole t; each = λ b low. is.has_now b t low }
+
+-- an image of the raise
+module _ (d : DiskState) (is : IsDisk d) (q : IsSoundDisk d) (X : Image) (found : IsFound (raised (super_at d.now)) d X) where
+  picked : IsPick d d.now
+  picked = now-picks d is q.tells
+
+  bound : 0 < d.blocks
+  bound = let n = picked.len in let s = some d.now (q.sound d.now picked) in omega (arith, n, s)
+
+  others-in : (b : ℕ) → b < d.blocks → b ≢ 0 → Contains (d.may b) (cell_at X b)
+  others-in b low ne = elim (found.1 b low) [ inl h ↦ h | inr c ↦ absurd (ne c.first) ]
+
+  each-of : (Y : Image) → Contains (d.may 0) (cell_at Y 0) → ((b : ℕ) → b ≢ 0 → cell_at Y b ≡ cell_at X b) → (b : ℕ) → b < d.blocks → Contains (d.may b) (cell_at Y b)
+  each-of Y here same b low = go (eqb b 0) refl
+    where
+      go : (t : Bool) → eqb b 0 ≡ t → Contains (d.may b) (cell_at Y b)
+      go true e = subst (λ (k : ℕ). Contains (d.may k) (cell_at Y k)) (sym (eqb-true b 0 e)) here
+      go false e = let ne : b ≢ 0 = λ z. let t : eqb b 0 ≡ true = eq-eqb b 0 z in cc (t, e) in subst (λ (c : Cell). Contains (d.may b) c) (sym (same b ne)) (others-in b low ne)
+
+  -- X with the cell of block 0 that a read gives
+  Y : Image
+  Y = set X 0 (cell_at d.now 0)
+
+  first-is : cell_at Y 0 ≡ cell_at d.now 0
+  unfolding Y
+  first-is = get_or-set_same X 0 (cell_at d.now 0) no_cell (let e = found.0 in let s = bound in omega (arith, e, s))
+
+  others-are : (b : ℕ) → b ≢ 0 → cell_at Y b ≡ cell_at X b
+  unfolding Y
+  others-are b ne = get_or-set_other X 0 b (cell_at d.now 0) no_cell ne
+
+  size-is : length Y ≡ length X
+  unfolding Y
+  size-is = length-set X 0 (cell_at d.now 0)
+
+  picks : IsPick d Y
+  picks = record { len = size-is ∙ found.0; each = each-of Y (subst (λ (c : Cell). Contains (d.may 0) c) (sym first-is) (is.has_now 0 q.tells bound)) others-are }
+
+  pub in-raise : IsOfRaise d X
+  in-raise = go (found.1 0 bound)
+    where
+      go : WasOr (IsSuperCell (raised (super_at d.now))) d 0 (cell_at X 0) → IsOfRaise d X
+      go (inl here) = inl (record { len = found.0; each = each-of X here (λ b ne. refl) })
+      go (inr c) =
+          let first : cell_at X 0 ≡ super_cell (raised (super_at Y)) = c.is ∙ ap (λ (s : SuperBlock). super_cell (raised s)) (sym (super-same d.now Y first-is)) in
+          inr (Y, picks, is-raised Y (q.sound Y picks) X first (sym size-is) (λ b ne. sym (others-are b ne)), has-cell Y (q.sound Y picks) X first)
+
+module _ {D : Type 0} (state : D → DiskState) (is : (d : D) → IsDisk (state d)) where
+  pub mount-life : LawMountLife state
+  mount-life m = (contents_of m).run
+
+  pub found-picks : (m : Mount state) → Picks (state m.found).may (state m.found).blocks (state m.found).now
+  found-picks m = now-picks (state m.found) (is m.found) m.sound.tells
+
+  -- the base is what a read gave as the mount found the disk, raised
+  pub base-raised : (m : Mount state) → Raised (state m.found).now (contents_of m).base
+  base-raised m = raised-of (state m.found).now (m.sound.sound (state m.found).now (found-picks m)) (contents_of m).base (contents_of m).base_is
+
+  pub next-mount : LawNextMount state
+  next-mount k l X c late between =
+      record { moment = c.moment; left = X; found = (state l.found).now; allowed = (contents_of k).allowed c.moment X late c.to c.left; between = between; raised = base-raised l }
+
+  pub mount-raise : LawInRaise state
+  mount-raise k X c early = in-raise (state k.found) (is k.found) k.sound X ((contents_of k).before c.moment X c.from early c.left)
+
+  pub found-sound : LawFoundSound state
+  found-sound k d tells after = record {
+    tells = tells;
+    sound = λ Y p. let f = after Y p in let sound : IsSound f.0 = (contents_of k).sound f.1.moment f.0 f.1.from f.1.to f.1.left in stays f.0 Y sound f.2;
+  }
+    where
+      stays : (X Y : Image) → IsSound X → SameOrSecond X Y → IsSound Y
+      stays X Y sound (inl e) = subst IsSound (sym e) sound
+      stays X Y sound (inr up) = law-upgraded X Y sound up.0 up.1
