@@ -1,5 +1,6 @@
 -- One mount: its life, what a crash inside its raise leaves, and what the next one finds.
-use Rattle.std.proofs.Common.{◌≡◌, ◌≢◌, ℕ, ◌<◌, Bool, true, false, eqb, eqb-true, eq-eqb, inl, inr, IsTrue, Contains, length, set, refl, sym, ap, ◌∙◌, subst, arith}
+use Rattle.std.proofs.Math.Logic.{∥∥₁_elim, ∥∥₁_map, ∥∥₁_prop}
+use Rattle.std.proofs.Common.{◌≡◌, ◌≢◌, ℕ, ◌<◌, ◌≤◌, Bool, true, false, eqb, eqb-true, eq-eqb, inl, inr, IsTrue, Contains, length, set, refl, sym, ap, ◌∙◌, subst, arith}
 use Rattle.std.proofs.lemmas.List.{get_or-set_same, get_or-set_other, length-set}
 use Rattle.nofs_disk.specs.Disk.{DiskState, IsDisk, Picks, no_cell}
 use Rattle.nofs_disk.specs.Adds.{WasOr}
@@ -7,10 +8,14 @@ use Rattle.nofs_super.specs.Format.{super_cell}
 use Rattle.nofs_super.specs.Raise.{IsSuperCell, raised}
 use Rattle.nofs_model.specs.Cells.{Cell, SuperBlock}
 use Rattle.nofs_model.specs.Image.{Image, cell_at, super_at, super_in, IsSound}
-use Rattle.nofs_law_lives.specs.Lives.{Raised}
+use Rattle.nofs_machine.specs.Allowed.{IsAllowed}
+use Rattle.nofs_machine.specs.Next.{Run}
+use Rattle.nofs_machine.specs.World.{world_of}
+use Rattle.nofs_law_lives.specs.Lives.{IsLife, Raised}
 use Rattle.nofs_law_lives.proofs.Begin.{law-upgraded}
+use Rattle.nofs_shared.specs.Ends.{Contents}
 use Rattle.nofs_shared.specs.Mounts.{IsFound, IsSoundDisk}
-use Rattle.nofs_law_mounts.specs.Mounts.{IsOfRaise, LawFoundSound, LawInRaise, LawMountLife, LawNextMount, Mount, SameOrSecond, contents_of}
+use Rattle.nofs_law_mounts.specs.Mounts.{ComesAfter, IsOfRaise, LawFoundSound, LawInRaise, LawMountLife, LawNextMount, Leaves, Mount, SameOrSecond, base_of, life_in}
 use Rattle.nofs_law_mounts.proofs.Raised.{has-cell, is-raised, raised-of, some}
 
 super-same : (X Y : Image) → cell_at Y 0 ≡ cell_at X 0 → super_at Y ≡ super_at X
@@ -71,29 +76,48 @@ module _ (d : DiskState) (is : IsDisk d) (q : IsSoundDisk d) (X : Image) (found 
           inr (Y, picks, is-raised Y (q.sound Y picks) X first (sym size-is) (λ b ne. sym (others-are b ne)), has-cell Y (q.sound Y picks) X first)
 
 module _ {D : Type 0} (state : D → DiskState) (is : (d : D) → IsDisk (state d)) where
+  -- what stands behind the two facts of a mount
+  pub record Says (m : Mount state) : Type 0 where
+    pub sound : IsSoundDisk (state m.found)
+    pub contents : Contents (state m.found) (state m.last) m.first m.history
+
+  pub says : (m : Mount state) → ∥ Says m ∥₁
+  says m = ∥∥₁_elim m.sound ∥∥₁_prop (λ q. ∥∥₁_map m.ends (λ e. record { sound = q; contents = e.contents q }))
+
+  module _ (m : Mount state) (s : Says m) where
+    pub is-life : IsLife (life_in m s.contents.world)
+    is-life = subst (λ (B : Image). Run m.history.start (world_of B m.first) m.history.entries s.contents.world) s.contents.base_is s.contents.run
+
+    pub found-picks : Picks (state m.found).may (state m.found).blocks (state m.found).now
+    found-picks = now-picks (state m.found) (is m.found) s.sound.tells
+
+    -- the base is what a read gave as the mount found the disk, raised
+    pub base-raised : Raised (state m.found).now (base_of m)
+    base-raised = raised-of (state m.found).now (s.sound.sound (state m.found).now found-picks) (base_of m) refl
+
+    pub is-allowed : (X : Image) (c : Leaves m X) → m.history.start ≤ c.moment → IsAllowed (base_of m) m.history.entries c.moment X
+    is-allowed X c late = subst (λ (B : Image). IsAllowed B m.history.entries c.moment X) s.contents.base_is (s.contents.allowed c.moment X late c.to c.left)
+
+    pub of-raise : (at : ℕ) (X : Image) → (state m.found).moment ≤ at → at ≤ m.history.start → (state m.last).left at X → IsOfRaise (state m.found) X
+    of-raise at X from early left = in-raise (state m.found) (is m.found) s.sound X (s.contents.before at X from early left)
+
+    stays-sound : (X Y : Image) → IsSound X → SameOrSecond X Y → IsSound Y
+    stays-sound X Y sound (inl e) = subst IsSound (sym e) sound
+    stays-sound X Y sound (inr up) = law-upgraded X Y sound up.0 up.1
+
+    after-sound : (d : DiskState) → IsTrue d.tells → ComesAfter m d → IsSoundDisk d
+    after-sound d tells after = record { tells = tells; sound = λ Y p. let f = after Y p in stays-sound f.0 Y (s.contents.sound f.1.moment f.0 f.1.from f.1.to f.1.left) f.2 }
+
   pub mount-life : LawMountLife state
-  mount-life m = (contents_of m).run
-
-  pub found-picks : (m : Mount state) → Picks (state m.found).may (state m.found).blocks (state m.found).now
-  found-picks m = now-picks (state m.found) (is m.found) m.sound.tells
-
-  -- the base is what a read gave as the mount found the disk, raised
-  pub base-raised : (m : Mount state) → Raised (state m.found).now (contents_of m).base
-  base-raised m = raised-of (state m.found).now (m.sound.sound (state m.found).now (found-picks m)) (contents_of m).base (contents_of m).base_is
+  mount-life m = ∥∥₁_map (says m) (λ s. (s.contents.world, is-life m s))
 
   pub next-mount : LawNextMount state
-  next-mount k l X c late between =
-      record { moment = c.moment; left = X; found = (state l.found).now; allowed = (contents_of k).allowed c.moment X late c.to c.left; between = between; raised = base-raised l }
+  next-mount k l X c late between W V =
+      ∥∥₁_elim (says k) ∥∥₁_prop (λ s. ∥∥₁_map (says l) (λ t.
+      record { moment = c.moment; left = X; found = (state l.found).now; allowed = is-allowed k s X c late; between = between; raised = base-raised l t }))
 
   pub mount-raise : LawInRaise state
-  mount-raise k X c early = in-raise (state k.found) (is k.found) k.sound X ((contents_of k).before c.moment X c.from early c.left)
+  mount-raise k at X from early left = ∥∥₁_map (says k) (λ s. of-raise k s at X from early left)
 
   pub found-sound : LawFoundSound state
-  found-sound k d tells after = record {
-    tells = tells;
-    sound = λ Y p. let f = after Y p in let sound : IsSound f.0 = (contents_of k).sound f.1.moment f.0 f.1.from f.1.to f.1.left in stays f.0 Y sound f.2;
-  }
-    where
-      stays : (X Y : Image) → IsSound X → SameOrSecond X Y → IsSound Y
-      stays X Y sound (inl e) = subst IsSound (sym e) sound
-      stays X Y sound (inr up) = law-upgraded X Y sound up.0 up.1
+  found-sound k d tells after = ∥∥₁_map (says k) (λ s. after-sound k s (state d) tells after)

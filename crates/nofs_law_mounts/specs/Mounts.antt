@@ -1,15 +1,17 @@
 -- Mounts of one device, with crashes and upgrades between them.
-use Rattle.std.specs.Prelude.{◌≡◌, ◌≢◌, ◌⊎◌, ℕ, ◌<◌, ◌≤◌, IsTrue, true, List, [], ◌∷◌, ◌++◌, length, get_or}
+use Rattle.std.specs.Prelude.{◌≡◌, ◌≢◌, ◌⊎◌, ℕ, ◌<◌, ◌≤◌, IsTrue, true, List, [], ◌∷◌, ◌++◌, length, get_or, slice_set}
 use Rattle.nofs_ptrs.specs.Paths.{slot_limit}
 use Rattle.nofs_disk.specs.Disk.{DiskState, IsSameDisk, IsSettled, KeepsCells, Picks}
-use Rattle.nofs_super.specs.Format.{IsFormatted}
+use Rattle.nofs_super.specs.Format.{IsFormatted, super_cell}
+use Rattle.nofs_super.specs.Raise.{raised}
 use Rattle.nofs_model.specs.Cells.{is_null}
 use Rattle.nofs_model.specs.Image.{Image, inode, record_pointer, super_at, value}
 use Rattle.nofs_model.specs.declared.value.Value.TheVariants.{Bytes}
 use Rattle.nofs_machine.specs.History.{agreed_files, is_generation}
 use Rattle.nofs_machine.specs.HistoryState.{HistoryState}
+use Rattle.nofs_machine.specs.World.{World}
 use Rattle.nofs_law_lives.specs.Lives.{GivenBy, HasSuperCell, IsLife, Life, Lives, NextLife, Raised, Rising, SameOrUpgraded, Upgraded, claimed_in}
-use Rattle.nofs_shared.specs.Ends.{Contents, Ends}
+use Rattle.nofs_shared.specs.Ends.{Ends}
 use Rattle.nofs_shared.specs.Mounts.{IsSoundDisk}
 use Rattle.nofs_upgrade.specs.Upgrades.{StaysOrUpgrades}
 
@@ -19,17 +21,16 @@ pub record Mount {D : Type 0} (state : D → DiskState) : Type 0 where
   pub last : D
   pub first : ℕ
   pub history : HistoryState
-  pub sound : IsSoundDisk (state found)
-  pub ends : Ends (state found) (state last) first history
+  pub sound : ∥ IsSoundDisk (state found) ∥₁
+  pub ends : ∥ Ends (state found) (state last) first history ∥₁
 
-abbrev pub contents_of : {D : Type 0} {state : D → DiskState} (mount : Mount state) → Contents (state mount.found) (state mount.last) mount.first mount.history
-contents_of mount = mount.ends.contents mount.sound
+-- the disk that was found, with the mount number raised
+abbrev pub base_of : {D : Type 0} {state : D → DiskState} → Mount state → Image
+base_of {state = state} mount = slice_set (state mount.found).now 0 (super_cell (raised (super_at (state mount.found).now)))
 
--- its life
-abbrev pub life_of : {D : Type 0} {state : D → DiskState} → Mount state → Life
-life_of mount =
-    let contents = contents_of mount in
-    record { base = contents.base; first = mount.first; start = mount.history.start; history = mount.history.entries; end = contents.world }
+-- its life, which ends in this world
+abbrev pub life_in : {D : Type 0} {state : D → DiskState} → Mount state → World → Life
+life_in mount W = record { base = base_of mount; first = mount.first; start = mount.history.start; history = mount.history.entries; end = W }
 
 -- One mount after another
 
@@ -66,14 +67,14 @@ Mounts {state = state} (mount ∷ before ∷ rest) = ComesAfter before (state mo
 
 -- What holds of them
 
--- these lives are the one before, or a life without entries more
+-- the same lives, or one life more after them, without entries
 abbrev pub OneEmptyMore : List Life → List Life → Type 0
 OneEmptyMore rest lives = (lives ≡ rest) ⊎ ((l : Life) × (l.history ≡ []) × (lives ≡ l ∷ rest))
 
 -- the lives of these mounts, in order: a mount without a step may have a life without entries in the place of its own, or none
 abbrev pub AreLives : {D : Type 0} {state : D → DiskState} → List (Mount state) → List Life → Type 0
 AreLives [] lives = lives ≡ []
-AreLives (mount ∷ mounts) lives = (rest : List Life) × AreLives mounts rest × ((lives ≡ life_of mount ∷ rest) ⊎ ((mount.history.entries ≡ []) × OneEmptyMore rest lives))
+AreLives (mount ∷ mounts) lives = (rest : List Life) × AreLives mounts rest × (((W : World) × (lives ≡ life_in mount W ∷ rest)) ⊎ ((mount.history.entries ≡ []) × OneEmptyMore rest lives))
 
 -- what these mounts claimed, in order
 abbrev pub claimed_over : {D : Type 0} {state : D → DiskState} → List (Mount state) → List ℕ
@@ -83,18 +84,18 @@ claimed_over (mount ∷ mounts) = claimed_over mounts ++ claimed_in mount.histor
 -- an entry of one of these mounts gave this content to slot k of (i, g)
 abbrev pub GivenOver : {D : Type 0} {state : D → DiskState} → List (Mount state) → ℕ → ℕ → ℕ → List ℕ → Type 0
 GivenOver [] i g k content = ⊥
-GivenOver (mount ∷ mounts) i g k content = GivenBy (agreed_files (contents_of mount).base) mount.history.entries i g k (Bytes content) ⊎ GivenOver mounts i g k content
+GivenOver (mount ∷ mounts) i g k content = GivenBy (agreed_files (base_of mount)) mount.history.entries i g k (Bytes content) ⊎ GivenOver mounts i g k content
 
 -- The laws
 
 -- A mount is a life.
 abbrev pub LawMountLife : {D : Type 0} → (D → DiskState) → Type 0
-LawMountLife state = (mount : Mount state) → IsLife (life_of mount)
+LawMountLife state = (mount : Mount state) → ∥ ((W : World) × IsLife (life_in mount W)) ∥₁
 
 -- One that reads its disk as what a crash of another may leave since its flush is the life after it.
 abbrev pub LawNextMount : {D : Type 0} → (D → DiskState) → Type 0
-LawNextMount state = (before after : Mount state) (X : Image) (crash : Leaves before X)
-    → before.history.start ≤ crash.moment → SameOrUpgraded X (state after.found).now → NextLife (life_of before) (life_of after)
+LawNextMount state = (before after : Mount state) (X : Image) (crash : Leaves before X) → before.history.start ≤ crash.moment → SameOrUpgraded X (state after.found).now
+    → (W V : World) → ∥ NextLife (life_in before W) (life_in after V) ∥₁
 
 -- the disk may hold this image, or one of which it is the raise
 abbrev pub IsOfRaise : DiskState → Image → Type 0
@@ -102,11 +103,12 @@ IsOfRaise d X = Picks d.may d.blocks X ⊎ ((Y : Image) × Picks d.may d.blocks 
 
 -- A crash inside the raise leaves an image that the disk could hold as it was found, or such a one with its mount number one higher.
 abbrev pub LawInRaise : {D : Type 0} → (D → DiskState) → Type 0
-LawInRaise state = (mount : Mount state) (X : Image) (crash : Leaves mount X) → crash.moment ≤ mount.history.start → IsOfRaise (state mount.found) X
+LawInRaise state = (mount : Mount state) (m : ℕ) (X : Image)
+    → (state mount.found).moment ≤ m → m ≤ mount.history.start → (state mount.last).left m X → ∥ IsOfRaise (state mount.found) X ∥₁
 
 -- A disk that tells and comes after a mount is found sound.
 abbrev pub LawFoundSound : {D : Type 0} → (D → DiskState) → Type 0
-LawFoundSound {D = D} state = (mount : Mount state) (d : D) → IsTrue (state d).tells → ComesAfter mount (state d) → IsSoundDisk (state d)
+LawFoundSound {D = D} state = (mount : Mount state) (d : D) → IsTrue (state d).tells → ComesAfter mount (state d) → ∥ IsSoundDisk (state d) ∥₁
 
 -- What a format leaves on a disk that tells is blank.
 abbrev pub LawFirstDisk : DiskState → DiskState → Type 0
@@ -133,7 +135,8 @@ LawUpgradedAfter {D = D} state = (mount : Mount state) (old new d : D) → Comes
 
 -- Mounts with crashes between them are lives.
 abbrev pub LawMountLives : {D : Type 0} → (D → DiskState) → Type 0
-LawMountLives state = (mount : Mount state) (mounts : List (Mount state)) → Mounts (mount ∷ mounts) → (lives : List Life) × AreLives mounts lives × Lives (life_of mount ∷ lives)
+LawMountLives state = (mount : Mount state) (mounts : List (Mount state)) → Mounts (mount ∷ mounts)
+    → ∥ ((W : World) × (lives : List Life) × AreLives mounts lives × Lives (life_in mount W ∷ lives)) ∥₁
 
 -- No generation and no stamp is claimed twice over these mounts.
 abbrev pub LawMountOnce : {D : Type 0} → (D → DiskState) → Type 0
@@ -143,4 +146,4 @@ LawMountOnce state = (mounts : List (Mount state)) → Mounts mounts
 -- Bytes in the base of a mount were given by an entry of an earlier one.
 abbrev pub LawMountContents : {D : Type 0} → (D → DiskState) → Type 0
 LawMountContents state = (later : List (Mount state)) (mount : Mount state) (earlier : List (Mount state)) → Mounts (later ++ mount ∷ earlier) → (i g k : ℕ) (content : List ℕ) → k < slot_limit
-    → is_generation (contents_of mount).base i g ≡ true → value (contents_of mount).base i k ≡ Bytes content → GivenOver earlier i g k content
+    → is_generation (base_of mount) i g ≡ true → value (base_of mount) i k ≡ Bytes content → ∥ GivenOver earlier i g k content ∥₁
