@@ -7,6 +7,7 @@ use Rattle.nofs_super.specs.Format.{FormatEnds, formatted_cell}
 use Rattle.nofs_super.specs.declared.geometry.FormatFault.{FormatFault}
 use Rattle.nofs_model.specs.Sound.{LawFormatted}
 use Rattle.nofs_shared.specs.Mounts.{IsSoundDisk}
+use Rattle.nofs_law_mounts.specs.Mounts.{IsBlankDisk, LawFirstDisk}
 
 accepted-geometry : (device blocks inodes : ℕ) → format_fault device blocks inodes ≡ None → IsGeometry device blocks inodes
 unfolding is_geometry
@@ -27,3 +28,8 @@ sound-formatted law blocks inodes old new (Ok u) same ends cells = λ tells. rec
       let there : b < new.blocks = omega (arith, low, few, same_blocks) in
       ends.settled b (cell_at X b) there (picks.each b there) ∙ cells tells b low);
 }
+
+pub blank-formatted : (old new : DiskState) → LawFirstDisk old new → (blocks inodes : ℕ) (res : Result (Unit {0}) FormatFault) → FormatEnds blocks inodes old new res
+    → OnOk res (IsTrue old.tells → IsSoundDisk new) → OnOk res (IsTrue old.tells → IsBlankDisk new)
+blank-formatted old new law blocks inodes (Err why) ends sound = tt
+blank-formatted old new law blocks inodes (Ok u) ends sound = λ tells. law blocks inodes tells ends (sound tells)

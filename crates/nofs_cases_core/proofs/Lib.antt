@@ -1,3 +1,4 @@
 pub mod Formatting
 pub mod Maps
 pub mod Opening
+pub mod Crashing

@@ -1,2 +1,3 @@
 pub mod OpenMount
 pub mod Replies
+pub mod TwoMounts

@@ -4,11 +4,13 @@ ghost use Rattle.nofs_memdisk.specs.Parts.{memory_state};
 ghost use Rattle.nofs_machine.specs.declared.replies.Reply.TheVariants as reply;
 ghost use Rattle.nofs_machine.specs.declared.steps.Step.TheVariants as step;
 ghost use Rattle.nofs_shared.specs.Mounts.{IsSoundDisk};
+ghost use Rattle.nofs_law_mounts.specs.Mounts.{IsBlankDisk};
 ghost use Rattle.nofs_cases_core.specs.OpenMount.{StandsOpen};
 ghost use Rattle.nofs_cases_core.specs.Replies.{AddsOne, SeesAndPuts, tells_free, is_stored};
 
 use nofs_disk::Disk;
 use nofs_law_maps::law_homes;
+use nofs_law_mounts::law_mounts;
 use nofs_lists::Content;
 use nofs_machine::{Reply, Step};
 use nofs_memdisk::MemDisk;
@@ -36,15 +38,17 @@ pub enum Unmade {
     Refused,
 }
 
-/// Formats a disk. Where it tells, each image that a crash may leave then is sound.
+/// Formats a disk. Where it tells, each image that a crash may leave then is sound, and blank.
 ///
 /// # Errors
 ///
 /// Those of `format`.
 pub fn format_disk<D: Disk>(disk: &mut D, blocks: u64, inodes: u64) -> Result<(), FormatFault>
-    ensures { OnOk result (IsTrue (D.state disk.old).tells → IsSoundDisk (D.state disk.new)) }
+    ensures sound { OnOk result (IsTrue (D.state disk.old).tells → IsSoundDisk (D.state disk.new)) }
+    ensures blank { OnOk result (IsTrue (D.state disk.old).tells → IsBlankDisk (D.state disk.new)) }
 {
     law_formatted();
+    law_mounts::<D>();
     format(disk, blocks, inodes)
 }
 
@@ -54,7 +58,8 @@ pub fn format_disk<D: Disk>(disk: &mut D, blocks: u64, inodes: u64) -> Result<()
 ///
 /// `OutOfMemory`, and `NotFormatted` where the format failed.
 pub fn new_disk(alloc: Global) -> Result<MemDisk, Unmade>
-    ensures { IfOk result (λ disk. IsSoundDisk (memory_state disk)) }
+    ensures sound { IfOk result (λ disk. IsSoundDisk (memory_state disk)) }
+    ensures blank { IfOk result (λ disk. IsBlankDisk (memory_state disk)) }
 {
     let Ok(mut disk) = MemDisk::new(alloc, BLOCKS) else {
         return Err(Unmade::OutOfMemory);
@@ -72,6 +77,7 @@ pub fn new_disk(alloc: Global) -> Result<MemDisk, Unmade>
 /// Those of `new_disk`, and `NotMounted` where the mount failed.
 pub fn formatted_mount(alloc: Global) -> Result<Mount<MemDisk>, Unmade>
     ensures found { IfOk result (λ m. IsSoundDisk (memory_state m.found.value)) }
+    ensures blank { IfOk result (λ m. IsBlankDisk (memory_state m.found.value)) }
     ensures empty { IfOk result (λ m. m.core.books.history.entries ≡ []) }
     ensures open { IfOk result (λ m. ∥ StandsOpen (memory_state m.found.value) (memory_state m.core.disk) m.first m.core.books ∥₁) }
 {
@@ -131,6 +137,7 @@ fn put_first(mount: &mut Mount<MemDisk>, alloc: Global, bytes: Content) -> bool
 /// Those of `formatted_mount`, `OutOfMemory`, and `Refused` where a step was not accepted.
 pub fn formatted_put(alloc: Global) -> Result<Mount<MemDisk>, Unmade>
     ensures found { IfOk result (λ m. IsSoundDisk (memory_state m.found.value)) }
+    ensures blank { IfOk result (λ m. IsBlankDisk (memory_state m.found.value)) }
     ensures history { IfOk result (λ m. SeesAndPuts 5 (codes "ab") m.core.books.history.entries) }
     ensures open { IfOk result (λ m. ∥ StandsOpen (memory_state m.found.value) (memory_state m.core.disk) m.first m.core.books ∥₁) }
 {

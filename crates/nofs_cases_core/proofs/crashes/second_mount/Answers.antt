@@ -1,0 +1,7 @@
+use Rattle.std.proofs.Common.{sym, subst}
+use Rattle.nofs_memdisk.specs.declared.memory.MemDisk.{MemDisk}
+use Rattle.nofs_cases_core.specs.TwoMounts.{Crashed}
+use Rattle.nofs_cases_core.proofs.crashes.second_mount.Goals as goal
+
+pub returns-in-Ok-begin : goal.returns-in-Ok-begin
+returns-in-Ok-begin c = subst (λ (d : MemDisk). ∥ Crashed d ∥₁) (sym c.in-Ok-begin.ensures.mount.0) c.in-Ok.ensures
