@@ -96,7 +96,7 @@ impl<D: Disk + Drop> Mount<D> {
     ///
     /// # Errors
     ///
-    /// `BadRange` exactly where some element is not on the disk; `Stopped` where a write failed before; `ReadFault` only where the
+    /// `BadRange` only where some element is not on the disk; `Stopped` where a write failed before; `ReadFault` only where the
     /// device's count of faults rose; `OutOfMemory`.
     pub fn look_batch(
         &mut self,
