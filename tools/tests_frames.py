@@ -41,6 +41,19 @@ class Images(Folders):
         self.image = self.at("disk.img")
         run([NOFS, self.image, "new", "512", "64"])
 
+    def watched(self, program):
+        """Ends a program that does not answer, so that whoever reads its replies fails and does not wait."""
+        watch = threading.Timer(TIME, program.kill)
+        watch.daemon = True
+        watch.start()
+        self.addCleanup(watch.cancel)
+        return program
+
+    def wire(self):
+        wire = nofs_client.Wire(NOFS, self.image)
+        self.watched(wire.program)
+        return wire
+
 
 class Client(Images):
     """The client of frames."""
@@ -90,7 +103,7 @@ class Client(Images):
         self.assertEqual(self.client("list", "/", status=3), (b"", "the program ended\n"))
 
     def test_one_stream_has_many_frames(self):
-        wire = nofs_client.Wire(NOFS, self.image)
+        wire = self.wire()
         nofs_client.put(wire, "/f", b"z" * 2000)
         at, kind = nofs_client.look(wire, "/f")
         for _ in range(2000):
@@ -137,7 +150,7 @@ class Frames(Images):
         self.assertEqual(self.served(stream), BAD_RANGE + STATTED)
 
     def test_what_was_answered_before_a_bad_frame_stands(self):
-        wire = nofs_client.Wire(NOFS, self.image)
+        wire = self.wire()
         nofs_client.put(wire, "/f", b"abc")
         wire.program.stdin.write(frame(14, b""))
         self.assertEqual(wire.close(), 2)
@@ -173,7 +186,7 @@ class Streams(Images):
     def begin(self, **how):
         program = subprocess.Popen([NOFS, self.image, "wire"], stdin=subprocess.PIPE, stdout=subprocess.PIPE, **how)
         self.addCleanup(self.end, program)
-        return program
+        return self.watched(program)
 
     def end(self, program):
         program.kill()
@@ -234,7 +247,7 @@ class Streams(Images):
                 self.assertEqual(program.wait(TIME), 5)
 
     def test_what_was_answered_before_the_client_read_no_more_stands(self):
-        wire = nofs_client.Wire(NOFS, self.image)
+        wire = self.wire()
         at = struct.unpack("<IQ", wire.claim(nofs_client.MAKE, nofs_client.handle(nofs_client.ROOT) + b"\1f\1"))
         wire.claim(nofs_client.PUT, nofs_client.handle(at) + struct.pack("<QI", 0, 0) + b"abc")
         wire.program.stdout.close()
@@ -268,7 +281,7 @@ class Streams(Images):
         self.assertEqual(serve(self.image, b"get /f 0 9\n"), ["got bytes:616263"])
 
     def test_what_was_flushed_stands_where_the_program_is_killed(self):
-        wire = nofs_client.Wire(NOFS, self.image)
+        wire = self.wire()
         nofs_client.put(wire, "/f", b"abc")
         at, _ = nofs_client.look(wire, "/f")
         wire.claim(nofs_client.PUT, nofs_client.handle(at) + struct.pack("<QI", 0, 0) + b"xyz")

@@ -44,14 +44,12 @@ class Files(Folders):
             self.assertEqual(run([*words, self.image, *command], b"put @ 0 78\n", 3)[0], DEVICE_FAULT)
         self.assertEqual(read(self.image), before)
 
-    # The file of an image gets the number of a stream that was closed. Once the program guards against that, these are plain tests.
-    @unittest.expectedFailure
+    # A file that is opened gets the number of a stream that the caller closed, so the program takes these numbers first.
     def test_a_program_without_standard_output_leaves_the_image(self):
         serve(self.image, b"put @ 0 616263\n", "new", "64", "16")
         subprocess.run([NOFS, self.image, "run"], input=b"stat @\n", preexec_fn=lambda: os.close(1))
         self.assertEqual(serve(self.image, b"get @ 0 3\n"), ["got bytes:616263"])
 
-    @unittest.expectedFailure
     def test_a_program_without_standard_input_reads_no_session_from_the_image(self):
         serve(self.image, b"put @ 0 616263\n", "new", "64", "16")
         done = subprocess.run([NOFS, self.image, "run"], stdout=subprocess.PIPE, preexec_fn=lambda: os.close(0))

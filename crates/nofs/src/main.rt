@@ -36,6 +36,7 @@ use nofs_io::{ReadSource, Sink, Source, WriteSink, write_all};
 use nofs_memdisk::MemDisk;
 use nofs_mirror::{Mirror, MirrorCause, MirrorFault};
 use std::alloc::Global;
+use std::fs::File;
 use std::process::ExitCode;
 use std::rt::Env;
 use std::sync::Wait;
@@ -175,7 +176,18 @@ fn run_in_mirror<R: Threads + Wait + Sync, S: Source, K: Sink>(
     }
 }
 
+// Takes the numbers of standard input, output and error where the caller closed them. Else an image that is opened would get one
+// of them, and the lines would be written into it. What it gives is kept to the program's end.
+fn hold_numbers(rt: &HostRuntime) -> [io::Result<File>; 3] {
+    [
+        File::open(rt, "/dev/null"),
+        File::open(rt, "/dev/null"),
+        File::open(rt, "/dev/null"),
+    ]
+}
+
 fn main(rt: HostRuntime) -> ExitCode {
+    let _held = hold_numbers(&rt);
     let (mut source, mut sink) = (ReadSource::new(rt.stdin()), WriteSink::new(rt.stdout()));
     let words = match all_words(&rt) {
         Ok(words) => words,
