@@ -15,6 +15,7 @@ mod salvages;
 mod second;
 mod statuses;
 mod unready;
+mod walks;
 
 use crate::tool::{Outcome, tool};
 use byteorder::ByteOrder;

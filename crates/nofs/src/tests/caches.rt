@@ -68,22 +68,22 @@ fn a_write_below_that_fails_is_made_again_or_told(rt: HostRuntime) -> Result<(),
 }
 
 /// A line of a session: its words, and behind them so many times this byte in hexadecimal digits.
-type Line = (&'static str, u8, usize);
+pub type Line = (&'static str, u8, usize);
 
 const KEPT: usize = 3_072;
 
 /// Two sessions over an image of 16 inodes: one that ends well, and one in which a crash comes.
 #[derive(Clone, Copy)]
-struct Story {
-    blocks: u64,
-    is_upgraded: bool,
+pub struct Story {
+    pub blocks: u64,
+    pub is_upgraded: bool,
     /// All of it is durable.
-    evening: &'static [Line],
-    /// Each file has bytes of its own, and a name is never given to a second file. The blocks of files
+    pub evening: &'static [Line],
+    /// Each of `files` has bytes of its own, and its name is never given to a second file. The blocks of files
     /// that were dropped are needed again.
-    day: &'static [Line],
+    pub day: &'static [Line],
     /// Where the files are or were, and the byte of each.
-    files: &'static [(&'static str, u8)],
+    pub files: &'static [(&'static str, u8)],
 }
 
 const SMALL: Story = Story {
@@ -244,8 +244,8 @@ fn made(disk: &MemDisk) -> (u64, u64) {
     (calls.writes, calls.flushes)
 }
 
-// How many writes and flushes a whole day makes after its mount, which makes one of each.
-fn day_calls<R: Threads + Wait + Sync>(
+/// How many writes and flushes a whole day makes after its mount, which makes one of each.
+pub fn day_calls<R: Threads + Wait + Sync>(
     rt: &R,
     alloc: Global,
     story: Story,
@@ -283,8 +283,8 @@ fn fault_after(disk: &MemDisk, call: (CallKind, u64), taken: bool) -> FaultAt {
     }
 }
 
-// A disk on which a day was stopped by a call that failed, and the status.
-fn stopped<R: Threads + Wait + Sync>(
+/// A disk on which a day was stopped by a call that failed, and the status.
+pub fn stopped<R: Threads + Wait + Sync>(
     rt: &R,
     alloc: Global,
     story: Story,
@@ -307,8 +307,12 @@ fn choices_of(disk: &MemDisk, block: u64) -> u64 {
     }
 }
 
-// One of the cells of each block that may hold several.
-fn drawn_picks(alloc: Global, disk: &MemDisk, state: &mut u64) -> Result<Vec<Pick>, AllocError> {
+/// One of the cells of each block that may hold several.
+pub fn drawn_picks(
+    alloc: Global,
+    disk: &MemDisk,
+    state: &mut u64,
+) -> Result<Vec<Pick>, AllocError> {
     let mut picks = Vec::new(alloc);
     for block in 0..disk.blocks() {
         let choices = choices_of(disk, block);
