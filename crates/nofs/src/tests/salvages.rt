@@ -61,7 +61,7 @@ struct Salvaged {
 // No disk here has more blocks.
 const BLOCKS: u64 = 256;
 
-fn salvaged<R: Threads + Wait + Sync>(
+fn salvage_disk<R: Threads + Wait + Sync>(
     rt: &R,
     alloc: Global,
     command: &str,
@@ -92,7 +92,7 @@ fn a_salvage_tells_what_is_lost(rt: HostRuntime) -> Result<(), Fail> {
     for (image, patches, command, want) in ROWS {
         let cells = patched(alloc, image_cells(alloc, image)?, patches)?;
         let disk = disk_of(alloc, 16, &cells)?;
-        let done = salvaged(&rt, alloc, command, disk)?;
+        let done = salvage_disk(&rt, alloc, command, disk)?;
         assert_eq!(rt; done.printed.as_slice(), want.as_bytes(), "{command}");
         assert_eq!(rt; done.told.as_slice(), want.as_bytes(), "{command}");
         assert_eq!(rt; done.status, 0, "{command}");
@@ -126,7 +126,7 @@ fn a_salvage_of_a_worked_image_tells_what_a_slow_walk_finds(rt: HostRuntime) -> 
     let alloc = rt.alloc();
     for (image, blocks) in IMAGES {
         let disk = disk_of(alloc, blocks, &image_cells(alloc, image)?)?;
-        let done = salvaged(&rt, alloc, "salvage", disk)?;
+        let done = salvage_disk(&rt, alloc, "salvage", disk)?;
         assert_eq!(rt; done.printed.as_slice(), done.told.as_slice());
         assert_eq!(rt; done.status, 0);
     }
@@ -233,7 +233,7 @@ fn a_salvage_of_a_crashed_day_tells_what_a_slow_walk_finds(rt: HostRuntime) -> R
         let Some(disk) = crashed(&rt, alloc, &mut state, calls)? else {
             panic!(rt; "no such image")
         };
-        let done = salvaged(&rt, alloc, "salvage", disk)?;
+        let done = salvage_disk(&rt, alloc, "salvage", disk)?;
         assert_eq!(rt; done.printed.as_slice(), done.told.as_slice());
         assert_eq!(rt; done.status, 0);
         lost = lost || has_line(&done.told, b"lost ".as_slice());
