@@ -159,7 +159,7 @@ const EVENING: [Line; 18] = [
     ("put /a/c/six 0 ", 22, 1_500),
     ("make /a/c/seven", 0, 0),
     ("put /a/c/seven 0 ", 23, 3_000),
-    ("put @ 0 ", 24, 1_000),
+    ("put @ 0 ", 24, 2_000),
 ];
 
 // Names are given again, and so are inodes and blocks.
