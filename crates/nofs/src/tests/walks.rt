@@ -213,8 +213,9 @@ fn number_in(bytes: &[u8], at: usize) -> u64 {
 // The bytes of an inode's record and those behind it in its block, or none.
 fn record_of(cells: &[Cell], inode: u32) -> &[u8] {
     let before = (inode as usize).saturating_sub(1);
-    match cells.get(before / 4 + 1) {
-        Some(cell) => cell.payload.get(before % 4 * 256..).unwrap_or(&[]),
+    let at = (before % 4).saturating_mul(256);
+    match cells.get((before / 4).saturating_add(1)) {
+        Some(cell) => cell.payload.get(at..).unwrap_or(&[]),
         None => &[],
     }
 }
