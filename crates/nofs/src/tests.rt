@@ -8,6 +8,7 @@ mod failing;
 mod files;
 mod frames;
 mod images;
+mod lives;
 mod mirrors;
 mod moves;
 mod recorder;

@@ -184,7 +184,8 @@ const LARGE_DAY: [Line; 14] = [
 
 const LARGE_FILES: [(&str, u8); 4] = [("/kept", 16), ("/a", 17), ("/b", 18), ("/c", 19)];
 
-fn push_bytes(alloc: Global, text: &mut Vec<u8>, byte: u8, count: usize) -> Result<(), Fail> {
+// Adds so many times this byte in hexadecimal digits.
+pub fn push_bytes(alloc: Global, text: &mut Vec<u8>, byte: u8, count: usize) -> Result<(), Fail> {
     let bytes = vec![in alloc; byte; count]?;
     let digits = hex::encode(alloc, bytes.as_slice())?;
     text.extend_from_slice(digits.as_bytes())?;
@@ -239,7 +240,7 @@ fn evening<R: Threads + Wait + Sync>(rt: &R, alloc: Global, story: Story) -> Res
 }
 
 // How many writes and flushes were made on a disk.
-fn made(disk: &MemDisk) -> (u64, u64) {
+pub fn made(disk: &MemDisk) -> (u64, u64) {
     let calls = disk.calls();
     (calls.writes, calls.flushes)
 }
@@ -261,7 +262,7 @@ pub fn day_calls<R: Threads + Wait + Sync>(
 }
 
 // One of the calls of a day, of which one in four is a flush.
-fn drawn_call(state: &mut u64, calls: (u64, u64)) -> (CallKind, u64) {
+pub fn drawn_call(state: &mut u64, calls: (u64, u64)) -> (CallKind, u64) {
     if draw(state, 4) == 0 {
         (CallKind::Flush, draw(state, calls.1).saturating_add(2))
     } else {
@@ -269,12 +270,11 @@ fn drawn_call(state: &mut u64, calls: (u64, u64)) -> (CallKind, u64) {
     }
 }
 
-// The fault of a call that comes so many calls of its kind after those that were made.
-fn fault_after(disk: &MemDisk, call: (CallKind, u64), taken: bool) -> FaultAt {
-    let (writes, flushes) = made(disk);
+// The fault of a call that comes so many calls of its kind after these writes and flushes.
+pub fn fault_after(made: (u64, u64), call: (CallKind, u64), taken: bool) -> FaultAt {
     let before = match call.0 {
-        CallKind::Flush => flushes,
-        _ => writes,
+        CallKind::Flush => made.1,
+        _ => made.0,
     };
     FaultAt {
         call: call.0,
@@ -293,13 +293,14 @@ pub fn stopped<R: Threads + Wait + Sync>(
 ) -> Result<(u8, MemDisk), Fail> {
     let mut disk = evening(rt, alloc, story)?;
     let call = drawn_call(state, calls);
-    let fault = fault_after(&disk, call, draw(state, 2) == 0);
+    let fault = fault_after(made(&disk), call, draw(state, 2) == 0);
     disk.fail_at(&[fault])?;
     let (status, _, disk) = run_on(rt, alloc, "run", &session(alloc, story.day)?, disk)?;
     Ok((status, disk))
 }
 
-fn choices_of(disk: &MemDisk, block: u64) -> u64 {
+// How many cells a crash may leave at a block, or 0.
+pub fn choices_of(disk: &MemDisk, block: u64) -> u64 {
     if block < disk.blocks() {
         disk.choices(block)
     } else {
@@ -326,18 +327,18 @@ pub fn drawn_picks(
 
 /// What was read of the files in all images.
 #[derive(Clone, Copy, Debug, PartialEq, Eq)]
-struct Seen {
-    images: u64,
-    bytes: u64,
-    holes: u64,
-    lost: u64,
-    refused: u64,
-    /// How many parts had a byte that is neither zero nor the file's own.
-    foreign: u64,
+pub struct Seen {
+    pub images: u64,
+    pub bytes: u64,
+    pub holes: u64,
+    pub lost: u64,
+    pub refused: u64,
+    /// How many parts had a byte that is neither zero nor one of the file's own.
+    pub foreign: u64,
 }
 
 impl Seen {
-    const NOTHING: Seen = Seen {
+    pub const NOTHING: Seen = Seen {
         images: 0,
         bytes: 0,
         holes: 0,
@@ -347,17 +348,21 @@ impl Seen {
     };
 }
 
-fn count(number: &mut u64) {
+pub fn count(number: &mut u64) {
     *number = number.saturating_add(1);
 }
 
-// Whether these digits spell this byte and zeros alone.
-fn is_own(alloc: Global, digits: &[u8], own: u8) -> Result<bool, Fail> {
+// Whether these digits spell these bytes and zeros alone.
+fn is_own(alloc: Global, digits: &[u8], own: &[u8]) -> Result<bool, Fail> {
     let bytes = hex::decode(alloc, digits)?;
-    Ok(bytes.iter().all(|byte| *byte == 0 || *byte == own))
+    Ok(bytes.iter().all(|byte| *byte == 0 || has_byte(own, *byte)))
 }
 
-fn see_part(alloc: Global, seen: &mut Seen, part: &[u8], own: u8) -> Result<(), Fail> {
+fn has_byte(bytes: &[u8], byte: u8) -> bool {
+    bytes.iter().any(|one| *one == byte)
+}
+
+fn see_part(alloc: Global, seen: &mut Seen, part: &[u8], own: &[u8]) -> Result<(), Fail> {
     if part.starts_with(b"hole:".as_slice()) {
         count(&mut seen.holes);
     } else if part.starts_with(b"lost:".as_slice()) {
@@ -373,7 +378,8 @@ fn see_part(alloc: Global, seen: &mut Seen, part: &[u8], own: u8) -> Result<(), 
     Ok(())
 }
 
-fn see_line(alloc: Global, seen: &mut Seen, line: &[u8], own: u8) -> Result<(), Fail> {
+// The line of a file that has these bytes.
+pub fn see_line(alloc: Global, seen: &mut Seen, line: &[u8], own: &[u8]) -> Result<(), Fail> {
     for part in line.split(|byte| *byte == b' ') {
         see_part(alloc, seen, part, own)?;
     }
@@ -384,7 +390,7 @@ fn see_line(alloc: Global, seen: &mut Seen, line: &[u8], own: u8) -> Result<(), 
 fn see(alloc: Global, story: Story, seen: &mut Seen, lines: &[u8]) -> Result<(), Fail> {
     for (at, line) in lines.split(|byte| *byte == b'\n').enumerate() {
         if let Some(file) = story.files.get(at) {
-            see_line(alloc, seen, line, file.1)?;
+            see_line(alloc, seen, line, &[file.1])?;
         }
     }
     Ok(())
@@ -398,13 +404,24 @@ fn is_served<R: Threads + Wait + Sync, D: Disk + Drop + Send>(
     seen: &mut Seen,
     image: D,
 ) -> Result<bool, Fail> {
-    let (scanned, _, image) = run_on(rt, alloc, "scan", b"".as_slice(), image)?;
-    let mut source = MemSource::new(alloc, &reading(alloc, story)?, 65_536, &[])?;
-    let mut sink = MemSink::new(alloc, 2_000_000, &[])?;
-    let (read, _) = run_with(rt, alloc, "run", &mut source, &mut sink, image)?;
+    let (ended, sink) = scanned_and_read(rt, alloc, &reading(alloc, story)?, image)?;
     see(alloc, story, seen, sink.bytes())?;
     count(&mut seen.images);
-    Ok(scanned == 0 && read == 0 && sink.bytes().starts_with(&kept_line(alloc)?))
+    Ok(ended && sink.bytes().starts_with(&kept_line(alloc)?))
+}
+
+// Whether a scan of an image and then this session end well, and the lines of the session.
+pub fn scanned_and_read<R: Threads + Wait + Sync, D: Disk + Drop + Send>(
+    rt: &R,
+    alloc: Global,
+    session: &[u8],
+    image: D,
+) -> Result<(bool, MemSink), Fail> {
+    let (scanned, _, image) = run_on(rt, alloc, "scan", b"".as_slice(), image)?;
+    let mut source = MemSource::new(alloc, session, 65_536, &[])?;
+    let mut sink = MemSink::new(alloc, 2_000_000, &[])?;
+    let (read, _) = run_with(rt, alloc, "run", &mut source, &mut sink, image)?;
+    Ok((scanned == 0 && read == 0, sink))
 }
 
 // A file in which a day was served through the cache, and the status.

@@ -44,7 +44,8 @@ pub fn cells_of<D: Disk>(
     Ok(cells)
 }
 
-fn cell_of<D: Disk>(disk: &mut D, block: u64) -> Option<Cell> {
+// The cell of a block, if it can be read.
+pub fn cell_of<D: Disk>(disk: &mut D, block: u64) -> Option<Cell> {
     if block >= disk.blocks() {
         return None;
     }
