@@ -109,6 +109,18 @@ three false ended.SinkFault false h = absurd (cc h)
 three false ended.End true h = refl
 three false ended.End false h = absurd (cc h)
 
+pub zero-end : (b : Bool) (e : WireEnd) (f : Bool) → wire_status b e f ≡ 0 → (e ≡ ended.End) × (f ≡ false)
+zero-end true e f h = absurd (cc h)
+zero-end false ended.SourceFault f h = absurd (cc h)
+zero-end false ended.TooLong f h = absurd (cc h)
+zero-end false (ended.Cut at) f h = absurd (cc h)
+zero-end false (ended.Bad at) f h = absurd (cc h)
+zero-end false ended.OutOfMemory f h = absurd (cc h)
+zero-end false ended.SinkFault true h = absurd (cc h)
+zero-end false ended.SinkFault false h = absurd (cc h)
+zero-end false ended.End true h = absurd (cc h)
+zero-end false ended.End false h = (refl, refl)
+
 -- a bad frame, or one that is cut
 abbrev pub IsTorn : WireEnd → Type 0
 IsTorn (ended.Cut at) = Unit {0}

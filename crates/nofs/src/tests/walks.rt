@@ -96,7 +96,7 @@ impl Walk<'_> {
         for (number, bytes) in content.chunks(64).enumerate() {
             let entry = Entry {
                 directory,
-                place: first.wrapping_add(number as u32),
+                place: first.wrapping_add((number % 16) as u32),
                 bytes,
             };
             if is_entry(bytes) {
