@@ -11,6 +11,8 @@ use std::test::Fail;
 #[derive(Clone, Copy)]
 struct Told {
     line: &'static str,
+    /// Whether it writes to the disk, or flushes it.
+    writes: bool,
     /// How its line ends where it is refused.
     end: &'static str,
     /// The lines after it where a read of it fails: those of the session without it.
@@ -23,51 +25,61 @@ const NAMES: &str =
 const NAMES_TOLD: [Told; 10] = [
     Told {
         line: "made\n",
+        writes: true,
         end: "\n",
         rest: "refused 1 missing\nrefused 1 missing\nrefused 1 missing\nrefused 1 missing\nnames\nrefused 1 missing\nrefused 1 missing\nrefused 1 missing\nrefused 1 missing\n",
     },
     Told {
         line: "made\n",
+        writes: true,
         end: "\n",
         rest: "made\nrefused 1 missing\nnames b\nnames d/\nrefused 7 not empty\ndropped\nmade\nnames x\n",
     },
     Told {
         line: "made\n",
+        writes: true,
         end: "\n",
         rest: "renamed\nnames c\nnames d/\nrefused 7 not empty\nrefused 1 missing\nmade\nnames c x\n",
     },
     Told {
         line: "renamed\n",
+        writes: true,
         end: "\n",
         rest: "names a b\nnames d/\nrefused 7 not empty\ndropped\nmade\nnames a x\n",
     },
     Told {
         line: "names c b\n",
+        writes: false,
         end: "\n",
         rest: "names d/\nrefused 7 not empty\ndropped\nmade\nnames c x\n",
     },
     Told {
         line: "names d/\n",
+        writes: false,
         end: "\n",
         rest: "refused 7 not empty\ndropped\nmade\nnames c x\n",
     },
     Told {
         line: "refused 7 not empty\n",
+        writes: false,
         end: "\n",
         rest: "dropped\nmade\nnames c x\n",
     },
     Told {
         line: "dropped\n",
+        writes: true,
         end: "\n",
         rest: "made\nnames c b x\n",
     },
     Told {
         line: "made\n",
+        writes: true,
         end: "\n",
         rest: "names c\n",
     },
     Told {
         line: "names c x\n",
+        writes: false,
         end: "\n",
         rest: "",
     },
@@ -79,36 +91,43 @@ const FILES: &str =
 const FILES_TOLD: [Told; 7] = [
     Told {
         line: "put 3\n",
+        writes: false,
         end: ", stored 0\n",
         rest: "got\nsynced\nmade\nput 3\ngot bytes:646566\nsynced\n",
     },
     Told {
         line: "got bytes:616263\n",
+        writes: false,
         end: "\n",
         rest: "synced\nmade\nput 3\ngot bytes:646566\nsynced\n",
     },
     Told {
         line: "synced\n",
+        writes: true,
         end: "\n",
         rest: "made\nput 3\ngot bytes:646566\nsynced\n",
     },
     Told {
         line: "made\n",
+        writes: false,
         end: "\n",
         rest: "refused 1 missing, stored 0\nrefused 1 missing\nrefused 1 missing\n",
     },
     Told {
         line: "put 3\n",
+        writes: false,
         end: ", stored 0\n",
         rest: "got\nsynced\n",
     },
     Told {
         line: "got bytes:646566\n",
+        writes: false,
         end: "\n",
         rest: "synced\n",
     },
     Told {
         line: "synced\n",
+        writes: true,
         end: "\n",
         rest: "",
     },
@@ -178,13 +197,13 @@ fn tell_a_fault(
     call: CallKind,
     lines: &[u8],
 ) -> Result<bool, AllocError> {
-    for place in 0..told.len() {
+    for (place, command) in told.iter().enumerate() {
         let want = match call {
             CallKind::Read => after_read(alloc, told, place)?,
             CallKind::Write | CallKind::Flush => after_write(alloc, told, place)?,
         };
         if want.as_slice() == lines {
-            return Ok(true);
+            return Ok(call == CallKind::Read || command.writes);
         }
     }
     Ok(false)
