@@ -17,69 +17,27 @@ use Rattle.nofs_machine.specs.declared.replies.Reply.TheVariants as reply
 use Rattle.nofs_machine.specs.declared.replies.Refusal.{Refusal}
 use Rattle.nofs_machine.specs.declared.replies.Refusal.TheVariants as refusal
 use Rattle.nofs_law_machine.specs.Laws.{is_fault}
+use Rattle.nofs_law_machine.proofs.Rows.{Such, AllSuch, IsNamed, first-such, all-such, rows-named}
 
 -- No row is a fault of the device
 
+-- not a fault
+abbrev pub NoFault : Refusal → Type 0
+NoFault why = is_fault (reply.Refused why) ≡ false
+
 abbrev pub FaultFree : Option Refusal → Type 0
-FaultFree None = Unit {0}
-FaultFree (Some why) = is_fault (reply.Refused why) ≡ false
+FaultFree o = Such NoFault o
 
-abbrev pub AllFree : List (Option Refusal) → Type 0
-AllFree [] = Unit {0}
-AllFree (o ∷ os) = FaultFree o × AllFree os
+pub first-free : (os : List (Option Refusal)) → AllSuch NoFault os → FaultFree (first_of os)
+first-free os a = first-such NoFault os a
 
-pub first-free : (os : List (Option Refusal)) → AllFree os → FaultFree (first_of os)
-first-free [] a = tt
-first-free (None ∷ os) a = first-free os a.1
-first-free (Some why ∷ os) a = a.0
+named-free : (V : World) (why : Refusal) → IsNamed V why → NoFault why
+named-free V refusal.ReadFault n = absurd n
+named-free V refusal.WriteFault n = absurd n
+named-free V _ n = refl
 
-tested : (t : Bool) (why : Refusal) → is_fault (reply.Refused why) ≡ false → FaultFree (row t why)
-tested true why e = e
-tested false why e = tt
-
-missing-free : (W : World) (d : ℕ) (name : List ℕ) → FaultFree (missing W d name)
-missing-free W d name = go (is_some (found W.files d name)) (first_dead W.files d name) (first_lost_slot W.files d)
-  where
-    go : (b : Bool) (o p : Option ℕ) → FaultFree (cond b None (first_of (option_map refusal.LostEntry o ∷ option_map refusal.LostSlot p ∷ Some refusal.Missing ∷ [])))
-    go true o p = tt
-    go false (Some e) p = refl
-    go false None (Some k) = refl
-    go false None None = refl
-
-empty-free : (W : World) (d : ℕ) (o : Option ℕ) → FaultFree (not_empty_at W d o)
-empty-free W d None = tt
-empty-free W d (Some e) = tested _ refusal.NotEmpty refl
-
-cond-free : (b : Bool) (o : Option Refusal) → FaultFree o → FaultFree (cond b None o)
-cond-free true o f = tt
-cond-free false o f = f
-
-lost-free : (a b c : Bool) (x y z : ℕ) → FaultFree (first_of (row a (refusal.LostSlot x) ∷ row b (refusal.LostSlot y) ∷ row c (refusal.LostSlot z) ∷ []))
-lost-free true b c x y z = refl
-lost-free false true c x y z = refl
-lost-free false false true x y z = refl
-lost-free false false false x y z = tt
-
-resize-free : (W : World) (i size : ℕ) → FaultFree (lost_resize W i size)
-resize-free W i size =
-    let m : ℕ = min (slots_in (size_of W.files i)) (slots_in size) in
-    let j : ℕ = (m - 73) / 64 in
-    lost-free (ltb 8 m && is_damaged (node_of W.files i (InRecord 8))) (ltb 72 m && is_damaged (node_of W.files i (InRecord 9))) (ltb 72 m && is_damaged (node_of W.files i (Under (InRecord 9) j))) 8 72 (72 + 64 * j)
-
-pub rows-free : (W V : World) (s : Step) → AllFree (rows W V s)
-rows-free W V (step.Look d g name) = (tested _ _ refl, (tested _ _ refl, (tested _ _ refl, (missing-free W d name, tt))))
-rows-free W V (step.Make d g name kind) = (tested _ _ refl, (tested _ _ refl, (tested _ _ refl, (tested _ _ refl, (tested _ _ refl, (tested _ _ refl, (tested _ _ refl, (tested _ _ refl, tt))))))))
-rows-free W V (step.Link d g name i of) = (tested _ _ refl, (tested _ _ refl, (tested _ _ refl, (tested _ _ refl, (tested _ _ refl, (tested _ _ refl, (tested _ _ refl, (tested _ _ refl, (tested _ _ refl, (tested _ _ refl, tt))))))))))
-rows-free W V (step.Drop d g name) = (tested _ _ refl, (tested _ _ refl, (tested _ _ refl, (missing-free W d name, (empty-free W d (found W.files d name), tt)))))
-rows-free W V (step.Rename d g old new) = (tested _ _ refl, (tested _ _ refl, (tested _ _ refl, (tested _ _ refl, (missing-free W d old, (tested _ _ refl, tt))))))
-rows-free W V (step.List d g k) = (tested _ _ refl, (tested _ _ refl, tt))
-rows-free W V (step.Get i g k) = (tested _ _ refl, (tested _ _ refl, (tested _ _ refl, tt)))
-rows-free W V (step.Put i g k at bytes) = (tested _ _ refl, (tested _ _ refl, (tested _ _ refl, (tested _ _ refl, (tested _ _ refl, (tested _ _ refl, (tested _ _ refl, (tested _ _ refl, tt))))))))
-rows-free W V (step.Resize i g size) = (tested _ _ refl, (tested _ _ refl, (tested _ _ refl, (resize-free W i size, tt))))
-rows-free W V (step.Stat i g) = (tested _ _ refl, tt)
-rows-free W V (step.Flush i g) = (cond-free (eqb i 0 && eqb g 0) (stale W i g) (tested (not (is_some (W.files i) && eqb (generation_of W.files i) g)) refusal.Stale refl), tt)
-rows-free W V (step.SeeInode i) = (tested _ _ refl, tt)
-rows-free W V (step.SeeBlock p) = (tested _ _ refl, tt)
+pub rows-free : (W V : World) (s : Step) → AllSuch NoFault (rows W V s)
+rows-free W V s = all-such (IsNamed V) NoFault (named-free V) (rows W V s) (rows-named W V s)
 
 -- nor is an answer
 

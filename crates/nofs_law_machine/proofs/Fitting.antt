@@ -25,6 +25,7 @@ use Rattle.nofs_machine.specs.declared.replies.Reply.TheVariants as reply
 use Rattle.nofs_machine.specs.declared.replies.Refusal.{Refusal}
 use Rattle.nofs_machine.specs.declared.replies.Refusal.TheVariants as refusal
 use Rattle.nofs_law_machine.specs.Laws.{IsSizedWorld, LawFits}
+use Rattle.nofs_law_machine.proofs.Rows.{Such, IsNamed, first-such, rows-named}
 
 -- Numbers below a bound
 
@@ -55,73 +56,16 @@ next-most W = go (least_from (λ i. not (W.known_inodes i)) 1 W.inodes) refl
 
 -- The numbers of a refusal
 
-abbrev Ranged : Option Refusal → Type 0
-Ranged None = Unit {0}
-Ranged (Some why) = InRange why
-
-abbrev AllRanged : List (Option Refusal) → Type 0
-AllRanged [] = Unit {0}
-AllRanged (o ∷ os) = Ranged o × AllRanged os
-
-first-ranged : (os : List (Option Refusal)) → AllRanged os → Ranged (first_of os)
-first-ranged [] a = tt
-first-ranged (None ∷ os) a = first-ranged os a.1
-first-ranged (Some why ∷ os) a = a.0
-
-tested : (t : Bool) (why : Refusal) → InRange why → Ranged (row t why)
-tested true why r = r
-tested false why r = tt
-
-missing-ranged : (W : World) (d : ℕ) (name : List ℕ) → Ranged (missing W d name)
-missing-ranged W d name = go (is_some (found W.files d name)) (first_dead W.files d name) (first_lost_slot W.files d)
-  where
-    go : (b : Bool) (o p : Option ℕ) → Ranged (cond b None (first_of (option_map refusal.LostEntry o ∷ option_map refusal.LostSlot p ∷ Some refusal.Missing ∷ [])))
-    go true o p = tt
-    go false (Some e) p = tt
-    go false None (Some k) = tt
-    go false None None = tt
-
-empty-ranged : (W : World) (d : ℕ) (o : Option ℕ) → Ranged (not_empty_at W d o)
-empty-ranged W d None = tt
-empty-ranged W d (Some e) = tested _ refusal.NotEmpty tt
-
-stale-ranged : (b t : Bool) → Ranged (cond b None (row t refusal.Stale))
-stale-ranged true t = tt
-stale-ranged false t = tested t refusal.Stale tt
-
-lost-ranged : (a b c : Bool) (x y z : ℕ) → Ranged (first_of (row a (refusal.LostSlot x) ∷ row b (refusal.LostSlot y) ∷ row c (refusal.LostSlot z) ∷ []))
-lost-ranged true b c x y z = tt
-lost-ranged false true c x y z = tt
-lost-ranged false false true x y z = tt
-lost-ranged false false false x y z = tt
-
-resize-ranged : (W : World) (i size : ℕ) → Ranged (lost_resize W i size)
-resize-ranged W i size =
-    let m : ℕ = min (slots_in (size_of W.files i)) (slots_in size) in
-    let j : ℕ = (m - 73) / 64 in
-    lost-ranged (ltb 8 m && is_damaged (node_of W.files i (InRecord 8))) (ltb 72 m && is_damaged (node_of W.files i (InRecord 9))) (ltb 72 m && is_damaged (node_of W.files i (Under (InRecord 9) j))) 8 72 (72 + 64 * j)
-
-module _ (W V : World) (blocks : V.blocks ≤ 1048576) (inodes : V.inodes ≤ 65536) where
-  few-blocks : unverified_blocks V < 2 ^ 64
-  few-blocks = let c = count-most (λ p. not (V.known_blocks p)) V.blocks in omega (arith, c, blocks)
-
-  few-inodes : (unverified_inodes V < 2 ^ 64) × (next_inode V < 2 ^ 32)
-  few-inodes = let c = count-most (λ n. not (V.known_inodes (suc n))) V.inodes in let n = next-most V in (omega (arith, c, inodes), omega (arith, n, inodes))
-
-  rows-ranged : (s : Step) → AllRanged (rows W V s)
-  rows-ranged (step.Look d g name) = (tested _ _ tt, (tested _ _ tt, (tested _ _ tt, (missing-ranged W d name, tt))))
-  rows-ranged (step.Make d g name kind) = (tested _ _ tt, (tested _ _ tt, (tested _ _ tt, (tested _ _ tt, (tested _ _ tt, (tested _ _ few-inodes, (tested _ _ few-blocks, (tested _ _ tt, tt))))))))
-  rows-ranged (step.Link d g name i of) = (tested _ _ tt, (tested _ _ tt, (tested _ _ tt, (tested _ _ tt, (tested _ _ tt, (tested _ _ tt, (tested _ _ tt, (tested _ _ tt, (tested _ _ few-blocks, (tested _ _ tt, tt))))))))))
-  rows-ranged (step.Drop d g name) = (tested _ _ tt, (tested _ _ tt, (tested _ _ tt, (missing-ranged W d name, (empty-ranged W d (found W.files d name), tt)))))
-  rows-ranged (step.Rename d g old new) = (tested _ _ tt, (tested _ _ tt, (tested _ _ tt, (tested _ _ tt, (missing-ranged W d old, (tested _ _ tt, tt))))))
-  rows-ranged (step.List d g k) = (tested _ _ tt, (tested _ _ tt, tt))
-  rows-ranged (step.Get i g k) = (tested _ _ tt, (tested _ _ tt, (tested _ _ tt, tt)))
-  rows-ranged (step.Put i g k at bytes) = (tested _ _ tt, (tested _ _ tt, (tested _ _ tt, (tested _ _ tt, (tested _ _ tt, (tested _ _ tt, (tested _ _ few-blocks, (tested _ _ tt, tt))))))))
-  rows-ranged (step.Resize i g size) = (tested _ _ tt, (tested _ _ tt, (tested _ _ tt, (resize-ranged W i size, tt))))
-  rows-ranged (step.Stat i g) = (tested _ _ tt, tt)
-  rows-ranged (step.Flush i g) = (stale-ranged _ _, tt)
-  rows-ranged (step.SeeInode i) = (tested _ _ tt, tt)
-  rows-ranged (step.SeeBlock p) = (tested _ _ tt, tt)
+module _ (V : World) (blocks : V.blocks ≤ 1048576) (inodes : V.inodes ≤ 65536) where
+  ranged : (why : Refusal) → IsNamed V why → InRange why
+  ranged (refusal.Full needed free unverified next) n = let c = count-most (λ p. not (V.known_blocks p)) V.blocks in omega (arith, c, blocks, n)
+  ranged (refusal.InodesFull unverified next) n =
+      let c = count-most (λ i. not (V.known_inodes (suc i))) V.inodes in
+      let m = next-most V in
+      let a = n.0 in
+      let b = n.1 in
+      (omega (arith, c, inodes, a), omega (arith, m, inodes, b))
+  ranged _ n = tt
 
 -- The lines of a directory's slot
 
@@ -243,8 +187,9 @@ module _ (W : World) (sized : IsSizedWorld W) where
   by-row V s r why eb ei comes (inl e) =
       let b = sized.blocks in
       let i = sized.inodes in
-      let ranged : InRange why = subst Ranged comes (first-ranged (rows W V s) (rows-ranged W V (omega (arith, b, eb)) (omega (arith, i, ei)) s)) in
-      subst (λ (q : Reply). Fits s q) (sym e) (refused-fits s why ranged)
+      let in_range : InRange why =
+          ranged V (omega (arith, b, eb)) (omega (arith, i, ei)) why (subst (Such (IsNamed V)) comes (first-such (IsNamed V) (rows W V s) (rows-named W V s))) in
+      subst (λ (q : Reply). Fits s q) (sym e) (refused-fits s why in_range)
 
   next-fits : (e : Entry1) (V : World) → Next W e V → Fits e.step e.reply
   next-fits e V (AfterFault s r c v) = subst (λ (q : Reply). Fits e.step q) (sym r) (refused-fits e.step refusal.Stopped tt)

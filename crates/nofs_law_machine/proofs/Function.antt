@@ -18,27 +18,21 @@ use Rattle.nofs_law_machine.proofs.Total.{none-later}
 
 -- worlds of the same parts
 pub record SameParts (V U : World) : Type 0 where
-  pub version : V.version ≡ U.version
-  pub blocks : V.blocks ≡ U.blocks
-  pub inodes : V.inodes ≡ U.inodes
-  pub mount : V.mount ≡ U.mount
-  pub serial : V.serial ≡ U.serial
+  pub keeps : Keeps U V
   pub stopped : V.stopped ≡ U.stopped
-  pub files : V.files ≡ U.files
-  pub homes : V.homes ≡ U.homes
   pub known_inodes : V.known_inodes ≡ U.known_inodes
   pub known_blocks : V.known_blocks ≡ U.known_blocks
 
 same-world : (V U : World) → SameParts V U → V ≡ U
-same-world V U s = λ j. record {
-  version = s.version j;
-  blocks = s.blocks j;
-  inodes = s.inodes j;
-  mount = s.mount j;
-  serial = s.serial j;
+same-world V U s = let k = s.keeps in λ j. record {
+  version = k.version j;
+  blocks = k.blocks j;
+  inodes = k.inodes j;
+  mount = k.mount j;
+  serial = k.serial j;
   stopped = s.stopped j;
-  files = s.files j;
-  homes = s.homes j;
+  files = k.files j;
+  homes = k.homes j;
   known_inodes = s.known_inodes j;
   known_blocks = s.known_blocks j;
 }
@@ -68,14 +62,16 @@ module _ (W : World) (e f : Entry1) (V U : World) (step : e.step ≡ f.step) (cl
 
   kept : Keeps W V → Keeps W U → V.stopped ≡ false → U.stopped ≡ false → V ≡ U
   kept k l s t = same-world V U (record {
-    version = k.version ∙ sym l.version;
-    blocks = k.blocks ∙ sym l.blocks;
-    inodes = k.inodes ∙ sym l.inodes;
-    mount = k.mount ∙ sym l.mount;
-    serial = k.serial ∙ sym l.serial;
+    keeps = record {
+      version = k.version ∙ sym l.version;
+      blocks = k.blocks ∙ sym l.blocks;
+      inodes = k.inodes ∙ sym l.inodes;
+      mount = k.mount ∙ sym l.mount;
+      serial = k.serial ∙ sym l.serial;
+      files = k.files ∙ sym l.files;
+      homes = k.homes ∙ sym l.homes;
+    };
     stopped = s ∙ sym t;
-    files = k.files ∙ sym l.files;
-    homes = k.homes ∙ sym l.homes;
     known_inodes = inodes;
     known_blocks = blocks;
   })
@@ -109,14 +105,16 @@ module _ (W : World) (e f : Entry1) (V U : World) (step : e.step ≡ f.step) (cl
       let files : V.files ≡ U.files = fs ∙ ((λ j. files_after W.files (gives W.files (step j) (claims j))) ∙ sym fs') in (
         r ∙ ((λ j. reply_of W (step j) (claims j)) ∙ sym r'),
         same-world V U (record {
-          version = vs.0 ∙ sym vs'.0;
-          blocks = vs.1 ∙ sym vs'.1;
-          inodes = vs.2 ∙ sym vs'.2;
-          mount = vs.3 ∙ sym vs'.3;
-          serial = se ∙ ((λ j. W.serial + inodes_needed (step j) + blocks_needed W.files (step j)) ∙ sym se');
+          keeps = record {
+            version = vs.0 ∙ sym vs'.0;
+            blocks = vs.1 ∙ sym vs'.1;
+            inodes = vs.2 ∙ sym vs'.2;
+            mount = vs.3 ∙ sym vs'.3;
+            serial = se ∙ ((λ j. W.serial + inodes_needed (step j) + blocks_needed W.files (step j)) ∙ sym se');
+            files = files;
+            homes = hs ∙ ((λ j. homes_after W (step j) (claims j) (files j)) ∙ sym hs');
+          };
           stopped = vs.4 ∙ sym vs'.4;
-          files = files;
-          homes = hs ∙ ((λ j. homes_after W (step j) (claims j) (files j)) ∙ sym hs');
           known_inodes = inodes;
           known_blocks = blocks;
         }),

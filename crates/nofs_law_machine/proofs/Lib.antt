@@ -1,4 +1,5 @@
 mod Choosing
+pub mod Rows
 pub mod Faultless
 pub mod Total
 mod Function

@@ -289,8 +289,9 @@ module _ (W : World) (s : Step) (c : Claims) where
     ];
   }
 
-pub nothing-learned : (W : World) (s : Step) → Learns W s false W
-nothing-learned W s = record {
+-- nothing becomes known, whether the machine stops or not
+pub nothing-learned-at : (W : World) (stopped : Bool) (s : Step) → Learns W s false (record W { stopped = stopped })
+nothing-learned-at W stopped s = record {
   inodes_stay = λ i k. k;
   blocks_stay = λ p k. k;
   inodes_change = λ i ne. absurd (ne refl);
@@ -300,6 +301,9 @@ nothing-learned W s = record {
   inodes_why = λ i k. inl k;
   blocks_why = λ p k. inl k;
 }
+
+pub nothing-learned : (W : World) (s : Step) → Learns W s false W
+nothing-learned W s = nothing-learned-at W W.stopped s
 
 entry : Step → Claims → Reply → Entry1
 entry s c r = record { caller = 0; from = 0; to = 0; step = s; reply = r; claims = c }
