@@ -3,7 +3,7 @@ use Rattle.std.proofs.Common.{◌≡◌, ℕ, Bool, true, false, ◌&&◌, cond,
 use Rattle.nofs_model.specs.Files.{FileState, Files}
 use Rattle.nofs_model.specs.declared.value.Value.{Value}
 use Rattle.nofs_machine.specs.Meta.{Meta, Gone, Is}
-use Rattle.nofs_machine.specs.Machine.{Given, is_at, cell_given, meta_given, no_meta, put_given, resize_given, filled, after_meta, file_after, born_file, files_after}
+use Rattle.nofs_machine.specs.Machine.{Given, is_at, cell_given, meta_given, no_meta, resize_given, filled, after_meta, file_after, born_file, files_after}
 use Rattle.nofs_history.specs.Kept.{kept_file, kept_files, with_file, has_generation, metas_alone}
 use Rattle.nofs_history.proofs.Gifts.{ends, held, ends-after}
 
@@ -15,9 +15,6 @@ pub record IsAimed (a : Given) (i g : ℕ) : Type 0 where
 
 pub cell-aimed : (i g k : ℕ) (v : Value) → IsAimed (cell_given i g k v no_meta) i g
 cell-aimed i g k v = record { born = λ j. refl; slots = λ j h l e. rw e refl; metas = λ j h e. refl }
-
-pub put-aimed : (F : Files) (i g k at : ℕ) (bytes : List ℕ) → IsAimed (put_given F i g k at bytes) i g
-put-aimed F i g k at bytes = record { born = λ j. refl; slots = λ j h l e. rw e refl; metas = λ j h e. rw e refl }
 
 pub resize-aimed : (F : Files) (i g size : ℕ) → IsAimed (resize_given F i g size) i g
 resize-aimed F i g size = record { born = λ j. refl; slots = λ j h l e. rw e refl; metas = λ j h e. rw e refl }

@@ -1,4 +1,3 @@
-pub mod Giving
 pub mod Keeping
 pub mod Gifts
 pub mod Growing
@@ -7,7 +6,7 @@ pub mod LinkLists
 pub mod Resizing
 pub mod BaseFiles
 pub mod Changes
-pub mod Naming
+pub mod Taking
 pub mod Fit
 pub mod Gathered
 pub mod Bases

@@ -5,7 +5,7 @@ use Rattle.nofs_model.specs.Files.{Absent, FileState, Files}
 use Rattle.nofs_model.specs.declared.value.Value.{Value}
 use Rattle.nofs_model.specs.declared.value.Value.TheVariants as value
 use Rattle.nofs_machine.specs.Meta.{Meta, is_bytes}
-use Rattle.nofs_machine.specs.Machine.{Given, nothing, link_to, may_give, slots_in, zeros, bytes_in, trimmed}
+use Rattle.nofs_machine.specs.Machine.{Given, nothing, link_to, may_give, slots_in, zeros, bytes_in, trimmed, entry_has_name, is_paired}
 use Rattle.nofs_model.specs.Cells.{FileKind, BackLink}
 use Rattle.nofs_machine.specs.declared.history.Claims.{Claims}
 use Rattle.nofs_machine.specs.declared.history.Entry1.{Entry1}
@@ -61,6 +61,11 @@ metas_alone metas = record nothing { metas = metas }
 -- whether the inode has a file of this generation
 abbrev pub has_generation : Files → ℕ → ℕ → Bool
 has_generation F i g = elim (F i) [ None ↦ false | Some f ↦ f.generation == g ]
+
+-- whether a name stands in an entry of a directory, and leads to a file there or to none, as is asked
+abbrev pub leads : Files → ℕ → List ℕ → Bool → ℕ → Bool
+leads F d name true e = entry_has_name F d name e && is_paired F d e
+leads F d name false e = entry_has_name F d name e && not (is_paired F d e)
 
 -- a file with a value in slot k
 abbrev pub with_value : FileState → ℕ → Value → FileState

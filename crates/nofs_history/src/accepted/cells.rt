@@ -4,41 +4,31 @@ ghost use Rattle.nofs_ptrs.specs.Paths.{slot_limit};
 ghost use Rattle.nofs_dirent.specs.Entries.{spelled_entry};
 ghost use Rattle.nofs_machine.specs.Machine as machine;
 ghost use Rattle.nofs_model.specs.declared.value.Value.TheVariants as value;
-ghost use Rattle.nofs_history.specs.Kept.{kept_value, file_of, kept_files_of};
+ghost use Rattle.nofs_history.specs.Kept.{kept_value, kept_files_of};
 
-use crate::accepted::files::{FileNow, FilesNow, Kept};
+use crate::accepted::files::{FilesNow, Kept};
 use nofs_disk::{clear, write_bytes_at, write_u32_at, write_u64_at};
 use std::alloc::{AllocError, Global};
 
-/// A cell of zeros.
-#[tactic(auto, unfolding(nofs_disk::specs::Number::zeros))]
-fn zero_cell(alloc: Global) -> Result<Box<[u8; 1024]>, AllocError>
-    ensures { IfOk result (λ cell. cell.value ≡ machine.bytes_in value.Hole) }
+/// Writes the bytes of a hole.
+fn write_hole(into: &mut [u8; 1024])
+    ensures { into.new ≡ machine.bytes_in value.Hole }
 {
-    let mut cell = Box::new(alloc, [0; 1024])?;
-    clear(&mut *cell);
-    Ok(cell)
+    clear(into);
 }
 
-/// A second cell with the same bytes.
-fn copied(alloc: Global, bytes: &[u8; 1024]) -> Result<Box<[u8; 1024]>, AllocError>
-    ensures { IfOk result (λ cell. cell.value ≡ bytes.now) }
-{
-    Ok(Box::new(alloc, *bytes)?)
-}
-
-/// The bytes of a value, zeros where it has none.
-fn bytes_in(alloc: Global, kept: &Kept) -> Result<Box<[u8; 1024]>, AllocError>
-    ensures { IfOk result (λ cell. cell.value ≡ machine.bytes_in (kept_value kept.now)) }
+/// Writes the bytes of a value, zeros where it has none.
+fn write_kept(kept: &Kept, into: &mut [u8; 1024])
+    ensures { into.new ≡ machine.bytes_in (kept_value kept.now) }
 {
     match kept {
-        Kept::Bytes(bytes) => copied(alloc, bytes),
-        Kept::Hole => zero_cell(alloc),
-        Kept::Lost => zero_cell(alloc),
+        Kept::Bytes(bytes) => *into = **bytes,
+        Kept::Hole => write_hole(into),
+        Kept::Lost => write_hole(into),
     }
 }
 
-/// The 64 bytes of an entry.
+/// Writes the 64 bytes of an entry.
 #[tactic(auto, unfolding(nofs_dirent::specs::Entries::spelled_entry))]
 fn spell(inode: u32, generation: u64, name: &[u8], into: &mut [u8; 64])
     requires { length name.now ≤ 48 }
@@ -51,6 +41,25 @@ fn spell(inode: u32, generation: u64, name: &[u8], into: &mut [u8; 64])
     write_u32_at(into, 0, inode);
 }
 
+/// The 64 bytes of an entry.
+pub(crate) fn spelled(inode: u32, generation: u64, name: &[u8]) -> [u8; 64]
+    requires { length name.now ≤ 48 }
+    ensures { result ≡ spelled_entry inode generation name.now }
+{
+    let mut bytes = [0; 64];
+    spell(inode, generation, name, &mut bytes);
+    bytes
+}
+
+/// The 64 bytes of a place without an entry.
+pub(crate) fn cleared() -> [u8; 64]
+    ensures { result ≡ machine.zeros 64 }
+{
+    let mut bytes = [0; 64];
+    clear(&mut bytes);
+    bytes
+}
+
 /// Makes the bytes of a cell from a place on zeros.
 #[tactic(auto, unfolding(nofs_disk::specs::Number::zeros, nofs_machine::specs::Machine::trimmed))]
 pub(crate) fn trim(cell: &mut [u8; 1024], cut: usize)
@@ -60,19 +69,17 @@ pub(crate) fn trim(cell: &mut [u8; 1024], cut: usize)
     clear(&mut cell[cut..1024]);
 }
 
-impl FileNow {
-    /// The bytes of a slot, zeros where it has none.
-    pub fn bytes_in(&self, alloc: Global, slot: u64) -> Result<Box<[u8; 1024]>, AllocError>
-        ensures { IfOk result (λ cell. cell.value ≡ machine.bytes_in ((file_of self.now).values slot)) }
+impl FilesNow {
+    // Writes the bytes of a slot, zeros where it has none.
+    fn write_slot(&self, inode: u32, slot: u64, into: &mut [u8; 1024])
+        ensures { into.new ≡ machine.bytes_in (machine.value_of (kept_files_of self.now) inode slot) }
     {
-        match self.values.get(slot as usize) {
-            None => zero_cell(alloc),
-            Some(kept) => bytes_in(alloc, kept),
+        match self.kept(inode, slot) {
+            None => write_hole(into),
+            Some(kept) => write_kept(kept, into),
         }
     }
-}
 
-impl FilesNow {
     /// The bytes of a slot, zeros where it has none.
     pub fn bytes_in(
         &self,
@@ -82,10 +89,9 @@ impl FilesNow {
     ) -> Result<Box<[u8; 1024]>, AllocError>
         ensures { IfOk result (λ cell. cell.value ≡ machine.bytes_in (machine.value_of (kept_files_of self.now) inode slot)) }
     {
-        match self.file(inode) {
-            None => zero_cell(alloc),
-            Some(file) => file.bytes_in(alloc, slot),
-        }
+        let mut cell = Box::new(alloc, [0; 1024])?;
+        self.write_slot(inode, slot, &mut *cell);
+        Ok(cell)
     }
 
     /// The size of a file in bytes, 0 where there is none.
@@ -120,7 +126,7 @@ impl FilesNow {
     }
 
     /// The cell of a directory with these 64 bytes in place of an entry.
-    fn with_entry(
+    pub fn with_entry(
         &self,
         alloc: Global,
         directory: u32,
@@ -133,37 +139,5 @@ impl FilesNow {
         let mut cell = self.bytes_in(alloc, directory, u64::from(entry / 16))?;
         write_bytes_at(&mut *cell, 64 * (entry as usize % 16), bytes);
         Ok(cell)
-    }
-
-    /// The cell of a directory with an entry that names this inode.
-    pub fn named_cell(
-        &self,
-        alloc: Global,
-        directory: u32,
-        entry: u32,
-        inode: u32,
-        generation: u64,
-        name: &[u8],
-    ) -> Result<Box<[u8; 1024]>, AllocError>
-        requires { length name.now ≤ 48 }
-        ensures { IfOk result (λ cell. value.Bytes cell.value ≡ machine.with_entry (machine.value_of (kept_files_of self.now) directory (entry / 16)) entry (spelled_entry inode generation name.now)) }
-    {
-        let mut bytes = [0; 64];
-        spell(inode, generation, name, &mut bytes);
-        self.with_entry(alloc, directory, entry, &bytes)
-    }
-
-    /// The cell of a directory without an entry.
-    pub fn cleared_cell(
-        &self,
-        alloc: Global,
-        directory: u32,
-        entry: u32,
-    ) -> Result<Box<[u8; 1024]>, AllocError>
-        ensures { IfOk result (λ cell. value.Bytes cell.value ≡ machine.with_entry (machine.value_of (kept_files_of self.now) directory (entry / 16)) entry (machine.zeros 64)) }
-    {
-        let mut bytes = [0; 64];
-        clear(&mut bytes);
-        self.with_entry(alloc, directory, entry, &bytes)
     }
 }

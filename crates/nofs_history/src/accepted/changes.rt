@@ -1,14 +1,12 @@
 //! How one inode's file changes.
 ghost use Rattle.std.specs.Prelude.{◌≡◌, ◌<◌, ◌≤◌, ℕ, max, IfOk, IfSome, IsNone, OnOk, Some, None, false, option_map};
 ghost use Rattle.nofs_ptrs.specs.Paths.{slot_limit};
-ghost use Rattle.nofs_model.specs.declared.value.Value.TheVariants as value;
 ghost use Rattle.nofs_machine.specs.Machine as machine;
 ghost use Rattle.nofs_history.specs.Kept.{kept_value, file_of, kept_files_of, with_file, with_value, has_generation};
 
 use crate::accepted::files::{FileNow, FilesNow, Kept};
 use crate::accepted::growing::{grow_files, grow_values};
-use nofs_inode::inode::BackLink;
-use std::alloc::{AllocError, Global};
+use std::alloc::AllocError;
 
 impl FileNow {
     /// The file with a value in a slot.
@@ -20,34 +18,6 @@ impl FileNow {
         grow_values(&mut file.values, slot as usize + 1)?;
         file.values[slot as usize] = kept;
         Ok(file)
-    }
-
-    /// The file with this cell in a slot, which reaches to this end at least.
-    pub fn with_put(self, slot: u64, cell: Box<[u8; 1024]>, end: u64) -> Result<FileNow, AllocError>
-        requires { slot < slot_limit }
-        ensures { IfOk result (λ file. file_of file ≡ record (with_value (file_of self) slot (value.Bytes cell.value)) { size = max (file_of self).size end }) }
-    {
-        let size = self.size.max(end);
-        let file = self.with_value(slot, Kept::Bytes(cell))?;
-        Ok(file.with_size(size))
-    }
-
-    /// The file with another size.
-    fn with_size(self, size: u64) -> FileNow
-        ensures { file_of result ≡ record (file_of self) { size = size } }
-    {
-        let mut file = self;
-        file.size = size;
-        file
-    }
-
-    /// The file with other back links.
-    pub fn with_links(self, links: [BackLink; 4]) -> FileNow
-        ensures { file_of result ≡ record (file_of self) { links = links } }
-    {
-        let mut file = self;
-        file.links = links;
-        file
     }
 }
 

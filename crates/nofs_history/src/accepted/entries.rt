@@ -3,9 +3,14 @@ ghost use Rattle.std.specs.Prelude.{◌≡◌, ◌<◌, ◌+◌, ◌&&◌, nat_l
 ghost use Rattle.nofs_ptrs.specs.Paths.{slot_limit};
 ghost use Rattle.nofs_machine.specs.Machine as machine;
 ghost use Rattle.nofs_history.specs.Kept.{kept_files_of, kept_files, is_fit};
+ghost use Rattle.nofs_history.specs.Gift.{given_of, is_sound, name_gives};
 
 use crate::accepted::files::FilesNow;
+use crate::accepted::gift::Gift;
 use crate::accepted::gifts::Wanted;
+use crate::accepted::giving::BytesIn;
+use crate::accepted::names::NameIn;
+use nofs_lists::Name;
 use nofs_machine::{Claims, Entry1, Refusal, Reply, Step};
 use nofs_model::Value;
 use nofs_ptrs::SLOT_LIMIT;
@@ -42,6 +47,19 @@ fn fits_cell(slot: u64, at: u32, count: u64) -> bool
     slot < SLOT_LIMIT && at <= 1024 && count <= 1024 - u64::from(at)
 }
 
+// A name in one generation of a directory.
+fn name_in(directory: u32, generation: u64, name: &Name) -> NameIn<'_>
+    ensures directory { result.directory ≡ directory }
+    ensures generation { result.generation ≡ generation }
+    ensures name { result.name.now ≡ name.now }
+{
+    NameIn {
+        directory,
+        generation,
+        name: name.as_slice(),
+    }
+}
+
 fn is_write_fault(reply: &Reply) -> bool
     ensures { result ≡ machine.is_write_fault reply.now }
 {
@@ -55,84 +73,54 @@ fn is_refused(reply: &Reply) -> bool
 }
 
 impl FilesNow {
-    /// Does an accepted step.
-    #[tactic(auto, unfolding(nofs_machine::specs::Machine::gives))]
-    fn go_on(&mut self, alloc: Global, step: &Step, claims: &Claims) -> Result<(), AllocError>
+    /// What a step on the names of a directory gives: nothing by another.
+    fn name_gift(&self, alloc: Global, step: &Step, claims: &Claims) -> Result<Gift, AllocError>
         requires { is_fit step.now claims.now ≡ true }
-        ensures { OnOk result (kept_files (kept_files_of self.new) ≡ kept_files (machine.files_after (kept_files_of self.old) (machine.gives (kept_files_of self.old) step.now claims.now))) }
+        ensures given { IfOk result (λ it. given_of (kept_files_of self.now) it ≡ name_gives (kept_files_of self.now) step.now claims.now) }
+        ensures sound { IfOk result (λ it. is_sound it ≡ true) }
     {
         match step {
-            Step::Put {
-                inode,
-                generation,
-                slot,
-                at,
-                bytes,
-            } => self.put_bytes(alloc, *inode, *generation, *slot, *at, bytes.as_slice()),
-            Step::Resize {
-                inode,
-                generation,
-                size,
-            } => self.resize(*inode, *generation, *size),
             Step::Make {
                 directory,
                 generation,
                 name,
                 kind,
-            } => self.make(
-                alloc,
-                *directory,
-                *generation,
-                name.as_slice(),
-                *kind,
-                claims,
-            ),
+            } => {
+                let name = name_in(*directory, *generation, name);
+                self.make_gift(alloc, &name, *kind, claims)
+            }
             Step::Link {
                 directory,
                 generation,
                 name,
                 inode,
                 of,
-            } => self.link(alloc, *directory, *generation, name.as_slice(), *inode, *of),
+            } => self.link_gift(alloc, &name_in(*directory, *generation, name), *inode, *of),
             Step::Drop {
                 directory,
                 generation,
                 name,
-            } => self.drop_name(alloc, *directory, *generation, name.as_slice()),
+            } => self.drop_gift(alloc, &name_in(*directory, *generation, name)),
             Step::Rename {
                 directory,
                 generation,
                 old,
                 new,
-            } => self.rename(
+            } => self.rename_gift(
                 alloc,
-                *directory,
-                *generation,
-                old.as_slice(),
+                &name_in(*directory, *generation, old),
                 new.as_slice(),
             ),
-            Step::Look { .. } => Ok(()),
-            Step::List { .. } => Ok(()),
-            Step::Get { .. } => Ok(()),
-            Step::Stat { .. } => Ok(()),
-            Step::Flush { .. } => Ok(()),
-            Step::SeeInode { .. } => Ok(()),
-            Step::SeeBlock { .. } => Ok(()),
+            _ => Ok(Gift::Nothing),
         }
     }
 
-    /// The value that an accepted step gives to a slot.
+    /// What an accepted step gives.
     #[tactic(auto, unfolding(nofs_machine::specs::Machine::gives))]
-    fn gift(
-        &self,
-        alloc: Global,
-        wanted: &Wanted,
-        step: &Step,
-        claims: &Claims,
-    ) -> Result<Option<Value>, AllocError>
-        requires slot { wanted.now.slot < slot_limit }
-        requires fit { is_fit step.now claims.now ≡ true }
-        ensures { IfOk result (λ it. it ≡ (machine.gives (kept_files_of self.now) step.now claims.now).slots wanted.now.inode wanted.now.generation wanted.now.slot) }
+    fn gift(&self, alloc: Global, step: &Step, claims: &Claims) -> Result<Gift, AllocError>
+        requires { is_fit step.now claims.now ≡ true }
+        ensures given { IfOk result (λ it. given_of (kept_files_of self.now) it ≡ machine.gives (kept_files_of self.now) step.now claims.now) }
+        ensures sound { IfOk result (λ it. is_sound it ≡ true) }
     {
         match step {
             Step::Put {
@@ -143,72 +131,24 @@ impl FilesNow {
                 bytes,
             } => self.put_gift(
                 alloc,
-                wanted,
-                *inode,
-                *generation,
-                *slot,
-                *at,
-                bytes.as_slice(),
+                &BytesIn {
+                    inode: *inode,
+                    generation: *generation,
+                    slot: *slot,
+                    at: *at,
+                    bytes: bytes.as_slice(),
+                },
             ),
             Step::Resize {
                 inode,
                 generation,
                 size,
-            } => self.resize_gift(alloc, wanted, *inode, *generation, *size),
-            Step::Make {
-                directory,
-                generation,
-                name,
-                kind,
-            } => self.make_gift(
-                alloc,
-                wanted,
-                *directory,
-                *generation,
-                name.as_slice(),
-                *kind,
-                claims,
-            ),
-            Step::Link {
-                directory,
-                generation,
-                name,
-                inode,
-                of,
-            } => self.link_gift(
-                alloc,
-                wanted,
-                *directory,
-                *generation,
-                name.as_slice(),
-                *inode,
-                *of,
-            ),
-            Step::Drop {
-                directory,
-                generation,
-                name,
-            } => self.drop_gift(alloc, wanted, *directory, *generation, name.as_slice()),
-            Step::Rename {
-                directory,
-                generation,
-                old,
-                new,
-            } => self.rename_gift(
-                alloc,
-                wanted,
-                *directory,
-                *generation,
-                old.as_slice(),
-                new.as_slice(),
-            ),
-            Step::Look { .. } => Ok(None),
-            Step::List { .. } => Ok(None),
-            Step::Get { .. } => Ok(None),
-            Step::Stat { .. } => Ok(None),
-            Step::Flush { .. } => Ok(None),
-            Step::SeeInode { .. } => Ok(None),
-            Step::SeeBlock { .. } => Ok(None),
+            } => Ok(Gift::Size {
+                inode: *inode,
+                generation: *generation,
+                size: *size,
+            }),
+            _ => self.name_gift(alloc, step, claims),
         }
     }
 
@@ -224,7 +164,8 @@ impl FilesNow {
     {
         let may_give = !is_refused(&entry.reply) || is_write_fault(&entry.reply);
         if may_give && is_fit(&entry.step, &entry.claims) {
-            self.gift(alloc, wanted, &entry.step, &entry.claims)
+            let gift = self.gift(alloc, &entry.step, &entry.claims)?;
+            self.value_for(alloc, wanted, &gift)
         } else {
             Ok(None)
         }
@@ -235,7 +176,8 @@ impl FilesNow {
         ensures { OnOk result ((machine.may_give entry.now.reply ≡ true → is_fit entry.now.step entry.now.claims ≡ true) → kept_files (kept_files_of self.new) ≡ kept_files (machine.files_by (kept_files_of self.old) entry.now)) }
     {
         if !is_refused(&entry.reply) && is_fit(&entry.step, &entry.claims) {
-            self.go_on(alloc, &entry.step, &entry.claims)
+            let gift = self.gift(alloc, &entry.step, &entry.claims)?;
+            self.take_gift(alloc, gift)
         } else {
             Ok(())
         }

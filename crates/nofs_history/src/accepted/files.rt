@@ -3,6 +3,7 @@ ghost use Rattle.std.specs.Prelude.{◌≡◌, ◌<◌, ◌≤◌, ◌/◌, ℕ,
 ghost use Rattle.std.specs.Option.{option_copied as copied};
 ghost use Rattle.nofs_machine.specs.Machine as machine;
 ghost use Rattle.nofs_model.specs.Files as files;
+ghost use Rattle.nofs_model.specs.declared.value.Value.TheVariants as value;
 ghost use Rattle.nofs_history.specs.Kept.{kept_value, file_of, kept_files_of};
 
 use nofs_dirent::{ENTRY_LIMIT, Entry, read_entry};
@@ -71,6 +72,17 @@ impl FilesNow {
             None => None,
             Some(None) => None,
             Some(Some(file)) => Some(file),
+        }
+    }
+
+    /// What is kept of a slot. A slot of which nothing is kept is a hole.
+    pub fn kept(&self, inode: u32, slot: u64) -> Option<&Kept>
+        ensures some { IfSome result (λ kept. machine.value_of (kept_files_of self.now) inode slot ≡ kept_value kept.now) }
+        ensures none { IsNone result → machine.value_of (kept_files_of self.now) inode slot ≡ value.Hole }
+    {
+        match self.file(inode) {
+            None => None,
+            Some(file) => file.values.get(slot as usize),
         }
     }
 

@@ -1,18 +1,17 @@
 //! The value that an accepted step gives to one slot.
-ghost use Rattle.std.specs.Prelude.{◌≡◌, ◌<◌, ◌≤◌, ◌+◌, ◌/◌, ◌&&◌, ◌==◌, ℕ, IfOk, length, Some, None, if◌then◌else◌};
+ghost use Rattle.std.specs.Prelude.{◌≡◌, ◌<◌, ◌≤◌, ◌+◌, ◌/◌, ◌&&◌, ◌==◌, ℕ, IfOk, Some, None, if◌then◌else◌};
 ghost use Rattle.nofs_ptrs.specs.Paths.{slot_limit};
-ghost use Rattle.nofs_dirent.specs.Entries.{spelled_entry};
 ghost use Rattle.nofs_model.specs.declared.value.Value.TheVariants as value;
 ghost use Rattle.nofs_machine.specs.Machine as machine;
 ghost use Rattle.nofs_machine.specs.Meta as meta;
 ghost use Rattle.nofs_history.specs.Kept.{kept_files_of};
+ghost use Rattle.nofs_history.specs.Gift.{cell_of, given_of, with_birth};
 
 use crate::accepted::cells::trim;
 use crate::accepted::files::FilesNow;
+use crate::accepted::gift::{Birth, CellGift, Gift};
 use crate::accepted::resizing::slots_in;
-use nofs_inode::inode::FileKind;
 use nofs_lists::Content;
-use nofs_machine::Claims;
 use nofs_model::Value;
 use std::alloc::{AllocError, Global};
 
@@ -44,29 +43,34 @@ fn bytes_value(alloc: Global, cell: &[u8; 1024]) -> Result<Value, AllocError>
     Ok(Value::Bytes(Content::from_slice(alloc, cell)?))
 }
 
-impl FilesNow {
-    /// What a put gives.
-    pub fn put_gift(
+impl CellGift {
+    /// The value that goes to a slot.
+    fn value_for(&self, alloc: Global, wanted: &Wanted) -> Result<Option<Value>, AllocError>
+        ensures { IfOk result (λ it. it ≡ (cell_of self.now machine.no_meta).slots wanted.now.inode wanted.now.generation wanted.now.slot) }
+    {
+        if !wanted.is(self.inode, self.generation, self.slot) {
+            return Ok(None);
+        }
+        Ok(Some(bytes_value(alloc, &self.cell)?))
+    }
+
+    /// The value that goes to a slot where a file is new beside this cell: a hole to each of its slots.
+    fn value_beside(
         &self,
         alloc: Global,
         wanted: &Wanted,
-        inode: u32,
-        generation: u64,
-        slot: u64,
-        at: u32,
-        bytes: &[u8],
+        birth: &Birth,
     ) -> Result<Option<Value>, AllocError>
-        requires slot { slot < slot_limit }
-        requires range { at + length bytes.now ≤ 1024 }
-        ensures { IfOk result (λ it. it ≡ (machine.put_given (kept_files_of self.now) inode generation slot at bytes.now).slots wanted.now.inode wanted.now.generation wanted.now.slot) }
+        ensures { IfOk result (λ it. it ≡ (with_birth (cell_of self.now machine.no_meta) birth.now).slots wanted.now.inode wanted.now.generation wanted.now.slot) }
     {
-        if !wanted.is(inode, generation, slot) {
-            return Ok(None);
+        if wanted.is_in(birth.inode, birth.generation) {
+            return Ok(Some(Value::Hole));
         }
-        let cell = self.put_content(alloc, inode, slot, at, bytes)?;
-        Ok(Some(bytes_value(alloc, &cell)?))
+        self.value_for(alloc, wanted)
     }
+}
 
+impl FilesNow {
     // The last slot of a file with zeros behind its old end, where it has bytes.
     fn end_gift(
         &self,
@@ -107,8 +111,8 @@ impl FilesNow {
         Ok(None)
     }
 
-    /// What a change of size gives.
-    pub fn resize_gift(
+    // What a change of size gives.
+    fn resize_gift(
         &self,
         alloc: Global,
         wanted: &Wanted,
@@ -125,215 +129,25 @@ impl FilesNow {
         self.size_gift(alloc, inode, size, wanted.slot)
     }
 
-    fn named_gift(
+    /// The value that a gift has for a slot.
+    pub fn value_for(
         &self,
         alloc: Global,
         wanted: &Wanted,
-        directory: u32,
-        generation: u64,
-        entry: u32,
-        inode: u32,
-        of: u64,
-        name: &[u8],
+        gift: &Gift,
     ) -> Result<Option<Value>, AllocError>
-        requires { length name.now ≤ 48 }
-        ensures { IfOk result (λ it. it ≡ (machine.entry_given (kept_files_of self.now) directory generation entry (spelled_entry inode of name.now) machine.no_meta).slots wanted.now.inode wanted.now.generation wanted.now.slot) }
+        requires { wanted.now.slot < slot_limit }
+        ensures { IfOk result (λ it. it ≡ (given_of (kept_files_of self.now) gift.now).slots wanted.now.inode wanted.now.generation wanted.now.slot) }
     {
-        if !wanted.is(directory, generation, u64::from(entry / 16)) {
-            return Ok(None);
-        }
-        let cell = self.named_cell(alloc, directory, entry, inode, of, name)?;
-        Ok(Some(bytes_value(alloc, &cell)?))
-    }
-
-    fn cleared_gift(
-        &self,
-        alloc: Global,
-        wanted: &Wanted,
-        directory: u32,
-        generation: u64,
-        entry: u32,
-    ) -> Result<Option<Value>, AllocError>
-        ensures { IfOk result (λ it. it ≡ (machine.entry_given (kept_files_of self.now) directory generation entry (machine.zeros 64) machine.no_meta).slots wanted.now.inode wanted.now.generation wanted.now.slot) }
-    {
-        if !wanted.is(directory, generation, u64::from(entry / 16)) {
-            return Ok(None);
-        }
-        let cell = self.cleared_cell(alloc, directory, entry)?;
-        Ok(Some(bytes_value(alloc, &cell)?))
-    }
-
-    fn make_gift_at(
-        &self,
-        alloc: Global,
-        wanted: &Wanted,
-        directory: u32,
-        generation: u64,
-        name: &[u8],
-        kind: FileKind,
-        claims: &Claims,
-        entry: u32,
-    ) -> Result<Option<Value>, AllocError>
-        requires { length name.now ≤ 48 }
-        ensures { IfOk result (λ it. it ≡ (machine.make_given (kept_files_of self.now) directory generation name.now kind claims.now entry).slots wanted.now.inode wanted.now.generation wanted.now.slot) }
-    {
-        if wanted.is_in(claims.inode, claims.generation) {
-            return Ok(Some(Value::Hole));
-        }
-        self.named_gift(
-            alloc,
-            wanted,
-            directory,
-            generation,
-            entry,
-            claims.inode,
-            claims.generation,
-            name,
-        )
-    }
-
-    /// What the making of a file gives.
-    pub fn make_gift(
-        &self,
-        alloc: Global,
-        wanted: &Wanted,
-        directory: u32,
-        generation: u64,
-        name: &[u8],
-        kind: FileKind,
-        claims: &Claims,
-    ) -> Result<Option<Value>, AllocError>
-        requires { length name.now ≤ 48 }
-        ensures { IfOk result (λ it. it ≡ (machine.at_place (machine.place_for (kept_files_of self.now) directory name.now) (λ e. machine.make_given (kept_files_of self.now) directory generation name.now kind claims.now e)).slots wanted.now.inode wanted.now.generation wanted.now.slot) }
-    {
-        match self.place_for(alloc, directory, name)? {
-            None => Ok(None),
-            Some(entry) => self.make_gift_at(
-                alloc, wanted, directory, generation, name, kind, claims, entry,
-            ),
-        }
-    }
-
-    fn link_gift_at(
-        &self,
-        alloc: Global,
-        wanted: &Wanted,
-        directory: u32,
-        generation: u64,
-        name: &[u8],
-        inode: u32,
-        of: u64,
-        entry: u32,
-    ) -> Result<Option<Value>, AllocError>
-        requires { length name.now ≤ 48 }
-        ensures { IfOk result (λ it. it ≡ (machine.at_place (machine.link_place (kept_files_of self.now) inode) (λ b. machine.link_given (kept_files_of self.now) directory generation name.now inode of entry b)).slots wanted.now.inode wanted.now.generation wanted.now.slot) }
-    {
-        match self.link_place(alloc, inode)? {
-            None => Ok(None),
-            Some(_place) => self.named_gift(
-                alloc, wanted, directory, generation, entry, inode, of, name,
-            ),
-        }
-    }
-
-    /// What a further name gives.
-    pub fn link_gift(
-        &self,
-        alloc: Global,
-        wanted: &Wanted,
-        directory: u32,
-        generation: u64,
-        name: &[u8],
-        inode: u32,
-        of: u64,
-    ) -> Result<Option<Value>, AllocError>
-        requires { length name.now ≤ 48 }
-        ensures { IfOk result (λ it. it ≡ (machine.at_place (machine.place_for (kept_files_of self.now) directory name.now) (λ e. machine.at_place (machine.link_place (kept_files_of self.now) inode) (λ b. machine.link_given (kept_files_of self.now) directory generation name.now inode of e b))).slots wanted.now.inode wanted.now.generation wanted.now.slot) }
-    {
-        match self.place_for(alloc, directory, name)? {
-            None => Ok(None),
-            Some(entry) => self.link_gift_at(
-                alloc, wanted, directory, generation, name, inode, of, entry,
-            ),
-        }
-    }
-
-    fn drop_gift_at(
-        &self,
-        alloc: Global,
-        wanted: &Wanted,
-        directory: u32,
-        generation: u64,
-        entry: u32,
-    ) -> Result<Option<Value>, AllocError>
-        ensures { IfOk result (λ it. it ≡ (machine.drop_given (kept_files_of self.now) directory generation entry).slots wanted.now.inode wanted.now.generation wanted.now.slot) }
-    {
-        match self.entry_at(alloc, directory, entry)? {
-            None => Ok(None),
-            Some(_found) => self.cleared_gift(alloc, wanted, directory, generation, entry),
-        }
-    }
-
-    /// What the drop of a name gives.
-    pub fn drop_gift(
-        &self,
-        alloc: Global,
-        wanted: &Wanted,
-        directory: u32,
-        generation: u64,
-        name: &[u8],
-    ) -> Result<Option<Value>, AllocError>
-        ensures { IfOk result (λ it. it ≡ (machine.at_place (machine.found (kept_files_of self.now) directory name.now) (λ e. machine.drop_given (kept_files_of self.now) directory generation e)).slots wanted.now.inode wanted.now.generation wanted.now.slot) }
-    {
-        match self.found(alloc, directory, name)? {
-            None => Ok(None),
-            Some(entry) => self.drop_gift_at(alloc, wanted, directory, generation, entry),
-        }
-    }
-
-    fn rename_gift_at(
-        &self,
-        alloc: Global,
-        wanted: &Wanted,
-        directory: u32,
-        generation: u64,
-        name: &[u8],
-        entry: u32,
-    ) -> Result<Option<Value>, AllocError>
-        requires { length name.now ≤ 48 }
-        ensures { IfOk result (λ it. it ≡ (machine.rename_given (kept_files_of self.now) directory generation name.now entry).slots wanted.now.inode wanted.now.generation wanted.now.slot) }
-    {
-        match self.entry_at(alloc, directory, entry)? {
-            None => Ok(None),
-            Some(found) => self.named_gift(
-                alloc,
-                wanted,
-                directory,
+        match gift {
+            Gift::Nothing => Ok(None),
+            Gift::Size {
+                inode,
                 generation,
-                entry,
-                found.inode,
-                found.generation,
-                name,
-            ),
-        }
-    }
-
-    /// What the change of a name gives.
-    pub fn rename_gift(
-        &self,
-        alloc: Global,
-        wanted: &Wanted,
-        directory: u32,
-        generation: u64,
-        old: &[u8],
-        new: &[u8],
-    ) -> Result<Option<Value>, AllocError>
-        requires { length new.now ≤ 48 }
-        ensures { IfOk result (λ it. it ≡ (machine.at_place (machine.found (kept_files_of self.now) directory old.now) (λ e. machine.rename_given (kept_files_of self.now) directory generation new.now e)).slots wanted.now.inode wanted.now.generation wanted.now.slot) }
-    {
-        match self.found(alloc, directory, old)? {
-            None => Ok(None),
-            Some(entry) => self.rename_gift_at(alloc, wanted, directory, generation, new, entry),
+                size,
+            } => self.resize_gift(alloc, wanted, *inode, *generation, *size),
+            Gift::Cell { cell, .. } => cell.value_for(alloc, wanted),
+            Gift::Make { cell, birth } => cell.value_beside(alloc, wanted, birth),
         }
     }
 }

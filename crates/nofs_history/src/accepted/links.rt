@@ -24,7 +24,7 @@ fn kept_link(link: &BackLink, gone: &BackLink) -> BackLink
 }
 
 /// These links without one.
-fn without_link(links: &[BackLink; 4], gone: &BackLink) -> [BackLink; 4]
+pub(crate) fn without_link(links: &[BackLink; 4], gone: &BackLink) -> [BackLink; 4]
     ensures { result ≡ machine.without_link gone.now links.now }
 {
     [
@@ -36,32 +36,13 @@ fn without_link(links: &[BackLink; 4], gone: &BackLink) -> [BackLink; 4]
 }
 
 /// These links with another one at a place.
-fn with_link(links: [BackLink; 4], place: usize, link: BackLink) -> [BackLink; 4]
+pub(crate) fn with_link(links: [BackLink; 4], place: usize, link: BackLink) -> [BackLink; 4]
     requires { place < 4 }
     ensures { result ≡ machine.set_link links place link }
 {
     let mut links = links;
     links[place] = link;
     links
-}
-
-impl FileNow {
-    /// The file with a back link at a place.
-    pub fn linked(self, place: usize, link: BackLink) -> FileNow
-        requires { place < 4 }
-        ensures { file_of result ≡ record (file_of self) { links = machine.set_link (file_of self).links place link } }
-    {
-        let links = with_link(self.links, place, link);
-        self.with_links(links)
-    }
-
-    /// The file without a back link.
-    pub fn unlinked(self, link: &BackLink) -> FileNow
-        ensures { file_of result ≡ record (file_of self) { links = machine.without_link link.now (file_of self).links } }
-    {
-        let links = without_link(&self.links, link);
-        self.with_links(links)
-    }
 }
 
 /// The first empty place of these links, from a place on.

@@ -6,12 +6,33 @@ ghost use Rattle.nofs_inode.specs.declared.inode.FileKind.TheVariants as kind;
 ghost use Rattle.nofs_machine.specs.Machine as machine;
 ghost use Rattle.nofs_machine.specs.Search.{least_from};
 ghost use Rattle.nofs_model.specs.Files as files;
-ghost use Rattle.nofs_history.specs.Kept.{file_of, kept_files_of};
+ghost use Rattle.nofs_history.specs.Kept.{file_of, kept_files_of, leads};
 
 use crate::accepted::files::{FileNow, FilesNow, names};
 use nofs_dirent::ENTRY_LIMIT;
 use nofs_inode::inode::{BackLink, FileKind};
 use std::alloc::{AllocError, Global};
+
+/// A name in one generation of a directory.
+#[derive(Clone, Copy)]
+pub(crate) struct NameIn<'a> {
+    pub directory: u32,
+    pub generation: u64,
+    pub name: &'a [u8],
+}
+
+impl NameIn<'_> {
+    /// An entry of the directory.
+    pub fn at(&self, entry: u32) -> BackLink
+        ensures { result ≡ machine.link_to self.now.directory entry self.now.generation }
+    {
+        BackLink {
+            directory: self.directory,
+            entry,
+            generation: self.generation,
+        }
+    }
+}
 
 pub(crate) fn same_link(a: &BackLink, b: &BackLink) -> bool
     ensures { result ≡ machine.same_link a.now b.now }
@@ -129,118 +150,68 @@ impl FilesNow {
     }
 
     /// Whether an entry of a directory has this name.
-    fn has_name(
-        &self,
-        alloc: Global,
-        directory: u32,
-        name: &[u8],
-        entry: u32,
-    ) -> Result<bool, AllocError>
-        ensures { IfOk result (λ has. has ≡ machine.entry_has_name (kept_files_of self.now) directory name.now entry) }
+    fn has_name(&self, alloc: Global, name: &NameIn<'_>, entry: u32) -> Result<bool, AllocError>
+        ensures { IfOk result (λ has. has ≡ machine.entry_has_name (kept_files_of self.now) name.now.directory name.now.name.now entry) }
     {
-        match self.entry_at(alloc, directory, entry)? {
+        match self.entry_at(alloc, name.directory, entry)? {
             None => Ok(false),
-            Some(found) => Ok(found.name.as_slice() == name),
+            Some(found) => Ok(found.name.as_slice() == name.name),
         }
     }
 
-    /// Whether a name leads to a file by this entry.
-    fn finds(
+    /// Whether a name stands in this entry, and leads to a file there or to none, as is asked.
+    fn leads(
         &self,
         alloc: Global,
-        directory: u32,
-        name: &[u8],
+        name: &NameIn<'_>,
+        to_file: bool,
         entry: u32,
     ) -> Result<bool, AllocError>
-        ensures { IfOk result (λ is. is ≡ (machine.entry_has_name (kept_files_of self.now) directory name.now entry && machine.is_paired (kept_files_of self.now) directory entry)) }
+        ensures { IfOk result (λ is. is ≡ leads (kept_files_of self.now) name.now.directory name.now.name.now to_file entry) }
     {
-        if !self.has_name(alloc, directory, name, entry)? {
+        if !self.has_name(alloc, name, entry)? {
             return Ok(false);
         }
-        self.is_paired(alloc, directory, entry)
+        Ok(self.is_paired(alloc, name.directory, entry)? == to_file)
     }
 
     #[tactic(auto, using(nofs_machine::proofs::Links::least_none, nofs_machine::proofs::Links::least_here, nofs_machine::proofs::Links::least_further))]
-    fn found_from(
+    fn first_from(
         &self,
         alloc: Global,
-        directory: u32,
-        name: &[u8],
+        name: &NameIn<'_>,
+        to_file: bool,
         at: u32,
         count: u32,
     ) -> Result<Option<u32>, AllocError>
         requires { at + count ≤ entry_limit }
-        ensures { IfOk result (λ found. found ≡ least_from (λ e. machine.entry_has_name (kept_files_of self.now) directory name.now e && machine.is_paired (kept_files_of self.now) directory e) at count) }
+        ensures first { IfOk result (λ found. found ≡ least_from (λ e. leads (kept_files_of self.now) name.now.directory name.now.name.now to_file e) at count) }
+        ensures range { IfOk result (λ found. IfSome found (λ e. e < entry_limit)) }
     {
         if count == 0 {
             return Ok(None);
         }
-        if self.finds(alloc, directory, name, at)? {
+        if self.leads(alloc, name, to_file, at)? {
             return Ok(Some(at));
         }
-        self.found_from(alloc, directory, name, at + 1, count - 1)
+        self.first_from(alloc, name, to_file, at + 1, count - 1)
     }
 
     /// The least entry by which a name leads to a file.
     #[tactic(auto, unfolding(nofs_machine::specs::Machine::found))]
-    pub fn found(
-        &self,
-        alloc: Global,
-        directory: u32,
-        name: &[u8],
-    ) -> Result<Option<u32>, AllocError>
-        ensures { IfOk result (λ found. found ≡ machine.found (kept_files_of self.now) directory name.now) }
+    pub fn found(&self, alloc: Global, name: &NameIn<'_>) -> Result<Option<u32>, AllocError>
+        ensures found { IfOk result (λ found. found ≡ machine.found (kept_files_of self.now) name.now.directory name.now.name.now) }
+        ensures range { IfOk result (λ found. IfSome found (λ e. e < entry_limit)) }
     {
-        self.found_from(alloc, directory, name, 0, ENTRY_LIMIT)
-    }
-
-    /// Whether a name stands in this entry and leads to no file.
-    fn is_dead(
-        &self,
-        alloc: Global,
-        directory: u32,
-        name: &[u8],
-        entry: u32,
-    ) -> Result<bool, AllocError>
-        ensures { IfOk result (λ is. is ≡ (machine.entry_has_name (kept_files_of self.now) directory name.now entry && not (machine.is_paired (kept_files_of self.now) directory entry))) }
-    {
-        if !self.has_name(alloc, directory, name, entry)? {
-            return Ok(false);
-        }
-        Ok(!self.is_paired(alloc, directory, entry)?)
-    }
-
-    #[tactic(auto, using(nofs_machine::proofs::Links::least_none, nofs_machine::proofs::Links::least_here, nofs_machine::proofs::Links::least_further))]
-    fn dead_from(
-        &self,
-        alloc: Global,
-        directory: u32,
-        name: &[u8],
-        at: u32,
-        count: u32,
-    ) -> Result<Option<u32>, AllocError>
-        requires { at + count ≤ entry_limit }
-        ensures { IfOk result (λ found. found ≡ least_from (λ e. machine.entry_has_name (kept_files_of self.now) directory name.now e && not (machine.is_paired (kept_files_of self.now) directory e)) at count) }
-    {
-        if count == 0 {
-            return Ok(None);
-        }
-        if self.is_dead(alloc, directory, name, at)? {
-            return Ok(Some(at));
-        }
-        self.dead_from(alloc, directory, name, at + 1, count - 1)
+        self.first_from(alloc, name, true, 0, ENTRY_LIMIT)
     }
 
     /// The least entry of a name that leads to no file.
     #[tactic(auto, unfolding(nofs_machine::specs::Machine::first_dead))]
-    pub fn first_dead(
-        &self,
-        alloc: Global,
-        directory: u32,
-        name: &[u8],
-    ) -> Result<Option<u32>, AllocError>
-        ensures { IfOk result (λ found. found ≡ machine.first_dead (kept_files_of self.now) directory name.now) }
+    pub fn first_dead(&self, alloc: Global, name: &NameIn<'_>) -> Result<Option<u32>, AllocError>
+        ensures found { IfOk result (λ found. found ≡ machine.first_dead (kept_files_of self.now) name.now.directory name.now.name.now) }
+        ensures range { IfOk result (λ found. IfSome found (λ e. e < entry_limit)) }
     {
-        self.dead_from(alloc, directory, name, 0, ENTRY_LIMIT)
+        self.first_from(alloc, name, false, 0, ENTRY_LIMIT)
     }
 }

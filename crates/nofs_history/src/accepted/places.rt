@@ -5,9 +5,10 @@ ghost use Rattle.nofs_machine.specs.Machine as machine;
 ghost use Rattle.nofs_machine.specs.Meta as meta;
 ghost use Rattle.nofs_machine.specs.Search.{first_of, least_from};
 ghost use Rattle.nofs_model.specs.Files as files;
-ghost use Rattle.nofs_history.specs.Kept.{kept_value, file_of, kept_files_of};
+ghost use Rattle.nofs_history.specs.Kept.{kept_value, kept_files_of};
 
-use crate::accepted::files::{FileNow, FilesNow, Kept};
+use crate::accepted::files::{FilesNow, Kept};
+use crate::accepted::names::NameIn;
 use nofs_dirent::ENTRY_LIMIT;
 use std::alloc::{AllocError, Global};
 
@@ -31,43 +32,23 @@ fn is_hole(kept: &Kept) -> bool
     }
 }
 
-impl FileNow {
-    fn has_bytes(&self, slot: u64) -> bool
-        ensures { result ≡ meta.is_bytes ((file_of self.now).values slot) }
-    {
-        match self.values.get(slot as usize) {
-            None => false,
-            Some(kept) => has_bytes(kept),
-        }
-    }
-
-    fn is_hole(&self, slot: u64) -> bool
-        ensures { result ≡ machine.is_hole ((file_of self.now).values slot) }
-    {
-        match self.values.get(slot as usize) {
-            None => true,
-            Some(kept) => is_hole(kept),
-        }
-    }
-}
-
 impl FilesNow {
     /// Whether a slot has bytes.
     pub fn has_bytes(&self, inode: u32, slot: u64) -> bool
         ensures { result ≡ meta.is_bytes (machine.value_of (kept_files_of self.now) inode slot) }
     {
-        match self.file(inode) {
+        match self.kept(inode, slot) {
             None => false,
-            Some(file) => file.has_bytes(slot),
+            Some(kept) => has_bytes(kept),
         }
     }
 
     fn is_hole(&self, inode: u32, slot: u64) -> bool
         ensures { result ≡ machine.is_hole (machine.value_of (kept_files_of self.now) inode slot) }
     {
-        match self.file(inode) {
+        match self.kept(inode, slot) {
             None => true,
-            Some(file) => file.is_hole(slot),
+            Some(kept) => is_hole(kept),
         }
     }
 
@@ -90,7 +71,8 @@ impl FilesNow {
         count: u32,
     ) -> Result<Option<u32>, AllocError>
         requires { at + count ≤ entry_limit }
-        ensures { IfOk result (λ found. found ≡ least_from (λ e. meta.is_bytes (machine.value_of (kept_files_of self.now) directory (e / 16)) && not (is_some (files.entry_at (kept_files_of self.now) directory e))) at count) }
+        ensures range { IfOk result (λ found. IfSome found (λ e. e < entry_limit)) }
+        ensures found { IfOk result (λ found. found ≡ least_from (λ e. meta.is_bytes (machine.value_of (kept_files_of self.now) directory (e / 16)) && not (is_some (files.entry_at (kept_files_of self.now) directory e))) at count) }
     {
         if count == 0 {
             return Ok(None);
@@ -117,7 +99,8 @@ impl FilesNow {
     }
 
     fn hole_place(&self, directory: u32) -> Option<u32>
-        ensures { result ≡ option_map (λ k. 16 * k) (least_from (λ k. machine.is_hole (machine.value_of (kept_files_of self.now) directory k)) 0 72) }
+        ensures range { IfSome result (λ e. e < entry_limit) }
+        ensures place { result ≡ option_map (λ k. 16 * k) (least_from (λ k. machine.is_hole (machine.value_of (kept_files_of self.now) directory k)) 0 72) }
     {
         match self.hole_from(directory, 0, 72) {
             None => None,
@@ -126,7 +109,8 @@ impl FilesNow {
     }
 
     fn fresh_place(&self, alloc: Global, directory: u32) -> Result<Option<u32>, AllocError>
-        ensures { IfOk result (λ place. place ≡ first_of (
+        ensures range { IfOk result (λ place. IfSome place (λ e. e < entry_limit)) }
+        ensures place { IfOk result (λ place. place ≡ first_of (
             least_from (λ e. meta.is_bytes (machine.value_of (kept_files_of self.now) directory (e / 16)) && not (is_some (files.entry_at (kept_files_of self.now) directory e))) 0 entry_limit
             ∷ option_map (λ k. 16 * k) (least_from (λ k. machine.is_hole (machine.value_of (kept_files_of self.now) directory k)) 0 72)
             ∷ [])) }
@@ -139,17 +123,13 @@ impl FilesNow {
 
     /// Where a new entry of a name goes; `None` where the directory is full.
     #[tactic(auto, unfolding(nofs_machine::specs::Machine::place_for))]
-    pub fn place_for(
-        &self,
-        alloc: Global,
-        directory: u32,
-        name: &[u8],
-    ) -> Result<Option<u32>, AllocError>
-        ensures { IfOk result (λ place. place ≡ machine.place_for (kept_files_of self.now) directory name.now) }
+    pub fn place_for(&self, alloc: Global, name: &NameIn<'_>) -> Result<Option<u32>, AllocError>
+        ensures range { IfOk result (λ place. IfSome place (λ e. e < entry_limit)) }
+        ensures place { IfOk result (λ place. place ≡ machine.place_for (kept_files_of self.now) name.now.directory name.now.name.now) }
     {
-        match self.first_dead(alloc, directory, name)? {
+        match self.first_dead(alloc, name)? {
             Some(entry) => Ok(Some(entry)),
-            None => self.fresh_place(alloc, directory),
+            None => self.fresh_place(alloc, name.directory),
         }
     }
 }

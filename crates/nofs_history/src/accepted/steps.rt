@@ -1,66 +1,69 @@
 //! What an accepted step does to files.
-ghost use Rattle.std.specs.Prelude.{◌≡◌, ◌<◌, ◌≤◌, ◌+◌, ◌*◌, ◌/◌, ℕ, OnOk, Some, length, max};
+ghost use Rattle.std.specs.Prelude.{◌≡◌, ◌<◌, ℕ, OnOk, option_map, true};
 ghost use Rattle.nofs_ptrs.specs.Paths.{slot_limit};
-ghost use Rattle.nofs_model.specs.declared.value.Value.TheVariants as value;
-ghost use Rattle.nofs_machine.specs.Meta.{Is};
 ghost use Rattle.nofs_machine.specs.Machine as machine;
-ghost use Rattle.nofs_history.specs.Kept.{kept_files_of, kept_files, metas_alone};
+ghost use Rattle.nofs_history.specs.Kept.{file_of, kept_files_of, kept_files, made_file, metas_alone};
+ghost use Rattle.nofs_history.specs.Gift.{cell_of, given_of, is_sound, meta_of, metas_of, with_birth};
 
 use crate::accepted::files::{FileNow, FilesNow, Kept};
-use nofs_inode::inode::{BackLink, FileKind};
-use nofs_machine::Claims;
+use crate::accepted::gift::{Birth, CellGift, Gift, MetaGift, MetaNow};
+use nofs_inode::inode::BackLink;
 use std::alloc::{AllocError, Global};
 
-impl FilesNow {
-    /// Gives a slot a cell.
-    pub fn set_cell(
-        &mut self,
-        inode: u32,
-        generation: u64,
-        slot: u64,
-        cell: Box<[u8; 1024]>,
-    ) -> Result<(), AllocError>
-        requires { slot < slot_limit }
-        ensures { OnOk result (kept_files (kept_files_of self.new) ≡ kept_files (machine.files_after (kept_files_of self.old) (machine.cell_given inode generation slot (value.Bytes cell.value) machine.no_meta))) }
+/// A file without content, with one back link.
+fn new_file(alloc: Global, birth: &Birth) -> FileNow
+    ensures { file_of result ≡ made_file birth.now.generation birth.now.kind birth.now.link }
+{
+    FileNow {
+        generation: birth.generation,
+        kind: birth.kind,
+        size: 0,
+        links: [
+            birth.link,
+            BackLink::EMPTY,
+            BackLink::EMPTY,
+            BackLink::EMPTY,
+        ],
+        values: Vec::new(alloc),
+    }
+}
+
+impl FileNow {
+    /// What is left of the file: it with another kind, size and back links, or nothing.
+    fn with_meta(self, meta: MetaNow) -> Option<FileNow>
+        ensures { option_map file_of result ≡ machine.with_meta (file_of self) (meta_of meta) }
     {
-        match self.take(inode, generation) {
-            None => Ok(()),
-            Some(file) => {
-                let changed = file.with_value(slot, Kept::Bytes(cell))?;
-                self.put(inode, changed)?;
-                Ok(())
-            }
+        match meta {
+            MetaNow::Gone => None,
+            MetaNow::Is { kind, size, links } => Some(FileNow {
+                generation: self.generation,
+                kind,
+                size,
+                links,
+                values: self.values,
+            }),
         }
     }
+}
 
-    /// Puts bytes into a slot.
-    pub fn put_bytes(
-        &mut self,
-        alloc: Global,
-        inode: u32,
-        generation: u64,
-        slot: u64,
-        at: u32,
-        bytes: &[u8],
-    ) -> Result<(), AllocError>
-        requires slot { slot < slot_limit }
-        requires range { at + length bytes.now ≤ 1024 }
-        ensures { OnOk result (kept_files (kept_files_of self.new) ≡ kept_files (machine.files_after (kept_files_of self.old) (machine.put_given (kept_files_of self.old) inode generation slot at bytes.now))) }
+impl FilesNow {
+    /// Gives a slot its cell.
+    fn take_cell(&mut self, gift: CellGift) -> Result<(), AllocError>
+        requires { gift.slot < slot_limit }
+        ensures { OnOk result (kept_files (kept_files_of self.new) ≡ kept_files (machine.files_after (kept_files_of self.old) (cell_of gift machine.no_meta))) }
     {
-        let cell = self.put_content(alloc, inode, slot, at, bytes)?;
-        let end = 1024 * slot + u64::from(at) + bytes.len() as u64;
-        match self.take(inode, generation) {
+        match self.take(gift.inode, gift.generation) {
             None => Ok(()),
             Some(file) => {
-                let changed = file.with_put(slot, cell, end)?;
-                self.put(inode, changed)?;
+                let changed = file.with_value(gift.slot, Kept::Bytes(gift.cell))?;
+                self.put(gift.inode, changed)?;
                 Ok(())
             }
         }
     }
 
     /// Gives a file another size.
-    pub fn resize(&mut self, inode: u32, generation: u64, size: u64) -> Result<(), AllocError>
+    fn resize(&mut self, inode: u32, generation: u64, size: u64) -> Result<(), AllocError>
         ensures { OnOk result (kept_files (kept_files_of self.new) ≡ kept_files (machine.files_after (kept_files_of self.old) (machine.resize_given (kept_files_of self.old) inode generation size))) }
     {
         match self.take(inode, generation) {
@@ -72,45 +75,65 @@ impl FilesNow {
         }
     }
 
-    /// Gives a file a back link at a place.
-    pub fn set_link(
-        &mut self,
-        inode: u32,
-        generation: u64,
-        place: usize,
-        link: BackLink,
-    ) -> Result<(), AllocError>
-        requires { place < 4 }
-        ensures { OnOk result (kept_files (kept_files_of self.new) ≡ kept_files (machine.files_after (kept_files_of self.old) (metas_alone (machine.meta_given inode generation (machine.meta_with (kept_files_of self.old) inode (λ f. Is f.kind f.size (machine.set_link f.links place link))))))) }
+    /// Makes of an inode what it becomes.
+    fn take_meta(&mut self, gift: MetaGift) -> Result<(), AllocError>
+        ensures { OnOk result (kept_files (kept_files_of self.new) ≡ kept_files (machine.files_after (kept_files_of self.old) (metas_alone (machine.meta_given gift.inode gift.generation (meta_of gift.meta))))) }
     {
-        match self.take(inode, generation) {
+        match self.take(gift.inode, gift.generation) {
             None => Ok(()),
-            Some(file) => {
-                self.put(inode, file.linked(place, link))?;
-                Ok(())
-            }
+            Some(file) => match file.with_meta(gift.meta) {
+                None => Ok(()),
+                Some(changed) => {
+                    self.put(gift.inode, changed)?;
+                    Ok(())
+                }
+            },
         }
     }
 
-    /// Takes a back link from a file, and with its last one the file.
-    pub fn unlink(
-        &mut self,
-        alloc: Global,
-        inode: u32,
-        generation: u64,
-        link: &BackLink,
-    ) -> Result<(), AllocError>
-        ensures { OnOk result (kept_files (kept_files_of self.new) ≡ kept_files (machine.files_after (kept_files_of self.old) (metas_alone (machine.meta_given inode generation (machine.drop_meta (kept_files_of self.old) inode link.now))))) }
+    /// Makes of inodes what they become, which may be none.
+    fn take_metas(&mut self, gift: Option<MetaGift>) -> Result<(), AllocError>
+        ensures { OnOk result (kept_files (kept_files_of self.new) ≡ kept_files (machine.files_after (kept_files_of self.old) (metas_alone (metas_of gift)))) }
     {
-        let last = self.is_last(alloc, inode, link)?;
-        match self.take(inode, generation) {
+        match gift {
             None => Ok(()),
-            Some(file) => {
-                if !last {
-                    self.put(inode, file.unlinked(link))?;
-                }
-                Ok(())
-            }
+            Some(gift) => self.take_meta(gift),
+        }
+    }
+
+    fn take_both(&mut self, cell: CellGift, meta: Option<MetaGift>) -> Result<(), AllocError>
+        requires { cell.slot < slot_limit }
+        ensures { OnOk result (kept_files (kept_files_of self.new) ≡ kept_files (machine.files_after (kept_files_of self.old) (cell_of cell (metas_of meta)))) }
+    {
+        self.take_metas(meta)?;
+        self.take_cell(cell)?;
+        Ok(())
+    }
+
+    fn take_birth(&mut self, alloc: Global, cell: CellGift, birth: Birth) -> Result<(), AllocError>
+        requires slot { cell.slot < slot_limit }
+        requires inode { 0 < birth.inode }
+        ensures { OnOk result (kept_files (kept_files_of self.new) ≡ kept_files (machine.files_after (kept_files_of self.old) (with_birth (cell_of cell machine.no_meta) birth))) }
+    {
+        self.take_cell(cell)?;
+        self.put(birth.inode, new_file(alloc, &birth))?;
+        Ok(())
+    }
+
+    /// Does what a step gives.
+    pub fn take_gift(&mut self, alloc: Global, gift: Gift) -> Result<(), AllocError>
+        requires { is_sound gift ≡ true }
+        ensures { OnOk result (kept_files (kept_files_of self.new) ≡ kept_files (machine.files_after (kept_files_of self.old) (given_of (kept_files_of self.old) gift))) }
+    {
+        match gift {
+            Gift::Nothing => Ok(()),
+            Gift::Size {
+                inode,
+                generation,
+                size,
+            } => self.resize(inode, generation, size),
+            Gift::Cell { cell, meta } => self.take_both(cell, meta),
+            Gift::Make { cell, birth } => self.take_birth(alloc, cell, birth),
         }
     }
 }

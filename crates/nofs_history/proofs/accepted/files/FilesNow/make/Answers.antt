@@ -1,8 +1,0 @@
--- A place is one of the 1,152 of a directory.
-use Rattle.std.proofs.Common.{sym, ◌∙◌}
-use Rattle.nofs_history.specs.Kept.{kept_files_of}
-use Rattle.nofs_history.proofs.Naming.{place_below}
-use Rattle.nofs_history.proofs.accepted.files.FilesNow.make.Goals as goal
-
-pub make_at-requires-clause-entry : goal.make_at-requires-clause-entry
-make_at-requires-clause-entry c = place_below (kept_files_of c.args.self.now) c.args.directory c.args.name.now c.in-Some.entry (sym c.in_ok-place_for.ensures ∙ c.in-Some.is)
