@@ -1,14 +1,14 @@
 -- Every step that the machine accepts keeps the bounds without which its gift is no cell or no file.
-use Rattle.std.proofs.Common.{◌≡◌, ℕ, ◌+◌, ◌-◌, ◌*◌, ◌/◌, ◌<◌, ◌≤◌, inl, inr, min, Bool, true, false, ◌&&◌, ◌||◌, not, cond, eqb, ltb, leb, List, [], ◌∷◌, length, Option, Some, None, is_some, option_map, refl, sym, ap, ◌∙◌, subst, arith}
+use Rattle.std.proofs.Common.{◌≡◌, ℕ, ◌+◌, ◌<◌, ◌≤◌, inl, inr, Bool, true, false, ◌&&◌, ◌||◌, not, cond, eqb, ltb, leb, List, [], ◌∷◌, length, Option, Some, None, refl, sym, ap, ◌∙◌, subst, arith}
 use Rattle.nofs_ptrs.specs.Paths.{slot_limit}
 use Rattle.nofs_dirent.specs.Names.{is_name}
-use Rattle.nofs_model.specs.Image.{InRecord, Under}
 use Rattle.nofs_machine.specs.Search.{first_of}
-use Rattle.nofs_machine.specs.Machine.{found, first_dead, first_lost_slot, is_write_fault, may_give, size_of, slots_in, node_of}
+use Rattle.nofs_machine.specs.Machine.{is_write_fault, may_give}
 use Rattle.nofs_machine.specs.World.{World}
-use Rattle.nofs_machine.specs.Refusals.{row, rows, slots, missing, not_empty_at, lost_resize, is_damaged}
+use Rattle.nofs_machine.specs.Refusals.{row, rows, slots}
 use Rattle.nofs_machine.specs.Claims.{IsClaim, IsInodeClaim, ClaimedInode, next_stamp}
 use Rattle.nofs_machine.specs.Next.{Next, AfterFault, ByRow, Done, ByRead, ByWrite, Run}
+use Rattle.nofs_law_machine.proofs.Faultless.{FaultFree, NoFault, first-free, rows-free}
 use Rattle.nofs_history.specs.Kept.{is_fit, AreFit}
 use Rattle.nofs_machine.specs.declared.history.Claims.{Claims}
 use Rattle.nofs_machine.specs.declared.history.Entry1.{Entry1}
@@ -21,66 +21,12 @@ use Rattle.nofs_machine.specs.declared.replies.Refusal.TheVariants as refusal
 
 -- No row is a fault of writing
 
-abbrev Sound : Option Refusal → Type 0
-Sound None = Unit {0}
-Sound (Some why) = is_write_fault (reply.Refused why) ≡ false
-
-abbrev AllSound : List (Option Refusal) → Type 0
-AllSound [] = Unit {0}
-AllSound (o ∷ os) = Sound o × AllSound os
-
-first-sound : (os : List (Option Refusal)) → AllSound os → Sound (first_of os)
-first-sound [] a = tt
-first-sound (None ∷ os) a = first-sound os a.1
-first-sound (Some why ∷ os) a = a.0
-
-tested : (t : Bool) (why : Refusal) → is_write_fault (reply.Refused why) ≡ false → Sound (row t why)
-tested true why r = r
-tested false why r = tt
-
-missing-sound : (W : World) (d : ℕ) (name : List ℕ) → Sound (missing W d name)
-missing-sound W d name = go (is_some (found W.files d name)) (first_dead W.files d name) (first_lost_slot W.files d)
+row-faultless : (W V : World) (s : Step) (why : Refusal) → first_of (rows W V s) ≡ Some why → is_write_fault (reply.Refused why) ≡ false
+row-faultless W V s why row = sound why (subst FaultFree row (first-free (rows W V s) (rows-free W V s)))
   where
-    go : (b : Bool) (o p : Option ℕ) → Sound (cond b None (first_of (option_map refusal.LostEntry o ∷ option_map refusal.LostSlot p ∷ Some refusal.Missing ∷ [])))
-    go true o p = tt
-    go false (Some e) p = refl
-    go false None (Some k) = refl
-    go false None None = refl
-
-empty-sound : (W : World) (d : ℕ) (o : Option ℕ) → Sound (not_empty_at W d o)
-empty-sound W d None = tt
-empty-sound W d (Some e) = tested _ refusal.NotEmpty refl
-
-stale-sound : (b t : Bool) → Sound (cond b None (row t refusal.Stale))
-stale-sound true t = tt
-stale-sound false t = tested t refusal.Stale refl
-
-lost-sound : (a b c : Bool) (x y z : ℕ) → Sound (first_of (row a (refusal.LostSlot x) ∷ row b (refusal.LostSlot y) ∷ row c (refusal.LostSlot z) ∷ []))
-lost-sound true b c x y z = refl
-lost-sound false true c x y z = refl
-lost-sound false false true x y z = refl
-lost-sound false false false x y z = tt
-
-resize-sound : (W : World) (i size : ℕ) → Sound (lost_resize W i size)
-resize-sound W i size =
-    let m : ℕ = min (slots_in (size_of W.files i)) (slots_in size) in
-    let j : ℕ = (m - 73) / 64 in
-    lost-sound (ltb 8 m && is_damaged (node_of W.files i (InRecord 8))) (ltb 72 m && is_damaged (node_of W.files i (InRecord 9))) (ltb 72 m && is_damaged (node_of W.files i (Under (InRecord 9) j))) 8 72 (72 + 64 * j)
-
-rows-sound : (W V : World) (s : Step) → AllSound (rows W V s)
-rows-sound W V (step.Look d g name) = (tested _ refusal.BadName refl, (tested _ refusal.Stale refl, (tested _ refusal.NotDirectory refl, (missing-sound W d name, tt))))
-rows-sound W V (step.Make d g name kind) = (tested _ refusal.BadName refl, (tested _ refusal.Stale refl, (tested _ refusal.NotDirectory refl, (tested _ refusal.Exists refl, (tested _ refusal.DirectoryFull refl, (tested _ (refusal.InodesFull _ _) refl, (tested _ (refusal.Full _ _ _ _) refl, (tested _ refusal.SerialsSpent refl, tt))))))))
-rows-sound W V (step.Link d g name i of) = (tested _ refusal.BadName refl, (tested _ refusal.Stale refl, (tested _ refusal.Stale refl, (tested _ refusal.NotDirectory refl, (tested _ refusal.IsDirectory refl, (tested _ refusal.Exists refl, (tested _ refusal.TooManyLinks refl, (tested _ refusal.DirectoryFull refl, (tested _ (refusal.Full _ _ _ _) refl, (tested _ refusal.SerialsSpent refl, tt))))))))))
-rows-sound W V (step.Drop d g name) = (tested _ refusal.BadName refl, (tested _ refusal.Stale refl, (tested _ refusal.NotDirectory refl, (missing-sound W d name, (empty-sound W d (found W.files d name), tt)))))
-rows-sound W V (step.Rename d g old new) = (tested _ refusal.BadName refl, (tested _ refusal.BadName refl, (tested _ refusal.Stale refl, (tested _ refusal.NotDirectory refl, (missing-sound W d old, (tested _ refusal.Exists refl, tt))))))
-rows-sound W V (step.List d g slot) = (tested _ refusal.Stale refl, (tested _ refusal.NotDirectory refl, tt))
-rows-sound W V (step.Get i g k) = (tested _ refusal.TooLarge refl, (tested _ refusal.Stale refl, (tested _ refusal.IsDirectory refl, tt)))
-rows-sound W V (step.Put i g k at bytes) = (tested _ refusal.BadRange refl, (tested _ refusal.TooLarge refl, (tested _ refusal.Stale refl, (tested _ refusal.IsDirectory refl, (tested _ refusal.PastEnd refl, (tested _ (refusal.LostSlot _) refl, (tested _ (refusal.Full _ _ _ _) refl, (tested _ refusal.SerialsSpent refl, tt))))))))
-rows-sound W V (step.Resize i g size) = (tested _ refusal.TooLarge refl, (tested _ refusal.Stale refl, (tested _ refusal.IsDirectory refl, (resize-sound W i size, tt))))
-rows-sound W V (step.Stat i g) = (tested _ refusal.Stale refl, tt)
-rows-sound W V (step.Flush i g) = (stale-sound (eqb i 0 && eqb g 0) _, tt)
-rows-sound W V (step.SeeInode i) = (tested _ refusal.BadRange refl, tt)
-rows-sound W V (step.SeeBlock p) = (tested _ refusal.BadRange refl, tt)
+    sound : (by : Refusal) → NoFault by → is_write_fault (reply.Refused by) ≡ false
+    sound refusal.WriteFault free = absurd (cc free)
+    sound _ free = refl
 
 -- Where no row comes
 
@@ -160,7 +106,7 @@ silent r why is sound gives = let e : may_give (reply.Refused why) ≡ true = sy
 
 next-fit : (W : World) (e : Entry1) (V : World) → Next W e V → may_give e.reply ≡ true → is_fit e.step e.claims ≡ true
 next-fit W e V (AfterFault s r c v) gives = absurd (silent e.reply refusal.Stopped r refl gives)
-next-fit W e V (ByRow why s row (inl r) c k t l) gives = absurd (silent e.reply why r (subst Sound row (first-sound (rows W V e.step) (rows-sound W V e.step))) gives)
+next-fit W e V (ByRow why s row (inl r) c k t l) gives = absurd (silent e.reply why r (row-faultless W V e.step why row) gives)
 next-fit W e V (ByRow why s row (inr r) c k t l) gives = absurd (silent e.reply refusal.ReadFault r.0 refl gives)
 next-fit W e V (Done s row r c fs hs se vs l) gives = rows-fit W V e.step e.claims row c
 next-fit W e V (ByRead s row r c k t l) gives = absurd (silent e.reply refusal.ReadFault r refl gives)
