@@ -23,10 +23,12 @@ pub meta-aimed : (i g : ℕ) (m : Meta) → IsAimed (metas_alone (meta_given i g
 meta-aimed i g m = record { born = λ j. refl; slots = λ j h l e. refl; metas = λ j h e. rw e refl }
 
 -- a file to which nothing is given
-quiet : (a : Given) (j : ℕ) (o : Option FileState) → a.born j ≡ None → ((f : FileState) → o ≡ Some f → ((k : ℕ) → a.slots j f.generation k ≡ None) × (a.metas j f.generation ≡ None)) → kept_file (file_after a j (born_file (a.born j) o)) ≡ kept_file o
+quiet : (a : Given) (j : ℕ) (o : Option FileState) → a.born j ≡ None → ((f : FileState) → o ≡ Some f
+    → ((k : ℕ) → a.slots j f.generation k ≡ None) × (a.metas j f.generation ≡ None)) → kept_file (file_after a j (born_file (a.born j) o)) ≡ kept_file o
 quiet a j o born none = rw born (go o none)
   where
-    go : (p : Option FileState) → ((f : FileState) → p ≡ Some f → ((k : ℕ) → a.slots j f.generation k ≡ None) × (a.metas j f.generation ≡ None)) → kept_file (file_after a j p) ≡ kept_file p
+    go : (p : Option FileState) → ((f : FileState) → p ≡ Some f → ((k : ℕ) → a.slots j f.generation k ≡ None) × (a.metas j f.generation ≡ None))
+        → kept_file (file_after a j p) ≡ kept_file p
     go None q = refl
     go (Some f) q =
         let n = q f refl in
@@ -38,7 +40,8 @@ elsewhere i g j h e = rw e refl
 
 -- where the inode has no file of this generation, all stay
 pub aimed-missing : (F : Files) (a : Given) (i g : ℕ) → IsAimed a i g → has_generation F i g ≡ false → kept_files F ≡ kept_files (files_after F a)
-aimed-missing F a i g aimed missing = sym (λ t j. quiet a j (F j) (aimed.born j) (λ f e. let n = other j f e in ((λ k. aimed.slots j f.generation k n), aimed.metas j f.generation n)) t)
+aimed-missing F a i g aimed missing = sym (λ t j. quiet a j (F j) (aimed.born j) (λ f e. let n = other j f e in
+    ((λ k. aimed.slots j f.generation k n), aimed.metas j f.generation n)) t)
   where
     other : (j : ℕ) (f : FileState) → F j ≡ Some f → is_at i g j f.generation ≡ false
     other j f e = go (eqb i j) refl
@@ -48,21 +51,25 @@ aimed-missing F a i g aimed missing = sym (λ t j. quiet a j (F j) (aimed.born j
         go true s =
             let same = eqb-true i j s in
             let there : F i ≡ Some f = ap F same ∙ e in
-            let no : eqb f.generation g ≡ false = sym (ap (λ (o : Option FileState). elim o as (λ x. Bool) [ None ↦ false | Some q ↦ eqb q.generation g ]) there) ∙ missing in
+            let no : eqb f.generation g ≡ false = sym
+            (ap (λ (o : Option FileState). elim o as (λ x. Bool) [ None ↦ false | Some q ↦ eqb q.generation g ]) there) ∙ missing in
             ne_eqb g f.generation (λ q. absurd (cc (no, eq-eqb f.generation g (sym q))))
 
 -- a file taken out and put back changed
-pub aimed-there : (F : Files) (a : Given) (i g : ℕ) (f f' : FileState) → IsAimed a i g → F i ≡ Some f → kept_file (file_after a i (Some f)) ≡ kept_file (Some f')
+pub aimed-there : (F : Files) (a : Given) (i g : ℕ) (f f' : FileState) → IsAimed a i g → F i ≡ Some f
+    → kept_file (file_after a i (Some f)) ≡ kept_file (Some f')
     → kept_files (with_file (with_file F i None) i (Some f')) ≡ kept_files (files_after F a)
 aimed-there F a i g f f' aimed there same = λ t j. go j (eqb i j) refl t
   where
-    go : (j : ℕ) (b : Bool) → eqb i j ≡ b → kept_file (cond (eqb i j) (Some f') (cond (eqb i j) None (F j))) ≡ kept_file (file_after a j (born_file (a.born j) (F j)))
+    go : (j : ℕ) (b : Bool) → eqb i j ≡ b → kept_file (cond (eqb i j) (Some f') (cond (eqb i j) None (F j)))
+        ≡ kept_file (file_after a j (born_file (a.born j) (F j)))
     go j true e =
         let s = eqb-true i j e in
         let here : F j ≡ Some f = ap F (sym s) ∙ there in
         let b = aimed.born j in
         rw (e, here, b) (sym same ∙ ap (λ (n : ℕ). kept_file (file_after a n (Some f))) s)
-    go j false e = rw e (sym (quiet a j (F j) (aimed.born j) (λ h q. ((λ k. aimed.slots j h.generation k (elsewhere i g j h.generation e)), aimed.metas j h.generation (elsewhere i g j h.generation e)))))
+    go j false e = rw e (sym (quiet a j (F j) (aimed.born j)
+        (λ h q. ((λ k. aimed.slots j h.generation k (elsewhere i g j h.generation e)), aimed.metas j h.generation (elsewhere i g j h.generation e)))))
 
 -- a file taken out for good
 pub aimed-gone : (F : Files) (a : Given) (i g : ℕ) (f : FileState) → IsAimed a i g → F i ≡ Some f → file_after a i (Some f) ≡ None
@@ -75,17 +82,21 @@ aimed-gone F a i g f aimed there gone = λ t j. go j (eqb i j) refl t
         let here : F j ≡ Some f = ap F (sym s) ∙ there in
         let b = aimed.born j in
         rw (e, here, b) (ap kept_file (sym gone) ∙ ap (λ (n : ℕ). kept_file (file_after a n (Some f))) s)
-    go j false e = rw e (sym (quiet a j (F j) (aimed.born j) (λ h q. ((λ k. aimed.slots j h.generation k (elsewhere i g j h.generation e)), aimed.metas j h.generation (elsewhere i g j h.generation e)))))
+    go j false e = rw e (sym (quiet a j (F j) (aimed.born j)
+        (λ h q. ((λ k. aimed.slots j h.generation k (elsewhere i g j h.generation e)), aimed.metas j h.generation (elsewhere i g j h.generation e)))))
 
 -- metas first, then a cell
-pub cell-last : (F : Files) (i g k : ℕ) (v : Value) (metas : ℕ → ℕ → Option Meta) → files_after F (cell_given i g k v metas) ≡ files_after (files_after F (metas_alone metas)) (cell_given i g k v no_meta)
+pub cell-last : (F : Files) (i g k : ℕ) (v : Value) (metas : ℕ → ℕ → Option Meta) → files_after F (cell_given i g k v metas)
+    ≡ files_after (files_after F (metas_alone metas)) (cell_given i g k v no_meta)
 cell-last F i g k v metas = λ t j. go j (F j) t
   where
-    after : (j : ℕ) (f : FileState) (m : Option Meta) → after_meta m (filled (cell_given i g k v metas) j f) ≡ file_after (cell_given i g k v no_meta) j (after_meta m (filled (metas_alone metas) j f))
+    after : (j : ℕ) (f : FileState) (m : Option Meta) → after_meta m (filled (cell_given i g k v metas) j f)
+        ≡ file_after (cell_given i g k v no_meta) j (after_meta m (filled (metas_alone metas) j f))
     after j f None = refl
     after j f (Some Gone) = refl
     after j f (Some (Is kind size links)) = refl
 
-    go : (j : ℕ) (o : Option FileState) → file_after (cell_given i g k v metas) j o ≡ file_after (cell_given i g k v no_meta) j (file_after (metas_alone metas) j o)
+    go : (j : ℕ) (o : Option FileState) → file_after (cell_given i g k v metas) j o ≡ file_after (cell_given i g k v no_meta) j
+        (file_after (metas_alone metas) j o)
     go j None = refl
     go j (Some f) = after j f (metas j f.generation)

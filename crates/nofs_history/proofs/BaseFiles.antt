@@ -1,7 +1,8 @@
 -- What is read of a base image, slot by slot and inode by inode, are its agreed files.
 --
 -- Slots whose block of pointers is missing are holes, and inodes that the image does not have are no files.
-use Rattle.std.proofs.Common.{◌≡◌, ℕ, zero, suc, ◌+◌, ◌-◌, ◌/◌, ◌%◌, ◌<◌, ◌≤◌, inl, inr, Bool, true, false, cond, ltb, leb, eqb, ◌&&◌, List, length, Option, Some, None, refl, sym, ap, ◌∙◌, arith, ltb-true}
+use Rattle.std.proofs.Common.{◌≡◌, ℕ, zero, suc, ◌+◌, ◌-◌, ◌/◌, ◌%◌, ◌<◌, ◌≤◌, inl, inr, Bool, true, false, cond, ltb, leb, eqb, ◌&&◌, List, length, Option}
+use Rattle.std.proofs.Common.{Some, None, refl, sym, ap, ◌∙◌, arith, ltb-true}
 use Rattle.std.proofs.Math.Path.{fun_ext}
 use Rattle.std.specs.List.{slice_get}
 use Rattle.std.proofs.lemmas.Option.{slice_get_past}
@@ -12,7 +13,8 @@ use Rattle.nofs_model.proofs.Paths.{path-leaf, path-far}
 use Rattle.nofs_model.proofs.Find.{and-both, find-held}
 use Rattle.nofs_model.specs.Cells.{FileKind, null}
 use Rattle.nofs_model.specs.Geometry.{inodes_of, blocks_of, first_data, IsMountable, IsSized, cell_at}
-use Rattle.nofs_model.specs.Image.{Image, inode, is_inode, file_from, files_in, agreed, value, value_in as value_found, Path, Under, path_of, find, leaf, top, child}
+use Rattle.nofs_model.specs.Image.{Image, inode, is_inode, file_from, files_in, agreed, value, value_in as value_found, Path, Under, path_of, find, leaf}
+use Rattle.nofs_model.specs.Image.{top, child}
 use Rattle.nofs_model.specs.declared.path.PathAnswer.{PathAnswer}
 use Rattle.nofs_model.specs.declared.path.PathAnswer.TheVariants as answer
 use Rattle.nofs_model.specs.declared.value.Value.TheVariants.{Hole, Bytes}
@@ -74,7 +76,8 @@ free-inode X i e = go (agreed (files_in X) i)
     go true = rw e refl
     go false = refl
 
-pub agreed-file : (X : Image) (i : ℕ) (kind : FileKind) → agreed (files_in X) i ≡ true → (inode X i).kind ≡ Some kind → agreed_files X i ≡ file_from X i (Some kind)
+pub agreed-file : (X : Image) (i : ℕ) (kind : FileKind) → agreed (files_in X) i ≡ true → (inode X i).kind ≡ Some kind
+    → agreed_files X i ≡ file_from X i (Some kind)
 unfolding agreed_files
 agreed-file X i kind e live = rw (e, live) refl
 

@@ -1,5 +1,6 @@
 -- Every step that the machine accepts keeps the bounds without which its gift is no cell or no file.
-use Rattle.std.proofs.Common.{◌≡◌, ℕ, ◌+◌, ◌<◌, ◌≤◌, inl, inr, Bool, true, false, ◌&&◌, ◌||◌, not, cond, eqb, ltb, leb, List, [], ◌∷◌, length, Option, Some, None, refl, sym, ap, ◌∙◌, subst, arith}
+use Rattle.std.proofs.Common.{◌≡◌, ℕ, ◌+◌, ◌<◌, ◌≤◌, inl, inr, Bool, true, false, ◌&&◌, ◌||◌, not, cond, eqb, ltb, leb, List, [], ◌∷◌, length, Option, Some}
+use Rattle.std.proofs.Common.{None, refl, sym, ap, ◌∙◌, subst, arith}
 use Rattle.nofs_ptrs.specs.Paths.{slot_limit}
 use Rattle.nofs_dirent.specs.Names.{is_name}
 use Rattle.nofs_machine.specs.Search.{first_of}
@@ -55,7 +56,8 @@ unfolding is_name
 name-short name e = (and-both _ _ (and-both _ _ e).1).0
 
 good-name : (name : List ℕ) (os : List (Option Refusal)) → first_of (row (not (is_name name)) refusal.BadName ∷ os) ≡ None → leb (length name) 48 ≡ true
-good-name name os e = name-short name (not-false (is_name name) (untested (not (is_name name)) refusal.BadName (none-first (row (not (is_name name)) refusal.BadName) os e).0))
+good-name name os e = name-short name (not-false (is_name name) (untested (not (is_name name)) refusal.BadName
+    (none-first (row (not (is_name name)) refusal.BadName) os e).0))
 
 claimed-inode : (W : World) (g : ℕ) (c : Claims) (b : Bool) → b ≡ true → IsInodeClaim W g c b → ltb 0 c.inode ≡ true
 claimed-inode W g c true e (ClaimedInode free some most generation) = grind (arith, some)

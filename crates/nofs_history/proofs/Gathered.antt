@@ -1,5 +1,6 @@
 -- The values that entries give, one entry at a time.
-use Rattle.std.proofs.Common.{◌≡◌, ℕ, zero, suc, ◌+◌, ◌<◌, Bool, true, false, cond, List, [], ◌∷◌, ◌++◌, length, drop, Some, None, option_to_list, slice_get, refl, sym, ap, ◌∙◌, append_assoc, append-nil, arith}
+use Rattle.std.proofs.Common.{◌≡◌, ℕ, zero, suc, ◌+◌, ◌<◌, Bool, true, false, cond, List, [], ◌∷◌, ◌++◌, length, drop, Some, None, option_to_list}
+use Rattle.std.proofs.Common.{slice_get, refl, sym, ap, ◌∙◌, append_assoc, append-nil, arith}
 use Rattle.nofs_ptrs.specs.Paths.{slot_limit}
 use Rattle.nofs_model.specs.Files.{Files}
 use Rattle.nofs_model.specs.declared.value.Value.{Value}
@@ -34,7 +35,8 @@ by-same F G alike e = go (is_refused e.reply)
     go true = alike
     go false = after-same F G alike (gives F e.step e.claims) (gives G e.step e.claims) (step-same F G alike e)
 
-pub values-same : (es : List Entry1) (F G : Files) → kept_files F ≡ kept_files G → (i g k : ℕ) → k < slot_limit → values_given F es i g k ≡ values_given G es i g k
+pub values-same : (es : List Entry1) (F G : Files) → kept_files F ≡ kept_files G → (i g k : ℕ) → k < slot_limit
+    → values_given F es i g k ≡ values_given G es i g k
 values-same [] F G alike i g k lt = refl
 values-same (e ∷ es) F G alike i g k lt =
     let here = gift-same F G alike e i g k lt in
@@ -49,7 +51,8 @@ entry-next (x ∷ es) (suc at) e is = let s : suc at + 1 ≡ suc (at + 1) = omeg
 
 pub fit-at : (es : List Entry1) (at : ℕ) (e : Entry1) → slice_get es at ≡ Some e → AreFit es → may_give e.reply ≡ true → is_fit e.step e.claims ≡ true
 fit-at [] at e is fit = absurd (cc is)
-fit-at (x ∷ es) zero e is fit = let same : x ≡ e = cc is in λ gives. ap (λ (y : Entry1). is_fit y.step y.claims) (sym same) ∙ fit.0 (ap (λ (y : Entry1). may_give y.reply) same ∙ gives)
+fit-at (x ∷ es) zero e is fit = let same : x ≡ e = cc is in λ gives. ap (λ (y : Entry1). is_fit y.step y.claims) (sym same)
+    ∙ fit.0 (ap (λ (y : Entry1). may_give y.reply) same ∙ gives)
 fit-at (x ∷ es) (suc at) e is fit = fit-at es at e is fit.1
 
 pub is-there : (es : List Entry1) (at : ℕ) → at < length es → slice_get es at ≡ None → ⊥
@@ -67,7 +70,8 @@ gather-next es at e F G i g k old new is lt gained alike =
     ∙ ap (λ (rest : List Entry1). old ++ values_given F rest i g k) (sym (entry-next es at e is))
 
 -- all are gathered
-pub gather-end : (es : List Entry1) (at : ℕ) (F : Files) (i g k : ℕ) (values : List Value) → length es ≡ at → values ++ values_given F (drop at es) i g k ≡ values
+pub gather-end : (es : List Entry1) (at : ℕ) (F : Files) (i g k : ℕ) (values : List Value) → length es ≡ at
+    → values ++ values_given F (drop at es) i g k ≡ values
 gather-end es at F i g k values all = (let e = past es at all in ap (λ (rest : List Entry1). values ++ values_given F rest i g k) e) ∙ append-nil values
   where
     past : (es : List Entry1) (at : ℕ) → length es ≡ at → drop at es ≡ []

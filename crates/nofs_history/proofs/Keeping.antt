@@ -1,5 +1,6 @@
 -- Words on names and places say the same of files and of what is kept of them.
-use Rattle.std.proofs.Common.{◌≡◌, ℕ, zero, suc, ◌+◌, ◌*◌, ◌/◌, ◌<◌, Bool, true, false, ◌&&◌, ◌||◌, not, cond, eqb, ltb, List, [], ◌∷◌, Option, Some, None, is_some, option_map, refl, ap, ◌∙◌, arith, bytes_eq}
+use Rattle.std.proofs.Common.{◌≡◌, ℕ, zero, suc, ◌+◌, ◌*◌, ◌/◌, ◌<◌, Bool, true, false, ◌&&◌, ◌||◌, not, cond, eqb, ltb, List, [], ◌∷◌, Option, Some, None}
+use Rattle.std.proofs.Common.{is_some, option_map, refl, ap, ◌∙◌, arith, bytes_eq}
 use Rattle.std.specs.List.{list_any}
 use Rattle.nofs_dirent.specs.Entries.{entry_limit}
 use Rattle.nofs_ptrs.specs.Paths.{slot_limit}
@@ -10,7 +11,8 @@ use Rattle.nofs_model.specs.declared.value.Value.{Value}
 use Rattle.nofs_model.specs.declared.value.Value.TheVariants.{Hole}
 use Rattle.nofs_machine.specs.Meta.{is_bytes}
 use Rattle.nofs_machine.specs.Search.{least_from, first_of}
-use Rattle.nofs_machine.specs.Machine.{generation_of, value_of, size_of, same_link, link_to, is_paired, entry_has_name, found, first_dead, place_for, link_place, place_for_link, is_hole}
+use Rattle.nofs_machine.specs.Machine.{generation_of, value_of, size_of, same_link, link_to, is_paired, entry_has_name, found, first_dead, place_for}
+use Rattle.nofs_machine.specs.Machine.{link_place, place_for_link, is_hole}
 use Rattle.nofs_history.specs.Kept.{kept_file, kept_files}
 
 -- Searches
@@ -32,7 +34,8 @@ entry-kept : (o : Option FileState) (e : ℕ) → entry_in_file (kept_file o) e 
 entry-kept None e = refl
 entry-kept (Some f) e = go (is_folder f.kind) (ltb e entry_limit) refl
   where
-    go : (folder b : Bool) → ltb e entry_limit ≡ b → cond (folder && b) (entry_held (cond (ltb (e / 16) slot_limit) (f.values (e / 16)) Hole) e) None ≡ cond (folder && b) (entry_held (f.values (e / 16)) e) None
+    go : (folder b : Bool) → ltb e entry_limit ≡ b → cond (folder && b) (entry_held (cond (ltb (e / 16) slot_limit) (f.values (e / 16)) Hole) e) None
+        ≡ cond (folder && b) (entry_held (f.values (e / 16)) e) None
     go false b eb = refl
     go true false eb = refl
     go true true eb = let lt : e < entry_limit = grind (arith, eb) in let s = below (e / 16) (omega (arith, lt)) in rw s refl
@@ -47,7 +50,8 @@ links-kept (Some f) = refl
 
 pairs-kept : (o d : Option FileState) (i : ℕ) (link : BackLink) → pairs (kept_file o) (kept_file d) i link ≡ pairs o d i link
 pairs-kept None d i link = refl
-pairs-kept (Some f) d i link = λ j. is_a-kept d link.generation j && (names (entry-kept d link.entry j) i f.generation && (not (is_folder f.kind) || ltb link.generation f.generation))
+pairs-kept (Some f) d i link = λ j. is_a-kept d link.generation j && (names (entry-kept d link.entry j) i f.generation
+    && (not (is_folder f.kind) || ltb link.generation f.generation))
 
 -- Files
 
@@ -100,11 +104,16 @@ pub is_paired-kept : (F : Files) (d e : ℕ) → is_paired (kept_files F) d e �
 is_paired-kept F d e = ap (paired (kept_files F)) (entry_at-kept F d e) ∙ go (entry_at F d e)
   where
     paired : Files → Option Entry → Bool
-    paired G o = elim o [ None ↦ false | Some entry ↦ list_any (λ link. same_link link (link_to d e (generation_of G d)) && is_pair G entry.inode link) (links_of G entry.inode) ]
+    paired G o = elim o [
+      | None ↦ false
+      | Some entry ↦ list_any (λ link. same_link link (link_to d e (generation_of G d)) && is_pair G entry.inode link)
+          (links_of G entry.inode)
+    ]
 
     go : (o : Option Entry) → paired (kept_files F) o ≡ paired F o
     go None = refl
-    go (Some entry) = λ j. list_any (λ link. same_link link (link_to d e (generation-kept F d j)) && is_pair-kept F entry.inode link j) (links_of-kept F entry.inode j)
+    go (Some entry) = λ j. list_any (λ link. same_link link (link_to d e (generation-kept F d j)) && is_pair-kept F entry.inode link j)
+        (links_of-kept F entry.inode j)
 
 pub has_name-kept : (F : Files) (d : ℕ) (name : List ℕ) (e : ℕ) → entry_has_name (kept_files F) d name e ≡ entry_has_name F d name e
 has_name-kept F d name e = ap (λ (o : Option Entry). elim o [ None ↦ false | Some entry ↦ bytes_eq entry.name name ]) (entry_at-kept F d e)
@@ -117,7 +126,8 @@ pub dead-kept : (F : Files) (d : ℕ) (name : List ℕ) → first_dead (kept_fil
 unfolding first_dead
 dead-kept F d name = λ j. least_from (λ e. has_name-kept F d name e j && not (is_paired-kept F d e j)) 0 entry_limit
 
-empty-kept : (F : Files) (d e : ℕ) → e < entry_limit → (is_bytes (value_of (kept_files F) d (e / 16)) && not (is_some (entry_at (kept_files F) d e))) ≡ (is_bytes (value_of F d (e / 16)) && not (is_some (entry_at F d e)))
+empty-kept : (F : Files) (d e : ℕ) → e < entry_limit → (is_bytes (value_of (kept_files F) d (e / 16)) && not (is_some (entry_at (kept_files F) d e)))
+    ≡ (is_bytes (value_of F d (e / 16)) && not (is_some (entry_at F d e)))
 empty-kept F d e lt = λ j. is_bytes (value-kept F d (e / 16) (omega (arith, lt)) j) && not (is_some (entry_at-kept F d e j))
 
 hole-kept : (F : Files) (d k : ℕ) → k < 72 → is_hole (value_of (kept_files F) d k) ≡ is_hole (value_of F d k)
@@ -133,9 +143,12 @@ place-kept F d name = first-same
     (least_from (λ e. is_bytes (value_of F d (e / 16)) && not (is_some (entry_at F d e))) 0 entry_limit)
     (option_map (λ k. 16 * k) (least_from (λ k. is_hole (value_of F d k)) 0 72))
     (dead-kept F d name)
-    (least-same (λ e. is_bytes (value_of (kept_files F) d (e / 16)) && not (is_some (entry_at (kept_files F) d e))) (λ e. is_bytes (value_of F d (e / 16)) && not (is_some (entry_at F d e))) 0 entry_limit (λ e lt. empty-kept F d e (omega (arith, lt))))
-    (ap (option_map (λ k. 16 * k)) (least-same (λ k. is_hole (value_of (kept_files F) d k)) (λ k. is_hole (value_of F d k)) 0 72 (λ k lt. hole-kept F d k (omega (arith, lt)))))
+    (least-same (λ e. is_bytes (value_of (kept_files F) d (e / 16)) && not (is_some (entry_at (kept_files F) d e)))
+    (λ e. is_bytes (value_of F d (e / 16)) && not (is_some (entry_at F d e))) 0 entry_limit (λ e lt. empty-kept F d e (omega (arith, lt))))
+    (ap (option_map (λ k. 16 * k)) (least-same (λ k. is_hole (value_of (kept_files F) d k)) (λ k. is_hole (value_of F d k)) 0 72
+    (λ k lt. hole-kept F d k (omega (arith, lt)))))
 
 pub link_place-kept : (F : Files) (i : ℕ) → link_place (kept_files F) i ≡ link_place F i
 unfolding link_place
-link_place-kept F i = λ j. cond (eqb i 2) None (first_of (place_for_link is_empty_link (links_of-kept F i j) 0 ∷ place_for_link (λ link. not (is_pair-kept F i link j)) (links_of-kept F i j) 0 ∷ []))
+link_place-kept F i = λ j. cond (eqb i 2) None (first_of (place_for_link is_empty_link (links_of-kept F i j) 0
+    ∷ place_for_link (λ link. not (is_pair-kept F i link j)) (links_of-kept F i j) 0 ∷ []))

@@ -1,5 +1,6 @@
 -- The values of a file of another size.
-use Rattle.std.proofs.Common.{◌≡◌, ℕ, ◌+◌, ◌-◌, ◌%◌, ◌<◌, ◌≤◌, inl, inr, min, Bool, true, false, ◌&&◌, not, cond, eqb, ltb, leb, Option, Some, None, unwrap_or, refl, sym, ap, ◌∙◌, arith, ne_eqb, eq-eqb, ◌≢◌, take, ◌++◌}
+use Rattle.std.proofs.Common.{◌≡◌, ℕ, ◌+◌, ◌-◌, ◌%◌, ◌<◌, ◌≤◌, inl, inr, min, Bool, true, false, ◌&&◌, not, cond, eqb, ltb, leb, Option, Some, None}
+use Rattle.std.proofs.Common.{unwrap_or, refl, sym, ap, ◌∙◌, arith, ne_eqb, eq-eqb, ◌≢◌, take, ◌++◌}
 use Rattle.std.proofs.lemmas.Bool.{cases_lt}
 use Rattle.nofs_ptrs.specs.Paths.{slot_limit}
 use Rattle.nofs_model.specs.declared.value.Value.{Value}
@@ -9,7 +10,8 @@ use Rattle.nofs_machine.specs.Machine.{slots_in, trimmed, bytes_in, zeros}
 use Rattle.nofs_history.specs.Kept.{resized_value, end_value, trimmed_value}
 
 -- inside what stays
-inside : (a b c : Bool) (cut : ℕ) (v : Value) → cond (a && (b && c)) (trimmed_value cut v) v ≡ unwrap_or (cond (a && (b && (c && is_bytes v))) (Some (Bytes (take cut (bytes_in v) ++ zeros (1024 - cut)))) None) v
+inside : (a b c : Bool) (cut : ℕ) (v : Value) → cond (a && (b && c)) (trimmed_value cut v) v
+    ≡ unwrap_or (cond (a && (b && (c && is_bytes v))) (Some (Bytes (take cut (bytes_in v) ++ zeros (1024 - cut)))) None) v
 unfolding trimmed
 inside false b c cut v = refl
 inside true false c cut v = refl
@@ -18,14 +20,16 @@ inside true true true cut (Bytes content) = refl
 inside true true true cut Hole = refl
 inside true true true cut Lost = refl
 
-pub resized-at : (old size k : ℕ) (v : Value) → k < slot_limit → end_value old size (min (slots_in old) (slots_in size)) k (cond (ltb k (min (slots_in old) (slots_in size))) v Hole) ≡ unwrap_or (resized_value old size v k) v
+pub resized-at : (old size k : ℕ) (v : Value) → k < slot_limit → end_value old size (min (slots_in old) (slots_in size)) k
+    (cond (ltb k (min (slots_in old) (slots_in size))) v Hole) ≡ unwrap_or (resized_value old size v k) v
 resized-at old size k v lt = elim (cases_lt k (min (slots_in old) (slots_in size))) [
   | inl less ↦ within (min (slots_in old) (slots_in size)) less
   | inr le ↦ behind (min (slots_in old) (slots_in size)) le
 ]
   where
     gift : ℕ → Option Value
-    gift m = cond (leb m k) (cond (ltb k slot_limit) (Some Hole) None) (cond (leb old size && (eqb (k + 1) m && (not (eqb (old % 1024) 0) && is_bytes v))) (Some (Bytes (take (old % 1024) (bytes_in v) ++ zeros (1024 - old % 1024)))) None)
+    gift m = cond (leb m k) (cond (ltb k slot_limit) (Some Hole) None) (cond (leb old size && (eqb (k + 1) m && (not (eqb (old % 1024) 0) && is_bytes v)))
+        (Some (Bytes (take (old % 1024) (bytes_in v) ++ zeros (1024 - old % 1024)))) None)
 
     within : (m : ℕ) → k < m → end_value old size m k (cond (ltb k m) v Hole) ≡ unwrap_or (gift m) v
     within m less =
@@ -54,7 +58,8 @@ end-gift o old size k m v same least less le last part =
     ∙ go (min (slots_in old) (slots_in size)) (sym least)
   where
     go : (n : ℕ) → n ≡ m → cond (is_bytes v) (Some (Bytes (trimmed (old % 1024) (bytes_in v)))) None
-        ≡ cond (leb n k) (cond (ltb k slot_limit) (Some Hole) None) (cond (leb old size && (eqb (k + 1) n && (not (eqb (old % 1024) 0) && is_bytes v))) (Some (Bytes (take (old % 1024) (bytes_in v) ++ zeros (1024 - old % 1024)))) None)
+        ≡ cond (leb n k) (cond (ltb k slot_limit) (Some Hole) None) (cond (leb old size && (eqb (k + 1) n && (not (eqb (old % 1024) 0) && is_bytes v)))
+        (Some (Bytes (take (old % 1024) (bytes_in v) ++ zeros (1024 - old % 1024)))) None)
     go n e =
         let a : leb n k ≡ false = under n k (omega (arith, e, less)) in
         let b : leb old size ≡ true = over old size (omega (arith, same, le)) in

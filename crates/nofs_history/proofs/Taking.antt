@@ -1,5 +1,6 @@
 -- What a gift makes of files: nothing, a meta and a cell, a cell and a new file.
-use Rattle.std.proofs.Common.{◌≡◌, ℕ, Bool, true, false, ◌&&◌, cond, eqb, List, [], ◌∷◌, Option, Some, None, unwrap_or, refl, sym, ap, ◌∙◌, eqb-true, eq-eqb, ne_eqb}
+use Rattle.std.proofs.Common.{◌≡◌, ℕ, Bool, true, false, ◌&&◌, cond, eqb, List, [], ◌∷◌, Option, Some, None, unwrap_or, refl, sym, ap, ◌∙◌, eqb-true}
+use Rattle.std.proofs.Common.{eq-eqb, ne_eqb}
 use Rattle.std.proofs.lemmas.Bool.{eqb-false}
 use Rattle.nofs_model.specs.Files.{FileState, Files}
 use Rattle.nofs_model.specs.declared.value.Value.{Value}
@@ -38,7 +39,8 @@ birth-there : (d g k : ℕ) (v : Value) (it : Birth) (j : ℕ) → eqb it.inode 
 birth-there d g k v it j q =
     let r = eq-eqb j it.inode (sym (eqb-true it.inode j q)) in
     let h = eq-eqb it.generation it.generation refl in
-    let m : (born_beside d g k v it).metas j it.generation ≡ Some (Is it.kind 0 (it.link ∷ link_to 0 0 0 ∷ link_to 0 0 0 ∷ link_to 0 0 0 ∷ [])) = rw (r, h) refl in
+    let m : (born_beside d g k v it).metas j it.generation ≡ Some (Is it.kind 0 (it.link ∷ link_to 0 0 0 ∷ link_to 0 0 0 ∷ link_to 0 0 0 ∷ [])) =
+    rw (r, h) refl in
     let s : (l : ℕ) → (born_beside d g k v it).slots j it.generation l ≡ Some Hole = λ l. rw (q, h) refl in
     sym (ends-after (born_beside d g k v it) j ((born_beside d g k v it).metas j it.generation) (new_file it.generation)
     ∙ (λ t. ends (m t) it.generation (new_file it.generation).kind 0 [] (held (λ l. unwrap_or (s l t) Hole))))
@@ -56,7 +58,8 @@ birth-elsewhere d g k v it j q r (Some f) =
     ∙ sym (ends-after (born_beside d g k v it) j ((born_beside d g k v it).metas j f.generation) f)
 
 pub cell_and_birth : (F M N : Files) (d g k : ℕ) (v : Value) (it : Birth) (made : FileState)
-    → kept_files M ≡ kept_files (files_after F (cell_given d g k v no_meta)) → N ≡ with_file M it.inode (Some made) → made ≡ made_file it.generation it.kind it.link
+    → kept_files M ≡ kept_files (files_after F (cell_given d g k v no_meta)) → N ≡ with_file M it.inode (Some made)
+    → made ≡ made_file it.generation it.kind it.link
     → kept_files N ≡ kept_files (files_after F (born_beside d g k v it))
 cell_and_birth F M N d g k v it made cell back is =
     ap kept_files (back ∙ ap (λ (h : FileState). with_file M it.inode (Some h)) is) ∙ (λ t j. at j (eqb it.inode j) refl t)

@@ -1,11 +1,15 @@
 -- What a step gives, as it was computed, as a gift of the machine.
-use Rattle.std.specs.Prelude.{ℕ, true, [], ◌∷◌, ◌&&◌, ◌==◌, not, Bool, Option, Some, None, if◌then◌else◌, nat_lt}
+use Rattle.std.specs.Prelude.{ℕ, true, [], ◌∷◌, ◌&&◌, ◌==◌, not, Bool, Option, Some, None, if◌then◌else◌, nat_lt, List}
 use Rattle.nofs_ptrs.specs.Paths.{slot_limit}
 use Rattle.nofs_model.specs.Files.{Files}
+use Rattle.nofs_model.specs.declared.value.Value.{Value}
 use Rattle.nofs_model.specs.declared.value.Value.TheVariants.{Hole, Bytes}
 use Rattle.nofs_machine.specs.Meta.{Meta, Gone, Is}
-use Rattle.nofs_machine.specs.Machine.{Given, nothing, is_at, cell_given, meta_given, no_meta, resize_given, link_to, at_place, place_for, link_place, found, make_given, link_given, drop_given, rename_given}
+use Rattle.nofs_machine.specs.Machine.{Given, nothing, is_at, cell_given, meta_given, no_meta, resize_given, link_to, at_place, place_for, link_place}
+use Rattle.nofs_machine.specs.Machine.{found, make_given, link_given, drop_given, rename_given}
+use Rattle.nofs_machine.specs.History.{values_given}
 use Rattle.nofs_machine.specs.declared.history.Claims.{Claims}
+use Rattle.nofs_machine.specs.declared.history.Entry1.{Entry1}
 use Rattle.nofs_machine.specs.declared.steps.Step.{Step}
 use Rattle.nofs_machine.specs.declared.steps.Step.TheVariants as step
 use Rattle.nofs_history.specs.declared.accepted.gift.CellGift.{CellGift}
@@ -14,6 +18,7 @@ use Rattle.nofs_history.specs.declared.accepted.gift.MetaNow.TheVariants as now
 use Rattle.nofs_history.specs.declared.accepted.gift.MetaGift.{MetaGift}
 use Rattle.nofs_history.specs.declared.accepted.gift.Birth.{Birth}
 use Rattle.nofs_history.specs.declared.accepted.gift.Gift.{Gift}
+use Rattle.nofs_history.specs.declared.accepted.gifts.Wanted.{Wanted}
 use Rattle.nofs_history.specs.declared.accepted.gift.Gift.TheVariants as gift
 
 -- what a file becomes
@@ -36,7 +41,9 @@ with_birth base it = record {
   born = λ j. if j == it.inode then Some it.generation else None;
   slots = λ j h k. if is_at it.inode it.generation j h then Some Hole else base.slots j h k;
   nodes = base.nodes;
-  metas = λ j h. if j == it.inode then Some (if h == it.generation then Is it.kind 0 (it.link ∷ link_to 0 0 0 ∷ link_to 0 0 0 ∷ link_to 0 0 0 ∷ []) else Gone) else None;
+  metas = λ j h. if j == it.inode
+      then Some (if h == it.generation then Is it.kind 0 (it.link ∷ link_to 0 0 0 ∷ link_to 0 0 0 ∷ link_to 0 0 0 ∷ []) else Gone)
+      else None;
 }
 
 -- what is given, by the files before it
@@ -45,6 +52,14 @@ given_of F gift.Nothing = nothing
 given_of F (gift.Size i g size) = resize_given F i g size
 given_of F (gift.Cell cell meta) = cell_of cell (metas_of meta)
 given_of F (gift.Make cell birth) = with_birth (cell_of cell no_meta) birth
+
+-- what goes to a slot
+abbrev pub value_for : Given → Wanted → Option Value
+value_for given wanted = given.slots wanted.inode wanted.generation wanted.slot
+
+-- and by these entries, in their order
+abbrev pub values_for : Files → List Entry1 → Wanted → List Value
+values_for F entries wanted = values_given F entries wanted.inode wanted.generation wanted.slot
 
 -- a cell goes to a slot that a file can have, and a birth to an inode
 abbrev pub is_sound : Gift → Bool

@@ -1,11 +1,12 @@
 -- The files that a list of accepted values is computed from, as files of the machine, and how they change.
-use Rattle.std.specs.Prelude.{◌≡◌, ℕ, true, [], ◌∷◌, length, ◌+◌, ◌-◌, ◌%◌, min, ◌&&◌, not, nat_le, ◌++◌, take, unwrap_or, ◌==◌, List, Bool, false, Option, Some, None, if◌then◌else◌, nat_lt, slice_get}
+use Rattle.std.specs.Prelude.{◌≡◌, ℕ, true, [], ◌∷◌, length, ◌+◌, ◌-◌, ◌%◌, min, ◌&&◌, not, nat_le, ◌++◌, take, unwrap_or, ◌==◌, List, Bool, false, Option}
+use Rattle.std.specs.Prelude.{Some, None, if◌then◌else◌, nat_lt, slice_get}
 use Rattle.nofs_ptrs.specs.Paths.{slot_limit}
 use Rattle.nofs_model.specs.Files.{Absent, FileState, Files}
 use Rattle.nofs_model.specs.declared.value.Value.{Value}
 use Rattle.nofs_model.specs.declared.value.Value.TheVariants as value
 use Rattle.nofs_machine.specs.Meta.{Meta, is_bytes}
-use Rattle.nofs_machine.specs.Machine.{Given, nothing, link_to, may_give, slots_in, zeros, bytes_in, trimmed, entry_has_name, is_paired}
+use Rattle.nofs_machine.specs.Machine.{Given, nothing, files_after, link_to, may_give, slots_in, zeros, bytes_in, trimmed, entry_has_name, is_paired}
 use Rattle.nofs_model.specs.Cells.{FileKind, BackLink}
 use Rattle.nofs_machine.specs.declared.history.Claims.{Claims}
 use Rattle.nofs_machine.specs.declared.history.Entry1.{Entry1}
@@ -29,7 +30,14 @@ value_at (Some it) = kept_value it
 
 -- a file with these values; its blocks of pointers are not kept
 abbrev pub file_of : FileNow → FileState
-file_of f = record { generation = f.generation; kind = f.kind; size = f.size; links = f.links; values = λ k. value_at (slice_get f.values.items k); nodes = λ path. Absent }
+file_of f = record {
+  generation = f.generation;
+  kind = f.kind;
+  size = f.size;
+  links = f.links;
+  values = λ k. value_at (slice_get f.values.items k);
+  nodes = λ path. Absent;
+}
 
 -- an inode's file, where one is kept
 abbrev pub file_at : Option (Option FileNow) → Option FileState
@@ -44,11 +52,22 @@ kept_files_of F i = if i == 0 then None else file_at (slice_get F.files.items (i
 -- what is kept of a file: not its blocks of pointers, and nothing past the 4,168 slots that a file can have
 abbrev pub kept_file : Option FileState → Option FileState
 kept_file None = None
-kept_file (Some f) = Some (record { generation = f.generation; kind = f.kind; size = f.size; links = f.links; values = λ k. if nat_lt k slot_limit then f.values k else value.Hole; nodes = λ path. Absent })
+kept_file (Some f) = Some (record {
+  generation = f.generation;
+  kind = f.kind;
+  size = f.size;
+  links = f.links;
+  values = λ k. if nat_lt k slot_limit then f.values k else value.Hole;
+  nodes = λ path. Absent;
+})
 
 -- what is kept of files
 abbrev pub kept_files : Files → Files
 kept_files F i = kept_file (F i)
+
+-- files have become what is given to them
+abbrev pub HasTaken : FilesNow → FilesNow → Given → Type 0
+HasTaken old new given = kept_files (kept_files_of new) ≡ kept_files (files_after (kept_files_of old) given)
 
 -- these files with another one, or none, at inode i
 abbrev pub with_file : Files → ℕ → Option FileState → Files
@@ -95,7 +114,14 @@ end_value old size m k v = if nat_le old size && ((k + 1 == m) && not (old % 102
 
 -- a file without content, with one back link
 abbrev pub made_file : ℕ → FileKind → BackLink → FileState
-made_file g kind link = record { generation = g; kind = kind; size = 0; links = link ∷ link_to 0 0 0 ∷ link_to 0 0 0 ∷ link_to 0 0 0 ∷ []; values = λ k. value.Hole; nodes = λ path. Absent }
+made_file g kind link = record {
+  generation = g;
+  kind = kind;
+  size = 0;
+  links = link ∷ link_to 0 0 0 ∷ link_to 0 0 0 ∷ link_to 0 0 0 ∷ [];
+  values = λ k. value.Hole;
+  nodes = λ path. Absent;
+}
 
 -- the bounds without which a step's gift is no cell or no file: every step that the machine accepts keeps them
 abbrev pub is_fit : Step → Claims → Bool
@@ -105,7 +131,11 @@ is_fit (step.Link d g name i of) claims = nat_le (length name) 48
 is_fit (step.Rename d g old new) claims = nat_le (length new) 48
 is_fit _ claims = true
 
--- each of these entries that gives something keeps them
+-- an entry that gives something keeps them
+abbrev pub IsFit : Entry1 → Type 0
+IsFit e = may_give e.reply ≡ true → is_fit e.step e.claims ≡ true
+
+-- and each of these entries
 abbrev pub AreFit : List Entry1 → Type 0
 AreFit [] = Unit {0}
-AreFit (e ∷ es) = (may_give e.reply ≡ true → is_fit e.step e.claims ≡ true) × AreFit es
+AreFit (e ∷ es) = IsFit e × AreFit es

@@ -116,7 +116,8 @@ impl FilesNow {
     ) -> Result<Box<[u8; 1024]>, AllocError>
         requires slot { slot < slot_limit }
         requires range { at + length bytes.now ≤ 1024 }
-        ensures { IfOk result (λ cell. cell.value ≡ machine.put_content (machine.value_of (kept_files_of self.now) inode slot) (machine.size_of (kept_files_of self.now) inode) slot at bytes.now) }
+        ensures { IfOk result (λ cell. cell.value ≡ machine.put_content (machine.value_of (kept_files_of self.now) inode slot)
+            (machine.size_of (kept_files_of self.now) inode) slot at bytes.now) }
     {
         let mut cell = self.bytes_in(alloc, inode, slot)?;
         let cut = self.size(inode).saturating_sub(1024 * slot).min(1024);
@@ -134,7 +135,8 @@ impl FilesNow {
         bytes: &[u8],
     ) -> Result<Box<[u8; 1024]>, AllocError>
         requires { length bytes.now ≡ 64 }
-        ensures { IfOk result (λ cell. value.Bytes cell.value ≡ machine.with_entry (machine.value_of (kept_files_of self.now) directory (entry / 16)) entry bytes.now) }
+        ensures { IfOk result (λ cell. value.Bytes cell.value
+            ≡ machine.with_entry (machine.value_of (kept_files_of self.now) directory (entry / 16)) entry bytes.now) }
     {
         let mut cell = self.bytes_in(alloc, directory, u64::from(entry / 16))?;
         write_bytes_at(&mut *cell, 64 * (entry as usize % 16), bytes);

@@ -2,8 +2,8 @@
 ghost use Rattle.std.specs.Prelude.{◌≡◌, ◌<◌, ◌+◌, ◌&&◌, nat_lt, nat_le, true, IfOk, OnOk};
 ghost use Rattle.nofs_ptrs.specs.Paths.{slot_limit};
 ghost use Rattle.nofs_machine.specs.Machine as machine;
-ghost use Rattle.nofs_history.specs.Kept.{kept_files_of, kept_files, is_fit};
-ghost use Rattle.nofs_history.specs.Gift.{given_of, is_sound, name_gives};
+ghost use Rattle.nofs_history.specs.Kept.{kept_files_of, kept_files, is_fit, IsFit};
+ghost use Rattle.nofs_history.specs.Gift.{given_of, is_sound, name_gives, value_for};
 
 use crate::accepted::files::FilesNow;
 use crate::accepted::gift::Gift;
@@ -160,7 +160,7 @@ impl FilesNow {
         entry: &Entry1,
     ) -> Result<Option<Value>, AllocError>
         requires { wanted.now.slot < slot_limit }
-        ensures { IfOk result (λ it. (machine.may_give entry.now.reply ≡ true → is_fit entry.now.step entry.now.claims ≡ true) → it ≡ (machine.given_by (kept_files_of self.now) entry.now).slots wanted.now.inode wanted.now.generation wanted.now.slot) }
+        ensures { IfOk result (λ it. IsFit entry.now → it ≡ value_for (machine.given_by (kept_files_of self.now) entry.now) wanted.now) }
     {
         let may_give = !is_refused(&entry.reply) || is_write_fault(&entry.reply);
         if may_give && is_fit(&entry.step, &entry.claims) {
@@ -173,7 +173,7 @@ impl FilesNow {
 
     /// Does an entry's step, where it was accepted.
     pub fn do_entry(&mut self, alloc: Global, entry: &Entry1) -> Result<(), AllocError>
-        ensures { OnOk result ((machine.may_give entry.now.reply ≡ true → is_fit entry.now.step entry.now.claims ≡ true) → kept_files (kept_files_of self.new) ≡ kept_files (machine.files_by (kept_files_of self.old) entry.now)) }
+        ensures { OnOk result (IsFit entry.now → kept_files (kept_files_of self.new) ≡ kept_files (machine.files_by (kept_files_of self.old) entry.now)) }
     {
         if !is_refused(&entry.reply) && is_fit(&entry.step, &entry.claims) {
             let gift = self.gift(alloc, &entry.step, &entry.claims)?;

@@ -5,7 +5,7 @@ ghost use Rattle.nofs_model.specs.declared.value.Value.TheVariants as value;
 ghost use Rattle.nofs_machine.specs.Machine as machine;
 ghost use Rattle.nofs_machine.specs.Meta as meta;
 ghost use Rattle.nofs_history.specs.Kept.{kept_files_of};
-ghost use Rattle.nofs_history.specs.Gift.{cell_of, given_of, with_birth};
+ghost use Rattle.nofs_history.specs.Gift.{cell_of, given_of, value_for, with_birth};
 
 use crate::accepted::cells::trim;
 use crate::accepted::files::FilesNow;
@@ -46,7 +46,7 @@ fn bytes_value(alloc: Global, cell: &[u8; 1024]) -> Result<Value, AllocError>
 impl CellGift {
     /// The value that goes to a slot.
     fn value_for(&self, alloc: Global, wanted: &Wanted) -> Result<Option<Value>, AllocError>
-        ensures { IfOk result (λ it. it ≡ (cell_of self.now machine.no_meta).slots wanted.now.inode wanted.now.generation wanted.now.slot) }
+        ensures { IfOk result (λ it. it ≡ value_for (cell_of self.now machine.no_meta) wanted.now) }
     {
         if !wanted.is(self.inode, self.generation, self.slot) {
             return Ok(None);
@@ -61,7 +61,7 @@ impl CellGift {
         wanted: &Wanted,
         birth: &Birth,
     ) -> Result<Option<Value>, AllocError>
-        ensures { IfOk result (λ it. it ≡ (with_birth (cell_of self.now machine.no_meta) birth.now).slots wanted.now.inode wanted.now.generation wanted.now.slot) }
+        ensures { IfOk result (λ it. it ≡ value_for (with_birth (cell_of self.now machine.no_meta) birth.now) wanted.now) }
     {
         if wanted.is_in(birth.inode, birth.generation) {
             return Ok(Some(Value::Hole));
@@ -80,7 +80,8 @@ impl FilesNow {
         cut: u64,
     ) -> Result<Option<Value>, AllocError>
         requires { cut < 1024 }
-        ensures { IfOk result (λ it. it ≡ (if meta.is_bytes (machine.value_of (kept_files_of self.now) inode slot) then Some (value.Bytes (machine.trimmed cut (machine.bytes_in (machine.value_of (kept_files_of self.now) inode slot)))) else None)) }
+        ensures { IfOk result (λ it. it ≡ (if meta.is_bytes (machine.value_of (kept_files_of self.now) inode slot)
+            then Some (value.Bytes (machine.trimmed cut (machine.bytes_in (machine.value_of (kept_files_of self.now) inode slot)))) else None)) }
     {
         if !self.has_bytes(inode, slot) {
             return Ok(None);
@@ -121,7 +122,7 @@ impl FilesNow {
         size: u64,
     ) -> Result<Option<Value>, AllocError>
         requires { wanted.now.slot < slot_limit }
-        ensures { IfOk result (λ it. it ≡ (machine.resize_given (kept_files_of self.now) inode generation size).slots wanted.now.inode wanted.now.generation wanted.now.slot) }
+        ensures { IfOk result (λ it. it ≡ value_for (machine.resize_given (kept_files_of self.now) inode generation size) wanted.now) }
     {
         if !wanted.is_in(inode, generation) {
             return Ok(None);
@@ -137,7 +138,7 @@ impl FilesNow {
         gift: &Gift,
     ) -> Result<Option<Value>, AllocError>
         requires { wanted.now.slot < slot_limit }
-        ensures { IfOk result (λ it. it ≡ (given_of (kept_files_of self.now) gift.now).slots wanted.now.inode wanted.now.generation wanted.now.slot) }
+        ensures { IfOk result (λ it. it ≡ value_for (given_of (kept_files_of self.now) gift.now) wanted.now) }
     {
         match gift {
             Gift::Nothing => Ok(None),

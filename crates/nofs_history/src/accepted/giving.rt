@@ -50,7 +50,8 @@ impl FilesNow {
     pub fn put_gift(&self, alloc: Global, put: &BytesIn<'_>) -> Result<Gift, AllocError>
         requires slot { put.now.slot < slot_limit }
         requires range { put.now.at + length put.now.bytes.now ≤ 1024 }
-        ensures given { IfOk result (λ it. given_of (kept_files_of self.now) it ≡ machine.put_given (kept_files_of self.now) put.now.inode put.now.generation put.now.slot put.now.at put.now.bytes.now) }
+        ensures given { IfOk result (λ it. given_of (kept_files_of self.now) it
+            ≡ machine.put_given (kept_files_of self.now) put.now.inode put.now.generation put.now.slot put.now.at put.now.bytes.now) }
         ensures sound { IfOk result (λ it. is_sound it ≡ true) }
     {
         let end = 1024 * put.slot + u64::from(put.at) + put.bytes.len() as u64;
@@ -79,7 +80,8 @@ impl FilesNow {
         bytes: &[u8; 64],
     ) -> Result<CellGift, AllocError>
         requires { at.entry < entry_limit }
-        ensures given { IfOk result (λ it. (metas : ℕ → ℕ → Option Meta) → cell_of it metas ≡ machine.entry_given (kept_files_of self.now) at.directory at.generation at.entry bytes.now metas) }
+        ensures given { IfOk result (λ it. (metas : ℕ → ℕ → Option Meta) → cell_of it metas
+            ≡ machine.entry_given (kept_files_of self.now) at.directory at.generation at.entry bytes.now metas) }
         ensures range { IfOk result (λ it. it.slot < slot_limit) }
     {
         Ok(CellGift {
@@ -99,7 +101,8 @@ impl FilesNow {
         meta: Option<MetaGift>,
     ) -> Result<Gift, AllocError>
         requires { at.entry < entry_limit }
-        ensures given { IfOk result (λ it. given_of (kept_files_of self.now) it ≡ machine.entry_given (kept_files_of self.now) at.directory at.generation at.entry bytes.now (metas_of meta)) }
+        ensures given { IfOk result (λ it. given_of (kept_files_of self.now) it
+            ≡ machine.entry_given (kept_files_of self.now) at.directory at.generation at.entry bytes.now (metas_of meta)) }
         ensures sound { IfOk result (λ it. is_sound it ≡ true) }
     {
         let cell = self.entry_cell(alloc, at, bytes)?;
@@ -117,7 +120,8 @@ impl FilesNow {
         requires name { length said.now.name.now ≤ 48 }
         requires inode { 0 < said.now.inode }
         ensures given { IfOk result (λ it. given_of (kept_files_of self.now) it
-            ≡ with_birth (machine.entry_given (kept_files_of self.now) at.directory at.generation at.entry (spelled_entry said.now.inode said.now.generation said.now.name.now) machine.no_meta)
+            ≡ with_birth (machine.entry_given (kept_files_of self.now) at.directory at.generation at.entry
+            (spelled_entry said.now.inode said.now.generation said.now.name.now) machine.no_meta)
             (record { inode = said.now.inode; generation = said.now.generation; kind = kind; link = at })) }
         ensures sound { IfOk result (λ it. is_sound it ≡ true) }
     {

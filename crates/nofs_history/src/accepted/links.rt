@@ -91,7 +91,8 @@ impl FilesNow {
         at: usize,
     ) -> Result<Option<usize>, AllocError>
         ensures range { IfOk result (λ place. IfSome place (λ b. b < 4)) }
-        ensures place { IfOk result (λ place. place ≡ machine.place_for_link (λ link. not (files.is_pair (kept_files_of self.now) inode link)) (drop at links.now) at) }
+        ensures place { IfOk result (λ place. place
+            ≡ machine.place_for_link (λ link. not (files.is_pair (kept_files_of self.now) inode link)) (drop at links.now) at) }
     {
         if at >= 4 {
             return Ok(None);
@@ -109,7 +110,8 @@ impl FilesNow {
         file: &FileNow,
     ) -> Result<Option<usize>, AllocError>
         ensures range { IfOk result (λ place. IfSome place (λ b. b < 4)) }
-        ensures place { IfOk result (λ place. place ≡ first_of (machine.place_for_link is_empty_link (file_of file.now).links 0 ∷ machine.place_for_link (λ link. not (files.is_pair (kept_files_of self.now) inode link)) (file_of file.now).links 0 ∷ [])) }
+        ensures place { IfOk result (λ place. place ≡ first_of (machine.place_for_link is_empty_link (file_of file.now).links 0
+            ∷ machine.place_for_link (λ link. not (files.is_pair (kept_files_of self.now) inode link)) (file_of file.now).links 0 ∷ [])) }
     {
         match empty_from(&file.links, 0) {
             Some(place) => Ok(Some(place)),
@@ -134,7 +136,9 @@ impl FilesNow {
 
     /// Whether a file is gone once this back link is cleared.
     pub fn is_last(&self, alloc: Global, inode: u32, link: &BackLink) -> Result<bool, AllocError>
-        ensures { IfOk result (λ is. is ≡ (not (files.is_special inode) && not (list_any (λ l. files.is_pair (kept_files_of self.now) inode l) (machine.without_link link.now (files.links_of (kept_files_of self.now) inode))))) }
+        ensures { IfOk result (λ is. is ≡ (not (files.is_special inode)
+            && not (list_any (λ l. files.is_pair (kept_files_of self.now) inode l)
+            (machine.without_link link.now (files.links_of (kept_files_of self.now) inode))))) }
     {
         if inode == 1 || inode == 2 {
             return Ok(false);

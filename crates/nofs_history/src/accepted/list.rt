@@ -4,10 +4,11 @@ ghost use Rattle.nofs_ptrs.specs.Paths.{slot_limit};
 ghost use Rattle.nofs_model.specs.Geometry as image;
 ghost use Rattle.nofs_model.specs.Slots as slots;
 ghost use Rattle.nofs_machine.specs.Machine as machine;
-ghost use Rattle.nofs_machine.specs.History.{accepted_of, is_generation, values_given};
+ghost use Rattle.nofs_machine.specs.History.{accepted_of, is_generation};
 ghost use Rattle.nofs_machine.specs.Next.{IsAfter};
 ghost use Rattle.nofs_machine.specs.World.{World};
-ghost use Rattle.nofs_history.specs.Kept.{kept_files_of, kept_files, is_fit, AreFit};
+ghost use Rattle.nofs_history.specs.Kept.{kept_files_of, kept_files, IsFit, AreFit};
+ghost use Rattle.nofs_history.specs.Gift.{value_for, values_for};
 
 use crate::accepted::base::{files_at, inodes_of, note_sizes, read_inode};
 use crate::accepted::files::FilesNow;
@@ -29,7 +30,8 @@ pub fn accepted_of(
     generation: u64,
     slot: u64,
 ) -> Result<Vec<Value>, AllocError>
-    ensures { IfOk result (λ values. image.IsMountable base.now → slot < slot_limit → (first : ℕ) (V : World) → IsAfter base.now first history.now V → values.items ≡ accepted_of base.now history.now.entries inode generation slot) }
+    ensures { IfOk result (λ values. image.IsMountable base.now → slot < slot_limit → (first : ℕ) (V : World) → IsAfter base.now first history.now V
+        → values.items ≡ accepted_of base.now history.now.entries inode generation slot) }
 {
     if slot >= SLOT_LIMIT || !is_mountable(base) {
         return Ok(Vec::new(alloc));
@@ -69,7 +71,8 @@ fn note_base(
 ) -> Result<(), AllocError>
     requires image { image.IsMountable base.now }
     requires slot { wanted.now.slot < slot_limit }
-    ensures { OnOk result (values.new.items ≡ values.old.items ++ (if is_generation base.now wanted.now.inode wanted.now.generation then slots.value base.now wanted.now.inode wanted.now.slot ∷ [] else [])) }
+    ensures { OnOk result (values.new.items ≡ values.old.items
+        ++ (if is_generation base.now wanted.now.inode wanted.now.generation then slots.value base.now wanted.now.inode wanted.now.slot ∷ [] else [])) }
 {
     note_sizes(base);
     if is_generation(base, wanted.inode, wanted.generation) {
@@ -87,8 +90,9 @@ fn note_entry(
     values: &mut Vec<Value>,
 ) -> Result<(), AllocError>
     requires { wanted.now.slot < slot_limit }
-    ensures values { OnOk result ((machine.may_give entry.now.reply ≡ true → is_fit entry.now.step entry.now.claims ≡ true) → values.new.items ≡ values.old.items ++ option_to_list ((machine.given_by (kept_files_of files.old) entry.now).slots wanted.now.inode wanted.now.generation wanted.now.slot)) }
-    ensures files { OnOk result ((machine.may_give entry.now.reply ≡ true → is_fit entry.now.step entry.now.claims ≡ true) → kept_files (kept_files_of files.new) ≡ kept_files (machine.files_by (kept_files_of files.old) entry.now)) }
+    ensures values { OnOk result (IsFit entry.now → values.new.items
+        ≡ values.old.items ++ option_to_list (value_for (machine.given_by (kept_files_of files.old) entry.now) wanted.now)) }
+    ensures files { OnOk result (IsFit entry.now → kept_files (kept_files_of files.new) ≡ kept_files (machine.files_by (kept_files_of files.old) entry.now)) }
 {
     if let Some(value) = files.entry_gift(alloc, wanted, entry)? {
         values.push(value)?;
@@ -107,7 +111,9 @@ fn note_at(
 ) -> Result<(), AllocError>
     requires slot { wanted.now.slot < slot_limit }
     requires place { at < length history.now.entries }
-    ensures { OnOk result (AreFit history.now.entries → values.new.items ++ values_given (kept_files_of files.new) (drop (at + 1) history.now.entries) wanted.now.inode wanted.now.generation wanted.now.slot ≡ values.old.items ++ values_given (kept_files_of files.old) (drop at history.now.entries) wanted.now.inode wanted.now.generation wanted.now.slot) }
+    ensures { OnOk result (AreFit history.now.entries
+        → values.new.items ++ values_for (kept_files_of files.new) (drop (at + 1) history.now.entries) wanted.now
+        ≡ values.old.items ++ values_for (kept_files_of files.old) (drop at history.now.entries) wanted.now) }
 {
     match history.entry(at) {
         Some(entry) => {
@@ -127,7 +133,8 @@ fn note_entries(
     values: &mut Vec<Value>,
 ) -> Result<(), AllocError>
     requires { wanted.now.slot < slot_limit }
-    ensures { OnOk result (AreFit history.now.entries → values.new.items ≡ values.old.items ++ values_given (kept_files_of files) history.now.entries wanted.now.inode wanted.now.generation wanted.now.slot) }
+    ensures { OnOk result (AreFit history.now.entries → values.new.items ≡ values.old.items
+        ++ values_for (kept_files_of files) history.now.entries wanted.now) }
 {
     let mut files = files;
     for at in 0..history.len() {

@@ -97,7 +97,8 @@ impl FilesNow {
 
     /// Whether the inode has this back link, as a pair.
     fn is_linked(&self, alloc: Global, inode: u32, link: &BackLink) -> Result<bool, AllocError>
-        ensures { IfOk result (λ is. is ≡ list_any (λ l. machine.same_link l link.now && files.is_pair (kept_files_of self.now) inode l) (files.links_of (kept_files_of self.now) inode)) }
+        ensures { IfOk result (λ is. is ≡ list_any (λ l. machine.same_link l link.now && files.is_pair (kept_files_of self.now) inode l)
+            (files.links_of (kept_files_of self.now) inode)) }
     {
         match self.file(inode) {
             None => Ok(false),
@@ -124,7 +125,8 @@ impl FilesNow {
         file: &FileNow,
         link: &BackLink,
     ) -> Result<bool, AllocError>
-        ensures { IfOk result (λ is. is ≡ (list_any (λ l. machine.same_link l link.now) file.now.links && files.is_pair (kept_files_of self.now) inode link.now)) }
+        ensures { IfOk result (λ is. is ≡ (list_any (λ l. machine.same_link l link.now) file.now.links
+            && files.is_pair (kept_files_of self.now) inode link.now)) }
     {
         if !has_link(file, link) {
             return Ok(false);
@@ -185,7 +187,8 @@ impl FilesNow {
         count: u32,
     ) -> Result<Option<u32>, AllocError>
         requires { at + count ≤ entry_limit }
-        ensures first { IfOk result (λ found. found ≡ least_from (λ e. leads (kept_files_of self.now) name.now.directory name.now.name.now to_file e) at count) }
+        ensures first { IfOk result (λ found. found
+            ≡ least_from (λ e. leads (kept_files_of self.now) name.now.directory name.now.name.now to_file e) at count) }
         ensures range { IfOk result (λ found. IfSome found (λ e. e < entry_limit)) }
     {
         if count == 0 {

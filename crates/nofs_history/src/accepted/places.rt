@@ -54,7 +54,8 @@ impl FilesNow {
 
     /// Whether an entry's place is empty, in a slot with bytes.
     fn is_empty(&self, alloc: Global, directory: u32, entry: u32) -> Result<bool, AllocError>
-        ensures { IfOk result (λ is. is ≡ (meta.is_bytes (machine.value_of (kept_files_of self.now) directory (entry / 16)) && not (is_some (files.entry_at (kept_files_of self.now) directory entry)))) }
+        ensures { IfOk result (λ is. is ≡ (meta.is_bytes (machine.value_of (kept_files_of self.now) directory (entry / 16))
+            && not (is_some (files.entry_at (kept_files_of self.now) directory entry)))) }
     {
         if !self.has_bytes(directory, u64::from(entry / 16)) {
             return Ok(false);
@@ -72,7 +73,8 @@ impl FilesNow {
     ) -> Result<Option<u32>, AllocError>
         requires { at + count ≤ entry_limit }
         ensures range { IfOk result (λ found. IfSome found (λ e. e < entry_limit)) }
-        ensures found { IfOk result (λ found. found ≡ least_from (λ e. meta.is_bytes (machine.value_of (kept_files_of self.now) directory (e / 16)) && not (is_some (files.entry_at (kept_files_of self.now) directory e))) at count) }
+        ensures found { IfOk result (λ found. found ≡ least_from (λ e. meta.is_bytes (machine.value_of (kept_files_of self.now) directory (e / 16))
+            && not (is_some (files.entry_at (kept_files_of self.now) directory e))) at count) }
     {
         if count == 0 {
             return Ok(None);
@@ -111,7 +113,8 @@ impl FilesNow {
     fn fresh_place(&self, alloc: Global, directory: u32) -> Result<Option<u32>, AllocError>
         ensures range { IfOk result (λ place. IfSome place (λ e. e < entry_limit)) }
         ensures place { IfOk result (λ place. place ≡ first_of (
-            least_from (λ e. meta.is_bytes (machine.value_of (kept_files_of self.now) directory (e / 16)) && not (is_some (files.entry_at (kept_files_of self.now) directory e))) 0 entry_limit
+            least_from (λ e. meta.is_bytes (machine.value_of (kept_files_of self.now) directory (e / 16))
+            && not (is_some (files.entry_at (kept_files_of self.now) directory e))) 0 entry_limit
             ∷ option_map (λ k. 16 * k) (least_from (λ k. machine.is_hole (machine.value_of (kept_files_of self.now) directory k)) 0 72)
             ∷ [])) }
     {

@@ -30,7 +30,8 @@ fn trimmed(kept: Kept, cut: usize) -> Kept
 
 fn trim_slot(values: &mut Vec<Kept>, slot: usize, cut: usize)
     requires { cut ≤ 1024 }
-    ensures { (k : ℕ) → value_at (slice_get values.new.items k) ≡ (if slot == k then trimmed_value cut (value_at (slice_get values.old.items slot)) else value_at (slice_get values.old.items k)) }
+    ensures { (k : ℕ) → value_at (slice_get values.new.items k) ≡ (if slot == k then trimmed_value cut (value_at (slice_get values.old.items slot))
+        else value_at (slice_get values.old.items k)) }
 {
     if slot < values.len() {
         let kept = std::mem::replace(&mut values[slot], Kept::Hole);

@@ -2,7 +2,7 @@
 ghost use Rattle.std.specs.Prelude.{◌≡◌, ◌<◌, ℕ, OnOk, option_map, true};
 ghost use Rattle.nofs_ptrs.specs.Paths.{slot_limit};
 ghost use Rattle.nofs_machine.specs.Machine as machine;
-ghost use Rattle.nofs_history.specs.Kept.{file_of, kept_files_of, kept_files, made_file, metas_alone};
+ghost use Rattle.nofs_history.specs.Kept.{HasTaken, file_of, kept_files_of, made_file, metas_alone};
 ghost use Rattle.nofs_history.specs.Gift.{cell_of, given_of, is_sound, meta_of, metas_of, with_birth};
 
 use crate::accepted::files::{FileNow, FilesNow, Kept};
@@ -50,7 +50,7 @@ impl FilesNow {
     /// Gives a slot its cell.
     fn take_cell(&mut self, gift: CellGift) -> Result<(), AllocError>
         requires { gift.slot < slot_limit }
-        ensures { OnOk result (kept_files (kept_files_of self.new) ≡ kept_files (machine.files_after (kept_files_of self.old) (cell_of gift machine.no_meta))) }
+        ensures { OnOk result (HasTaken self.old self.new (cell_of gift machine.no_meta)) }
     {
         match self.take(gift.inode, gift.generation) {
             None => Ok(()),
@@ -64,7 +64,7 @@ impl FilesNow {
 
     /// Gives a file another size.
     fn resize(&mut self, inode: u32, generation: u64, size: u64) -> Result<(), AllocError>
-        ensures { OnOk result (kept_files (kept_files_of self.new) ≡ kept_files (machine.files_after (kept_files_of self.old) (machine.resize_given (kept_files_of self.old) inode generation size))) }
+        ensures { OnOk result (HasTaken self.old self.new (machine.resize_given (kept_files_of self.old) inode generation size)) }
     {
         match self.take(inode, generation) {
             None => Ok(()),
@@ -77,7 +77,7 @@ impl FilesNow {
 
     /// Makes of an inode what it becomes.
     fn take_meta(&mut self, gift: MetaGift) -> Result<(), AllocError>
-        ensures { OnOk result (kept_files (kept_files_of self.new) ≡ kept_files (machine.files_after (kept_files_of self.old) (metas_alone (machine.meta_given gift.inode gift.generation (meta_of gift.meta))))) }
+        ensures { OnOk result (HasTaken self.old self.new (metas_alone (machine.meta_given gift.inode gift.generation (meta_of gift.meta)))) }
     {
         match self.take(gift.inode, gift.generation) {
             None => Ok(()),
@@ -93,7 +93,7 @@ impl FilesNow {
 
     /// Makes of inodes what they become, which may be none.
     fn take_metas(&mut self, gift: Option<MetaGift>) -> Result<(), AllocError>
-        ensures { OnOk result (kept_files (kept_files_of self.new) ≡ kept_files (machine.files_after (kept_files_of self.old) (metas_alone (metas_of gift)))) }
+        ensures { OnOk result (HasTaken self.old self.new (metas_alone (metas_of gift))) }
     {
         match gift {
             None => Ok(()),
@@ -103,7 +103,7 @@ impl FilesNow {
 
     fn take_both(&mut self, cell: CellGift, meta: Option<MetaGift>) -> Result<(), AllocError>
         requires { cell.slot < slot_limit }
-        ensures { OnOk result (kept_files (kept_files_of self.new) ≡ kept_files (machine.files_after (kept_files_of self.old) (cell_of cell (metas_of meta)))) }
+        ensures { OnOk result (HasTaken self.old self.new (cell_of cell (metas_of meta))) }
     {
         self.take_metas(meta)?;
         self.take_cell(cell)?;
@@ -113,7 +113,7 @@ impl FilesNow {
     fn take_birth(&mut self, alloc: Global, cell: CellGift, birth: Birth) -> Result<(), AllocError>
         requires slot { cell.slot < slot_limit }
         requires inode { 0 < birth.inode }
-        ensures { OnOk result (kept_files (kept_files_of self.new) ≡ kept_files (machine.files_after (kept_files_of self.old) (with_birth (cell_of cell machine.no_meta) birth))) }
+        ensures { OnOk result (HasTaken self.old self.new (with_birth (cell_of cell machine.no_meta) birth)) }
     {
         self.take_cell(cell)?;
         self.put(birth.inode, new_file(alloc, &birth))?;
@@ -123,7 +123,7 @@ impl FilesNow {
     /// Does what a step gives.
     pub fn take_gift(&mut self, alloc: Global, gift: Gift) -> Result<(), AllocError>
         requires { is_sound gift ≡ true }
-        ensures { OnOk result (kept_files (kept_files_of self.new) ≡ kept_files (machine.files_after (kept_files_of self.old) (given_of (kept_files_of self.old) gift))) }
+        ensures { OnOk result (HasTaken self.old self.new (given_of (kept_files_of self.old) gift)) }
     {
         match gift {
             Gift::Nothing => Ok(()),

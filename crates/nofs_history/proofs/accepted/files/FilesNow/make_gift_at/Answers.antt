@@ -11,4 +11,5 @@ returns-clause-given c =
     let birth : Birth = record { inode = c.args.said.now.inode; generation = c.args.said.now.generation; kind = c.args.kind; link = c.args.at } in
     ap (λ (base : machine.Given). with_birth base birth)
     (c.in_ok-cell.ensures.given machine.no_meta
-    ∙ ap (λ (bytes : List ℕ). machine.entry_given (kept_files_of c.args.self.now) c.args.at.directory c.args.at.generation c.args.at.entry bytes machine.no_meta) c.bytes.ensures)
+    ∙ ap (λ (bytes : List ℕ). machine.entry_given
+    (kept_files_of c.args.self.now) c.args.at.directory c.args.at.generation c.args.at.entry bytes machine.no_meta) c.bytes.ensures)

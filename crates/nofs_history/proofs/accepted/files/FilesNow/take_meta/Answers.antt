@@ -17,11 +17,14 @@ returns-in-None-with_meta c = change-gone (kept_files_of c.args.self.now) (kept_
     (metas_alone (machine.meta_given c.args.gift.inode c.args.gift.generation (meta_of c.args.gift.meta))) c.args.gift.inode c.args.gift.generation
     (file_of c.in-Some.file)
     (meta-aimed c.args.gift.inode c.args.gift.generation (meta_of c.args.gift.meta)) c.in-Some.ensures.taken c.in-Some.ensures.left
-    (meta-there c.args.gift.inode c.args.gift.generation (meta_of c.args.gift.meta) (file_of c.in-Some.file) c.in-Some.ensures.same ∙ sym c.in-None-with_meta.ensures)
+    (meta-there c.args.gift.inode c.args.gift.generation (meta_of c.args.gift.meta) (file_of c.in-Some.file) c.in-Some.ensures.same
+    ∙ sym c.in-None-with_meta.ensures)
 
 pub returns-in_ok-put-in-Some-with_meta : goal.returns-in_ok-put-in-Some-with_meta
 returns-in_ok-put-in-Some-with_meta c = change-there (kept_files_of c.args.self.now) (kept_files_of c.take.new.self) (kept_files_of c.put.new.self)
     (metas_alone (machine.meta_given c.args.gift.inode c.args.gift.generation (meta_of c.args.gift.meta))) c.args.gift.inode c.args.gift.generation
     (file_of c.in-Some.file) (file_of c.in-Some-with_meta.changed)
-    (meta-aimed c.args.gift.inode c.args.gift.generation (meta_of c.args.gift.meta)) c.in-Some.ensures.taken c.in-Some.ensures.left c.in_ok-put-in-Some-with_meta.ensures
-    (ap kept_file (meta-there c.args.gift.inode c.args.gift.generation (meta_of c.args.gift.meta) (file_of c.in-Some.file) c.in-Some.ensures.same ∙ sym c.in-Some-with_meta.ensures))
+    (meta-aimed c.args.gift.inode c.args.gift.generation (meta_of c.args.gift.meta)) c.in-Some.ensures.taken c.in-Some.ensures.left
+    c.in_ok-put-in-Some-with_meta.ensures
+    (ap kept_file (meta-there c.args.gift.inode c.args.gift.generation (meta_of c.args.gift.meta) (file_of c.in-Some.file) c.in-Some.ensures.same
+    ∙ sym c.in-Some-with_meta.ensures))
