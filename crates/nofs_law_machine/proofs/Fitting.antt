@@ -1,5 +1,6 @@
 -- What the machine answers fits the step.
-use Rattle.std.proofs.Common.{◌≡◌, ℕ, zero, suc, ◌+◌, ◌-◌, ◌*◌, ◌/◌, ◌^◌, ◌<◌, ◌≤◌, ◌⊎◌, inl, inr, Bool, true, false, cond, ltb, leb, ◌&&◌, not, List, [], ◌∷◌, length, Option, Some, None, is_some, option_map, unwrap_or, refl, sym, subst, arith, All, IsTrue, min, length-append}
+use Rattle.std.proofs.Common.{◌≡◌, ℕ, zero, suc, ◌+◌, ◌-◌, ◌*◌, ◌/◌, ◌^◌, ◌<◌, ◌≤◌, ◌⊎◌, inl, inr, Bool, true, false, cond, ltb, leb, ◌&&◌, not, List, []}
+use Rattle.std.proofs.Common.{◌∷◌, length, Option, Some, None, is_some, option_map, unwrap_or, refl, sym, subst, arith, All, IsTrue, min, length-append}
 use Rattle.std.proofs.lemmas.List.Elements.{All-nil, All-cons, All-append}
 use Rattle.nofs_disk.specs.Number.{number_at}
 use Rattle.nofs_dirent.specs.Entries.{entry_of, entry_fields, has_zeros_after, entry_limit}
@@ -13,7 +14,8 @@ use Rattle.nofs_machine.specs.Machine.{link_to, generation_of, value_of, is_lost
 use Rattle.nofs_machine.specs.Steps.{InRange, Fits}
 use Rattle.nofs_machine.specs.World.{World, unverified_inodes, unverified_blocks, next_inode}
 use Rattle.nofs_machine.specs.Refusals.{row, missing, not_empty_at, is_damaged, lost_resize, rows}
-use Rattle.nofs_machine.specs.Answers.{line_of, lines_from, lines_in_slot, listed_reply, got_reply, found_file, found_entry, found_reply, dropped_entry, dropped_reply, stat_file, reply_of}
+use Rattle.nofs_machine.specs.Answers.{line_of, lines_from, lines_in_slot, listed_reply, got_reply, found_file, found_entry, found_reply, dropped_entry}
+use Rattle.nofs_machine.specs.Answers.{dropped_reply, stat_file, reply_of}
 use Rattle.nofs_machine.specs.Next.{Next, AfterFault, ByRow, Done, ByRead, ByWrite}
 use Rattle.nofs_machine.specs.declared.history.Entry1.{Entry1}
 use Rattle.nofs_machine.specs.declared.history.Claims.{Claims}
@@ -81,9 +83,11 @@ at-least test at (suc n) k e = go (test at) (at-least test (suc at) n k) e
 -- an entry that bytes spell has a good name
 spelled-name : (bytes : List ℕ) (entry : Entry) → entry_of bytes ≡ Some entry → is_name entry.name ≡ true
 unfolding entry_of
-spelled-name bytes entry e = go (has_zeros_after bytes (number_at 4 4 bytes)) (leb 1 (entry_fields bytes).inode) (leb 1 (entry_fields bytes).generation) (is_name (entry_fields bytes).name) refl e
+spelled-name bytes entry e = go (has_zeros_after bytes (number_at 4 4 bytes)) (leb 1 (entry_fields bytes).inode) (leb 1 (entry_fields bytes).generation)
+    (is_name (entry_fields bytes).name) refl e
   where
-    go : (a b c d : Bool) → is_name (entry_fields bytes).name ≡ d → cond (a && (b && (c && d))) (Some (entry_fields bytes)) None ≡ Some entry → is_name entry.name ≡ true
+    go : (a b c d : Bool) → is_name (entry_fields bytes).name ≡ d → cond (a && (b && (c && d))) (Some (entry_fields bytes)) None ≡ Some entry
+        → is_name entry.name ≡ true
     go true true true true is e = let same : entry_fields bytes ≡ entry = cc e in subst (λ (x : Entry). is_name x.name ≡ true) same is
     go true true true false is e = absurd (cc e)
     go true true false d is e = absurd (cc e)
@@ -169,7 +173,8 @@ module _ (W : World) (sized : IsSizedWorld W) where
   answer-fits (step.Rename d g old new) c = tt
   answer-fits (step.List d g k) c =
       let test : ℕ → Bool = λ l. not (is_hole (value_of W.files d l)) in
-      listed-fits W.files d g k (least_from test k (72 - k)) (λ l e. let lt = least-below test k (72 - k) l e in let le = at-least test k (72 - k) l e in omega (arith, lt, le))
+      listed-fits W.files d g k (least_from test k (72 - k)) (λ l e. let lt = least-below test k (72 - k) l e in let le = at-least test k (72 - k) l e in
+      omega (arith, lt, le))
   answer-fits (step.Get i g k) c = got-fits i g k (value_of W.files i k) refl
   answer-fits (step.Put i g k at bytes) c = tt
   answer-fits (step.Resize i g size) c = tt
@@ -188,7 +193,8 @@ module _ (W : World) (sized : IsSizedWorld W) where
       let b = sized.blocks in
       let i = sized.inodes in
       let in_range : InRange why =
-          ranged V (omega (arith, b, eb)) (omega (arith, i, ei)) why (subst (Such (IsNamed V)) comes (first-such (IsNamed V) (rows W V s) (rows-named W V s))) in
+      ranged V (omega (arith, b, eb)) (omega (arith, i, ei)) why (subst (Such (IsNamed V)) comes
+      (first-such (IsNamed V) (rows W V s) (rows-named W V s))) in
       subst (λ (q : Reply). Fits s q) (sym e) (refused-fits s why in_range)
 
   next-fits : (e : Entry1) (V : World) → Next W e V → Fits e.step e.reply

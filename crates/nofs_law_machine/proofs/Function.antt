@@ -56,7 +56,8 @@ module _ (W : World) (e f : Entry1) (V U : World) (step : e.step ≡ f.step) (cl
   no-fault : (r : Reply) (why : Refusal) → is_fault r ≡ false → is_fault (reply.Refused why) ≡ true → r ≡ reply.Refused why → ⊥
   no-fault r why sound fault is = clash (is_fault r) (ap is_fault is ∙ fault) sound
 
-  by-row : (r : Reply) (why : Refusal) → is_fault r ≡ false → (r ≡ reply.Refused why) ⊎ ((r ≡ reply.Refused refusal.ReadFault) × (reads_nothing why ≡ false)) → r ≡ reply.Refused why
+  by-row : (r : Reply) (why : Refusal) → is_fault r ≡ false
+      → (r ≡ reply.Refused why) ⊎ ((r ≡ reply.Refused refusal.ReadFault) × (reads_nothing why ≡ false)) → r ≡ reply.Refused why
   by-row r why sound (inl is) = is
   by-row r why sound (inr read) = absurd (no-fault r refusal.ReadFault sound refl read.0)
 

@@ -5,7 +5,8 @@ use Rattle.nofs_model.specs.Image.{InRecord, Under}
 use Rattle.nofs_machine.specs.Search.{first_of}
 use Rattle.nofs_machine.specs.Machine.{found, first_dead, first_lost_slot, size_of, slots_in, node_of}
 use Rattle.nofs_machine.specs.World.{World, unverified_inodes, unverified_blocks, next_inode}
-use Rattle.nofs_machine.specs.Refusals.{row, missing, not_empty_at, is_damaged, lost_resize, rows}
+use Rattle.nofs_machine.specs.Refusals.{row, missing, exists, not_empty_at, too_many_links, directory_full, inodes_full, full, serials_spent, is_damaged, lost_resize}
+use Rattle.nofs_machine.specs.Refusals.{rows}
 use Rattle.nofs_machine.specs.declared.steps.Step.{Step}
 use Rattle.nofs_machine.specs.declared.steps.Step.TheVariants as step
 use Rattle.nofs_machine.specs.declared.replies.Refusal.{Refusal}
@@ -75,21 +76,29 @@ module _ (W V : World) where
       lost-named (ltb 8 m && is_damaged (node_of W.files i (InRecord 8))) (ltb 72 m && is_damaged (node_of W.files i (InRecord 9)))
       (ltb 72 m && is_damaged (node_of W.files i (Under (InRecord 9) j))) 8 72 (72 + 64 * j)
 
+  -- whether there is room, by which the rows of a step that writes end
+  room-named : (s : Step) → AllSuch (IsNamed V) (full W V s ∷ serials_spent W s ∷ [])
+  room-named s = (tested _ _ refl, (tested _ _ tt, tt))
+
+  made-named : (d : ℕ) (name : List ℕ) (s : Step)
+      → AllSuch (IsNamed V) (exists W d name ∷ directory_full W d name ∷ inodes_full W V ∷ full W V s ∷ serials_spent W s ∷ [])
+  made-named d name s = (tested _ _ tt, (tested _ _ tt, (tested _ _ (refl, refl), room-named s)))
+
+  linked-named : (d : ℕ) (name : List ℕ) (i : ℕ) (s : Step)
+      → AllSuch (IsNamed V) (exists W d name ∷ too_many_links W i ∷ directory_full W d name ∷ full W V s ∷ serials_spent W s ∷ [])
+  linked-named d name i s = (tested _ _ tt, (tested _ _ tt, (tested _ _ tt, room-named s)))
+
   pub rows-named : (s : Step) → AllSuch (IsNamed V) (rows W V s)
   rows-named (step.Look d g name) = (tested _ _ tt, (tested _ _ tt, (tested _ _ tt, (missing-named d name, tt))))
-  rows-named (step.Make d g name kind) =
-      (tested _ _ tt, (tested _ _ tt, (tested _ _ tt, (tested _ _ tt, (tested _ _ tt,
-      (tested _ _ (refl, refl), (tested _ _ refl, (tested _ _ tt, tt))))))))
+  rows-named (step.Make d g name kind) = (tested _ _ tt, (tested _ _ tt, (tested _ _ tt, made-named d name (step.Make d g name kind))))
   rows-named (step.Link d g name i of) =
-      (tested _ _ tt, (tested _ _ tt, (tested _ _ tt, (tested _ _ tt, (tested _ _ tt,
-      (tested _ _ tt, (tested _ _ tt, (tested _ _ tt, (tested _ _ refl, (tested _ _ tt, tt))))))))))
+      (tested _ _ tt, (tested _ _ tt, (tested _ _ tt, (tested _ _ tt, (tested _ _ tt, linked-named d name i (step.Link d g name i of))))))
   rows-named (step.Drop d g name) = (tested _ _ tt, (tested _ _ tt, (tested _ _ tt, (missing-named d name, (empty-named d (found W.files d name), tt)))))
   rows-named (step.Rename d g old new) = (tested _ _ tt, (tested _ _ tt, (tested _ _ tt, (tested _ _ tt, (missing-named d old, (tested _ _ tt, tt))))))
   rows-named (step.List d g k) = (tested _ _ tt, (tested _ _ tt, tt))
   rows-named (step.Get i g k) = (tested _ _ tt, (tested _ _ tt, (tested _ _ tt, tt)))
   rows-named (step.Put i g k at bytes) =
-      (tested _ _ tt, (tested _ _ tt, (tested _ _ tt, (tested _ _ tt,
-      (tested _ _ tt, (tested _ _ tt, (tested _ _ refl, (tested _ _ tt, tt))))))))
+      (tested _ _ tt, (tested _ _ tt, (tested _ _ tt, (tested _ _ tt, (tested _ _ tt, (tested _ _ tt, room-named (step.Put i g k at bytes)))))))
   rows-named (step.Resize i g size) = (tested _ _ tt, (tested _ _ tt, (tested _ _ tt, (resize-named i size, tt))))
   rows-named (step.Stat i g) = (tested _ _ tt, tt)
   rows-named (step.Flush i g) = (stale-named _ _, tt)

@@ -1,5 +1,5 @@
 -- The examples, computed.
-use Rattle.std.proofs.Common.{refl, inl}
+use Rattle.std.proofs.Common.{true, refl}
 use Rattle.nofs_disk.specs.Number.{number_at, put_number, put_bytes, zeros}
 use Rattle.nofs_dirent.specs.Entries.{entry_of, entry_fields, spelled_entry}
 use Rattle.nofs_dirent.specs.Names.{is_name}
@@ -10,31 +10,38 @@ use Rattle.nofs_machine.specs.Answers.{lines_in_slot}
 use Rattle.nofs_machine.specs.Claims.{Unclaimed, NoInode}
 use Rattle.nofs_machine.specs.Next.{ByRead, ByWrite}
 use Rattle.nofs_machine.specs.declared.steps.Step.TheVariants as step
-use Rattle.nofs_law_machine.proofs.Total.{nothing-learned}
+use Rattle.nofs_law_machine.proofs.Total.{nothing-learned, nothing-learned-at}
 use Rattle.nofs_law_machine.specs.Examples.{AreShown, empty, name_examples, new_names, contents, large_files, elements, FailedRead, FailedFlush, GivenToSlot}
 
 pub names-shown : AreShown name_examples
-unfolding number_at put_number put_bytes zeros entry_of entry_fields spelled_entry is_name path_of slot_of count_below least_from found first_dead first_lost_slot place_for link_place gives with_entry put_content trimmed lines_in_slot
+unfolding number_at put_number put_bytes zeros entry_of entry_fields spelled_entry is_name path_of slot_of count_below least_from found first_dead
+    first_lost_slot place_for link_place gives with_entry put_content trimmed lines_in_slot
 names-shown = (refl, (refl, (refl, (refl, (refl, (refl, (refl, (refl, (refl, (refl, (refl, (refl, (refl, (refl, (refl, (refl, (refl, (refl, (refl, (refl, (refl, (refl, (refl, tt)))))))))))))))))))))))
 
 pub new-names-shown : AreShown new_names
-unfolding number_at put_number put_bytes zeros entry_of entry_fields spelled_entry is_name path_of slot_of count_below least_from found first_dead first_lost_slot place_for link_place gives with_entry put_content trimmed lines_in_slot
+unfolding number_at put_number put_bytes zeros entry_of entry_fields spelled_entry is_name path_of slot_of count_below least_from found first_dead
+    first_lost_slot place_for link_place gives with_entry put_content trimmed lines_in_slot
 new-names-shown = (refl, (refl, (refl, (refl, (refl, (refl, (refl, (refl, (refl, (refl, (refl, tt)))))))))))
 
 pub contents-shown : AreShown contents
-unfolding number_at put_number put_bytes zeros entry_of entry_fields spelled_entry is_name path_of slot_of count_below least_from found first_dead first_lost_slot place_for link_place gives with_entry put_content trimmed lines_in_slot
+unfolding number_at put_number put_bytes zeros entry_of entry_fields spelled_entry is_name path_of slot_of count_below least_from found first_dead
+    first_lost_slot place_for link_place gives with_entry put_content trimmed lines_in_slot
 contents-shown = (refl, (refl, (refl, (refl, (refl, (refl, (refl, (refl, (refl, (refl, (refl, (refl, (refl, (refl, (refl, (refl, (refl, (refl, (refl, (refl, tt))))))))))))))))))))
 
 pub elements-shown : AreShown elements
-unfolding number_at put_number put_bytes zeros entry_of entry_fields spelled_entry is_name path_of slot_of count_below least_from found first_dead first_lost_slot place_for link_place gives with_entry put_content trimmed lines_in_slot
+unfolding number_at put_number put_bytes zeros entry_of entry_fields spelled_entry is_name path_of slot_of count_below least_from found first_dead
+    first_lost_slot place_for link_place gives with_entry put_content trimmed lines_in_slot
 elements-shown = (refl, (refl, (refl, (refl, (refl, (refl, (refl, (refl, (refl, (refl, (refl, tt)))))))))))
 
 pub large-files-shown : AreShown large_files
-unfolding number_at put_number put_bytes zeros entry_of entry_fields spelled_entry is_name path_of slot_of count_below least_from found first_dead first_lost_slot place_for link_place gives with_entry put_content trimmed lines_in_slot
+unfolding number_at put_number put_bytes zeros entry_of entry_fields spelled_entry is_name path_of slot_of count_below least_from found first_dead
+    first_lost_slot place_for link_place gives with_entry put_content trimmed lines_in_slot
 large-files-shown = (refl, (refl, (refl, (refl, (refl, (refl, (refl, tt)))))))
 
 pub failed-read : FailedRead
-failed-read = ByRead refl refl refl refl (record { version = refl; blocks = refl; inodes = refl; mount = refl; serial = refl; files = refl; homes = refl }) refl (nothing-learned empty (step.Get 2 2 0))
+failed-read = ByRead refl refl refl refl
+    (record { version = refl; blocks = refl; inodes = refl; mount = refl; serial = refl; files = refl; homes = refl }) refl
+    (nothing-learned empty (step.Get 2 2 0))
 
 pub failed-flush : FailedFlush
 failed-flush = ByWrite refl refl refl refl
@@ -46,17 +53,9 @@ failed-flush = ByWrite refl refl refl refl
       apart = tt;
     })
     (record { version = refl; blocks = refl; inodes = refl; mount = refl; serial = refl; files = refl; homes = refl }) refl
-    (record {
-      inodes_stay = λ i k. k;
-      blocks_stay = λ p k. k;
-      inodes_change = λ i ne. absurd (ne refl);
-      blocks_change = λ p ne. absurd (ne refl);
-      inode_seen = λ t. cc t;
-      block_seen = λ t. cc t;
-      inodes_why = λ i k. inl k;
-      blocks_why = λ p k. inl k;
-    })
+    (nothing-learned-at empty true (step.Flush 0 0))
 
 pub given-to-slot : GivenToSlot
-unfolding number_at put_number put_bytes zeros entry_of entry_fields spelled_entry is_name path_of slot_of count_below least_from found first_dead first_lost_slot place_for link_place gives with_entry put_content trimmed lines_in_slot
+unfolding number_at put_number put_bytes zeros entry_of entry_fields spelled_entry is_name path_of slot_of count_below least_from found first_dead
+    first_lost_slot place_for link_place gives with_entry put_content trimmed lines_in_slot
 given-to-slot = refl

@@ -1,5 +1,6 @@
 -- Each step can be answered in each world, also where no call of the device fails.
-use Rattle.std.proofs.Common.{◌≡◌, ◌≢◌, ℕ, zero, suc, ◌+◌, ◌≤◌, ◌⊎◌, inl, inr, Bool, true, false, eqb, ltb, ◌||◌, List, [], ◌∷◌, length, Option, Some, None, refl, subst, arith, Contains, ne_eqb, ltb-false}
+use Rattle.std.proofs.Common.{◌≡◌, ◌≢◌, ℕ, zero, suc, ◌+◌, ◌≤◌, ◌⊎◌, inl, inr, Bool, true, false, eqb, ltb, ◌||◌, List, [], ◌∷◌, length, Option, Some, None}
+use Rattle.std.proofs.Common.{refl, subst, arith, Contains, ne_eqb, ltb-false}
 use Rattle.std.proofs.lemmas.Bool.{eqb-false}
 use Rattle.nofs_model.specs.Cells.{Pointer, null}
 use Rattle.nofs_model.specs.Image.{Files}
@@ -8,7 +9,8 @@ use Rattle.nofs_machine.specs.Machine.{gives, files_after}
 use Rattle.nofs_machine.specs.World.{World, uses_inode, uses_block, is_free_inode, is_free_block, free_inodes, free_blocks, inodes_needed, blocks_needed}
 use Rattle.nofs_machine.specs.Refusals.{row, full, rows}
 use Rattle.nofs_machine.specs.Answers.{reply_of}
-use Rattle.nofs_machine.specs.Claims.{no_claims, claimed_blocks, Apart, Claimed, Unclaimed, IsBlockClaim, ClaimedInode, NoInode, IsInodeClaim, next_stamp, IsClaim, homes_after}
+use Rattle.nofs_machine.specs.Claims.{no_claims, claimed_blocks, Apart, Claimed, Unclaimed, IsBlockClaim, ClaimedInode, NoInode, IsInodeClaim, next_stamp}
+use Rattle.nofs_machine.specs.Claims.{IsClaim, homes_after}
 use Rattle.nofs_machine.specs.Next.{names_inode, sees_inode, sees_block, Learns, Next, AfterFault, ByRow, Done}
 use Rattle.nofs_machine.specs.declared.history.Claims.{Claims}
 use Rattle.nofs_machine.specs.declared.history.Entry1.{Entry1}
@@ -59,7 +61,15 @@ module _ (W : World) (first : ℕ) where
   both P x z y px pz (suc k, lt, e) = sole P z y pz (k, omega (arith, lt), e)
 
   pub choose : (i g n : ℕ) (xs : List ℕ) → n ≤ 3 → length xs ≡ n → Falls free W.blocks xs → Blocks i g n
-  choose i g zero [] le len f = record { cell = null; leaf = null; top = null; has_cell = Unclaimed refl; has_leaf = Unclaimed refl; has_top = Unclaimed refl; apart = tt }
+  choose i g zero [] le len f = record {
+    cell = null;
+    leaf = null;
+    top = null;
+    has_cell = Unclaimed refl;
+    has_leaf = Unclaimed refl;
+    has_top = Unclaimed refl;
+    apart = tt;
+  }
   choose i g (suc zero) (x ∷ []) le len f = record {
     cell = record { block = x; stamp = first };
     leaf = null;
@@ -125,9 +135,12 @@ passed true why e = absurd (cc e)
 passed false why e = refl
 
 enough : (W : World) (s : Step) → first_of (rows W W s) ≡ None → blocks_needed W.files s ≤ free_blocks W
-enough W (step.Put i g k at bytes) e = ltb-false (free_blocks W) (blocks_needed W.files (step.Put i g k at bytes)) (passed _ _ (none-all (rows W W (step.Put i g k at bytes)) e).1.1.1.1.1.1.0)
-enough W (step.Make d g name kind) e = ltb-false (free_blocks W) (blocks_needed W.files (step.Make d g name kind)) (passed _ _ (none-all (rows W W (step.Make d g name kind)) e).1.1.1.1.1.1.0)
-enough W (step.Link d g name i of) e = ltb-false (free_blocks W) (blocks_needed W.files (step.Link d g name i of)) (passed _ _ (none-all (rows W W (step.Link d g name i of)) e).1.1.1.1.1.1.1.1.0)
+enough W (step.Put i g k at bytes) e = ltb-false (free_blocks W) (blocks_needed W.files (step.Put i g k at bytes))
+    (passed _ _ (none-all (rows W W (step.Put i g k at bytes)) e).1.1.1.1.1.1.0)
+enough W (step.Make d g name kind) e = ltb-false (free_blocks W) (blocks_needed W.files (step.Make d g name kind))
+    (passed _ _ (none-all (rows W W (step.Make d g name kind)) e).1.1.1.1.1.1.0)
+enough W (step.Link d g name i of) e = ltb-false (free_blocks W) (blocks_needed W.files (step.Link d g name i of))
+    (passed _ _ (none-all (rows W W (step.Link d g name i of)) e).1.1.1.1.1.1.1.1.0)
 enough W _ e = omega arith
 
 module _ (W : World) (s : Step) (none : first_of (rows W W s) ≡ None) where
@@ -143,7 +156,8 @@ module _ (W : World) (s : Step) (none : first_of (rows W W s) ≡ None) where
     pub g : ℕ
     pub has : (cell leaf top : Pointer) → IsInodeClaim W (next_stamp W) (claims i g cell leaf top) (ltb 0 (inodes_needed s))
 
-  some-inode : (xs : List ℕ) → length xs ≡ 1 → Falls (λ m. is_free_inode W (suc m)) W.inodes xs → (i : ℕ) × ((is_free_inode W i ≡ true) × ((1 ≤ i) × (i ≤ W.inodes)))
+  some-inode : (xs : List ℕ) → length xs ≡ 1 → Falls (λ m. is_free_inode W (suc m)) W.inodes xs
+      → (i : ℕ) × ((is_free_inode W i ≡ true) × ((1 ≤ i) × (i ≤ W.inodes)))
   some-inode (x ∷ []) len f = (suc x, (f.1.0, (omega arith, let l = f.0 in omega (arith, l))))
   some-inode [] len f = absurd (omega (arith, len))
   some-inode (x ∷ y ∷ xs) len f = absurd (omega (arith, len))
@@ -151,7 +165,8 @@ module _ (W : World) (s : Step) (none : first_of (rows W W s) ≡ None) where
   blocks : (i g : ℕ) → Blocks W first i g n
   blocks i g =
       let some : n ≤ free_blocks W = enough W s none in
-      choose W first i g n (pick (λ p. is_free_block W p) W.blocks n) (few W.files s) (pick-length (λ p. is_free_block W p) W.blocks n some) (pick-falls (λ p. is_free_block W p) W.blocks n)
+      choose W first i g n (pick (λ p. is_free_block W p) W.blocks n) (few W.files s) (pick-length (λ p. is_free_block W p) W.blocks n some)
+      (pick-falls (λ p. is_free_block W p) W.blocks n)
 
 inode-for : (W : World) (s : Step) (none : first_of (rows W W s) ≡ None) → Inode W s none
 inode-for W (step.Make d g name kind) none =
@@ -181,8 +196,10 @@ none-later W U V s e = all-first (rows W V s) (go s (none-all (rows W U s) e))
     spare s e = row-none (ltb (free_blocks W) (blocks_needed W.files s)) _ _ e
 
     go : (s : Step) → AllNone (rows W U s) → AllNone (rows W V s)
-    go (step.Make d g name kind) (a, (b, (c, (d1, (e, (f, (h, r))))))) = (a, (b, (c, (d1, (e, (row-none (eqb (free_inodes W) 0) _ _ f, (spare (step.Make d g name kind) h, r)))))))
-    go (step.Link d g name i of) (a, (b, (c, (d1, (e, (f, (h, (k, (l, r))))))))) = (a, (b, (c, (d1, (e, (f, (h, (k, (spare (step.Link d g name i of) l, r)))))))))
+    go (step.Make d g name kind) (a, (b, (c, (d1, (e, (f, (h, r))))))) =
+        (a, (b, (c, (d1, (e, (row-none (eqb (free_inodes W) 0) _ _ f, (spare (step.Make d g name kind) h, r)))))))
+    go (step.Link d g name i of) (a, (b, (c, (d1, (e, (f, (h, (k, (l, r))))))))) =
+        (a, (b, (c, (d1, (e, (f, (h, (k, (spare (step.Link d g name i of) l, r)))))))))
     go (step.Put i g k at bytes) (a, (b, (c, (d, (e, (f, (h, r))))))) = (a, (b, (c, (d, (e, (f, (spare (step.Put i g k at bytes) h, r)))))))
     go (step.Look d g name) a = a
     go (step.Drop d g name) a = a
@@ -275,8 +292,10 @@ module _ (W : World) (s : Step) (c : Claims) where
   learns = record {
     inodes_stay = λ i k. left-or (W.known_inodes i) (differ (uses_inode V i) (uses_inode W i) || sees_inode s i) k;
     blocks_stay = λ p k. left-or (W.known_blocks p) (differ (uses_block V p) (uses_block W p) || sees_block s p) k;
-    inodes_change = λ i ne. middle-or (W.known_inodes i) (differ (uses_inode V i) (uses_inode W i)) (sees_inode s i) (differ-not (uses_inode V i) (uses_inode W i) ne);
-    blocks_change = λ p ne. middle-or (W.known_blocks p) (differ (uses_block V p) (uses_block W p)) (sees_block s p) (differ-not (uses_block V p) (uses_block W p) ne);
+    inodes_change = λ i ne. middle-or (W.known_inodes i) (differ (uses_inode V i) (uses_inode W i)) (sees_inode s i)
+        (differ-not (uses_inode V i) (uses_inode W i) ne);
+    blocks_change = λ p ne. middle-or (W.known_blocks p) (differ (uses_block V p) (uses_block W p)) (sees_block s p)
+        (differ-not (uses_block V p) (uses_block W p) ne);
     inode_seen = λ t i e. right-or (W.known_inodes i) (differ (uses_inode V i) (uses_inode W i)) (sees_inode s i) e;
     block_seen = λ t p e. right-or (W.known_blocks p) (differ (uses_block V p) (uses_block W p)) (sees_block s p) e;
     inodes_why = λ i k. elim (either (W.known_inodes i) (differ (uses_inode V i) (uses_inode W i)) (sees_inode s i) k) [
@@ -318,7 +337,8 @@ refused W s why go comes = (
   W,
   refl,
   subst FaultFree comes (first-free (rows W W s) (rows-free W W s)),
-  ByRow why go comes (inl refl) refl (record { version = refl; blocks = refl; inodes = refl; mount = refl; serial = refl; files = refl; homes = refl }) go (nothing-learned W s),
+  ByRow why go comes (inl refl) refl (record { version = refl; blocks = refl; inodes = refl; mount = refl; serial = refl; files = refl; homes = refl }) go
+      (nothing-learned W s),
 )
 
 done : (W : World) (s : Step) → W.stopped ≡ false → first_of (rows W W s) ≡ None → Answered W s
