@@ -150,8 +150,11 @@ put-same F i g k at bytes =
 resize-same : (F : Files) (i g size : ℕ) → SameGiven (resize_given F i g size) (resize_given (kept_files F) i g size)
 resize-same F i g size = record {
   born = λ j. refl;
-  slots = λ j h k lt. let at : Option Value → Option Value = λ o. cond (is_at i g j h) o None in let s = sym (size-kept F i) in let v =
-      sym (value-kept F i k lt) in let one : resize_slot F i size k ≡ resize_slot (kept_files F) i size k = (λ t. resized_value (s t) size (v t) k) in
+  slots = λ j h k lt.
+      let at : Option Value → Option Value = λ o. cond (is_at i g j h) o None in
+      let s = sym (size-kept F i) in
+      let v = sym (value-kept F i k lt) in
+      let one : resize_slot F i size k ≡ resize_slot (kept_files F) i size k = (λ t. resized_value (s t) size (v t) k) in
       ap at one;
   metas = given-same i g (meta_with F i (λ f. Is f.kind size f.links)) (meta_with (kept_files F) i (λ f. Is f.kind size f.links))
       (meta-same F i (λ kind s links. Is kind size links));

@@ -95,43 +95,32 @@ impl FilesNow {
         )
     }
 
+    fn has_link(&self, inode: u32, link: &BackLink) -> bool
+        ensures { result ≡ list_any (λ l. machine.same_link l link.now) (files.links_of (kept_files_of self.now) inode) }
+    {
+        match self.file(inode) {
+            None => false,
+            Some(file) => has_link(file, link),
+        }
+    }
+
+    fn has_pair(&self, alloc: Global, inode: u32, link: &BackLink) -> Result<bool, AllocError>
+        ensures { IfOk result (λ is. is
+            ≡ (list_any (λ l. machine.same_link l link.now) (files.links_of (kept_files_of self.now) inode)
+            && files.is_pair (kept_files_of self.now) inode link.now)) }
+    {
+        if !self.has_link(inode, link) {
+            return Ok(false);
+        }
+        self.is_pair(alloc, inode, link)
+    }
+
     /// Whether the inode has this back link, as a pair.
     fn is_linked(&self, alloc: Global, inode: u32, link: &BackLink) -> Result<bool, AllocError>
         ensures { IfOk result (λ is. is ≡ list_any (λ l. machine.same_link l link.now && files.is_pair (kept_files_of self.now) inode l)
             (files.links_of (kept_files_of self.now) inode)) }
     {
-        match self.file(inode) {
-            None => Ok(false),
-            Some(file) => self.links_back(alloc, inode, file, link),
-        }
-    }
-
-    fn links_back(
-        &self,
-        alloc: Global,
-        inode: u32,
-        file: &FileNow,
-        link: &BackLink,
-    ) -> Result<bool, AllocError>
-        ensures { IfOk result (λ is. is ≡ list_any (λ l. machine.same_link l link.now && files.is_pair (kept_files_of self.now) inode l) file.now.links) }
-    {
-        self.has_pair(alloc, inode, file, link)
-    }
-
-    fn has_pair(
-        &self,
-        alloc: Global,
-        inode: u32,
-        file: &FileNow,
-        link: &BackLink,
-    ) -> Result<bool, AllocError>
-        ensures { IfOk result (λ is. is ≡ (list_any (λ l. machine.same_link l link.now) file.now.links
-            && files.is_pair (kept_files_of self.now) inode link.now)) }
-    {
-        if !has_link(file, link) {
-            return Ok(false);
-        }
-        self.is_pair(alloc, inode, link)
+        self.has_pair(alloc, inode, link)
     }
 
     /// Whether an entry of a directory is the other half of a back link.
