@@ -1,13 +1,11 @@
 -- One file that is taken out, changed and put back: what a step's gift makes of it.
-use Rattle.std.proofs.Common.{◌≡◌, ℕ, ◌+◌, ◌*◌, max, Bool, true, false, ◌&&◌, not, cond, eqb, List, length, Option, Some, None, unwrap_or, refl, sym, ap}
+use Rattle.std.proofs.Common.{◌≡◌, ℕ, Bool, true, false, ◌&&◌, cond, eqb, Option, Some, None, unwrap_or, refl, sym, ap}
 use Rattle.std.proofs.Common.{◌∙◌, eq-eqb}
-use Rattle.std.specs.List.{list_any}
-use Rattle.nofs_model.specs.Cells.{BackLink}
-use Rattle.nofs_model.specs.Files.{FileState, Files, is_pair, is_special, links_of, links_in_file}
+use Rattle.nofs_model.specs.Files.{FileState, Files}
 use Rattle.nofs_model.specs.declared.value.Value.{Value}
-use Rattle.nofs_machine.specs.Meta.{Meta, Gone, Is}
-use Rattle.nofs_machine.specs.Machine.{Given, is_at, value_of, size_of, cell_given, meta_given, no_meta, meta_with, resize_slot, resize_given, without_link}
-use Rattle.nofs_machine.specs.Machine.{drop_meta, with_meta, after_meta, file_after, files_after}
+use Rattle.nofs_machine.specs.Meta.{Meta, Is}
+use Rattle.nofs_machine.specs.Machine.{Given, is_at, value_of, size_of, cell_given, meta_given, no_meta, meta_with, resize_slot, resize_given}
+use Rattle.nofs_machine.specs.Machine.{with_meta, after_meta, file_after, files_after}
 use Rattle.nofs_history.specs.Kept.{kept_file, kept_files, with_file, with_value, has_generation, metas_alone, resized_value, resized_file}
 use Rattle.nofs_history.proofs.Gifts.{ends, held, ends-after}
 use Rattle.nofs_history.proofs.Aimed.{IsAimed, aimed-missing, aimed-there, aimed-gone}

@@ -1,5 +1,5 @@
 -- What a step gives, as it was computed, as a gift of the machine.
-use Rattle.std.specs.Prelude.{ℕ, true, [], ◌∷◌, ◌&&◌, ◌==◌, not, Bool, Option, Some, None, if◌then◌else◌, nat_lt, List}
+use Rattle.std.specs.Prelude.{ℕ, true, [], ◌∷◌, ◌&&◌, ◌==◌, Bool, Option, Some, None, if◌then◌else◌, nat_lt, List}
 use Rattle.nofs_ptrs.specs.Paths.{slot_limit}
 use Rattle.nofs_model.specs.Files.{Files}
 use Rattle.nofs_model.specs.declared.value.Value.{Value}

@@ -1,14 +1,14 @@
 -- No refusal that a row names is a fault of the device, and no answer is.
-use Rattle.std.proofs.Common.{◌≡◌, ℕ, ◌+◌, ◌-◌, ◌*◌, ◌/◌, Bool, true, false, cond, eqb, ltb, ◌&&◌, not, List, [], ◌∷◌, Option, Some, None, is_some}
-use Rattle.std.proofs.Common.{option_map, refl, min}
+use Rattle.std.proofs.Common.{◌≡◌, ℕ, ◌-◌, Bool, true, false, cond, not, List, Option, Some, None}
+use Rattle.std.proofs.Common.{refl}
 use Rattle.nofs_model.specs.Cells.{Entry}
-use Rattle.nofs_model.specs.Image.{InRecord, Under, FileState, entry_at}
+use Rattle.nofs_model.specs.Image.{FileState, entry_at}
 use Rattle.nofs_model.specs.declared.value.Value.{Value}
 use Rattle.nofs_model.specs.declared.value.Value.TheVariants.{Hole, Bytes, Lost}
 use Rattle.nofs_machine.specs.Search.{least_from, first_of}
-use Rattle.nofs_machine.specs.Machine.{found, first_dead, first_lost_slot, value_of, is_hole, is_lost, slots_in, size_of, node_of, link_to, generation_of}
+use Rattle.nofs_machine.specs.Machine.{found, value_of, is_hole, is_lost, link_to, generation_of}
 use Rattle.nofs_machine.specs.World.{World}
-use Rattle.nofs_machine.specs.Refusals.{row, stale, is_damaged, missing, not_empty_at, lost_resize, rows}
+use Rattle.nofs_machine.specs.Refusals.{rows}
 use Rattle.nofs_machine.specs.Answers.{found_file, found_entry, found_reply, dropped_entry, dropped_reply, lines_in_slot, listed_reply, got_reply}
 use Rattle.nofs_machine.specs.Answers.{stat_file, reply_of}
 use Rattle.nofs_machine.specs.declared.history.Claims.{Claims}

@@ -1,19 +1,19 @@
 -- What the machine answers fits the step.
-use Rattle.std.proofs.Common.{◌≡◌, ℕ, zero, suc, ◌+◌, ◌-◌, ◌*◌, ◌/◌, ◌^◌, ◌<◌, ◌≤◌, ◌⊎◌, inl, inr, Bool, true, false, cond, ltb, leb, ◌&&◌, not, List, []}
-use Rattle.std.proofs.Common.{◌∷◌, length, Option, Some, None, is_some, option_map, unwrap_or, refl, sym, subst, arith, All, IsTrue, min, length-append}
+use Rattle.std.proofs.Common.{◌≡◌, ℕ, zero, suc, ◌+◌, ◌-◌, ◌*◌, ◌/◌, ◌<◌, ◌≤◌, ◌⊎◌, inl, inr, Bool, true, false, cond, ltb, leb, ◌&&◌, not, List, []}
+use Rattle.std.proofs.Common.{length, Option, Some, None, unwrap_or, refl, sym, subst, arith, All, IsTrue, length-append}
 use Rattle.std.proofs.lemmas.List.Elements.{All-nil, All-cons, All-append}
 use Rattle.nofs_disk.specs.Number.{number_at}
 use Rattle.nofs_dirent.specs.Entries.{entry_of, entry_fields, has_zeros_after, entry_limit}
 use Rattle.nofs_dirent.specs.Names.{is_name}
 use Rattle.nofs_model.specs.Cells.{BackLink, Entry}
-use Rattle.nofs_model.specs.Image.{Files, FileState, InRecord, Under, entry_at, entry_in_file, entry_held, is_folder}
+use Rattle.nofs_model.specs.Image.{Files, FileState, entry_at, entry_in_file, entry_held, is_folder}
 use Rattle.nofs_model.specs.declared.value.Value.{Value}
 use Rattle.nofs_model.specs.declared.value.Value.TheVariants.{Hole, Bytes, Lost}
 use Rattle.nofs_machine.specs.Search.{count_below, least_from, first_of}
-use Rattle.nofs_machine.specs.Machine.{link_to, generation_of, value_of, is_lost, is_hole, found, first_dead, first_lost_slot, size_of, slots_in, node_of}
+use Rattle.nofs_machine.specs.Machine.{link_to, generation_of, value_of, is_lost, is_hole, found}
 use Rattle.nofs_machine.specs.Steps.{InRange, Fits}
-use Rattle.nofs_machine.specs.World.{World, unverified_inodes, unverified_blocks, next_inode}
-use Rattle.nofs_machine.specs.Refusals.{row, missing, not_empty_at, is_damaged, lost_resize, rows}
+use Rattle.nofs_machine.specs.World.{World, next_inode}
+use Rattle.nofs_machine.specs.Refusals.{row, rows}
 use Rattle.nofs_machine.specs.Answers.{line_of, lines_from, lines_in_slot, listed_reply, got_reply, found_file, found_entry, found_reply, dropped_entry}
 use Rattle.nofs_machine.specs.Answers.{dropped_reply, stat_file, reply_of}
 use Rattle.nofs_machine.specs.Next.{Next, AfterFault, ByRow, Done, ByRead, ByWrite}

@@ -1,5 +1,5 @@
 //! How one inode's file changes.
-ghost use Rattle.std.specs.Prelude.{◌≡◌, ◌<◌, ◌≤◌, ℕ, max, IfOk, IfSome, IsNone, OnOk, Some, None, false, option_map};
+ghost use Rattle.std.specs.Prelude.{◌≡◌, ◌<◌, ◌≤◌, ℕ, IfOk, IfSome, IsNone, OnOk, Some, None, false, option_map};
 ghost use Rattle.nofs_ptrs.specs.Paths.{slot_limit};
 ghost use Rattle.nofs_machine.specs.Machine as machine;
 ghost use Rattle.nofs_history.specs.Kept.{kept_value, file_of, kept_files_of, with_file, with_value, has_generation};
