@@ -64,25 +64,20 @@ links_of-kept F i = links-kept (F i)
 pub is_pair-kept : (F : Files) (i : ℕ) (link : BackLink) → is_pair (kept_files F) i link ≡ is_pair F i link
 is_pair-kept F i link = pairs-kept (F i) (F link.directory) i link
 
-pub generation-kept : (F : Files) (i : ℕ) → generation_of (kept_files F) i ≡ generation_of F i
-generation-kept F i = go (F i)
-  where
-    word : Option FileState → ℕ
-    word o = elim o [ None ↦ 0 | Some f ↦ f.generation ]
+-- a number of a file, 0 where there is none
+abbrev number_of : (FileState → ℕ) → Option FileState → ℕ
+number_of part o = elim o [ None ↦ 0 | Some f ↦ part f ]
 
-    go : (o : Option FileState) → word (kept_file o) ≡ word o
-    go None = refl
-    go (Some f) = refl
+number-kept : (part : FileState → ℕ) → ((f : FileState) → number_of part (kept_file (Some f)) ≡ part f)
+    → (o : Option FileState) → number_of part (kept_file o) ≡ number_of part o
+number-kept part same None = refl
+number-kept part same (Some f) = same f
+
+pub generation-kept : (F : Files) (i : ℕ) → generation_of (kept_files F) i ≡ generation_of F i
+generation-kept F i = number-kept (λ f. f.generation) (λ f. refl) (F i)
 
 pub size-kept : (F : Files) (i : ℕ) → size_of (kept_files F) i ≡ size_of F i
-size-kept F i = go (F i)
-  where
-    word : Option FileState → ℕ
-    word o = elim o [ None ↦ 0 | Some f ↦ f.size ]
-
-    go : (o : Option FileState) → word (kept_file o) ≡ word o
-    go None = refl
-    go (Some f) = refl
+size-kept F i = number-kept (λ f. f.size) (λ f. refl) (F i)
 
 pub value-kept : (F : Files) (i k : ℕ) → k < slot_limit → value_of (kept_files F) i k ≡ value_of F i k
 value-kept F i k lt = go (F i)
