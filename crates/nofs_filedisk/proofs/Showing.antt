@@ -49,6 +49,16 @@ cell-shown bytes w block at cell is fits shown payload tag =
     let two = tag ∙ ap (λ k. slice_range w (at + 1024) k) end ∙ range-shown bytes w (67584 * (block / 64)) (at + 1024) 32 (omega arith) shown ∙ ap (λ k. part_of bytes k 32) second in
     λ i. record { payload = one i; tag = two i }
 
+-- the cell of a block that was read alone
+pub cell-alone : (bytes w : List ℕ) (block : ℕ) (cell : Cell) → length w ≡ 1056 → IsPart bytes (1056 * block) w → cell.payload ≡ slice_range w 0 1024 → cell.tag ≡ slice_range w 1024 1056
+    → cell ≡ cell_in bytes block
+unfolding cell_in
+cell-alone bytes w block cell size shown payload tag =
+    let first : 1056 * block + 0 ≡ 1056 * block = omega arith in
+    let one = payload ∙ range-shown bytes w (1056 * block) 0 1024 (omega (arith, size)) shown ∙ ap (λ k. part_of bytes k 1024) first in
+    let two = tag ∙ range-shown bytes w (1056 * block) 1024 32 (omega (arith, size)) shown in
+    λ i. record { payload = one i; tag = two i }
+
 -- a window of other cells
 apart : (block n : ℕ) (part a b w : List ℕ) → length part ≤ 1056 → IsPut (1056 * block) part a b → n ≢ block / 64 → length w ≤ 67584 → IsPart a (67584 * n) w → IsPart b (67584 * n) w
 apart block n part a b w short put other size shown k low =

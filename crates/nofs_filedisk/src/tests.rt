@@ -183,3 +183,36 @@ fn a_scan_costs_a_call_in_64_cells_up_and_down(rt: HostRuntime) -> Result<(), Fa
     assert_eq!(rt; calls_of(&rt, 65_536, true)?, 1_024);
     Ok(())
 }
+
+/// How many calls of the file it costs to read these cells of 1,024, in this order.
+fn calls_for(rt: &HostRuntime, blocks: &[u64]) -> Result<u64, Fail> {
+    let bytes = vec![in rt.alloc(); 5u8; 1_024 * 1056]?;
+    let file = MemFile::new(rt.alloc(), bytes.as_slice(), 1 << 30, &[])?;
+    let mut disk = FileDisk::over(rt.alloc(), file)?;
+    for block in blocks {
+        if first_of(&mut disk, *block % 1_024) != Some(5) {
+            Err("another byte")?;
+        }
+    }
+    Ok(disk.file().calls())
+}
+
+// The first window is read whole, any other where three of its cells were read alone, or many of the one beside it.
+#[test]
+fn a_window_is_read_whole_where_other_cells_of_it_are_likely(rt: HostRuntime) -> Result<(), Fail> {
+    let rows: [(&[u64], u64); 6] = [
+        (&[0, 1, 63], 1),
+        (&[0, 640, 700, 641], 4),
+        (&[0, 640, 700, 641, 699, 642, 643, 698], 5),
+        (&[0, 64, 0, 64], 3),
+        (
+            &[0, 1, 2, 3, 4, 5, 6, 7, 8, 9, 10, 11, 12, 13, 14, 15, 64, 65],
+            2,
+        ),
+        (&[0, 200, 300, 400, 500, 600, 700, 800, 900, 1_000, 200], 11),
+    ];
+    for (blocks, calls) in &rows {
+        assert_eq!(rt; calls_for(&rt, blocks)?, *calls);
+    }
+    Ok(())
+}

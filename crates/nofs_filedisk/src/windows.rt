@@ -1,6 +1,10 @@
 //! Windows of 64 cells of a file, kept in memory, so that a scan makes a call in 64 cells.
 //!
 //! Promise: each window that has a number shows the bytes of the file, also after a write.
+//!
+//! A window takes fifty times what a cell takes to read, so it is read only where its other cells are likely to be asked for: where
+//! no window is kept yet, where many cells of the one beside it were read, or where some of its own were read alone lately. Any other
+//! cell is read alone. So reads without neighbours, which an image can ask for as well as an honest order, cost a cell each.
 ghost use Rattle.std.specs.Prelude.{◌≡◌, ◌≢◌, ◌+◌, ◌*◌, ◌/◌, ◌%◌, ◌<◌, ◌≤◌, All, IfOk, IfSome, IsFalse, IsTrue, List, None, OnErr, OnOk, Some, length, slice_get, slice_range, ℕ};
 ghost use Rattle.nofs_disk.specs.Disk.{Rose};
 ghost use Rattle.nofs_disk.specs.Number.{put_bytes};
@@ -24,11 +28,22 @@ const WINDOW_BYTES: usize = 67_584;
 /// How many windows are kept.
 const WINDOWS: usize = 8;
 
+/// After so many reads of a window the one beside it is read whole.
+const MANY: u64 = 16;
+
+/// How many of the cells that were read alone are remembered.
+const REMEMBERED: usize = 16;
+
+/// After so many of them in one window that is read whole.
+const SOME: usize = 3;
+
 /// The bytes of 64 cells of a file.
 #[derive(Drop)]
 pub struct Window {
     // Which 64 cells it shows, from 0; none where it shows nothing.
     number: Option<u64>,
+    // How many cells were read from it.
+    reads: u64,
     bytes: Vec<u8>,
     ghost size: { length bytes.items ≡ 67584 },
 }
@@ -38,8 +53,37 @@ pub struct Window {
 pub struct Windows {
     windows: Vec<Window>,
     next: usize,
+    lone: Lone,
     ghost count: { length windows.items ≡ 8 },
     ghost turn: { next < 8 },
+}
+
+// The windows of the last cells that were read alone. The next takes the place of the oldest.
+#[derive(Drop)]
+struct Lone {
+    numbers: [Option<u64>; REMEMBERED],
+    next: usize,
+    ghost turn: { next < 16 },
+}
+
+impl Lone {
+    // No cell was read alone.
+    const NONE: Lone = Lone {
+        numbers: [None; REMEMBERED],
+        next: 0,
+    };
+
+    // Whether some of the last cells that were read alone lie in a window.
+    fn has_some(&self, number: u64) -> bool {
+        let is_here = |it: &&Option<u64>| **it == Some(number);
+        self.numbers.iter().filter(is_here).count() >= SOME
+    }
+
+    // A cell of a window was read alone.
+    fn keep(&mut self, number: u64) {
+        self.numbers[self.next] = Some(number);
+        self.next = (self.next + 1) % REMEMBERED;
+    }
 }
 
 // A block's place in its window.
@@ -69,6 +113,30 @@ fn read_window<B: Positioned>(file: &mut B, number: u64, into: &mut Vec<u8>) -> 
     read_part(file, WINDOW_BYTES as u64 * number, into.as_mut_slice())
 }
 
+// Reads the cell of a block, and nothing beside it.
+fn read_alone<B: Positioned>(file: &mut B, block: u64, into: &mut Cell) -> Result<(), Failed>
+    requires { block < 1048576 }
+    ensures keeps { KeepsBytes (B.state file.old) (B.state file.new) }
+    ensures cell { OnOk result (IsTrue (B.state file.old).tells → into.new ≡ cell_in (B.state file.old).bytes block) }
+    ensures cause { OnErr result (Rose (B.state file.old).faults (B.state file.new).faults) }
+    ensures no_fault { OnOk result ((B.state file.new).faults ≡ (B.state file.old).faults) }
+{
+    let mut bytes = [0; CELL_BYTES];
+    read_part(file, CELL_BYTES as u64 * block, &mut bytes)?;
+    copy_cell(&bytes, 0, into);
+    Ok(())
+}
+
+// Copies the cell at a place of some bytes.
+fn copy_cell(bytes: &[u8], at: usize, into: &mut Cell)
+    requires { at + 1056 ≤ length bytes.now }
+    ensures payload { into.new.payload ≡ slice_range bytes.now at (at + 1024) }
+    ensures tag { into.new.tag ≡ slice_range bytes.now (at + 1024) (at + 1056) }
+{
+    into.payload.copy_from_slice(&bytes[at..at + 1024]);
+    into.tag.copy_from_slice(&bytes[at + 1024..at + 1056]);
+}
+
 // Puts a cell at its place.
 fn put_cell(bytes: &mut Vec<u8>, at: usize, cell: &[u8])
     requires { at + length cell.now ≤ length bytes.old.items }
@@ -85,6 +153,7 @@ impl Window {
     {
         Ok(Window {
             number: None,
+            reads: 0,
             bytes: zeros(alloc, WINDOW_BYTES)?,
         })
     }
@@ -99,6 +168,7 @@ impl Window {
         ensures no_fault { OnOk result ((B.state file.new).faults ≡ (B.state file.old).faults) }
     {
         self.number = None;
+        self.reads = 0;
         read_window(file, number, &mut self.bytes)?;
         self.number = Some(number);
         Ok(())
@@ -120,17 +190,22 @@ impl Window {
         requires { self.now.number ≡ Some (block / 64) }
         ensures { (bytes : List ℕ) → IsShown bytes self.now → into.new ≡ cell_in bytes block }
     {
-        self.copy(place_of(block), into);
+        copy_cell(self.bytes.as_slice(), place_of(block), into);
     }
 
-    // The cell at a place.
-    fn copy(&self, at: usize, into: &mut Cell)
-        requires { at + 1056 ≤ 67584 }
-        ensures payload { into.new.payload ≡ slice_range self.now.bytes.items at (at + 1024) }
-        ensures tag { into.new.tag ≡ slice_range self.now.bytes.items (at + 1024) (at + 1056) }
+    // A cell was read from it.
+    fn count(&mut self)
+        ensures { (self.new.number ≡ self.old.number) × (self.new.bytes ≡ self.old.bytes) }
     {
-        into.payload.copy_from_slice(&self.bytes[at..at + 1024]);
-        into.tag.copy_from_slice(&self.bytes[at + 1024..at + 1056]);
+        self.reads = self.reads.saturating_add(1);
+    }
+
+    // Whether many cells were read of one that is beside the one with this number.
+    fn leads_to(&self, number: u64) -> bool {
+        match self.number {
+            Some(own) => own.abs_diff(number) == 1 && self.reads >= MANY,
+            None => false,
+        }
     }
 
     // A cell of the file was written.
@@ -164,7 +239,11 @@ impl Windows {
         for _ in 0..WINDOWS {
             windows.push(Window::new(alloc)?)?;
         }
-        Ok(Windows { windows, next: 0 })
+        Ok(Windows {
+            windows,
+            next: 0,
+            lone: Lone::NONE,
+        })
     }
 
     /// The cell of a block.
@@ -182,25 +261,48 @@ impl Windows {
         ensures cause { OnErr result (Rose (B.state file.old).faults (B.state file.new).faults) }
         ensures no_fault { OnOk result ((B.state file.new).faults ≡ (B.state file.old).faults) }
     {
-        let at = self.showing(file, block / WINDOW_CELLS)?;
-        self.windows[at].cell(block, into);
-        Ok(())
+        let number = block / WINDOW_CELLS;
+        match self.showing(file, number)? {
+            Some(at) => {
+                self.windows[at].count();
+                self.windows[at].cell(block, into);
+                Ok(())
+            }
+            None => {
+                self.lone.keep(number);
+                read_alone(file, block, into)
+            }
+        }
     }
 
-    // The place of the window with a number, which is read where there is none.
-    fn showing<B: Positioned>(&mut self, file: &mut B, number: u64) -> Result<usize, Failed>
+    // The place of the window with a number. Where there is none, it is read, or it is not, where no other of its cells is likely to be
+    // asked for.
+    fn showing<B: Positioned>(&mut self, file: &mut B, number: u64) -> Result<Option<usize>, Failed>
         requires number { number < 16384 }
         requires shows { ShowsFile (B.state file.old) self.old }
         ensures keeps { KeepsBytes (B.state file.old) (B.state file.new) }
         ensures shows { ShowsFile (B.state file.new) self.new }
-        ensures at { IfOk result (λ at. HasNumber self.new.windows.items at number) }
+        ensures at { IfOk result (λ found. IfSome found (λ at. HasNumber self.new.windows.items at number)) }
         ensures cause { OnErr result (Rose (B.state file.old).faults (B.state file.new).faults) }
         ensures no_fault { OnOk result ((B.state file.new).faults ≡ (B.state file.old).faults) }
     {
         match self.find(number) {
-            Some(at) => Ok(at),
-            None => self.load(file, number),
+            Some(at) => Ok(Some(at)),
+            None => {
+                if !self.is_likely(number) {
+                    return Ok(None);
+                }
+                let at = self.load(file, number)?;
+                Ok(Some(at))
+            }
         }
+    }
+
+    // Whether other cells of a window are likely to be asked for.
+    fn is_likely(&self, number: u64) -> bool {
+        self.lone.has_some(number)
+            || self.windows.iter().any(|window| window.leads_to(number))
+            || self.windows.iter().all(|window| window.number.is_none())
     }
 
     // The place of the window with a number.

@@ -1,4 +1,5 @@
-use Rattle.std.proofs.Common.{◌/◌, arith}
+use Rattle.std.proofs.Common.{ℕ, ◌+◌, ◌/◌, List, ap, ◌∙◌, arith}
+use Rattle.std.specs.Prelude.{slice_range}
 use Rattle.nofs_filedisk.proofs.Showing.{cell-shown}
 use Rattle.nofs_filedisk.proofs.windows.Window.cell.Goals as goal
 
@@ -7,4 +8,7 @@ returns c bytes shown =
     let window = c.args.self.now in
     let size = window.size in
     let fits = c.place_of.ensures.fits in
-    cell-shown bytes window.bytes.items c.args.block c.place_of.result c.copy.new.into c.place_of.ensures.value (omega arith) (shown (c.args.block / 64) c.requires) c.copy.ensures.payload c.copy.ensures.tag
+    let same = c.as_slice.ensures.value in
+    cell-shown bytes window.bytes.items c.args.block c.place_of.result c.copy_cell.new.into c.place_of.ensures.value (omega arith) (shown (c.args.block / 64) c.requires)
+    (c.copy_cell.ensures.payload ∙ ap (λ (b : List ℕ). slice_range b c.place_of.result (c.place_of.result + 1024)) same)
+    (c.copy_cell.ensures.tag ∙ ap (λ (b : List ℕ). slice_range b (c.place_of.result + 1024) (c.place_of.result + 1056)) same)
