@@ -1,7 +1,18 @@
 //! What a pass does at the turn: look, take and give, join and close.
 //!
 //! Promise: the list that a section meets begins with all that its pass had seen, and the pass then has seen the
-//! whole list. Only `with` waits.
+//! whole list. Only `with` waits. What its thread goes through:
+//!
+//! ```text
+//!            the word is odd              odd at `LOOKS` looks              asleep while it is the same
+//!   trying -------------------> looking ------------------------> counted ------------------------------> asleep
+//!     ^                            |                                 |                                       |
+//!     +----------------------------+---------------------------------+---------------------------------------+
+//!              it is even                  it is another now                  a wake, or `NAP` is over
+//! ```
+//!
+//! - counted: `parked` has it in its number, so that the next give takes it off and sends a wake.
+//! - asleep: counted, or the wake for it is sent. Nothing is promised of who is woken: any sleeper is.
 ghost use Rattle.std.specs.Prelude.{◌≡◌, ℕ, ◌+◌, ◌*◌, ◌/◌, ◌%◌, ◌^◌, ◌<◌, ◌≤◌, true, false, [], ◌∷◌, length, Some, IfOk, IfErr, OnOk, OnErr};
 ghost use mathlib.Core.List.{IsPrefix};
 
@@ -10,8 +21,18 @@ use crate::rule::{Give, Look, Settle, Take, Unite};
 use crate::turn::{Busy, Pass, PassesOut, Turn};
 use crate::view::View;
 use atomic_table::Seat;
+use std::hint::spin_loop;
 use std::sync::Wait;
 use std::sync::atomic::Ordering;
+use std::time::Duration;
+
+// How often a thread looks at the word before it sleeps.
+const LOOKS: u32 = 50;
+
+// The longest sleep, in milliseconds. It is for one race: the wake for a thread is sent after it counted itself and
+// before it sleeps, and the word comes back to the same odd number, since the section between made no entry.
+// Then it sleeps and no give knows of it.
+const NAP: u64 = 1;
 
 impl<V: Kept> Turn<V> {
     ghost use Rattle.nofs_turn.specs.Views.{looked, gave, joined};
@@ -28,7 +49,17 @@ impl<V: Kept> Turn<V> {
         ensures look { (found : ℕ) × (result ≡ found / 2) × (view_of pass.new ≡ looked (view_of pass.old) found) }
         ensures at_least { length (view_of pass.old).seen ≤ result }
     {
-        self.table.shared.load::<Look>(&mut pass.seat, 0) / 2
+        self.look(pass) / 2
+    }
+
+    // The word, from one look.
+    fn look(&self, pass: &mut Pass<V>) -> u64
+        requires { IsPassOf self.now pass.old }
+        ensures of { IsPassOf self.now pass.new }
+        ensures look { view_of pass.new ≡ looked (view_of pass.old) result }
+        ensures at_least { 2 * length (view_of pass.old).seen ≤ result }
+    {
+        self.table.shared.load::<Look>(&mut pass.seat, 0)
     }
 
     // One look, which takes the turn where it is free.
@@ -67,19 +98,55 @@ impl<V: Kept> Turn<V> {
         out
     }
 
-    // Wakes one thread that waits. A waiting thread counts itself before it looks at the word for the last time,
-    // so it either saw the turn free or is counted here.
+    // Wakes one thread that is counted, and takes it off the count: the gives that come before it is up send no
+    // wake for it. Where the exchange fails, another thread gave or counted itself meanwhile. That one is up and
+    // comes to the word after this give, so it sends the next wake itself.
     fn wake(&self) {
-        if self.parked.load(Ordering::SeqCst) > 0 {
+        let parked = self.parked.load(Ordering::SeqCst);
+        if parked == 0 {
+            return;
+        }
+        let claim = self
+            .parked
+            .compare_exchange(parked, parked - 1, Ordering::SeqCst, Ordering::SeqCst);
+        if claim.is_ok() {
             self.table.shared.wake_one(0);
         }
     }
 
-    // Sleeps while the word is the one that was found, until a wake.
-    fn wait<R: Wait>(&self, rt: &R, word: u64) {
+    // Looks at the word until it is even, `LOOKS` times at most: the last word found.
+    fn watch(&self, pass: &mut Pass<V>, word: u64) -> u64
+        requires { IsPassOf self.now pass.old }
+        ensures of { IsPassOf self.now pass.new }
+        ensures waited { Waited (view_of pass.old) (view_of pass.new) }
+    {
+        let mut found = word;
+        for _ in 0..LOOKS {
+            if found % 2 == 0 {
+                return found;
+            }
+            spin_loop();
+            found = self.look(pass);
+        }
+        found
+    }
+
+    // Waits until the turn was free at a look, or for a wake, or for `NAP`. A thread counts itself before its last
+    // look, which the kernel makes: it finds the word changed and doesn't sleep, or the give that will change the
+    // word finds it counted. It doesn't take itself off: the wake did. Where it comes back for another reason, the
+    // count is one too high until a give sends one wake for nobody.
+    fn wait<R: Wait>(&self, rt: &R, pass: &mut Pass<V>, word: u64)
+        requires { IsPassOf self.now pass.old }
+        ensures of { IsPassOf self.now pass.new }
+        ensures waited { Waited (view_of pass.old) (view_of pass.new) }
+    {
+        let last = self.watch(pass, word);
+        if last % 2 == 0 {
+            return;
+        }
         self.parked.fetch_add(1, Ordering::SeqCst);
-        self.table.shared.park(rt, 0, (word % (1 << 32)) as u32);
-        self.parked.fetch_sub(1, Ordering::SeqCst);
+        let (low, nap) = ((last % (1 << 32)) as u32, Duration::from_millis(NAP));
+        self.table.shared.park_timeout(rt, 0, low, nap);
     }
 
     /// Runs the section where the turn is free, and else answers `Busy` with the section and the odd word found. It
@@ -117,7 +184,7 @@ impl<V: Kept> Turn<V> {
                 Err(busy) => {
                     let Busy { section, word } = busy;
                     waiting = section;
-                    self.wait(rt, word);
+                    self.wait(rt, pass, word);
                 }
             }
         }

@@ -31,7 +31,7 @@ use std::sync::atomic::AtomicU64;
 pub struct Turn<V: Kept> {
     pub(crate) table: Table<Option<V>, View<V::Entry, V::Fixed>, Opening<V>, Counted, Global>,
     pub(crate) seats: u64,
-    // How many threads wait or are about to: a giver wakes only where there is one.
+    // How many threads sleep or are about to, and were sent no wake; at times more, never for long.
     pub(crate) parked: AtomicU64,
     ghost words: { table.shared.table_id.words ≡ 1 },
     ghost slots: { table.shared.table_id.slots ≡ 1 },
