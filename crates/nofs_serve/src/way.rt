@@ -1,7 +1,7 @@
 //! The way of a worker to a mount that several workers share.
 //!
 //! Promise: its steps are those of the pass behind it. A batch is looked at under one turn, and each of its verdicts is
-//! committed under a later one. A write-out takes the turn and makes no step.
+//! committed under a later one. A write-out makes no step, and takes the turn only where a block may be kept back.
 ghost use Rattle.std.specs.Prelude.{◌≡◌, true};
 ghost use Rattle.nofs_turn.specs.Turns.{view_of, IsPassOf};
 ghost use Rattle.nofs_shared.specs.Owned.{all_by};

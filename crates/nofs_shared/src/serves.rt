@@ -38,7 +38,8 @@ impl<D: Disk + Drop> Kept for Mount<D> {
     }
 }
 
-/// A value behind a turn at which callers make steps, one entry each, and whose elements are examined in batches.
+/// A value behind a turn at which callers make steps, one entry each, and whose elements are examined in batches. Its device keeps blocks back
+/// in a step alone, not in a look or a commit: so where a write-out found none, there is none until the next step.
 pub trait Serves: Kept<Entry = Entry1> + Drop {
     ghost use Rattle.nofs_shared.specs.Owned.{TellsStep};
 

@@ -12,16 +12,18 @@ use nofs_machine::{Reply, Step, Steps};
 use nofs_turn::{Busy, Pass, Section, Turn};
 use std::alloc::Global;
 use std::sync::Wait;
+use std::sync::atomic::{AtomicBool, Ordering};
 
-// One step of a caller, under the turn.
+// One step of a caller, under the turn. From its beginning on a block may be kept back.
 #[derive(Drop)]
-struct Move {
+struct Move<'a> {
     alloc: Global,
+    clean: &'a AtomicBool,
     caller: u32,
     step: Step,
 }
 
-impl<V: Serves> Section<V> for Move {
+impl<V: Serves> Section<V> for Move<'_> {
     ghost use Rattle.nofs_shared.specs.Owned.{TellsStep};
 
     type Out = Reply;
@@ -33,6 +35,7 @@ impl<V: Serves> Section<V> for Move {
     ghost lasts = { λ _ _ _ _ _. tt };
 
     fn run(self, value: &mut V) -> Reply {
+        self.clean.store(false, Ordering::SeqCst);
         value.serve(self.alloc, self.caller, self.step)
     }
 }
@@ -50,6 +53,8 @@ pub struct SharedPass<'a, R, V: Serves> {
     pub(crate) rt: &'a R,
     pub(crate) alloc: Global,
     pub(crate) turn: &'a Turn<V>,
+    // Whether a write-out found no block kept back, and no step has begun since.
+    pub(crate) clean: &'a AtomicBool,
     pub(crate) caller: u32,
     pub(crate) pass: Pass<V>,
     ghost of: { IsPassOf turn.now pass },
@@ -58,10 +63,11 @@ pub struct SharedPass<'a, R, V: Serves> {
 
 impl<'a, R, V: Serves> SharedPass<'a, R, V> {
     /// A pass of a turn, for this caller. The pass has no entries yet.
-    pub fn new(
+    pub(crate) fn new(
         rt: &'a R,
         alloc: Global,
         turn: &'a Turn<V>,
+        clean: &'a AtomicBool,
         caller: u32,
         pass: Pass<V>,
     ) -> SharedPass<'a, R, V>
@@ -73,6 +79,7 @@ impl<'a, R, V: Serves> SharedPass<'a, R, V> {
             rt,
             alloc,
             turn,
+            clean,
             caller,
             pass,
         }
@@ -87,6 +94,7 @@ impl<'a, R, V: Serves> SharedPass<'a, R, V> {
     {
         let section = Move {
             alloc: self.alloc,
+            clean: self.clean,
             caller: self.caller,
             step,
         };
@@ -135,6 +143,7 @@ impl<R: Wait, V: Serves> Steps for SharedPass<'_, R, V> {
     fn step(&mut self, step: Step) -> Reply {
         let section = Move {
             alloc: self.alloc,
+            clean: self.clean,
             caller: self.caller,
             step,
         };

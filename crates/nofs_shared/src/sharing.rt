@@ -8,11 +8,14 @@ use crate::serves::Serves;
 use crate::shared::SharedPass;
 use nofs_turn::{Pass, PassesOut, Turn, TurnFault};
 use std::alloc::Global;
+use std::sync::atomic::AtomicBool;
 
 /// A mount behind a turn.
 #[derive(Drop)]
 pub struct SharedMount<V: Serves> {
     turn: Turn<V>,
+    // Whether a write-out found no block kept back, and no step has begun since.
+    clean: AtomicBool,
 }
 
 /// There was no memory to share a mount. It comes back unchanged.
@@ -41,7 +44,10 @@ impl<V: Serves> SharedMount<V> {
         ensures err { IfErr result (λ e. e.mount ≡ mount) }
     {
         match Turn::new(alloc, mount, seats) {
-            Ok((turn, passes)) => Ok((SharedMount { turn }, passes)),
+            Ok((turn, passes)) => {
+                let clean = AtomicBool::new(false);
+                Ok((SharedMount { turn, clean }, passes))
+            }
             Err(TurnFault { value }) => Err(ShareFault { mount: value }),
         }
     }
@@ -58,7 +64,7 @@ impl<V: Serves> SharedMount<V> {
         requires new { (view_of seat).mine ≡ [] }
         ensures { (result.turn.now ≡ self.now.turn) × (result.caller ≡ caller) × (result.pass ≡ seat) }
     {
-        SharedPass::new(rt, alloc, &self.turn, caller, seat)
+        SharedPass::new(rt, alloc, &self.turn, &self.clean, caller, seat)
     }
 
     /// The one pass then knows what both knew, and stands for the passes of both.
@@ -76,11 +82,11 @@ impl<V: Serves> SharedMount<V> {
         ensures closed { IfOk result (λ mount. Closes V.entries V.fixed (view_of pass) mount × ((view_of pass).stands ≡ (view_of pass).seats)) }
         ensures out { IfErr result (λ e. (e.mount ≡ self) × (e.pass ≡ pass) × (0 < e.out) × (e.out + (view_of pass).stands ≡ (view_of pass).seats)) }
     {
-        let SharedMount { turn } = self;
+        let SharedMount { turn, clean } = self;
         match turn.close(pass) {
             Ok(mount) => Ok(mount),
             Err(PassesOut { turn, pass, out }) => Err(SharedOut {
-                mount: SharedMount { turn },
+                mount: SharedMount { turn, clean },
                 pass,
                 out,
             }),
