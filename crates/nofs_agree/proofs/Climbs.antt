@@ -3,7 +3,7 @@ use Rattle.std.proofs.Common.{◌≡◌, ℕ, ◌<◌, ◌+◌, ◌≤◌, inl, 
 use Rattle.std.specs.List.{list_any}
 use Rattle.std.proofs.lemmas.Bool.{cases_lt}
 use Rattle.std.proofs.lemmas.List.{get_or_default}
-use Rattle.std.proofs.lemmas.List.Folds.{list_any_none}
+use Rattle.std.proofs.lemmas.List.Folds.{list_any_at, list_any_none}
 use Rattle.nofs_disk.specs.Disk.{DiskState, StaysButFaults}
 use Rattle.nofs_disk.specs.Chains.{StaysButFaults-refl, StaysButFaults-trans}
 use Rattle.nofs_disk.specs.declared.Failed.{Failed}
@@ -11,7 +11,7 @@ use Rattle.nofs_model.specs.Cells.{BackLink, Record, SuperBlock, no_link}
 use Rattle.nofs_model.specs.Files.{agreed, files_in, has_agreed_link, is_pair, is_root, is_special}
 use Rattle.nofs_model.specs.Geometry.{Image, IsGeometry, inode, super_at}
 use Rattle.nofs_model.proofs.Parents.{any-links, linked-is, root-is, special-is}
-use Rattle.nofs_agree.specs.Chains.{AreAgreed, IsDirectoryAbove, IsPartner, ReadsPair, ReadsParent, TellsAgreed, first_link, is_agreed_link}
+use Rattle.nofs_agree.specs.Chains.{AreTrue, IsDirectoryAbove, IsPartner, ReadsPair, ReadsParent, TellsAgreed, first_link, is_agreed_link}
 use Rattle.nofs_agree.proofs.Links.{first-decides, four-links}
 use Rattle.nofs_agree.specs.Reading.{IsAt, IsLast, KnowsDirectory, KnowsInode}
 use Rattle.nofs_agree.specs.declared.chain.Directory.{Directory}
@@ -36,7 +36,8 @@ KnowsInode-on old new at i r s k = record {
 }
 
 -- the record of a disk that stayed is that of the image at first
-pub record-of : (old now : DiskState) (at : SuperBlock) (i : ℕ) (r : Record) → StaysButFaults old now → KnowsInode now at i r → IsTrue old.tells → inode old.now i ≡ r
+pub record-of : (old now : DiskState) (at : SuperBlock) (i : ℕ) (r : Record) → StaysButFaults old now → KnowsInode now at i r → IsTrue old.tells
+    → inode old.now i ≡ r
 record-of old now at i r s k t = ap (λ (X : Image). inode X i) (sym s.cells.now) ∙ k.same (told-on old now s t)
 
 -- from the first directory the way leads to this one
@@ -46,11 +47,13 @@ pub record Climbed (old now : DiskState) (at : SuperBlock) (first here : Directo
   pub kept : IsLast now last
   pub same : IsTrue old.tells → agreed (files_in old.now) first.inode ≡ agreed (files_in old.now) here.inode
 
-pub climb-begins : (old : DiskState) (at : SuperBlock) (first : Directory) (last : LastRead) → KnowsDirectory old at first.inode first.record.generation first.record → IsLast old last → Climbed old old at first first last
+pub climb-begins : (old : DiskState) (at : SuperBlock) (first : Directory) (last : LastRead)
+    → KnowsDirectory old at first.inode first.record.generation first.record → IsLast old last → Climbed old old at first first last
 climb-begins old at first last known kept = record { stays = StaysButFaults-refl old; known = known; kept = kept; same = λ t. refl }
 
 -- the first back link of a directory leads to the one above it, where it is a pair
-decided : (old : DiskState) (at : SuperBlock) (it : Directory) (link : BackLink) → KnowsDirectory old at it.inode it.record.generation it.record → link ≡ first_link it.record.links → IsTrue old.tells
+decided : (old : DiskState) (at : SuperBlock) (it : Directory) (link : BackLink) → KnowsDirectory old at it.inode it.record.generation it.record
+    → link ≡ first_link it.record.links → IsTrue old.tells
     → has_agreed_link (files_in old.now) it.inode ≡ (is_pair (files_in old.now) it.inode link && agreed (files_in old.now) link.directory)
 decided old at it link known e t =
     subst (λ (l : BackLink). has_agreed_link (files_in old.now) it.inode ≡ (is_pair (files_in old.now) it.inode l && agreed (files_in old.now) l.directory)) (sym e)
@@ -71,7 +74,8 @@ parent-none old new at it link last res known e reads is =
 
 pub parent-some : (old new : DiskState) (at : SuperBlock) (it : Directory) (link : BackLink) (last : LastRead) (res : Result (Option Record) Failed) (r : Record)
     → KnowsDirectory old at it.inode it.record.generation it.record → link ≡ first_link it.record.links
-    → ReadsPair old new at it.inode it.record link last res → res ≡ Ok (Some r) → ReadsParent old new at it last (Ok (Some (record { inode = link.directory; «record» = r })))
+    → ReadsPair old new at it.inode it.record link last res → res ≡ Ok (Some r)
+    → ReadsParent old new at it last (Ok (Some (record { inode = link.directory; «record» = r })))
 parent-some old new at it link last res r known e reads is =
     let p : ReadsPair old new at it.inode it.record link last (Ok (Some r)) = subst (λ (q : Result (Option Record) Failed). ReadsPair old new at it.inode it.record link last q) is reads in
     let partner : IsPartner new at it.record link r = p.directory in
@@ -90,7 +94,8 @@ parent-some old new at it link last res r known e reads is =
     }
 
 -- a directory that is neither the root nor special is agreed as the one above it is
-pub climb-goes : (old now new : DiskState) (at : SuperBlock) (first here parent : Directory) (last next : LastRead) (res : Result (Option Directory) Failed) → Climbed old now at first here last
+pub climb-goes : (old now new : DiskState) (at : SuperBlock) (first here parent : Directory) (last next : LastRead) (res : Result (Option Directory) Failed)
+    → Climbed old now at first here last
     → ((X : Image) → inode X here.inode ≡ here.record → false ≡ is_root (files_in X) here.inode) → false ≡ is_special here.inode
     → ReadsParent now new at here next res → res ≡ Ok (Some parent) → Climbed old new at first parent next
 climb-goes old now new at first here parent last next res c root special reads is =
@@ -108,8 +113,10 @@ climb-goes old now new at first here parent last next res c root special reads i
     }
 
 -- at the root, or at a special inode that is no root, the way ends
-pub climb-root : (old now : DiskState) (at : SuperBlock) (known : List Bool) (first here : Directory) (last : LastRead) → Climbed old now at first here last
-    → ((X : Image) → inode X here.inode ≡ here.record → true ≡ is_root (files_in X) here.inode) → TellsAgreed old now known (λ X. agreed (files_in X) first.inode) last (Ok true)
+pub climb-root : (old now : DiskState) (at : SuperBlock) (known : List (Option Bool)) (first here : Directory) (last : LastRead)
+    → Climbed old now at first here last
+    → ((X : Image) → inode X here.inode ≡ here.record → true ≡ is_root (files_in X) here.inode)
+    → TellsAgreed old now known (λ X. agreed (files_in X) first.inode) last (Ok true)
 climb-root old now at known first here last c root = record {
   stays = c.stays;
   found = λ t a. sym (c.same t ∙ root-is (files_in old.now) here.inode (sym (root old.now (record-of old now at here.inode here.record c.stays c.known.known t))));
@@ -117,8 +124,10 @@ climb-root old now at known first here last c root = record {
   cause = tt;
 }
 
-pub climb-special : (old now : DiskState) (at : SuperBlock) (known : List Bool) (first here : Directory) (last : LastRead) → Climbed old now at first here last
-    → ((X : Image) → inode X here.inode ≡ here.record → false ≡ is_root (files_in X) here.inode) → true ≡ is_special here.inode → TellsAgreed old now known (λ X. agreed (files_in X) first.inode) last (Ok false)
+pub climb-special : (old now : DiskState) (at : SuperBlock) (known : List (Option Bool)) (first here : Directory) (last : LastRead)
+    → Climbed old now at first here last
+    → ((X : Image) → inode X here.inode ≡ here.record → false ≡ is_root (files_in X) here.inode) → true ≡ is_special here.inode
+    → TellsAgreed old now known (λ X. agreed (files_in X) first.inode) last (Ok false)
 climb-special old now at known first here last c root special = record {
   stays = c.stays;
   found = λ t a. sym (c.same t ∙ special-is (files_in old.now) here.inode (sym (root old.now (record-of old now at here.inode here.record c.stays c.known.known t))) (sym special));
@@ -127,7 +136,7 @@ climb-special old now at known first here last c root special = record {
 }
 
 -- so it does where no directory is above
-pub climb-none : (old now new : DiskState) (at : SuperBlock) (known : List Bool) (first here : Directory) (last next : LastRead) (res : Result (Option Directory) Failed) → Climbed old now at first here last
+pub climb-none : (old now new : DiskState) (at : SuperBlock) (known : List (Option Bool)) (first here : Directory) (last next : LastRead) (res : Result (Option Directory) Failed) → Climbed old now at first here last
     → ((X : Image) → inode X here.inode ≡ here.record → false ≡ is_root (files_in X) here.inode) → false ≡ is_special here.inode
     → ReadsParent now new at here next res → res ≡ Ok None → TellsAgreed old new known (λ X. agreed (files_in X) first.inode) next (Ok false)
 climb-none old now new at known first here last next res c root special reads is =
@@ -144,13 +153,15 @@ climb-none old now new at known first here last next res c root special reads is
     }
 
 -- none of the first so many back links is a pair with an agreed directory
-pub record Passed (old now : DiskState) (known : List Bool) (i : ℕ) (r : Record) (last : LastRead) (place : ℕ) : Type 0 where
+pub record Passed (old now : DiskState) (known : List (Option Bool)) (i : ℕ) (r : Record) (last : LastRead) (place : ℕ) : Type 0 where
   pub stays : StaysButFaults old now
   pub kept : IsLast now last
-  pub none : IsTrue old.tells → AreAgreed old.now known → (k : ℕ) → k < place → is_agreed_link (files_in old.now) i (get_or r.links k no_link) ≡ false
+  pub none : IsTrue old.tells → AreTrue old.now known → (k : ℕ) → k < place → is_agreed_link (files_in old.now) i (get_or r.links k no_link) ≡ false
 
-pub passed-goes : (old now new : DiskState) (known : List Bool) (i : ℕ) (r : Record) (last next : LastRead) (place : ℕ) (res : Result Bool Failed) → Passed old now known i r last place
-    → TellsAgreed now new known (λ X. is_agreed_link (files_in X) i (get_or r.links place no_link)) next res → res ≡ Ok false → Passed old new known i r next (place + 1)
+pub passed-goes : (old now new : DiskState) (known : List (Option Bool)) (i : ℕ) (r : Record) (last next : LastRead) (place : ℕ) (res : Result Bool Failed)
+    → Passed old now known i r last place
+    → TellsAgreed now new known (λ X. is_agreed_link (files_in X) i (get_or r.links place no_link)) next res → res ≡ Ok false
+    → Passed old new known i r next (place + 1)
 passed-goes old now new known i r last next place res p reads is =
     let q : TellsAgreed now new known (λ X. is_agreed_link (files_in X) i (get_or r.links place no_link)) next (Ok false) =
     subst (λ (w : Result Bool Failed). TellsAgreed now new known (λ X. is_agreed_link (files_in X) i (get_or r.links place no_link)) next w) is reads in
@@ -163,12 +174,33 @@ passed-goes old now new known i r last next place res p reads is =
             let here : k ≡ place = omega arith in
             let found : false ≡ is_agreed_link (files_in old.now) i (get_or r.links place no_link) =
             subst (λ (X : Image). false ≡ is_agreed_link (files_in X) i (get_or r.links place no_link)) p.stays.cells.now
-            (q.found (told-on old now p.stays t) (subst (λ (X : Image). AreAgreed X known) (sym p.stays.cells.now) a)) in
+            (q.found (told-on old now p.stays t) (subst (λ (X : Image). AreTrue X known) (sym p.stays.cells.now) a)) in
             ap (λ (n : ℕ). is_agreed_link (files_in old.now) i (get_or r.links n no_link)) here ∙ sym found
       ];
     }
 
-pub passed-ends : (old now : DiskState) (at : SuperBlock) (known : List Bool) (i : ℕ) (r : Record) (last : LastRead) (place : ℕ) → KnowsInode old at i r → Passed old now known i r last place → 4 ≤ place
+-- the next one is
+pub passed-found : (old now new : DiskState) (at : SuperBlock) (known : List (Option Bool)) (i : ℕ) (r : Record) (last next : LastRead) (place : ℕ) (res : Result Bool Failed) → KnowsInode old at i r
+    → Passed old now known i r last place → place < 4
+    → TellsAgreed now new known (λ X. is_agreed_link (files_in X) i (get_or r.links place no_link)) next res → res ≡ Ok true
+    → TellsAgreed old new known (λ X. list_any (is_agreed_link (files_in X) i) r.links) next (Ok true)
+passed-found old now new at known i r last next place res is p low reads e =
+    let q : TellsAgreed now new known (λ X. is_agreed_link (files_in X) i (get_or r.links place no_link)) next (Ok true) =
+    subst (λ (w : Result Bool Failed). TellsAgreed now new known (λ X. is_agreed_link (files_in X) i (get_or r.links place no_link)) next w) e reads in
+    record {
+      stays = StaysButFaults-trans old now new p.stays q.stays;
+      found = λ t a.
+          let four : length r.links ≡ 4 = subst (λ (q : Record). length q.links ≡ 4) (is.same t) (four-links old.now i) in
+          let here : true ≡ is_agreed_link (files_in old.now) i (get_or r.links place no_link) =
+          subst (λ (X : Image). true ≡ is_agreed_link (files_in X) i (get_or r.links place no_link)) p.stays.cells.now
+          (q.found (told-on old now p.stays t) (subst (λ (X : Image). AreTrue X known) (sym p.stays.cells.now) a)) in
+          sym (list_any_at (is_agreed_link (files_in old.now) i) r.links place no_link (omega (arith, low, four)) (sym here));
+      kept = q.kept;
+      cause = tt;
+    }
+
+pub passed-ends : (old now : DiskState) (at : SuperBlock) (known : List (Option Bool)) (i : ℕ) (r : Record) (last : LastRead) (place : ℕ)
+    → KnowsInode old at i r → Passed old now known i r last place → 4 ≤ place
     → TellsAgreed old now known (λ X. list_any (is_agreed_link (files_in X) i) r.links) last (Ok false)
 passed-ends old now at known i r last place is p whole = record {
   stays = p.stays;
@@ -188,13 +220,15 @@ pub whole-special : (old now : DiskState) (at : SuperBlock) (i : ℕ) (r : Recor
     → ((X : Image) → inode X i ≡ r → false ≡ is_root (files_in X) i) → true ≡ is_special i → IsTrue old.tells → false ≡ agreed (files_in old.now) i
 whole-special old now at i r s k root special t = sym (special-is (files_in old.now) i (sym (root old.now (record-of old now at i r s k t))) (sym special))
 
-pub whole-links : (old now new : DiskState) (at : SuperBlock) (known : List Bool) (i : ℕ) (r : Record) (last : LastRead) (res : Result Bool Failed) → StaysButFaults old now → KnowsInode now at i r
-    → ((X : Image) → inode X i ≡ r → false ≡ is_root (files_in X) i) → false ≡ is_special i → TellsAgreed now new known (λ X. list_any (is_agreed_link (files_in X) i) r.links) last res
-    → IfOk res (λ answer. IsTrue old.tells → AreAgreed old.now known → answer ≡ agreed (files_in old.now) i)
+pub whole-links : (old now new : DiskState) (at : SuperBlock) (known : List (Option Bool)) (i : ℕ) (r : Record) (last : LastRead) (res : Result Bool Failed)
+    → StaysButFaults old now → KnowsInode now at i r
+    → ((X : Image) → inode X i ≡ r → false ≡ is_root (files_in X) i) → false ≡ is_special i
+    → TellsAgreed now new known (λ X. list_any (is_agreed_link (files_in X) i) r.links) last res
+    → IfOk res (λ answer. IsTrue old.tells → AreTrue old.now known → answer ≡ agreed (files_in old.now) i)
 whole-links old now new at known i r last (Err e) s k root special reads = tt
 whole-links old now new at known i r last (Ok answer) s k root special reads = λ t a.
     let same = record-of old now at i r s k t in
     let found : answer ≡ list_any (is_agreed_link (files_in old.now) i) r.links =
     subst (λ (X : Image). answer ≡ list_any (is_agreed_link (files_in X) i) r.links) s.cells.now
-    (reads.found (told-on old now s t) (subst (λ (X : Image). AreAgreed X known) (sym s.cells.now) a)) in
+    (reads.found (told-on old now s t) (subst (λ (X : Image). AreTrue X known) (sym s.cells.now) a)) in
     found ∙ any-links old.now i r same ∙ sym (linked-is (files_in old.now) i (sym (root old.now same)) (sym special))

@@ -1,7 +1,6 @@
 -- What the check of a chain answers, over any disk.
-use Rattle.std.specs.Prelude.{◌≡◌, ℕ, ◌-◌, ◌<◌, Bool, true, false, ◌&&◌, not, IsTrue, List, length, get_or, nat_le, Option, Some, is_some, Result, IfOk, IfSome, IsNone, OnOk, OnErr}
+use Rattle.std.specs.Prelude.{◌≡◌, ◌⊎◌, ℕ, ◌-◌, ◌<◌, ◌≤◌, Bool, false, ◌&&◌, not, IsTrue, List, length, get_or, nat_le, Option, Some, None, is_some, if◌then◌else◌, Result, IfOk, IfSome, IsNone, OnOk, OnErr}
 use Rattle.std.specs.List.{position_or_len}
-use Rattle.nofs_bits.specs.Bits.{is_set}
 use Rattle.nofs_disk.specs.declared.Failed.{Failed}
 use Rattle.nofs_disk.specs.Disk.{DiskState, StaysButFaults, Rose}
 use Rattle.nofs_inode.specs.declared.inode.FileKind.TheVariants as kind
@@ -12,13 +11,18 @@ use Rattle.nofs_agree.specs.Reading.{IsLast, KnowsDirectory}
 use Rattle.nofs_agree.specs.declared.chain.Directory.{Directory}
 use Rattle.nofs_agree.specs.declared.reads.LastRead.{LastRead}
 
--- an inode is known: its bit is set
-abbrev pub is_known : List Bool → ℕ → Bool
-is_known known i = nat_le 1 i && (nat_le i (length known) && is_set known (i - 1))
+-- what is known of an inode, whose place is the one before its number: whether it is agreed. Past the end nothing is known
+abbrev pub told : List (Option Bool) → ℕ → Option Bool
+told known i = if nat_le 1 i then get_or known (i - 1) None else None
 
--- each inode that is known is agreed
-abbrev pub AreAgreed : Image → List Bool → Type 0
-AreAgreed X known = (i : ℕ) → is_known known i ≡ true → agreed (files_in X) i ≡ true
+-- what is known is true of the image
+abbrev pub AreTrue : Image → List (Option Bool) → Type 0
+AreTrue X known = (i : ℕ) → IfSome (told known i) (λ a. agreed (files_in X) i ≡ a)
+
+-- more is known than before, and it is true where what was known is
+pub record Learns (d : DiskState) (old new : List (Option Bool)) : Type 0 where
+  pub len : length new ≡ length old
+  pub still : IsTrue d.tells → AreTrue d.now old → AreTrue d.now new
 
 -- the first back link that isn't empty, or an empty one
 abbrev pub first_link : List BackLink → BackLink
@@ -35,10 +39,10 @@ pub record TellsAnswer (old new : DiskState) (answer : Image → Bool) (last : L
   pub kept : OnOk result (IsLast new last)
   pub cause : OnErr result (Rose old.faults new.faults)
 
--- so it is where those that are known are agreed
-pub record TellsAgreed (old new : DiskState) (known : List Bool) (answer : Image → Bool) (last : LastRead) (result : Result Bool Failed) : Type 0 where
+-- so it is where what is known is true
+pub record TellsAgreed (old new : DiskState) (known : List (Option Bool)) (answer : Image → Bool) (last : LastRead) (result : Result Bool Failed) : Type 0 where
   pub stays : StaysButFaults old new
-  pub found : IfOk result (λ a. IsTrue old.tells → AreAgreed old.now known → a ≡ answer old.now)
+  pub found : IfOk result (λ a. IsTrue old.tells → AreTrue old.now known → a ≡ answer old.now)
   pub kept : OnOk result (IsLast new last)
   pub cause : OnErr result (Rose old.faults new.faults)
 
@@ -67,4 +71,23 @@ pub record ReadsParent (old new : DiskState) (at : SuperBlock) (it : Directory) 
   pub parent : IfOk result (λ found. IfSome found (IsDirectoryAbove old new at it))
   pub none : IfOk result (λ found. IsTrue old.tells → IsNone found → has_agreed_link (files_in old.now) it.inode ≡ false)
   pub kept : OnOk result (IsLast new last)
+  pub cause : OnErr result (Rose old.faults new.faults)
+
+-- so it is of one inode: what is known of the others was known before
+pub record LearnsOne (old new : List (Option Bool)) (i : ℕ) (agreed : Bool) : Type 0 where
+  pub len : length new ≡ length old
+  pub here : 1 ≤ i → i ≤ length old → told new i ≡ Some agreed
+  pub each : (j : ℕ) (a : Bool) → told new j ≡ Some a → ((j ≡ i) × (a ≡ agreed)) ⊎ (told old j ≡ Some a)
+
+-- the way up from a directory was walked: what is known after it is true where what was known before is
+pub record LearnsChain (old new : DiskState) (known more : List (Option Bool)) (last : LastRead) (result : Result (Unit {0}) Failed) : Type 0 where
+  pub stays : StaysButFaults old new
+  pub learns : Learns old known more
+  pub kept : OnOk result (IsLast new last)
+  pub cause : OnErr result (Rose old.faults new.faults)
+
+-- so were all ways up from an inode
+pub record LearnsAbove (old new : DiskState) (known more : List (Option Bool)) (result : Result (Unit {0}) Failed) : Type 0 where
+  pub stays : StaysButFaults old new
+  pub learns : Learns old known more
   pub cause : OnErr result (Rose old.faults new.faults)

@@ -1,26 +1,25 @@
 //! The check of a chain of directories, from an inode up to the root.
 //!
-//! Promise: it answers whether the inode is agreed, where each inode that is said to be known is,
-//! and ends whatever the image is, since each directory on the way is older than the one below.
+//! Promise: it answers whether the inode is agreed, where what is said to be known is true, and ends
+//! whatever the image is, since each directory on the way is older than the one below.
 ghost use Rattle.std.specs.Prelude.{◌≡◌, IfOk, IsTrue, OnErr, length};
 ghost use Rattle.std.specs.List.{list_any};
 ghost use Rattle.nofs_disk.specs.Disk.{Rose, StaysButFaults};
 ghost use Rattle.nofs_inode.specs.declared.inode.FileKind.TheVariants as kind;
 ghost use Rattle.nofs_model.specs.Files as files;
 ghost use Rattle.nofs_model.specs.Geometry as image;
-ghost use Rattle.nofs_agree.specs.Chains.{AreAgreed, ReadsParent, TellsAgreed, is_agreed_link, is_known};
+ghost use Rattle.nofs_agree.specs.Chains.{AreTrue, ReadsParent, TellsAgreed, is_agreed_link};
 ghost use Rattle.nofs_agree.specs.Reading.{IsAt, IsLast, KnowsDirectory, KnowsInode};
 
+use crate::known::Known;
 use crate::pair::{first_link, is_directory, read_pair};
 use crate::reads::{LastRead, read_inode};
-use nofs_bits::Bits;
 use nofs_disk::{Disk, Failed};
 use nofs_inode::{BackLink, FileKind, Record};
 use nofs_super::SuperBlock;
 
-/// Whether an inode is agreed, where some are known to be: bit `i - 1` of `known` is inode `i`. It
-/// asks the superblock of the disk, and a bit for each inode. Where some set bit isn't an agreed
-/// inode, the answer may be either.
+/// Whether an inode is agreed, where something may be known of some. It asks the superblock of the
+/// disk, and a place for each inode. Where something that is known isn't true, the answer may be either.
 ///
 /// # Errors
 ///
@@ -28,17 +27,17 @@ use nofs_super::SuperBlock;
 pub fn check_chain<D: Disk>(
     disk: &mut D,
     at: &SuperBlock,
-    known: &Bits,
+    known: &Known,
     inode: u32,
 ) -> Result<bool, Failed>
     requires numbers { IsAt (D.state disk.old) at.now }
     requires known { length known.now ≡ at.now.inodes }
     ensures stays { StaysButFaults (D.state disk.old) (D.state disk.new) }
-    ensures agreed { IfOk result (λ answer. IsTrue (D.state disk.old).tells → AreAgreed (D.state disk.old).now known.now → answer ≡ files.agreed (files.files_in (D.state disk.old).now) inode) }
+    ensures agreed { IfOk result (λ answer. IsTrue (D.state disk.old).tells → AreTrue (D.state disk.old).now known.now → answer ≡ files.agreed (files.files_in (D.state disk.old).now) inode) }
     ensures cause { OnErr result (Rose (D.state disk.old).faults (D.state disk.new).faults) }
 {
-    if is_known(known, at.inodes, inode) {
-        return Ok(true);
+    if let Some(agreed) = known.told(inode) {
+        return Ok(agreed);
     }
     let mut last = LastRead::NONE;
     let it = read_inode(disk, at, inode, &mut last)?;
@@ -51,16 +50,8 @@ pub fn check_chain<D: Disk>(
     has_agreed_link(disk, at, known, inode, &it, &mut last)
 }
 
-fn is_known(known: &Bits, inodes: u64, inode: u32) -> bool
-    requires { length known.now ≡ inodes }
-    ensures { result ≡ is_known known.now inode }
-{
-    let number = u64::from(inode);
-    1 <= number && number <= inodes && known.get(number - 1)
-}
-
 // Whether this is the root or the label file, and live as such.
-fn is_root(inode: u32, it: &Record) -> bool
+pub(crate) fn is_root(inode: u32, it: &Record) -> bool
     ensures { (X : image.Image) → image.inode X inode ≡ it.now → result ≡ files.is_root (files.files_in X) inode }
 {
     match inode {
@@ -76,7 +67,7 @@ fn is_file(it: &Record, generation: u64) -> bool
     it.kind == Some(FileKind::File) && it.generation == generation
 }
 
-fn is_special(inode: u32) -> bool
+pub(crate) fn is_special(inode: u32) -> bool
     ensures { result ≡ files.is_special inode }
 {
     inode == 1 || inode == 2
@@ -86,7 +77,7 @@ fn is_special(inode: u32) -> bool
 fn has_agreed_link<D: Disk>(
     disk: &mut D,
     at: &SuperBlock,
-    known: &Bits,
+    known: &Known,
     inode: u32,
     it: &Record,
     last: &mut LastRead,
@@ -108,7 +99,7 @@ fn has_agreed_link<D: Disk>(
 pub fn is_agreed_link<D: Disk>(
     disk: &mut D,
     at: &SuperBlock,
-    known: &Bits,
+    known: &Known,
     inode: u32,
     it: &Record,
     link: &BackLink,
@@ -133,16 +124,16 @@ pub fn is_agreed_link<D: Disk>(
 
 // A directory on the way up, and its record.
 #[derive(Clone, Copy)]
-struct Directory {
+pub(crate) struct Directory {
     pub inode: u32,
     pub record: Record,
 }
 
-// Whether a directory is agreed: the way up from it ends at the root, or at a known one.
-fn is_agreed_directory<D: Disk>(
+// Whether a directory is agreed: the way up from it ends at the root, or at one that is known.
+pub(crate) fn is_agreed_directory<D: Disk>(
     disk: &mut D,
     at: &SuperBlock,
-    known: &Bits,
+    known: &Known,
     directory: Directory,
     last: &mut LastRead,
 ) -> Result<bool, Failed>
@@ -153,8 +144,8 @@ fn is_agreed_directory<D: Disk>(
 {
     let mut here = directory;
     loop {
-        if is_known(known, at.inodes, here.inode) {
-            return Ok(true);
+        if let Some(agreed) = known.told(here.inode) {
+            return Ok(agreed);
         }
         if is_root(here.inode, &here.record) {
             return Ok(true);
@@ -170,7 +161,7 @@ fn is_agreed_directory<D: Disk>(
 }
 
 // The directory that names this one, and that this one names back.
-fn read_parent<D: Disk>(
+pub(crate) fn read_parent<D: Disk>(
     disk: &mut D,
     at: &SuperBlock,
     directory: &Directory,

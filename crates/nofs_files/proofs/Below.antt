@@ -26,7 +26,7 @@ use Rattle.nofs_law_untouched.proofs.Growth.{same_path-true, same_path-refl}
 use Rattle.nofs_law_maps.specs.Moves.{IsClaimed}
 use Rattle.nofs_crashlaw.proofs.Below.{live-stands}
 use Rattle.nofs_law_numbers.specs.Cells.{table_tag}
-use Rattle.nofs_agree.specs.Chains.{AreAgreed}
+use Rattle.nofs_agree.specs.Chains.{AreTrue}
 use Rattle.nofs_agree.proofs.Climbs.{told-on}
 use Rattle.nofs_state.specs.Books.{IsSafe, claimed_books, claimed_pointer}
 use Rattle.nofs_state.specs.Standing.{IsOpen, Past}
@@ -221,7 +221,7 @@ module _ (X : Image) (k : Books) (i g slot at : ℕ) (bytes : List ℕ) (r : Rec
 pub record BelowFacts (d : DiskState) (k : Books) (i g slot at : ℕ) (bytes : List ℕ) (r : Record) (a : Path) (n b : ℕ) (y : Pointer)
     (c1 cu0 cu c20 c2 : Cell) : Type 0 where
   pub file : IsFile d k.at i g r
-  pub current : IsTrue d.tells → AreAgreed d.now k.agreed_inodes → is_current d.now i g ≡ true
+  pub current : IsTrue d.tells → AreTrue d.now k.agreement → is_current d.now i g ≡ true
   pub path : path_of slot ≡ Under a n
   pub range : slot < slot_limit
   pub positive : 0 < y.block

@@ -18,7 +18,7 @@ use Rattle.nofs_machine.specs.declared.steps.Step.TheVariants as step
 use Rattle.nofs_machine.specs.declared.replies.Reply.TheVariants as reply
 use Rattle.nofs_machine.specs.declared.replies.Refusal.TheVariants as refusal
 use Rattle.nofs_agree.specs.Reading.{IsLast, KnowsInode}
-use Rattle.nofs_agree.specs.Chains.{AreAgreed, TellsAgreed, is_agreed_link}
+use Rattle.nofs_agree.specs.Chains.{AreTrue, TellsAgreed, is_agreed_link}
 use Rattle.nofs_agree.specs.declared.reads.LastRead.{LastRead}
 use Rattle.nofs_agree.proofs.Climbs.{told-on, record-of}
 use Rattle.nofs_agree.proofs.Links.{four-links}
@@ -55,16 +55,17 @@ count-more p (x ∷ xs) (suc k) d low =
     let c : one (p x) + (count_by p (take k xs) + one (p (get_or xs k d))) ≡ (one (p x) + count_by p (take k xs)) + one (p (get_or xs k d)) = omega arith in
     ap (λ (n : ℕ). count_by p (take n (x ∷ xs))) more ∙ a ∙ ap (λ (n : ℕ). one (p x) + n) deep ∙ c ∙ ap (λ (n : ℕ). n + one (p (get_or xs k d))) (sym b)
 
-pub record Counted (old now : DiskState) (known : List Bool) (i : ℕ) (r : Record) (last : LastRead) (place links : ℕ) : Type 0 where
+pub record Counted (old now : DiskState) (known : List (Option Bool)) (i : ℕ) (r : Record) (last : LastRead) (place links : ℕ) : Type 0 where
   pub stays : StaysButFaults old now
   pub kept : IsLast now last
   pub small : links ≤ place
-  pub count : IsTrue old.tells → AreAgreed old.now known → links ≡ count_by (is_agreed_link (files_in old.now) i) (take place r.links)
+  pub count : IsTrue old.tells → AreTrue old.now known → links ≡ count_by (is_agreed_link (files_in old.now) i) (take place r.links)
 
-pub counted-begins : (old : DiskState) (known : List Bool) (i : ℕ) (r : Record) (last : LastRead) → IsLast old last → Counted old old known i r last 0 0
+pub counted-begins : (old : DiskState) (known : List (Option Bool)) (i : ℕ) (r : Record) (last : LastRead) → IsLast old last
+    → Counted old old known i r last 0 0
 counted-begins old known i r last kept = record { stays = StaysButFaults-refl old; kept = kept; small = omega arith; count = λ t a. refl }
 
-pub counted-goes : (old now new : DiskState) (at : SuperBlock) (known : List Bool) (i : ℕ) (r : Record) (last next : LastRead) (place links : ℕ)
+pub counted-goes : (old now new : DiskState) (at : SuperBlock) (known : List (Option Bool)) (i : ℕ) (r : Record) (last next : LastRead) (place links : ℕ)
     (res : Result Bool Failed) (pair : Bool) → KnowsInode old at i r → Counted old now known i r last place links → place < 4
     → TellsAgreed now new known (λ X. is_agreed_link (files_in X) i (get_or r.links place no_link)) next res → res ≡ Ok pair
     → Counted old new known i r next (place + 1) (links + one pair)
@@ -79,7 +80,7 @@ counted-goes old now new at known i r last next place links res pair is c low re
           let four : length r.links ≡ 4 = subst (λ (q : Record). length q.links ≡ 4) (is.same t) (four-links old.now i) in
           let found : pair ≡ is_agreed_link (files_in old.now) i (get_or r.links place no_link) =
           subst (λ (X : Image). pair ≡ is_agreed_link (files_in X) i (get_or r.links place no_link)) c.stays.cells.now
-          (q.found (told-on old now c.stays t) (subst (λ (X : Image). AreAgreed X known) (sym c.stays.cells.now) a)) in
+          (q.found (told-on old now c.stays t) (subst (λ (X : Image). AreTrue X known) (sym c.stays.cells.now) a)) in
           (λ j. c.count t a j + one (found j)) ∙ sym (count-more (is_agreed_link (files_in old.now) i) r.links place no_link (omega (arith, low, four)));
     }
   where
@@ -87,7 +88,7 @@ counted-goes old now new at known i r last next place links res pair is c low re
     one-small true = omega arith
     one-small false = omega arith
 
-pub counted-ends : (old now : DiskState) (at : SuperBlock) (known : List Bool) (i : ℕ) (r : Record) (last : LastRead) (place links : ℕ)
+pub counted-ends : (old now : DiskState) (at : SuperBlock) (known : List (Option Bool)) (i : ℕ) (r : Record) (last : LastRead) (place links : ℕ)
     → KnowsInode old at i r → Counted old now known i r last place links → 4 ≤ place → CountsLinks old now known i r (Ok links)
 counted-ends old now at known i r last place links is c all = record {
   stays = c.stays;
@@ -139,7 +140,7 @@ stat-is F X i n kind match a ek count = go (F i) refl (subst (λ (o : Option Fil
 module _ (old mid new : DiskState) (k : Books) (i g : ℕ) (last : LastRead) (it : Opened) (is : IsDisk old) (safe : IsSafe old k) (going : k.stopped ≡ false)
     (opens : Opens old mid k i g last (Ok it)) where
   -- the links were counted
-  pub goes-counted : (links : ℕ) → CountsLinks mid new k.agreed_inodes i it.found (Ok links)
+  pub goes-counted : (links : ℕ) → CountsLinks mid new k.agreement i it.found (Ok links)
       → Goes old k new k (step.Stat i g) no_claims (reply.Stat (record { kind = it.kind; size = it.found.size; links = links }))
   goes-counted links counts =
       goes-answer old new k (step.Stat i g) is safe (StaysButFaults-trans old mid new opens.stays counts.stays)
@@ -151,7 +152,7 @@ module _ (old mid new : DiskState) (k : Books) (i g : ℕ) (last : LastRead) (it
       let r : inode old.now i ≡ it.found = record-of old mid k.at i it.found opens.stays opens.known.known tells in
       let count : links ≡ count_by (is_agreed_link (files_in old.now) i) it.found.links =
       subst (λ (X : Image). links ≡ count_by (is_agreed_link (files_in X) i) it.found.links) opens.stays.cells.now
-      (counts.count (told-on old mid opens.stays tells) (subst (λ (X : Image). AreAgreed X k.agreed_inodes) (sym opens.stays.cells.now) known)) in (
+      (counts.count (told-on old mid opens.stays tells) (subst (λ (X : Image). AreTrue X k.agreement) (sym opens.stays.cells.now) known)) in (
         rw (stale-none p.world old.now i g match current) refl,
         subst (λ (q : Record). reply.Stat (record { kind = it.kind; size = q.size; links = links }) ≡ stat_reply p.world.files i) r
             (stat-is p.world.files old.now i links it.kind match (and-first (agreed (files_in old.now) i) (eqb (inode old.now i).generation g) current)
@@ -164,7 +165,7 @@ module _ (old mid new : DiskState) (k : Books) (i g : ℕ) (last : LastRead) (it
       and-first false b e = e
 
   -- a read failed
-  pub goes-uncounted : (e : Failed) → CountsLinks mid new k.agreed_inodes i it.found (Err e)
+  pub goes-uncounted : (e : Failed) → CountsLinks mid new k.agreement i it.found (Err e)
       → Goes old k new k (step.Stat i g) no_claims (reply.Refused refusal.ReadFault)
   goes-uncounted e counts = goes-read old new k (step.Stat i g) is safe (StaysButFaults-trans old mid new opens.stays counts.stays) going
       (Rose-within old.faults mid.faults new.faults new.faults opens.stays.disk.faults counts.cause (le_refl new.faults)) (λ tells H p o. stat-late p.world i g)

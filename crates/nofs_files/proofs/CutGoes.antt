@@ -13,7 +13,7 @@ use Rattle.nofs_machine.specs.declared.steps.Step.TheVariants as step
 use Rattle.nofs_machine.specs.declared.replies.Reply.TheVariants as reply
 use Rattle.nofs_machine.specs.declared.replies.Refusal.{Refusal}
 use Rattle.nofs_machine.specs.declared.replies.Refusal.TheVariants as refusal
-use Rattle.nofs_agree.specs.Chains.{AreAgreed}
+use Rattle.nofs_agree.specs.Chains.{AreTrue}
 use Rattle.nofs_agree.proofs.Climbs.{KnowsInode-on}
 use Rattle.nofs_crashlaw.proofs.Below.{live-stands}
 use Rattle.nofs_law_numbers.specs.Cells.{table_tag}
@@ -45,7 +45,7 @@ pub record Ready (d : DiskState) (k : Books) (i g size : ℕ) (r : Record) (tail
   pub safe : IsSafe d k
   pub going : k.stopped ≡ false
   pub file : IsFile d k.at i g r
-  pub current : IsTrue d.tells → AreAgreed d.now k.agreed_inodes → is_current d.now i g ≡ true
+  pub current : IsTrue d.tells → AreTrue d.now k.agreement → is_current d.now i g ≡ true
   pub old : r.size ≤ largest_size
   pub new : size ≤ largest_size
   pub eight : length r.direct ≡ 8
@@ -138,7 +138,7 @@ ready-after old mid k i g size r tail edge freed stays q = record {
   safe = safe-keeps old mid (reads-keep old mid stays) k q.safe;
   going = q.going;
   file = record { known = KnowsInode-on old mid k.at i r stays q.file.known; kind = q.file.kind; generation = q.file.generation };
-  current = λ t a. subst (λ (X : Image). is_current X i g ≡ true) (sym now) (q.current (told t) (subst (λ (X : Image). AreAgreed X k.agreed_inodes) now a));
+  current = λ t a. subst (λ (X : Image). is_current X i g ≡ true) (sym now) (q.current (told t) (subst (λ (X : Image). AreTrue X k.agreement) now a));
   old = q.old;
   new = q.new;
   eight = q.eight;

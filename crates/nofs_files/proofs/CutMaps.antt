@@ -1,5 +1,6 @@
 -- What the maps say after blocks were freed: which are known, which are free.
 use Rattle.std.proofs.Common.{◌≡◌, ◌≢◌, ℕ, ◌+◌, ◌-◌, ◌/◌, ◌<◌, ◌≤◌, ◌⊎◌, inl, inr, Bool, true, false, leb, ltb, lt-ltb, ◌&&◌, ◌||◌, not, List, length, None, is_some, refl, sym, ap, ◌∙◌, subst, arith}
+use Rattle.nofs_agree.specs.Chains.{told}
 use Rattle.std.proofs.lemmas.Bool.{cases_lt}
 use Rattle.std.proofs.lemmas.Bool.Decides.{nat_tests}
 use Rattle.std.proofs.lemmas.List.{get_or_past}
@@ -40,7 +41,7 @@ safe-freed d k l freed s a size area = subst (IsSafe d) (sym a.same) (record {
   serial = s.serial;
   unknown_inodes = s.unknown_inodes;
   free_inodes = s.free_inodes;
-  agreed_inodes = s.agreed_inodes;
+  agreement = s.agreement;
   unknown_blocks = a.blocks.unknown_size ∙ s.unknown_blocks;
   free_blocks = a.blocks.free_size ∙ s.free_blocks;
   in_area = λ q t. elim (cases_lt q k.at.blocks) [
@@ -148,6 +149,5 @@ module _ (k l : Books) (W V : World) (s : Step) (freed : List Bool) (says : Says
         (λ z. (knows_blocks q ∙ known-freed q t) z && not (block-gone q t z)))
         (λ t. a.blocks.freeing q low ∙ (λ z. is_set k.free_blocks q || t z) ∙ or-false (is_set k.free_blocks q) ∙ says.free_blocks q low
         ∙ (λ z. (says.known_blocks q ∙ sym (knows_blocks q ∙ known-kept q t)) z && not (sym (block-same q t) z)));
-    agreed_inodes = λ j low high t. used j ∙ says.agreed_inodes j low (subst (λ (q : SuperBlock). j ≤ q.inodes) l-at high)
-        (ap (λ (b : Books). is_set b.agreed_inodes (j - 1)) (sym a.same) ∙ t);
+    agreement = λ j v t. used j ∙ says.agreement j v (ap (λ (b : Books). told b.agreement j) (sym a.same) ∙ t);
   }

@@ -11,7 +11,7 @@ use Rattle.nofs_machine.specs.declared.steps.Step.TheVariants as step
 use Rattle.nofs_machine.specs.declared.replies.Reply.TheVariants as reply
 use Rattle.nofs_machine.specs.declared.replies.Refusal.{Refusal}
 use Rattle.nofs_machine.specs.declared.replies.Refusal.TheVariants as refusal
-use Rattle.nofs_agree.specs.Chains.{AreAgreed}
+use Rattle.nofs_agree.specs.Chains.{AreTrue}
 use Rattle.nofs_agree.specs.declared.reads.LastRead.{LastRead}
 use Rattle.nofs_agree.proofs.Climbs.{KnowsInode-on}
 use Rattle.nofs_state.specs.Books.{IsSafe}
@@ -39,17 +39,17 @@ pub file-after : (old mid : DiskState) (at : SuperBlock) (i g : ℕ) (r : Record
 file-after old mid at i g r stays f = record { known = KnowsInode-on old mid at i r stays f.known; kind = f.kind; generation = f.generation }
 
 pub current-after : (old mid : DiskState) (k : Books) (i g : ℕ) → StaysButFaults old mid
-    → (IsTrue old.tells → AreAgreed old.now k.agreed_inodes → is_current old.now i g ≡ true) → IsTrue mid.tells → AreAgreed mid.now k.agreed_inodes
+    → (IsTrue old.tells → AreTrue old.now k.agreement → is_current old.now i g ≡ true) → IsTrue mid.tells → AreTrue mid.now k.agreement
     → is_current mid.now i g ≡ true
 current-after old mid k i g stays c t a = subst (λ (X : Image). is_current X i g ≡ true) (sym stays.cells.now)
-    (c (told-back old mid stays t) (subst (λ (X : Image). AreAgreed X k.agreed_inodes) stays.cells.now a))
+    (c (told-back old mid stays t) (subst (λ (X : Image). AreTrue X k.agreement) stays.cells.now a))
 
 -- what holds of the file that was opened
 module _ (old mid : DiskState) (k : Books) (i g size : ℕ) (last : LastRead) (r : Record) (opens : OpensFile old mid k i g last (Ok r)) where
   pub opened-file : IsFile mid k.at i r.generation r
   opened-file = record { known = opens.file.known; kind = opens.file.kind; generation = refl }
 
-  pub opened-current : IsTrue mid.tells → AreAgreed mid.now k.agreed_inodes → is_current mid.now i r.generation ≡ true
+  pub opened-current : IsTrue mid.tells → AreTrue mid.now k.agreement → is_current mid.now i r.generation ≡ true
   opened-current t a = subst (λ (n : ℕ). is_current mid.now i n ≡ true) (sym opens.file.generation)
       (current-after old mid k i g opens.stays opens.current t a)
 
@@ -61,7 +61,7 @@ module _ (old mid : DiskState) (k : Books) (i g size : ℕ) (last : LastRead) (r
 
 module _ (d a : DiskState) (k : Books) (i size kk : ℕ) (r : Record) (one : LastRead) (edge : Edge) (is : IsDisk d) (safe : IsSafe d k)
     (going : k.stopped ≡ false) (file : IsFile d k.at i r.generation r)
-    (current : IsTrue d.tells → AreAgreed d.now k.agreed_inodes → is_current d.now i r.generation ≡ true) (fits : size ≤ 1024 * slots_of k.at)
+    (current : IsTrue d.tells → AreTrue d.now k.agreement → is_current d.now i r.generation ≡ true) (fits : size ≤ 1024 * slots_of k.at)
     (most : kk ≤ slot_limit) (ek : kk ≡ kept_slots r.size size) where
   most-kept : kept_slots r.size size ≤ slot_limit
   most-kept = subst (λ (n : ℕ). n ≤ slot_limit) ek most
@@ -119,7 +119,7 @@ module _ (d a : DiskState) (k : Books) (i size kk : ℕ) (r : Record) (one : Las
         pub cut-file : IsFile mid k.at i r.generation r
         cut-file = file-after d mid k.at i r.generation r all-reads file
 
-        pub cut-current : IsTrue mid.tells → AreAgreed mid.now k.agreed_inodes → is_current mid.now i r.generation ≡ true
+        pub cut-current : IsTrue mid.tells → AreTrue mid.now k.agreement → is_current mid.now i r.generation ≡ true
         cut-current = current-after d mid k i r.generation all-reads current
 
         pub cut-ends : IsTrue mid.tells → IsTail mid.now i r.size size tail

@@ -23,7 +23,7 @@ use Rattle.nofs_machine.specs.declared.replies.Refusal.TheVariants as refusal
 use Rattle.nofs_law_untouched.proofs.Given.{size-of}
 use Rattle.nofs_law_untouched.proofs.Matching.{Matched, matched-agreed}
 use Rattle.nofs_law_files.proofs.PutFile.{file-in}
-use Rattle.nofs_agree.specs.Chains.{AreAgreed}
+use Rattle.nofs_agree.specs.Chains.{AreTrue}
 use Rattle.nofs_agree.specs.declared.reads.LastRead.{LastRead}
 use Rattle.nofs_state.specs.Books.{IsSafe}
 use Rattle.nofs_state.specs.Standing.{IsOpen, Past}
@@ -137,7 +137,7 @@ lost-late F i m why e = first-late (row (ltb 8 m && is_damaged (node_of F i (InR
     )
 
 module _ (d : DiskState) (k : Books) (i g size : ℕ) (r : Record) (is : IsDisk d) (safe : IsSafe d k) (going : k.stopped ≡ false) (file : IsFile d k.at i g r)
-    (current : IsTrue d.tells → AreAgreed d.now k.agreed_inodes → is_current d.now i g ≡ true)
+    (current : IsTrue d.tells → AreTrue d.now k.agreement → is_current d.now i g ≡ true)
     (fits : size ≤ 1024 * slots_of k.at) (most : kept_slots r.size size ≤ slot_limit) where
   module _ (tells : IsTrue d.tells) (H : List Entry1) (p : Past) (o : IsOpen d k H p) where
     match : FilesMatch p.world.files d.now

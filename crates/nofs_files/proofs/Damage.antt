@@ -23,7 +23,7 @@ use Rattle.nofs_machine.specs.declared.replies.Reply.{Reply}
 use Rattle.nofs_machine.specs.declared.replies.Refusal.{Refusal}
 use Rattle.nofs_machine.specs.declared.replies.Reply.TheVariants as reply
 use Rattle.nofs_machine.specs.declared.replies.Refusal.TheVariants as refusal
-use Rattle.nofs_agree.specs.Chains.{AreAgreed}
+use Rattle.nofs_agree.specs.Chains.{AreTrue}
 use Rattle.nofs_state.specs.Books.{IsSafe}
 use Rattle.nofs_state.specs.Opening.{is_current}
 use Rattle.nofs_state.specs.Standing.{IsOpen, Past}
@@ -149,7 +149,7 @@ module _ {old : DiskState} {k : Books} {i g slot at : ℕ} {bytes : List ℕ} (f
 -- the file of a Put is there
 pub record IsThere (d : DiskState) (k : Books) (i g : ℕ) : Type 0 where
   pub safe : IsSafe d k
-  pub current : IsTrue d.tells → AreAgreed d.now k.agreed_inodes → is_current d.now i g ≡ true
+  pub current : IsTrue d.tells → AreTrue d.now k.agreement → is_current d.now i g ≡ true
 
 module _ {old : DiskState} {k : Books} {i g : ℕ} (f : IsThere old k i g) where
   agrees : IsTrue old.tells → (H : List Entry1) (p : Past) → IsOpen old k H p → agreed (files_in old.now) i ≡ true

@@ -4,7 +4,7 @@ use Rattle.std.proofs.Common.{sym, ap, ◌∙◌, subst, subst₂}
 use Rattle.std.specs.Prelude.{OnOk}
 use Rattle.nofs_disk.specs.Disk.{DiskState, IsDisk, IsSettled}
 use Rattle.nofs_model.specs.Image.{Image}
-use Rattle.nofs_agree.specs.Chains.{AreAgreed}
+use Rattle.nofs_agree.specs.Chains.{AreTrue}
 use Rattle.nofs_machine.specs.Search.{first_of}
 use Rattle.nofs_machine.specs.Machine.{generation_of}
 use Rattle.nofs_machine.specs.World.{World}
@@ -81,7 +81,7 @@ module _ (old mid : DiskState) (k : Books) (i g : ℕ) (last : LastRead) (is_old
       (λ tells H p o V. there-row p.world V i g (stale-none p.world mid.now i g (open-files mid k H p o)
       (subst (λ (X : Image). is_current X i g ≡ true) (sym opens.stays.cells.now)
       (opens.current (subst (λ (b : Bool). IsTrue b) opens.stays.disk.tells tells)
-      (subst (λ (X : Image). AreAgreed X k.agreed_inodes) opens.stays.cells.now (are-agreed mid k H p (safe-keeps old mid keep k safe) o)))))) ends)
+      (subst (λ (X : Image). AreTrue X k.agreement) opens.stays.cells.now (are-agreed mid k H p (safe-keeps old mid keep k safe) o)))))) ends)
 
   pub unopened-flush : (res : Result Opened Refusal) (why : Refusal) → (eqb i 0 && eqb g 0) ≡ false → Opens old mid k i g last res → res ≡ Err why
       → Goes old k mid k (step.Flush i g) no_claims (reply.Refused why)

@@ -16,7 +16,7 @@ use Rattle.nofs_machine.specs.declared.history.Entry1.{Entry1}
 use Rattle.nofs_machine.specs.declared.steps.Step.TheVariants as step
 use Rattle.nofs_machine.specs.declared.replies.Reply.TheVariants as reply
 use Rattle.nofs_machine.specs.declared.replies.Refusal.TheVariants as refusal
-use Rattle.nofs_agree.specs.Chains.{AreAgreed}
+use Rattle.nofs_agree.specs.Chains.{AreTrue}
 use Rattle.nofs_state.specs.Books.{IsSafe, Says}
 use Rattle.nofs_state.specs.Opening.{is_current}
 use Rattle.nofs_state.specs.Standing.{IsOpen, Past}
@@ -39,7 +39,7 @@ few-unknown d k safe =
     omega (arith, c, l, m)
 
 module _ (d : DiskState) (k : Books) (i g slot at : ℕ) (bytes : List ℕ) (is : IsDisk d) (safe : IsSafe d k) (going : k.stopped ≡ false)
-    (current : IsTrue d.tells → AreAgreed d.now k.agreed_inodes → is_current d.now i g ≡ true)
+    (current : IsTrue d.tells → AreTrue d.now k.agreement → is_current d.now i g ≡ true)
     (direct : slot < 8) (empty : IsTrue d.tells → is_bytes (value d.now i slot) ≡ false) (lead : RowsLead d k (step.Put i g slot at bytes)) where
   needs : (H : List Entry1) (p : Past) → IsTrue d.tells → IsOpen d k H p → blocks_for p.world.files i slot ≡ 1
   needs H p tells o =

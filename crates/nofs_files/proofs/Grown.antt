@@ -31,7 +31,7 @@ use Rattle.nofs_state.specs.declared.books.Books.{Books}
 use Rattle.nofs_state.proofs.Keeping.{Keeping, goes-after, open-back, reads-keep, safe-keeps}
 use Rattle.nofs_state.proofs.Tables.{HasRecord, table_block}
 use Rattle.nofs_crashlaw.proofs.Below.{live-stands}
-use Rattle.nofs_agree.specs.Chains.{AreAgreed}
+use Rattle.nofs_agree.specs.Chains.{AreTrue}
 use Rattle.nofs_state.specs.Opening.{is_current}
 use Rattle.nofs_state.proofs.Machine.{agreed-live, are-agreed}
 use Rattle.nofs_state.proofs.Maps.{set-here, set-length, set-other}
@@ -368,7 +368,7 @@ safe-two d k b e within within-e serial s = claimed-safe d (claimed_books k b) e
 -- what is known before a Put that claims two blocks, over any disk
 pub record GrownFacts (d : DiskState) (k : Books) (i g slot at : ℕ) (bytes : List ℕ) (r r' : Record) (way : Path) (b e : ℕ) (c1 c20 c2 : Cell) : Type 0 where
   pub file : IsFile d k.at i g r
-  pub current : IsTrue d.tells → AreAgreed d.now k.agreed_inodes → is_current d.now i g ≡ true
+  pub current : IsTrue d.tells → AreTrue d.now k.agreement → is_current d.now i g ≡ true
   pub path : path_of slot ≡ way
   pub range : slot < slot_limit
   pub within : b < k.at.blocks

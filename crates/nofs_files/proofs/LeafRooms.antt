@@ -9,7 +9,7 @@ use Rattle.nofs_model.specs.declared.path.PathAnswer.TheVariants as answer
 use Rattle.nofs_machine.specs.Meta.{is_bytes}
 use Rattle.nofs_machine.specs.World.{blocks_for}
 use Rattle.nofs_machine.specs.declared.history.Entry1.{Entry1}
-use Rattle.nofs_agree.specs.Chains.{AreAgreed}
+use Rattle.nofs_agree.specs.Chains.{AreTrue}
 use Rattle.nofs_state.specs.Books.{IsSafe}
 use Rattle.nofs_state.specs.Opening.{is_current}
 use Rattle.nofs_state.specs.Standing.{IsOpen, Past}
@@ -20,7 +20,7 @@ use Rattle.nofs_files.proofs.FileRows.{current-agreed}
 use Rattle.nofs_files.proofs.Needs.{above-held, needs-are}
 use Rattle.nofs_files.proofs.Ways.{IsNew, each-next, no-loop}
 
-pub leaf-needs : (d : DiskState) (k : Books) (i g slot n : ℕ) → IsSafe d k → (IsTrue d.tells → AreAgreed d.now k.agreed_inodes → is_current d.now i g ≡ true)
+pub leaf-needs : (d : DiskState) (k : Books) (i g slot n : ℕ) → IsSafe d k → (IsTrue d.tells → AreTrue d.now k.agreement → is_current d.now i g ≡ true)
     → path_of slot ≡ Under (InRecord 8) n → slot < slot_limit
     → (IsTrue d.tells → is_bytes (value d.now i slot) ≡ false) → (IsTrue d.tells → find d.now i (InRecord 8) ≡ answer.Hole) → IsTrue d.tells
     → (H : List Entry1) (p : Past) → IsOpen d k H p → blocks_for p.world.files i slot ≡ 2
@@ -30,7 +30,7 @@ leaf-needs d k i g slot n safe current path low empty hole t H p o =
     (λ q j u. each-next (λ q j. IsNew 2 (Under (InRecord 8) n) q → find d.now i q ≡ answer.Hole) 2 (Under (InRecord 8) n) ((λ v. hole t), tt) q j u)
 
 pub below-needs : (d : DiskState) (k : Books) (i g slot : ℕ) (a : Path) (n : ℕ) (y : Pointer) → IsSafe d k
-    → (IsTrue d.tells → AreAgreed d.now k.agreed_inodes → is_current d.now i g ≡ true) → path_of slot ≡ Under a n → slot < slot_limit
+    → (IsTrue d.tells → AreTrue d.now k.agreement → is_current d.now i g ≡ true) → path_of slot ≡ Under a n → slot < slot_limit
     → (IsTrue d.tells → is_bytes (value d.now i slot) ≡ false) → (IsTrue d.tells → find d.now i a ≡ answer.Holds y) → IsTrue d.tells
     → (H : List Entry1) (p : Past) → IsOpen d k H p → blocks_for p.world.files i slot ≡ 1
 below-needs d k i g slot a n y safe current path low empty upper t H p o =
@@ -44,7 +44,7 @@ below-needs d k i g slot a n y safe current path low empty upper t H p o =
     not-both q j (inl e) (inr none) = absurd none
 
 pub child-needs : (d : DiskState) (k : Books) (i g slot j n : ℕ) (z : Pointer) → IsSafe d k
-    → (IsTrue d.tells → AreAgreed d.now k.agreed_inodes → is_current d.now i g ≡ true) → path_of slot ≡ Under (Under (InRecord 9) j) n → slot < slot_limit
+    → (IsTrue d.tells → AreTrue d.now k.agreement → is_current d.now i g ≡ true) → path_of slot ≡ Under (Under (InRecord 9) j) n → slot < slot_limit
     → (IsTrue d.tells → is_bytes (value d.now i slot) ≡ false) → (IsTrue d.tells → find d.now i (InRecord 9) ≡ answer.Holds z)
     → (IsTrue d.tells → find d.now i (Under (InRecord 9) j) ≡ answer.Hole)
     → IsTrue d.tells → (H : List Entry1) (p : Past) → IsOpen d k H p → blocks_for p.world.files i slot ≡ 2
@@ -60,7 +60,7 @@ child-needs d k i g slot j n z safe current path low empty held hole t H p o =
     top-old (inr (inl e)) = cc e
     top-old (inr (inr w)) = w
 
-pub top-needs : (d : DiskState) (k : Books) (i g slot j n : ℕ) → IsSafe d k → (IsTrue d.tells → AreAgreed d.now k.agreed_inodes → is_current d.now i g ≡ true)
+pub top-needs : (d : DiskState) (k : Books) (i g slot j n : ℕ) → IsSafe d k → (IsTrue d.tells → AreTrue d.now k.agreement → is_current d.now i g ≡ true)
     → path_of slot ≡ Under (Under (InRecord 9) j) n → slot < slot_limit
     → (IsTrue d.tells → is_bytes (value d.now i slot) ≡ false) → (IsTrue d.tells → find d.now i (InRecord 9) ≡ answer.Hole) → IsTrue d.tells
     → (H : List Entry1) (p : Past) → IsOpen d k H p → blocks_for p.world.files i slot ≡ 3

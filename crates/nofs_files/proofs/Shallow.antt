@@ -35,7 +35,7 @@ use Rattle.nofs_state.specs.Steps.{Goes}
 use Rattle.nofs_state.specs.Writing.{IsApart, Stores}
 use Rattle.nofs_state.specs.declared.books.Books.{Books}
 use Rattle.nofs_crashlaw.proofs.Below.{live-stands}
-use Rattle.nofs_agree.specs.Chains.{AreAgreed}
+use Rattle.nofs_agree.specs.Chains.{AreTrue}
 use Rattle.nofs_state.specs.Opening.{is_current}
 use Rattle.nofs_state.proofs.Machine.{agreed-live, are-agreed}
 use Rattle.nofs_state.proofs.Replies.{open-files}
@@ -70,7 +70,8 @@ place_at X i way x q = cond (same_path q way) x (pointer X i q)
 place-here : (X : Image) (i : ℕ) (way : Path) (x : Pointer) → place_at X i way x way ≡ x
 place-here X i way x = let e = same_path-refl way in rw e refl
 
-pub place-climbs : (X : Image) (i g slot at : ℕ) (bytes : List ℕ) (r : Record) (x : Pointer) (c1 c2 : Cell) → slot < slot_limit → inode X i ≡ r → r.kind ≡ Some File
+pub place-climbs : (X : Image) (i g slot at : ℕ) (bytes : List ℕ) (r : Record) (x : Pointer) (c1 c2 : Cell) → slot < slot_limit → inode X i ≡ r
+    → r.kind ≡ Some File
     → r.generation ≡ g → agreed (files_in X) i ≡ true → find X i (path_of slot) ≡ answer.Holds x
     → c1.payload ≡ put_content (Bytes (cell_at X x.block).payload) r.size slot at bytes → c1.tag ≡ (cell_at X x.block).tag
     → HasRecord X i (sized r (max r.size (1024 * slot + at + length bytes))) c2 → tag_of c2.tag ≡ Some (table_tag (table_block i))
@@ -176,7 +177,7 @@ claim-none W i g slot at bytes needs = record {
 
 pub place-ends : (old mid new : DiskState) (k l : Books) (i g slot at : ℕ) (bytes : List ℕ) (r : Record) (x : Pointer) (before c1 c20 c2 : Cell)
     (result : Result (Unit {0}) Refusal) → IsDisk mid → IsDisk new → StaysButFaults old mid → IsSafe old k → k.stopped ≡ false → IsFile old k.at i g r
-    → (IsTrue old.tells → AreAgreed old.now k.agreed_inodes → is_current old.now i g ≡ true) → slot < slot_limit → 0 < x.block
+    → (IsTrue old.tells → AreTrue old.now k.agreement → is_current old.now i g ≡ true) → slot < slot_limit → 0 < x.block
     → (IsTrue old.tells → find old.now i (path_of slot) ≡ answer.Holds x)
     → (IsTrue old.tells → before ≡ cell_at old.now x.block) → c1.payload ≡ put_content (Bytes before.payload) r.size slot at bytes → c1.tag ≡ before.tag
     → (IsTrue old.tells → c20 ≡ cell_at old.now (table_block i)) → RecordIn c20 i (sized r (max r.size (1024 * slot + at + length bytes))) c2
@@ -211,7 +212,7 @@ place-ends old mid new k l i g slot at bytes r x before c1 c20 c2 result is_mid 
 
 pub direct-ends : (old mid new : DiskState) (k l : Books) (i g slot at : ℕ) (bytes : List ℕ) (r : Record) (b : ℕ) (c1 c20 c2 : Cell)
     (result : Result (Unit {0}) Refusal) → IsDisk mid → IsDisk new → StaysButFaults old mid → IsSafe old k → k.stopped ≡ false → IsFile old k.at i g r
-    → (IsTrue old.tells → AreAgreed old.now k.agreed_inodes → is_current old.now i g ≡ true) → slot < 8 → length r.direct ≡ 8 → b < k.at.blocks
+    → (IsTrue old.tells → AreTrue old.now k.agreement → is_current old.now i g ≡ true) → slot < 8 → length r.direct ≡ 8 → b < k.at.blocks
     → is_set k.free_blocks b ≡ true → k.serial < 2 ^ 40 → (IsTrue old.tells → is_bytes (value old.now i slot) ≡ false)
     → c1.payload ≡ put_content (Bytes (number.zeros 1024)) r.size slot at bytes
     → tag_of c1.tag ≡ Some (record { kind = Content; inode = i; generation = g; slot = slot; stamp = (claimed_pointer k b).stamp })

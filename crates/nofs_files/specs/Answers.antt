@@ -22,15 +22,15 @@ use Rattle.nofs_machine.specs.declared.replies.Stat.{Stat}
 use Rattle.nofs_machine.specs.declared.replies.Reply.{Reply}
 use Rattle.nofs_machine.specs.declared.replies.Reply.TheVariants as reply
 use Rattle.nofs_machine.specs.declared.replies.Refusal.{Refusal}
-use Rattle.nofs_agree.specs.Chains.{AreAgreed, is_agreed_link}
+use Rattle.nofs_agree.specs.Chains.{AreTrue, is_agreed_link}
 
 abbrev pub stat_answer : Result Stat Refusal → Reply
 stat_answer (Ok it) = reply.Stat it
 stat_answer (Err why) = reply.Refused why
 
-pub record CountsLinks (old new : DiskState) (known : List Bool) (i : ℕ) (r : Record) (result : Result ℕ Failed) : Type 0 where
+pub record CountsLinks (old new : DiskState) (known : List (Option Bool)) (i : ℕ) (r : Record) (result : Result ℕ Failed) : Type 0 where
   pub stays : StaysButFaults old new
-  pub count : IfOk result (λ n. IsTrue old.tells → AreAgreed old.now known → n ≡ count_by (is_agreed_link (files_in old.now) i) r.links)
+  pub count : IfOk result (λ n. IsTrue old.tells → AreTrue old.now known → n ≡ count_by (is_agreed_link (files_in old.now) i) r.links)
   pub cause : OnErr result (Rose old.faults new.faults)
 
 -- how many slots a file can have
@@ -43,7 +43,8 @@ file_row X i g = if is_current X i g then row (is_kind kind.Directory (inode X i
 
 -- why a file was not opened: by its row, or by a failed read
 pub data FileFails (old new : DiskState) (k : Books) (i g : ℕ) (why : Refusal) : Type 0 where
-  FailsByRow : is_plain why ≡ true → InRange why → (IsTrue old.tells → AreAgreed old.now k.agreed_inodes → file_row old.now i g ≡ Some why) → FileFails old new k i g why
+  FailsByRow : is_plain why ≡ true → InRange why → (IsTrue old.tells → AreTrue old.now k.agreement → file_row old.now i g ≡ Some why)
+      → FileFails old new k i g why
   FailsByRead : why ≡ refusal.ReadFault → Rose old.faults new.faults → FileFails old new k i g why
 
 -- the record of a file
@@ -55,7 +56,7 @@ pub record IsFile (d : DiskState) (at : SuperBlock) (i g : ℕ) (r : Record) : T
 pub record OpensFile (old new : DiskState) (k : Books) (i g : ℕ) (last : LastRead) (result : Result Record Refusal) : Type 0 where
   pub stays : StaysButFaults old new
   pub file : IfOk result (IsFile new k.at i g)
-  pub current : IfOk result (λ r. IsTrue old.tells → AreAgreed old.now k.agreed_inodes → is_current old.now i g ≡ true)
+  pub current : IfOk result (λ r. IsTrue old.tells → AreTrue old.now k.agreement → is_current old.now i g ≡ true)
   pub kept : OnOk result (IsLast new last)
   pub refused : IfErr result (FileFails old new k i g)
 

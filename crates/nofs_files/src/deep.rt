@@ -8,7 +8,7 @@ ghost use Rattle.nofs_model.specs.Slots as slots;
 ghost use Rattle.nofs_model.specs.declared.path.PathAnswer.TheVariants as answer;
 ghost use Rattle.nofs_machine.specs.Meta.{is_bytes};
 ghost use Rattle.nofs_machine.specs.declared.steps.Step.TheVariants as step;
-ghost use Rattle.nofs_agree.specs.Chains.{AreAgreed};
+ghost use Rattle.nofs_agree.specs.Chains.{AreTrue};
 ghost use Rattle.nofs_agree.specs.Reading.{IsLast};
 ghost use Rattle.nofs_state.specs.Books.{IsSafe};
 ghost use Rattle.nofs_state.specs.Opening.{is_current};
@@ -49,7 +49,7 @@ pub(crate) fn put_below<D: Disk + Drop>(
     requires spare { 3 ≤ (D.state core.old.disk).spare }
     requires going { core.old.books.stopped ≡ false }
     requires file { IsFile (D.state core.old.disk) core.old.books.at inode generation it.now }
-    requires current { IsTrue (D.state core.old.disk).tells → AreAgreed (D.state core.old.disk).now core.old.books.agreed_inodes → is_current (D.state core.old.disk).now inode generation ≡ true }
+    requires current { IsTrue (D.state core.old.disk).tells → AreTrue (D.state core.old.disk).now core.old.books.agreement → is_current (D.state core.old.disk).now inode generation ≡ true }
     requires path { slots.path_of slot ≡ slots.Under (place_path above) place }
     requires slot { slot < slot_limit }
     requires place { place < 64 }
@@ -150,7 +150,7 @@ pub(crate) fn put_with_leaf<D: Disk + Drop>(
     requires spare { 3 ≤ (D.state core.old.disk).spare }
     requires going { core.old.books.stopped ≡ false }
     requires file { IsFile (D.state core.old.disk) core.old.books.at inode generation it.now }
-    requires current { IsTrue (D.state core.old.disk).tells → AreAgreed (D.state core.old.disk).now core.old.books.agreed_inodes → is_current (D.state core.old.disk).now inode generation ≡ true }
+    requires current { IsTrue (D.state core.old.disk).tells → AreTrue (D.state core.old.disk).now core.old.books.agreement → is_current (D.state core.old.disk).now inode generation ≡ true }
     requires path { slots.path_of slot ≡ slots.Under (slots.InRecord 8) place }
     requires slot { slot < slot_limit }
     requires place { place < 64 }
@@ -227,7 +227,7 @@ pub(crate) fn put_with_child<D: Disk + Drop>(
     requires spare { 4 ≤ (D.state core.old.disk).spare }
     requires going { core.old.books.stopped ≡ false }
     requires file { IsFile (D.state core.old.disk) core.old.books.at inode generation it.now }
-    requires current { IsTrue (D.state core.old.disk).tells → AreAgreed (D.state core.old.disk).now core.old.books.agreed_inodes → is_current (D.state core.old.disk).now inode generation ≡ true }
+    requires current { IsTrue (D.state core.old.disk).tells → AreTrue (D.state core.old.disk).now core.old.books.agreement → is_current (D.state core.old.disk).now inode generation ≡ true }
     requires path { slots.path_of slot ≡ slots.Under (slots.Under (slots.InRecord 9) child) place }
     requires child { child < 64 }
     requires slot { slot < slot_limit }
@@ -319,7 +319,7 @@ pub(crate) fn put_with_top<D: Disk + Drop>(
     requires spare { 4 ≤ (D.state core.old.disk).spare }
     requires going { core.old.books.stopped ≡ false }
     requires file { IsFile (D.state core.old.disk) core.old.books.at inode generation it.now }
-    requires current { IsTrue (D.state core.old.disk).tells → AreAgreed (D.state core.old.disk).now core.old.books.agreed_inodes → is_current (D.state core.old.disk).now inode generation ≡ true }
+    requires current { IsTrue (D.state core.old.disk).tells → AreTrue (D.state core.old.disk).now core.old.books.agreement → is_current (D.state core.old.disk).now inode generation ≡ true }
     requires path { slots.path_of slot ≡ slots.Under (slots.Under (slots.InRecord 9) child) place }
     requires child { child < 64 }
     requires slot { slot < slot_limit }
@@ -436,7 +436,7 @@ pub(crate) fn put_new_leaf<D: Disk + Drop>(
     requires spare { 3 ≤ (D.state core.old.disk).spare }
     requires going { core.old.books.stopped ≡ false }
     requires file { IsFile (D.state core.old.disk) core.old.books.at inode generation it.now }
-    requires current { IsTrue (D.state core.old.disk).tells → AreAgreed (D.state core.old.disk).now core.old.books.agreed_inodes → is_current (D.state core.old.disk).now inode generation ≡ true }
+    requires current { IsTrue (D.state core.old.disk).tells → AreTrue (D.state core.old.disk).now core.old.books.agreement → is_current (D.state core.old.disk).now inode generation ≡ true }
     requires path { slots.path_of slot ≡ slots.Under (slots.InRecord 8) place }
     requires slot { slot < slot_limit }
     requires place { place < 64 }
@@ -487,7 +487,7 @@ pub(crate) fn put_new_below<D: Disk + Drop>(
     requires spare { 3 ≤ (D.state core.old.disk).spare }
     requires going { core.old.books.stopped ≡ false }
     requires file { IsFile (D.state core.old.disk) core.old.books.at inode generation it.now }
-    requires current { IsTrue (D.state core.old.disk).tells → AreAgreed (D.state core.old.disk).now core.old.books.agreed_inodes → is_current (D.state core.old.disk).now inode generation ≡ true }
+    requires current { IsTrue (D.state core.old.disk).tells → AreTrue (D.state core.old.disk).now core.old.books.agreement → is_current (D.state core.old.disk).now inode generation ≡ true }
     requires path { slots.path_of slot ≡ slots.Under (place_path above) place }
     requires slot { slot < slot_limit }
     requires place { place < 64 }
@@ -540,7 +540,7 @@ pub(crate) fn put_new_child<D: Disk + Drop>(
     requires spare { 4 ≤ (D.state core.old.disk).spare }
     requires going { core.old.books.stopped ≡ false }
     requires file { IsFile (D.state core.old.disk) core.old.books.at inode generation it.now }
-    requires current { IsTrue (D.state core.old.disk).tells → AreAgreed (D.state core.old.disk).now core.old.books.agreed_inodes → is_current (D.state core.old.disk).now inode generation ≡ true }
+    requires current { IsTrue (D.state core.old.disk).tells → AreTrue (D.state core.old.disk).now core.old.books.agreement → is_current (D.state core.old.disk).now inode generation ≡ true }
     requires path { slots.path_of slot ≡ slots.Under (slots.Under (slots.InRecord 9) child) place }
     requires child { child < 64 }
     requires slot { slot < slot_limit }
@@ -623,7 +623,7 @@ pub(crate) fn put_new_top<D: Disk + Drop>(
     requires spare { 4 ≤ (D.state core.old.disk).spare }
     requires going { core.old.books.stopped ≡ false }
     requires file { IsFile (D.state core.old.disk) core.old.books.at inode generation it.now }
-    requires current { IsTrue (D.state core.old.disk).tells → AreAgreed (D.state core.old.disk).now core.old.books.agreed_inodes → is_current (D.state core.old.disk).now inode generation ≡ true }
+    requires current { IsTrue (D.state core.old.disk).tells → AreTrue (D.state core.old.disk).now core.old.books.agreement → is_current (D.state core.old.disk).now inode generation ≡ true }
     requires path { slots.path_of slot ≡ slots.Under (slots.Under (slots.InRecord 9) child) place }
     requires child { child < 64 }
     requires slot { slot < slot_limit }

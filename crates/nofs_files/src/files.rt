@@ -46,7 +46,7 @@ pub(crate) fn open_file<D: Disk>(
     last: &mut LastRead,
 ) -> Result<Record, Refusal>
     requires numbers { IsAt (D.state disk.old) books.now.at }
-    requires agreed { length books.now.agreed_inodes ≡ books.now.at.inodes }
+    requires agreed { length books.now.agreement ≡ books.now.at.inodes }
     requires last { IsLast (D.state disk.old) last.old }
     ensures { OpensFile (D.state disk.old) (D.state disk.new) books.now inode generation last.new result }
 {

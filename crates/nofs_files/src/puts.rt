@@ -8,7 +8,7 @@ ghost use Rattle.nofs_disk.specs.Disk.{cell_at};
 ghost use Rattle.nofs_model.specs.declared.path.PathAnswer.TheVariants as answer;
 ghost use Rattle.nofs_machine.specs.Claims.{no_claims};
 ghost use Rattle.nofs_machine.specs.declared.steps.Step.TheVariants as step;
-ghost use Rattle.nofs_agree.specs.Chains.{AreAgreed};
+ghost use Rattle.nofs_agree.specs.Chains.{AreTrue};
 ghost use Rattle.nofs_agree.specs.Reading.{IsLast};
 ghost use Rattle.nofs_law_numbers.specs.Cells.{table_tag};
 ghost use Rattle.nofs_state.specs.Books.{IsSafe};
@@ -72,7 +72,7 @@ pub(crate) fn put_in_place<D: Disk + Drop>(
     requires spare { 2 ≤ (D.state core.old.disk).spare }
     requires going { core.old.books.stopped ≡ false }
     requires file { IsFile (D.state core.old.disk) core.old.books.at inode generation it.now }
-    requires current { IsTrue (D.state core.old.disk).tells → AreAgreed (D.state core.old.disk).now core.old.books.agreed_inodes → is_current (D.state core.old.disk).now inode generation ≡ true }
+    requires current { IsTrue (D.state core.old.disk).tells → AreTrue (D.state core.old.disk).now core.old.books.agreement → is_current (D.state core.old.disk).now inode generation ≡ true }
     requires slot { slot < slot_limit }
     requires range { at + length bytes.now ≤ 1024 }
     requires size { it.now.size ≤ largest_size }
@@ -164,7 +164,7 @@ fn put_in_hole<D: Disk + Drop>(
     requires spare { 2 ≤ (D.state core.old.disk).spare }
     requires going { core.old.books.stopped ≡ false }
     requires file { IsFile (D.state core.old.disk) core.old.books.at inode generation it.now }
-    requires current { IsTrue (D.state core.old.disk).tells → AreAgreed (D.state core.old.disk).now core.old.books.agreed_inodes → is_current (D.state core.old.disk).now inode generation ≡ true }
+    requires current { IsTrue (D.state core.old.disk).tells → AreTrue (D.state core.old.disk).now core.old.books.agreement → is_current (D.state core.old.disk).now inode generation ≡ true }
     requires slot { slot < 8 }
     requires range { at + length bytes.now ≤ 1024 }
     requires size { it.now.size ≤ largest_size }
@@ -239,7 +239,7 @@ pub(crate) fn put_new<D: Disk + Drop>(
     requires spare { 2 ≤ (D.state core.old.disk).spare }
     requires going { core.old.books.stopped ≡ false }
     requires file { IsFile (D.state core.old.disk) core.old.books.at inode generation it.now }
-    requires current { IsTrue (D.state core.old.disk).tells → AreAgreed (D.state core.old.disk).now core.old.books.agreed_inodes → is_current (D.state core.old.disk).now inode generation ≡ true }
+    requires current { IsTrue (D.state core.old.disk).tells → AreTrue (D.state core.old.disk).now core.old.books.agreement → is_current (D.state core.old.disk).now inode generation ≡ true }
     requires slot { slot < 8 }
     requires range { at + length bytes.now ≤ 1024 }
     requires size { it.now.size ≤ largest_size }

@@ -3,7 +3,7 @@ ghost use Rattle.std.specs.Prelude.{◌≡◌, ◌*◌, ◌<◌, ◌≤◌, ◌�
 ghost use Rattle.nofs_inode.specs.InodeRecords.{HasRecordSpelling, largest_size};
 ghost use Rattle.nofs_machine.specs.Claims.{no_claims};
 ghost use Rattle.nofs_machine.specs.declared.steps.Step.TheVariants as step;
-ghost use Rattle.nofs_agree.specs.Chains.{AreAgreed};
+ghost use Rattle.nofs_agree.specs.Chains.{AreTrue};
 ghost use Rattle.nofs_agree.specs.Reading.{IsLast};
 ghost use Rattle.nofs_state.specs.Books.{IsSafe};
 ghost use Rattle.nofs_state.specs.Opening.{is_current};
@@ -133,7 +133,7 @@ fn resize_cut<D: Disk + Drop>(
     requires spare { 4 ≤ (D.state core.old.disk).spare }
     requires going { core.old.books.stopped ≡ false }
     requires file { IsFile (D.state core.old.disk) core.old.books.at inode it.now.generation it.now }
-    requires current { IsTrue (D.state core.old.disk).tells → AreAgreed (D.state core.old.disk).now core.old.books.agreed_inodes → is_current (D.state core.old.disk).now inode it.now.generation ≡ true }
+    requires current { IsTrue (D.state core.old.disk).tells → AreTrue (D.state core.old.disk).now core.old.books.agreement → is_current (D.state core.old.disk).now inode it.now.generation ≡ true }
     requires old { it.now.size ≤ largest_size }
     requires size { size ≤ largest_size }
     requires eight { length it.now.direct ≡ 8 }
@@ -186,7 +186,7 @@ fn resize_file<D: Disk + Drop>(
     requires spare { 4 ≤ (D.state core.old.disk).spare }
     requires going { core.old.books.stopped ≡ false }
     requires file { IsFile (D.state core.old.disk) core.old.books.at inode it.now.generation it.now }
-    requires current { IsTrue (D.state core.old.disk).tells → AreAgreed (D.state core.old.disk).now core.old.books.agreed_inodes → is_current (D.state core.old.disk).now inode it.now.generation ≡ true }
+    requires current { IsTrue (D.state core.old.disk).tells → AreTrue (D.state core.old.disk).now core.old.books.agreement → is_current (D.state core.old.disk).now inode it.now.generation ≡ true }
     requires fits { size ≤ 1024 * slots_of core.old.books.at }
     requires size { size ≤ largest_size }
     requires last { IsLast (D.state core.old.disk) last.old }

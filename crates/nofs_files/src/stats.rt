@@ -49,16 +49,16 @@ fn count_links<D: Disk>(
     last: &mut LastRead,
 ) -> Result<u32, Failed>
     requires known { KnowsInode (D.state disk.old) books.now.at inode it.now }
-    requires agreed { length books.now.agreed_inodes ≡ books.now.at.inodes }
+    requires agreed { length books.now.agreement ≡ books.now.at.inodes }
     requires last { IsLast (D.state disk.old) last.old }
-    ensures { CountsLinks (D.state disk.old) (D.state disk.new) books.now.agreed_inodes inode it.now result }
+    ensures { CountsLinks (D.state disk.old) (D.state disk.new) books.now.agreement inode it.now result }
 {
     let mut links = 0;
     for place in 0..4 {
         let is_pair = is_agreed_link(
             disk,
             &books.at,
-            &books.agreed_inodes,
+            &books.agreement,
             inode,
             it,
             &it.links[place],

@@ -6,7 +6,7 @@ ghost use Rattle.nofs_model.specs.Slots as slots;
 ghost use Rattle.nofs_model.specs.declared.path.PathAnswer.TheVariants as answer;
 ghost use Rattle.nofs_machine.specs.Meta.{is_bytes};
 ghost use Rattle.nofs_machine.specs.declared.steps.Step.TheVariants as step;
-ghost use Rattle.nofs_agree.specs.Chains.{AreAgreed};
+ghost use Rattle.nofs_agree.specs.Chains.{AreTrue};
 ghost use Rattle.nofs_agree.specs.Reading.{IsLast};
 ghost use Rattle.nofs_state.specs.Books.{IsSafe};
 ghost use Rattle.nofs_state.specs.Opening.{is_current};
@@ -146,7 +146,7 @@ fn put_new_block<D: Disk + Drop>(
     requires spare { 4 ≤ (D.state core.old.disk).spare }
     requires going { core.old.books.stopped ≡ false }
     requires file { IsFile (D.state core.old.disk) core.old.books.at inode generation it.now }
-    requires current { IsTrue (D.state core.old.disk).tells → AreAgreed (D.state core.old.disk).now core.old.books.agreed_inodes → is_current (D.state core.old.disk).now inode generation ≡ true }
+    requires current { IsTrue (D.state core.old.disk).tells → AreTrue (D.state core.old.disk).now core.old.books.agreement → is_current (D.state core.old.disk).now inode generation ≡ true }
     requires slot { slot < slot_limit }
     requires range { at + length bytes.now ≤ 1024 }
     requires size { it.now.size ≤ largest_size }
@@ -180,7 +180,7 @@ fn put_under_leaf<D: Disk + Drop>(
     requires spare { 4 ≤ (D.state core.old.disk).spare }
     requires going { core.old.books.stopped ≡ false }
     requires file { IsFile (D.state core.old.disk) core.old.books.at inode generation it.now }
-    requires current { IsTrue (D.state core.old.disk).tells → AreAgreed (D.state core.old.disk).now core.old.books.agreed_inodes → is_current (D.state core.old.disk).now inode generation ≡ true }
+    requires current { IsTrue (D.state core.old.disk).tells → AreTrue (D.state core.old.disk).now core.old.books.agreement → is_current (D.state core.old.disk).now inode generation ≡ true }
     requires from { 8 ≤ slot }
     requires slot { slot < 72 }
     requires range { at + length bytes.now ≤ 1024 }
@@ -222,7 +222,7 @@ fn put_under_top<D: Disk + Drop>(
     requires spare { 4 ≤ (D.state core.old.disk).spare }
     requires going { core.old.books.stopped ≡ false }
     requires file { IsFile (D.state core.old.disk) core.old.books.at inode generation it.now }
-    requires current { IsTrue (D.state core.old.disk).tells → AreAgreed (D.state core.old.disk).now core.old.books.agreed_inodes → is_current (D.state core.old.disk).now inode generation ≡ true }
+    requires current { IsTrue (D.state core.old.disk).tells → AreTrue (D.state core.old.disk).now core.old.books.agreement → is_current (D.state core.old.disk).now inode generation ≡ true }
     requires from { 72 ≤ slot }
     requires slot { slot < slot_limit }
     requires range { at + length bytes.now ≤ 1024 }
@@ -268,7 +268,7 @@ fn put_under_child<D: Disk + Drop>(
     requires spare { 4 ≤ (D.state core.old.disk).spare }
     requires going { core.old.books.stopped ≡ false }
     requires file { IsFile (D.state core.old.disk) core.old.books.at inode generation it.now }
-    requires current { IsTrue (D.state core.old.disk).tells → AreAgreed (D.state core.old.disk).now core.old.books.agreed_inodes → is_current (D.state core.old.disk).now inode generation ≡ true }
+    requires current { IsTrue (D.state core.old.disk).tells → AreTrue (D.state core.old.disk).now core.old.books.agreement → is_current (D.state core.old.disk).now inode generation ≡ true }
     requires path { slots.path_of slot ≡ slots.Under (slots.Under (slots.InRecord 9) child) place }
     requires child { child < 64 }
     requires slot { slot < slot_limit }

@@ -1,5 +1,6 @@
 -- What a Make asks for, and what it claims.
 use Rattle.std.proofs.Common.{◌≡◌, ◌≢◌, ℕ, zero, suc, ◌+◌, ◌-◌, ◌*◌, ◌/◌, ◌^◌, ◌<◌, ◌≤◌, ◌⊎◌, true, false, eqb, ne_eqb, ltb, not, List, [], ◌∷◌}
+use Rattle.nofs_agree.proofs.Learning.{told-other, told-set}
 use Rattle.std.proofs.Common.{length, Some, inl, inr, refl, sym, ap, ◌∙◌, subst, arith, Contains}
 use Rattle.std.specs.Prelude.{slice_set}
 use Rattle.std.proofs.lemmas.Bool.{cases_eq}
@@ -154,11 +155,12 @@ module _ (k : Books) (i n : ℕ) (low : 1 ≤ i) (high : i ≤ length k.free_ino
 
   pub taken-none : Taken k (made_books k i) (make_claims i n null null) 0
   taken-none = record {
-    same = ap (λ (m : ℕ). record k { free_inodes = slice_set k.free_inodes (i - 1) false; agreed_inodes = slice_set k.agreed_inodes (i - 1) true; serial = m })
+    same = ap (λ (m : ℕ). record k { free_inodes = slice_set k.free_inodes (i - 1) false; agreement = slice_set k.agreement (i - 1) (Some true); serial = m })
         (let e : k.serial + 1 ≡ k.serial + 1 + 0 = omega arith in e);
     inode_here = set-here k.free_inodes (i - 1) false (let h = high in let l = low in omega (arith, h, l));
     inodes = λ j a ne. set-other k.free_inodes (i - 1) (j - 1) false (other-place j a ne);
-    agreed = λ j a ne. set-other k.agreed_inodes (i - 1) (j - 1) true (other-place j a ne);
+    agreed_here = λ a t. told-set k.agreement i (Some true) a low t;
+    agreed = λ j ne. told-other k.agreement i j (Some true) low ne;
     here = λ x h. absurd (elim h.1 [ inl e ↦ not-null x e h.0 | inr r ↦ elim r [ inl e ↦ not-null x e h.0 | inr e ↦ not-null x e h.0 ] ]);
     other = λ m none. refl;
   }
@@ -168,14 +170,14 @@ module _ (k : Books) (i n : ℕ) (low : 1 ≤ i) (high : i ≤ length k.free_ino
   taken-one x range named = record {
     same = ap (λ (m : ℕ). record k {
       free_inodes = slice_set k.free_inodes (i - 1) false;
-      agreed_inodes = slice_set k.agreed_inodes
-          (i - 1) true;
+      agreement = slice_set k.agreement (i - 1) (Some true);
       free_blocks = slice_set k.free_blocks x.block false;
       serial = m;
     }) (let e : k.serial + 1 + 1 ≡ k.serial + 1 + 1 = refl in e);
     inode_here = set-here k.free_inodes (i - 1) false (let h = high in let l = low in omega (arith, h, l));
     inodes = λ j a ne. set-other k.free_inodes (i - 1) (j - 1) false (other-place j a ne);
-    agreed = λ j a ne. set-other k.agreed_inodes (i - 1) (j - 1) true (other-place j a ne);
+    agreed_here = λ a t. told-set k.agreement i (Some true) a low t;
+    agreed = λ j ne. told-other k.agreement i j (Some true) low ne;
     here = λ q h. elim h.1 [
       | inl e ↦ subst (λ (z : Pointer). is_set (slice_set k.free_blocks x.block false) z.block ≡ false) e (set-here k.free_blocks x.block false range)
       | inr r ↦ absurd (elim r [ inl e ↦ not-null q e h.0 | inr e ↦ not-null q e h.0 ])
@@ -188,15 +190,15 @@ module _ (k : Books) (i n : ℕ) (low : 1 ≤ i) (high : i ≤ length k.free_ino
   taken-two x y range range_y named named_y = record {
     same = ap (λ (m : ℕ). record k {
       free_inodes = slice_set k.free_inodes (i - 1) false;
-      agreed_inodes = slice_set k.agreed_inodes
-          (i - 1) true;
+      agreement = slice_set k.agreement (i - 1) (Some true);
       free_blocks = slice_set (slice_set k.free_blocks x.block false) y.block false;
       serial = m;
     })
         (let e : k.serial + 1 + 1 + 1 ≡ k.serial + 1 + 2 = omega arith in e);
     inode_here = set-here k.free_inodes (i - 1) false (let h = high in let l = low in omega (arith, h, l));
     inodes = λ j a ne. set-other k.free_inodes (i - 1) (j - 1) false (other-place j a ne);
-    agreed = λ j a ne. set-other k.agreed_inodes (i - 1) (j - 1) true (other-place j a ne);
+    agreed_here = λ a t. told-set k.agreement i (Some true) a low t;
+    agreed = λ j ne. told-other k.agreement i j (Some true) low ne;
     here = λ q h. elim h.1 [
       | inl e ↦ subst (λ (z : Pointer). is_set (slice_set (slice_set k.free_blocks x.block false) y.block false) z.block ≡ false) e
           (first (cases_eq x.block y.block))

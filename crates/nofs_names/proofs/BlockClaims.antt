@@ -1,5 +1,6 @@
 -- A step that claims blocks for one slot, or none, and no inode: what was claimed is used, and known to be.
 use Rattle.std.proofs.Common.{◌≡◌, ◌≢◌, ℕ, ◌+◌, ◌-◌, ◌<◌, ◌≤◌, Bool, true, false, cond, ◌&&◌, ◌||◌, not, Option, Some, None, is_some, inl, inr, refl, sym, ap, ◌∙◌, subst, arith}
+use Rattle.nofs_agree.specs.Chains.{told}
 use Rattle.nofs_bits.specs.Bits.{is_set}
 use Rattle.nofs_model.specs.Cells.{Pointer, SuperBlock}
 use Rattle.nofs_model.specs.Image.{Image, is_special, Files, Home}
@@ -129,6 +130,5 @@ module _ (X : Image) (k l : Books) (W : World) (s : Step) (c : Claims) (m : ℕ)
       | inr (none, home) ↦ taken.other n none ∙ says.free_blocks n (subst (λ (q : SuperBlock). n < q.blocks) l-at lt) ∙
           (λ q. block-known n q && not (sym (V-other n home) q))
     ];
-    agreed_inodes = λ j a b t. V-file j ∙ says.agreed_inodes j a (subst (λ (q : SuperBlock). j ≤ q.inodes) l-at b)
-        (ap (λ (q : Books). is_set q.agreed_inodes (j - 1)) (sym taken.same) ∙ t);
+    agreement = λ j a t. V-file j ∙ says.agreement j a (ap (λ (q : Books). told q.agreement j) (sym taken.same) ∙ t);
   }

@@ -1,5 +1,6 @@
 -- A step that claims an inode, and perhaps blocks for one slot: what was claimed is used, and known to be.
 use Rattle.std.proofs.Common.{◌≡◌, ◌≢◌, ℕ, ◌+◌, ◌-◌, ◌<◌, ◌≤◌, ◌⊎◌, Bool, true, false, cond, ltb, eqb, eqb-true, eq-eqb, ◌&&◌, ◌||◌, not, [], ◌∷◌}
+use Rattle.nofs_agree.specs.Chains.{told}
 use Rattle.std.proofs.Common.{Option, Some, None, is_some, inl, inr, refl, sym, ap, ◌∙◌, subst, arith}
 use Rattle.std.proofs.lemmas.Bool.{cases_eq}
 use Rattle.nofs_bits.specs.Bits.{is_set}
@@ -110,12 +111,16 @@ pub record IsTaking (W : World) (s : Step) (c : Claims) (G : Files) (at : Home) 
 
 -- the books after it: the inode and m blocks are not free
 pub record Taken (k l : Books) (c : Claims) (m : ℕ) : Type 0 where
-  pub same : l ≡ record k { free_inodes = l.free_inodes; agreed_inodes = l.agreed_inodes; free_blocks = l.free_blocks; serial = k.serial + 1 + m }
+  pub same : l ≡ record k { free_inodes = l.free_inodes; agreement = l.agreement; free_blocks = l.free_blocks; serial = k.serial + 1 + m }
   pub inode_here : is_set l.free_inodes (c.inode - 1) ≡ false
   pub inodes : (j : ℕ) → 1 ≤ j → j ≢ c.inode → is_set l.free_inodes (j - 1) ≡ is_set k.free_inodes (j - 1)
-  pub agreed : (j : ℕ) → 1 ≤ j → j ≢ c.inode → is_set l.agreed_inodes (j - 1) ≡ is_set k.agreed_inodes (j - 1)
+  pub agreed_here : (a : Bool) → told l.agreement c.inode ≡ Some a → Some true ≡ Some a
+  pub agreed : (j : ℕ) → j ≢ c.inode → told l.agreement j ≡ told k.agreement j
   pub here : (x : Pointer) → IsClaimed c x → is_set l.free_blocks x.block ≡ false
   pub other : (n : ℕ) → ((x : Pointer) → IsClaimed c x → n ≢ x.block) → is_set l.free_blocks n ≡ is_set k.free_blocks n
+
+is-true : (a : Bool) → Some true ≡ Some a → true ≡ a
+is-true a e = cc e
 
 or-true : (b : Bool) → (b || true) ≡ true
 or-true true = refl
@@ -236,8 +241,8 @@ module _ (X : Image) (k l : Books) (W : World) (s : Step) (c : Claims) (m : ℕ)
       | inr (none, home) ↦ taken.other n none ∙ says.free_blocks n (subst (λ (q : SuperBlock). n < q.blocks) l-at lt)
           ∙ (λ q. block-known n q && not (sym (V-other n home) q))
     ];
-    agreed_inodes = λ j a b t. elim (cases_eq j c.inode) [
-      | inl here ↦ V-file j ∙ ap (λ (n : ℕ). is_some (G n)) here ∙ taking.made
-      | inr other ↦ V-file j ∙ taking.used j other ∙ says.agreed_inodes j a (subst (λ (q : SuperBlock). j ≤ q.inodes) l-at b) (sym (taken.agreed j a other) ∙ t)
+    agreement = λ j a t. elim (cases_eq j c.inode) [
+      | inl here ↦ V-file j ∙ ap (λ (n : ℕ). is_some (G n)) here ∙ taking.made ∙ is-true a (taken.agreed_here a (subst (λ (n : ℕ). told l.agreement n ≡ Some a) here t))
+      | inr other ↦ V-file j ∙ taking.used j other ∙ says.agreement j a (sym (taken.agreed j other) ∙ t)
     ];
   }

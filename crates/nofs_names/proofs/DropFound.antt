@@ -23,7 +23,7 @@ use Rattle.nofs_state.specs.declared.books.Books.{Books}
 use Rattle.nofs_state.proofs.Keeping.{goes-memory, reads-keep}
 use Rattle.nofs_state.proofs.Replies.{goes-row, goes-read, open-files}
 use Rattle.nofs_state.proofs.Machine.{agreed-live, are-agreed}
-use Rattle.nofs_names.specs.Refusing.{KnownAgreed}
+use Rattle.nofs_names.specs.Refusing.{KnownTrue}
 use Rattle.nofs_names.specs.Renames.{HoldFails, HoldsSlot}
 use Rattle.nofs_names.specs.Drops.{relinked}
 use Rattle.nofs_names.specs.Keeping.{TellsKept}
@@ -61,8 +61,8 @@ module _ (old mid : DiskState) (k : Books) (d g : ℕ) (name : List ℕ) (r : Re
 
   -- whether the inode goes
   pub drop-keeps : (links : List BackLink) (last : LastRead) (res b : Bool) → links ≡ (relinked q.record (link_to d q.entry g)).links
-      → TellsKept old mid k.agreed_inodes q.inode links last (Ok res) → res ≡ b
-      → IsTrue old.tells → KnownAgreed k old.now → (F : Files) → FilesMatch F old.now → is_gone (drop_meta F q.inode (link_to d q.entry g)) ≡ not b
+      → TellsKept old mid k.agreement q.inode links last (Ok res) → res ≡ b
+      → IsTrue old.tells → KnownTrue k old.now → (F : Files) → FilesMatch F old.now → is_gone (drop_meta F q.inode (link_to d q.entry g)) ≡ not b
   drop-keeps links last res b el tells eb t all F match =
       let pair = may.found t (may.there t all) F match in
       let a : agreed (files_in old.now) q.inode ≡ true = pair.pair.agreed in

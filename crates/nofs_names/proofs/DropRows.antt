@@ -28,7 +28,7 @@ use Rattle.nofs_state.proofs.Replies.{goes-row, open-files}
 use Rattle.nofs_state.proofs.Rows.{IsLate, first-late, late-row}
 use Rattle.nofs_state.proofs.Machine.{are-agreed}
 use Rattle.nofs_names.specs.Searching.{IsFoundEntry}
-use Rattle.nofs_names.specs.Refusing.{Fails, ByRow, ByRead, KnownAgreed, IsThere, directory_rows, missing_rows, OpensDirectory, FindsPair}
+use Rattle.nofs_names.specs.Refusing.{Fails, ByRow, ByRead, KnownTrue, IsThere, directory_rows, missing_rows, OpensDirectory, FindsPair}
 use Rattle.nofs_names.specs.Dropping.{FindsEmpty, MayDrop, filled_rows}
 use Rattle.nofs_names.specs.declared.searching.Paired.{Paired}
 use Rattle.nofs_names.proofs.Least.{least-none}
@@ -77,7 +77,7 @@ module _ (old : DiskState) (k : Books) (d g : ℕ) (name : List ℕ) (is : IsDis
     pub drop-unopened : (mid : DiskState) (last : LastRead) (res : Result Record Refusal) (why : Refusal) → OpensDirectory old mid k d g last res
         → res ≡ Err why → Goes old k mid k (step.Drop d g name) no_claims (reply.Refused why)
     drop-unopened mid last res why opens e = goes-fails old mid k (step.Drop d g name) (directory_rows d g) why is safe going opens.stays
-        (subst (λ (r : Result Record Refusal). IfErr r (Fails old mid (KnownAgreed k) (directory_rows d g))) e opens.refused)
+        (subst (λ (r : Result Record Refusal). IfErr r (Fails old mid (KnownTrue k) (directory_rows d g))) e opens.refused)
         (λ t H p o q. rows-are p.world p.world ∙ first-left (directory_rows d g p.world) (missing_rows d name p.world ++ (not_empty p.world d name ∷ [])) why
         q) late
 
@@ -90,7 +90,7 @@ module _ (old : DiskState) (k : Books) (d g : ℕ) (name : List ℕ) (is : IsDis
             → Goes old k new k (step.Drop d g name) no_claims (reply.Refused why)
         drop-missing res why finds e = goes-fails old new k (step.Drop d g name) (missing_rows d name) why is safe going
             (StaysButFaults-trans old mid new opens.stays finds.stays)
-            (fails-given old new (IsThere d) (KnownAgreed k) (missing_rows d name) why opens.there
+            (fails-given old new (IsThere d) (KnownTrue k) (missing_rows d name) why opens.there
             (fails-after old mid new (IsThere d) (missing_rows d name) why opens.stays
             (subst (λ (q : Result Paired Refusal). IfErr q (Fails mid new (IsThere d) (missing_rows d name))) e finds.refused)))
             (λ t H p o q. rows-are p.world p.world ∙ first-right (directory_rows d g p.world) (missing_rows d name p.world ++ (not_empty p.world d name ∷ []))
@@ -100,7 +100,7 @@ module _ (old : DiskState) (k : Books) (d g : ℕ) (name : List ℕ) (is : IsDis
           to-new : StaysButFaults old new
           to-new = StaysButFaults-trans old mid new opens.stays finds.stays
 
-          found-in : IsTrue old.tells → KnownAgreed k old.now → (F : Files) → FilesMatch F old.now → IsFoundEntry F old.now d name q
+          found-in : IsTrue old.tells → KnownTrue k old.now → (F : Files) → FilesMatch F old.now → IsFoundEntry F old.now d name q
           found-in t all F match = subst (λ (X : Image). IsThere d X → FilesMatch F X → IsFoundEntry F X d name q) opens.stays.cells.now
               (λ a m. finds.found (told-on old mid opens.stays t) a F m) (opens.there t all) match
 
@@ -117,7 +117,7 @@ module _ (old : DiskState) (k : Books) (d g : ℕ) (name : List ℕ) (is : IsDis
               ∙ first-right (missing_rows d name p.world) (not_empty p.world d name ∷ []) (none-missing t H p o)
               ∙ ap (λ (x : Option Refusal). first_of (x ∷ [])) (filled-is p.world old.now d name q (found-here t H p o))
 
-          by-found : (why : Refusal) → Fails old end (IsThere q.inode) (filled_rows q.inode) why → Fails old end (KnownAgreed k) (filled_rows q.inode) why
+          by-found : (why : Refusal) → Fails old end (IsThere q.inode) (filled_rows q.inode) why → Fails old end (KnownTrue k) (filled_rows q.inode) why
           by-found why (ByRow plain range comes) = ByRow plain range (λ t all W match. comes t (found-in t all W.files match).pair.agreed W match)
           by-found why (ByRead is rose) = ByRead is rose
 

@@ -16,7 +16,8 @@ use Rattle.nofs_agree.proofs.Climbs.{Passed}
 use Rattle.nofs_state.proofs.Machine.{machine-pair}
 
 -- no link of four is one
-pub none-left : (old now : DiskState) (known : List Bool) (i : ℕ) (r : Record) (last : LastRead) (place : ℕ) → length r.links ≡ 4 → Passed old now known i r last place → 4 ≤ place
+pub none-left : (old now : DiskState) (known : List (Option Bool)) (i : ℕ) (r : Record) (last : LastRead) (place : ℕ) → length r.links ≡ 4
+    → Passed old now known i r last place → 4 ≤ place
     → TellsAgreed old now known (λ X. list_any (is_agreed_link (files_in X) i) r.links) last (Ok false)
 none-left old now known i r last place four p all = record {
   stays = p.stays;
@@ -26,7 +27,8 @@ none-left old now known i r last place four p all = record {
 }
 
 -- what the machine says of the inode after the link is gone
-pub keeps-is : (F : Files) (X : Image) (i : ℕ) (f : FileState) (link : BackLink) (b : Bool) → FilesMatch F X → agreed (files_in X) i ≡ true → F i ≡ Some f → b ≡ (is_special i || list_any (is_agreed_link (files_in X) i) (without_link link f.links)) → is_gone (drop_meta F i link) ≡ not b
+pub keeps-is : (F : Files) (X : Image) (i : ℕ) (f : FileState) (link : BackLink) (b : Bool) → FilesMatch F X → agreed (files_in X) i ≡ true → F i ≡ Some f
+    → b ≡ (is_special i || list_any (is_agreed_link (files_in X) i) (without_link link f.links)) → is_gone (drop_meta F i link) ≡ not b
 keeps-is F X i f link b match a e eb =
     let same : list_any (is_agreed_link (files_in X) i) (without_link link f.links) ≡ list_any (λ l. is_pair F i l) (without_link link f.links) =
     any-same (λ l. is_agreed_link (files_in X) i l) (λ l. is_pair F i l) (without_link link f.links) (λ l. sym (machine-pair F X i l match a)) in

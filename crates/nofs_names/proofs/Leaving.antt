@@ -1,5 +1,6 @@
 -- A step with which one inode goes: what it used is free, and known to be.
 use Rattle.std.proofs.Common.{◌≡◌, ◌≢◌, ℕ, ◌+◌, ◌-◌, ◌<◌, ◌≤◌, ◌⊎◌, Bool, true, false, cond, ltb, eqb, eqb-true, eq-eqb, ◌&&◌, ◌||◌, not, Option, Some, None, is_some, inl, inr, refl, sym, ap, ◌∙◌, subst, arith}
+use Rattle.nofs_agree.specs.Chains.{told}
 use Rattle.std.proofs.lemmas.Bool.{cases_eq}
 use Rattle.nofs_ptrs.specs.Paths.{slot_limit}
 use Rattle.nofs_bits.specs.Bits.{is_set}
@@ -44,7 +45,7 @@ pub record Freed (k l : Books) (i : ℕ) (owned : ℕ → Bool) : Type 0 where
   pub known_blocks : (q : ℕ) → knows_block l q ≡ (knows_block k q || owned q)
   pub free_inodes : (j : ℕ) → 1 ≤ j → j ≤ k.at.inodes → is_set l.free_inodes (j - 1) ≡ (is_set k.free_inodes (j - 1) || eqb j i)
   pub free_blocks : (q : ℕ) → q < k.at.blocks → is_set l.free_blocks q ≡ (is_set k.free_blocks q || owned q)
-  pub agreed_inodes : (j : ℕ) → 1 ≤ j → j ≤ k.at.inodes → is_set l.agreed_inodes (j - 1) ≡ true → (j ≢ i) × (is_set k.agreed_inodes (j - 1) ≡ true)
+  pub agreement : (j : ℕ) (a : Bool) → told l.agreement j ≡ Some a → (j ≢ i) × (told k.agreement j ≡ Some a)
 
 not-eqb : (a b : ℕ) → a ≢ b → eqb a b ≡ false
 not-eqb a b ne = go (eqb a b) refl
@@ -93,14 +94,16 @@ module _ (X : Image) (k l : Books) (W : World) (s : Step) (G : Files) (i : ℕ) 
   homes-go : (q : ℕ) → V.homes q ≡ cond (is_of i (W.homes q)) None (W.homes q)
   homes-go q = rw (leaving.none_claimed q, homes_after) (go (W.homes q) refl)
     where
-      at : (home : Home) → W.homes q ≡ Some home → (home.inode ≡ i) ⊎ (home.inode ≢ i) → cond (has_block V.files home) (Some home) None ≡ cond (eqb home.inode i) None (Some home)
+      at : (home : Home) → W.homes q ≡ Some home → (home.inode ≡ i) ⊎ (home.inode ≢ i)
+          → cond (has_block V.files home) (Some home) None ≡ cond (eqb home.inode i) None (Some home)
       at home e (inl own) = let b = no-block home own in let t = eq-eqb home.inode i own in rw (b, t) refl
       at home e (inr other) =
           let b : has_block V.files home ≡ true = subst (λ (F : Files). has_block F home ≡ true) (sym leaving.files) (leaving.blocks home other (home-has W X match homes past q home e)) in
           let t : eqb home.inode i ≡ false = not-eqb home.inode i other in
           rw (b, t) refl
 
-      go : (h : Option Home) → W.homes q ≡ h → (elim h as (λ (_ : Option Home). Option Home) [ None ↦ None | Some home ↦ cond (has_block V.files home) (Some home) None ]) ≡ cond (is_of i h) None h
+      go : (h : Option Home) → W.homes q ≡ h
+          → (elim h as (λ (_ : Option Home). Option Home) [ None ↦ None | Some home ↦ cond (has_block V.files home) (Some home) None ]) ≡ cond (is_of i h) None h
       go None e = refl
       go (Some home) e = at home e (cases_eq home.inode i)
 
@@ -153,7 +156,8 @@ module _ (X : Image) (k l : Books) (W : World) (s : Step) (G : Files) (i : ℕ) 
       block-case q true o ne = freed.known_blocks q ∙ (λ n. knows_block k q || o n) ∙ or-true (knows_block k q)
       block-case q false o ne = absurd (ne (block-same q o))
 
-      why-case : (q : ℕ) (b : Bool) → is_of i (W.homes q) ≡ b → knows_block l q ≡ true → (W.known_blocks q ≡ true) ⊎ ((uses_block V q ≡ true) ⊎ ((uses_block V q ≢ uses_block W q) ⊎ ((true ≡ true) × (sees_block s q ≡ true))))
+      why-case : (q : ℕ) (b : Bool) → is_of i (W.homes q) ≡ b → knows_block l q ≡ true
+          → (W.known_blocks q ≡ true) ⊎ ((uses_block V q ≡ true) ⊎ ((uses_block V q ≢ uses_block W q) ⊎ ((true ≡ true) × (sees_block s q ≡ true))))
       why-case q true o kn = inr (inr (inl (differ (uses_block V q) (uses_block W q) (block-gone q o) (block-was q o))))
       why-case q false o kn = inl (says.known_blocks q ∙ sym (freed.known_blocks q ∙ (λ n. knows_block k q || o n) ∙ or-false (knows_block k q)) ∙ kn)
 
@@ -174,10 +178,7 @@ module _ (X : Image) (k l : Books) (W : World) (s : Step) (G : Files) (i : ℕ) 
           ∙ (λ n. (says.known_inodes j ∙ sym (freed.known_inodes j ∙ (λ m. knows_inode k j || not-eqb j i other m) ∙ or-false (knows_inode k j))) n && not (sym (inode-same j other) n))
     ];
     free_blocks = λ q lt. let low : q < k.at.blocks = subst (λ (n : ℕ). q < n) (ap (λ (q : SuperBlock). q.blocks) freed.at) lt in free-case q low (is_of i (W.homes q)) refl;
-    agreed_inodes = λ j a b t.
-        let top : j ≤ k.at.inodes = subst (λ (n : ℕ). j ≤ n) (ap (λ (q : SuperBlock). q.inodes) freed.at) b in
-        let g = freed.agreed_inodes j a top t in
-        V-file j ∙ leaving.used j g.0 ∙ says.agreed_inodes j a top g.1;
+    agreement = λ j a t. let g = freed.agreement j a t in V-file j ∙ leaving.used j g.0 ∙ says.agreement j a g.1;
   }
     where
       free-case : (q : ℕ) → q < k.at.blocks → (b : Bool) → is_of i (W.homes q) ≡ b → is_set l.free_blocks q ≡ is_free_block V q

@@ -34,7 +34,7 @@ use Rattle.nofs_state.proofs.Machine.{agreed-live, are-agreed}
 use Rattle.nofs_state.proofs.Replies.{goes-row, goes-read, open-files}
 use Rattle.nofs_state.proofs.Rows.{IsLate, first-late, late-row}
 use Rattle.nofs_names.specs.Searching.{Passed}
-use Rattle.nofs_names.specs.Refusing.{Fails, ByRow, ByRead, FindsNone, IsThere, KnownAgreed, exists_rows}
+use Rattle.nofs_names.specs.Refusing.{Fails, ByRow, ByRead, FindsNone, IsThere, KnownTrue, exists_rows}
 use Rattle.nofs_names.specs.Renames.{done_answer}
 use Rattle.nofs_state.specs.Owing.{RowsPass}
 use Rattle.nofs_names.specs.Entering.{Enters, MayEnter, ReadsTables, table_block}
@@ -82,9 +82,9 @@ both-on old new k d g i of b stays a = record {
 }
 
 pub there-both-on : (old new : DiskState) (k : Books) (d i : ℕ) → StaysButFaults old new
-    → (IsTrue old.tells → KnownAgreed k old.now → IsThere d old.now × IsThere i old.now) → IsTrue new.tells → KnownAgreed k new.now
+    → (IsTrue old.tells → KnownTrue k old.now → IsThere d old.now × IsThere i old.now) → IsTrue new.tells → KnownTrue k new.now
     → IsThere d new.now × IsThere i new.now
-there-both-on old new k d i stays there t = subst (λ (X : Image). KnownAgreed k X → IsThere d X × IsThere i X) (sym stays.cells.now)
+there-both-on old new k d i stays there t = subst (λ (X : Image). KnownTrue k X → IsThere d X × IsThere i X) (sym stays.cells.now)
     (there (subst (λ (b : Bool). IsTrue b) stays.disk.tells t))
 
 pub stands-on : (old new : DiskState) (k : Books) (d g : ℕ) (name : List ℕ) (i of : ℕ) (b : Both) → StaysButFaults old new → StandsLink old k d g name i of b
@@ -173,9 +173,9 @@ module _ (old : DiskState) (k : Books) (d g : ℕ) (name : List ℕ) (i of : ℕ
 
     pub link-unopened : (mid : DiskState) (res : Result Both Refusal) (why : Refusal) → OpensBoth old mid k d g i of res → res ≡ Err why
         → Goes old k mid k (step.Link d g name i of) no_claims (reply.Refused why)
-    link-unopened mid res why opens e = link-fails mid (KnownAgreed k) (both_rows d g i of) (named_rows d name i (step.Link d g name i of)) why opens.stays
+    link-unopened mid res why opens e = link-fails mid (KnownTrue k) (both_rows d g i of) (named_rows d name i (step.Link d g name i of)) why opens.stays
         lead-first
-        (subst (λ (r : Result Both Refusal). IfErr r (Fails old mid (KnownAgreed k) (both_rows d g i of))) e opens.refused)
+        (subst (λ (r : Result Both Refusal). IfErr r (Fails old mid (KnownTrue k) (both_rows d g i of))) e opens.refused)
         (λ t H p o. are-agreed old k H p safe o)
 
     pub link-stands : (mid : DiskState) (b : Both) → OpensBoth old mid k d g i of (Ok b) → StandsLink mid k d g name i of b
@@ -189,12 +189,12 @@ module _ (old : DiskState) (k : Books) (d g : ℕ) (name : List ℕ) (i of : ℕ
 
     -- The name and the back link
 
-    module _ (there : IsTrue old.tells → KnownAgreed k old.now → IsThere d old.now × IsThere i old.now)
+    module _ (there : IsTrue old.tells → KnownTrue k old.now → IsThere d old.now × IsThere i old.now)
         (lead : Leads old k (step.Link d g name i of) (named_rows d name i (step.Link d g name i of))) where
       there-d : IsTrue old.tells → (H : List Entry1) (p : Past) → IsOpen old k H p → IsThere d old.now
       there-d t H p o = (there t (are-agreed old k H p safe o)).0
 
-      known-i : IsTrue old.tells → (H : List Entry1) (p : Past) → IsOpen old k H p → IsKnown k.agreed_inodes i old.now
+      known-i : IsTrue old.tells → (H : List Entry1) (p : Past) → IsOpen old k H p → IsKnown k.agreement i old.now
       known-i t H p o = (are-agreed old k H p safe o, (there t (are-agreed old k H p safe o)).1)
 
       pub link-exists : (mid : DiskState) (names records : LastRead) (res : Result Unfound Refusal) (why : Refusal)
@@ -213,19 +213,19 @@ module _ (old : DiskState) (k : Books) (d g : ℕ) (name : List ℕ) (i of : ℕ
             (λ t H p o. let n = exists-none p.world d name u (passed t H p o) in rw n refl)
 
         module _ (end : DiskState) (last : LastRead) where
-          pub link-many : (res : Result ℕ Refusal) (why : Refusal) → FindsLinkPlace mid end k.agreed_inodes i last res → res ≡ Err why
+          pub link-many : (res : Result ℕ Refusal) (why : Refusal) → FindsLinkPlace mid end k.agreement i last res → res ≡ Err why
               → Goes old k end k (step.Link d g name i of) no_claims (reply.Refused why)
-          link-many res why finds e = link-fails end (IsKnown k.agreed_inodes i) (many_rows i) (new_rows d name (step.Link d g name i of)) why
+          link-many res why finds e = link-fails end (IsKnown k.agreement i) (many_rows i) (new_rows d name (step.Link d g name i of)) why
               (StaysButFaults-trans old mid end none.stays finds.stays) lead-many
-              (fails-after old mid end (IsKnown k.agreed_inodes i) (many_rows i) why none.stays
-              (subst (λ (r : Result ℕ Refusal). IfErr r (Fails mid end (IsKnown k.agreed_inodes i) (many_rows i))) e finds.refused)) known-i
+              (fails-after old mid end (IsKnown k.agreement i) (many_rows i) why none.stays
+              (subst (λ (r : Result ℕ Refusal). IfErr r (Fails mid end (IsKnown k.agreement i) (many_rows i))) e finds.refused)) known-i
 
-          module _ (b : ℕ) (finds : FindsLinkPlace mid end k.agreed_inodes i last (Ok b)) where
+          module _ (b : ℕ) (finds : FindsLinkPlace mid end k.agreement i last (Ok b)) where
             stays : StaysButFaults old end
             stays = StaysButFaults-trans old mid end none.stays finds.stays
 
             spot-here : SpotIs old k i b
-            spot-here t H p o = subst (λ (X : Image). IsKnown k.agreed_inodes i X → FilesMatch p.world.files X → link_place p.world.files i ≡ Some b)
+            spot-here t H p o = subst (λ (X : Image). IsKnown k.agreement i X → FilesMatch p.world.files X → link_place p.world.files i ≡ Some b)
                 none.stays.cells.now
                 (λ known match. finds.found (told-on old mid none.stays t) known p.world.files match) (known-i t H p o) (open-files old k H p o)
 
@@ -269,7 +269,7 @@ module _ (old : DiskState) (k : Books) (d g : ℕ) (name : List ℕ) (i of : ℕ
 
     -- The blocks
 
-    module _ (there : IsTrue old.tells → KnownAgreed k old.now → IsThere d old.now × IsThere i old.now) (e : ℕ) (place : PlaceIs old k d name e)
+    module _ (there : IsTrue old.tells → KnownTrue k old.now → IsThere d old.now × IsThere i old.now) (e : ℕ) (place : PlaceIs old k d name e)
         (lead : Leads old k (step.Link d g name i of) (block_rows (step.Link d g name i of))) where
       -- a new entry never goes into a slot that is lost
       pub link-unslotted : (mid : DiskState) (last : LastRead) (res : Result EntrySlot Refusal) (why : Refusal)
@@ -306,7 +306,7 @@ module _ (old : DiskState) (k : Books) (d g : ℕ) (name : List ℕ) (i of : ℕ
 
 -- how many blocks are asked for
 pub link-needs : (old : DiskState) (k : Books) (d g : ℕ) (name : List ℕ) (i of : ℕ) → IsSafe old k
-    → (IsTrue old.tells → KnownAgreed k old.now → IsThere d old.now × IsThere i old.now) → (e : ℕ) → e < entry_limit → PlaceIs old k d name e
+    → (IsTrue old.tells → KnownTrue k old.now → IsThere d old.now × IsThere i old.now) → (e : ℕ) → e < entry_limit → PlaceIs old k d name e
     → (s : EntrySlot) → FitsSlot k.at (e / 16) s → (IsTrue old.tells → IsEntrySlot old.now d (e / 16) s) → IsTrue old.tells → (H : List Entry1) (p : Past)
     → IsOpen old k H p → blocks_needed p.world.files (step.Link d g name i of) ≡ slot_blocks s
 link-needs old k d g name i of safe there e range place s fits found t H p o =

@@ -17,7 +17,7 @@ use Rattle.nofs_machine.specs.declared.replies.Refusal.{Refusal}
 use Rattle.nofs_machine.specs.declared.replies.Refusal.TheVariants as refusal
 use Rattle.nofs_law_untouched.proofs.Matching.{matched-agreed}
 use Rattle.nofs_agree.specs.Reading.{IsLast, KnowsInode}
-use Rattle.nofs_agree.specs.Chains.{AreAgreed, TellsAgreed, is_agreed_link}
+use Rattle.nofs_agree.specs.Chains.{AreTrue, TellsAgreed, is_agreed_link}
 use Rattle.nofs_agree.specs.declared.reads.LastRead.{LastRead}
 use Rattle.nofs_agree.proofs.Links.{four-links}
 use Rattle.nofs_agree.proofs.Climbs.{told-on, record-of, KnowsInode-on}
@@ -25,7 +25,7 @@ use Rattle.nofs_state.specs.Opening.{Opens, OpenFails, is_current}
 use Rattle.nofs_state.specs.declared.books.Books.{Books}
 use Rattle.nofs_state.specs.declared.opening.Opened.{Opened}
 use Rattle.nofs_state.proofs.Machine.{agreed-live, machine-pair, stale-none, stale-some}
-use Rattle.nofs_names.specs.Refusing.{Fails, ByRow, ByRead, KnownAgreed}
+use Rattle.nofs_names.specs.Refusing.{Fails, ByRow, ByRead, KnownTrue}
 use Rattle.nofs_names.specs.Linking.{FindsLinkPlace, IsKnown, OpensBoth, TellsDeadPlace, both_as, both_rows, dead_place, with_link, place_or_many}
 use Rattle.nofs_names.proofs.Rowing.{current-agreed, folder-at}
 
@@ -42,7 +42,7 @@ module _ (old mid : DiskState) (k : Books) (d g i of : ℕ) (last : LastRead) (r
         (subst (λ (q : Result Opened Refusal). IfErr q (OpenFails old mid k d g)) e opens.refused);
   }
     where
-      go : (w : Refusal) → OpenFails old mid k d g w → Fails old mid (KnownAgreed k) (both_rows d g i of) w
+      go : (w : Refusal) → OpenFails old mid k d g w → Fails old mid (KnownTrue k) (both_rows d g i of) w
       go refusal.Stale fails = ByRow refl tt (λ t all W match. rw (stale-some W old.now d g match (fails t all)) refl)
       go refusal.ReadFault fails = ByRead refl fails
       go _ fails = absurd fails
@@ -64,9 +64,9 @@ module _ (old mid : DiskState) (k : Books) (d g i of : ℕ) (last : LastRead) (r
           (subst (λ (q : Result Opened Refusal). IfErr q (OpenFails mid new k i of)) e opens2.refused);
     }
       where
-        go : (w : Refusal) → OpenFails mid new k i of w → Fails old new (KnownAgreed k) (both_rows d g i of) w
+        go : (w : Refusal) → OpenFails mid new k i of w → Fails old new (KnownTrue k) (both_rows d g i of) w
         go refusal.Stale fails = ByRow refl tt (λ t all W match.
-            let no : is_current old.now i of ≡ false = subst (λ (X : Image). AreAgreed X k.agreed_inodes → is_current X i of ≡ false) one.stays.cells.now
+            let no : is_current old.now i of ≡ false = subst (λ (X : Image). AreTrue X k.agreement → is_current X i of ≡ false) one.stays.cells.now
             (fails (told-on old mid one.stays t)) all in
             rw (stale-none W old.now d g match (one.current t all), stale-some W old.now i of match no) refl)
         go refusal.ReadFault fails = ByRead refl (Rose-within old.faults mid.faults new.faults new.faults one.stays.disk.faults fails (le_refl new.faults))
@@ -76,15 +76,15 @@ module _ (old mid : DiskState) (k : Books) (d g i of : ℕ) (last : LastRead) (r
       two : Opens mid new k i of next (Ok b)
       two = subst (λ (q : Result Opened Refusal). Opens mid new k i of next q) is2 opens2
 
-      file-current : IsTrue old.tells → KnownAgreed k old.now → is_current old.now i of ≡ true
-      file-current t = subst (λ (X : Image). AreAgreed X k.agreed_inodes → is_current X i of ≡ true) one.stays.cells.now
+      file-current : IsTrue old.tells → KnownTrue k old.now → is_current old.now i of ≡ true
+      file-current t = subst (λ (X : Image). AreTrue X k.agreement → is_current X i of ≡ true) one.stays.cells.now
           (two.current (told-on old mid one.stays t))
 
-      directory-kind : IsTrue old.tells → KnownAgreed k old.now → (W : World) → FilesMatch W.files old.now → is_folder_at W.files d ≡ is_folder a.kind
+      directory-kind : IsTrue old.tells → KnownTrue k old.now → (W : World) → FilesMatch W.files old.now → is_folder_at W.files d ≡ is_folder a.kind
       directory-kind t all W match = folder-at W.files old.now d a.found a.kind match (current-agreed old.now d g (one.current t all))
           (record-of old mid k.at d a.found one.stays one.known.known t) one.known.kind
 
-      file-kind : IsTrue old.tells → KnownAgreed k old.now → (W : World) → FilesMatch W.files old.now → is_folder_at W.files i ≡ is_folder b.kind
+      file-kind : IsTrue old.tells → KnownTrue k old.now → (W : World) → FilesMatch W.files old.now → is_folder_at W.files i ≡ is_folder b.kind
       file-kind t all W match = folder-at W.files old.now i b.found b.kind match (current-agreed old.now i of (file-current t all))
           (record-of old new k.at i b.found after two.known.known t) two.known.kind
 
@@ -148,24 +148,24 @@ place-none test [] b none = refl
 place-none test (l ∷ links) b none = rw (none 0 (omega arith)) (place-none test links (suc b) (λ m lt. none (suc m) (omega (arith, lt))))
 
 -- each of the first so many back links is a pair with an agreed directory
-pub record Lives (old now : DiskState) (known : List Bool) (i : ℕ) (r : Record) (last : LastRead) (place : ℕ) : Type 0 where
+pub record Lives (old now : DiskState) (known : List (Option Bool)) (i : ℕ) (r : Record) (last : LastRead) (place : ℕ) : Type 0 where
   pub stays : StaysButFaults old now
   pub kept : IsLast now last
-  pub all : IsTrue old.tells → AreAgreed old.now known → (m : ℕ) → m < place → is_agreed_link (files_in old.now) i (get_or r.links m no_link) ≡ true
+  pub all : IsTrue old.tells → AreTrue old.now known → (m : ℕ) → m < place → is_agreed_link (files_in old.now) i (get_or r.links m no_link) ≡ true
 
-pub lives-begins : (old : DiskState) (known : List Bool) (i : ℕ) (r : Record) (last : LastRead) → IsLast old last → Lives old old known i r last 0
+pub lives-begins : (old : DiskState) (known : List (Option Bool)) (i : ℕ) (r : Record) (last : LastRead) → IsLast old last → Lives old old known i r last 0
 lives-begins old known i r last kept = record { stays = StaysButFaults-refl old; kept = kept; all = λ t a m low. absurd (omega (arith, low)) }
 
-module _ (old now new : DiskState) (known : List Bool) (i : ℕ) (r : Record) (last next : LastRead) (place : ℕ) (res : Result Bool Failed)
+module _ (old now new : DiskState) (known : List (Option Bool)) (i : ℕ) (r : Record) (last next : LastRead) (place : ℕ) (res : Result Bool Failed)
     (p : Lives old now known i r last place)
     (reads : TellsAgreed now new known (λ X. is_agreed_link (files_in X) i (get_or r.links place no_link)) next res) where
   reads-as : (b : Bool) → res ≡ Ok b → TellsAgreed now new known (λ X. is_agreed_link (files_in X) i (get_or r.links place no_link)) next (Ok b)
   reads-as b e = subst (λ (w : Result Bool Failed). TellsAgreed now new known (λ X. is_agreed_link (files_in X) i (get_or r.links place no_link)) next w) e
       reads
 
-  here-is : (b : Bool) → res ≡ Ok b → IsTrue old.tells → AreAgreed old.now known → is_agreed_link (files_in old.now) i (get_or r.links place no_link) ≡ b
+  here-is : (b : Bool) → res ≡ Ok b → IsTrue old.tells → AreTrue old.now known → is_agreed_link (files_in old.now) i (get_or r.links place no_link) ≡ b
   here-is b e t a = sym (subst (λ (X : Image). b ≡ is_agreed_link (files_in X) i (get_or r.links place no_link)) p.stays.cells.now
-      ((reads-as b e).found (told-on old now p.stays t) (subst (λ (X : Image). AreAgreed X known) (sym p.stays.cells.now) a)))
+      ((reads-as b e).found (told-on old now p.stays t) (subst (λ (X : Image). AreTrue X known) (sym p.stays.cells.now) a)))
 
   pub lives-goes : res ≡ Ok true → Lives old new known i r next (place + 1)
   lives-goes e = record {
@@ -188,7 +188,8 @@ module _ (old now new : DiskState) (known : List Bool) (i : ℕ) (r : Record) (l
     cause = tt;
   }
 
-pub lives-all : (old now : DiskState) (known : List Bool) (i : ℕ) (r : Record) (last : LastRead) (place : ℕ) → Lives old now known i r last place → 4 ≤ place
+pub lives-all : (old now : DiskState) (known : List (Option Bool)) (i : ℕ) (r : Record) (last : LastRead) (place : ℕ) → Lives old now known i r last place
+    → 4 ≤ place
     → (IsTrue old.tells → length r.links ≡ 4) → TellsDeadPlace old now known i r last (Ok None)
 lives-all old now known i r last place p all four = record {
   stays = p.stays;
@@ -217,7 +218,7 @@ place-as F X i r ne match a er =
     j in
     rw (ne_eqb i 2 ne) (λ j. first_of (place_for_link is_empty_link (l j) 0 ∷ place_for_link (λ link. not (same j link)) (l j) 0 ∷ []))
 
-module _ (old : DiskState) (at : SuperBlock) (known : List Bool) (i : ℕ) (r : Record) (last : LastRead) (is : KnowsInode old at i r) where
+module _ (old : DiskState) (at : SuperBlock) (known : List (Option Bool)) (i : ℕ) (r : Record) (last : LastRead) (is : KnowsInode old at i r) where
   pub link-second : i ≡ 2 → FindsLinkPlace old old known i last (Err refusal.TooManyLinks)
   link-second e = record {
     stays = StaysButFaults-refl old;

@@ -29,7 +29,7 @@ use Rattle.nofs_state.proofs.Keeping.{goes-memory, reads-keep}
 use Rattle.nofs_state.proofs.Replies.{goes-answer, goes-read, open-files}
 use Rattle.nofs_state.proofs.Rows.{IsLate, first-late, late-row}
 use Rattle.nofs_state.proofs.Machine.{are-agreed}
-use Rattle.nofs_names.specs.Refusing.{Fails, KnownAgreed, IsThere, directory_rows, OpensDirectory}
+use Rattle.nofs_names.specs.Refusing.{Fails, KnownTrue, IsThere, directory_rows, OpensDirectory}
 use Rattle.nofs_names.specs.Listing.{AreHoles, InDirectory, FindsListed, IsListedSlot, LinesFail, ReadsLines}
 use Rattle.nofs_names.specs.declared.lists.ListedSlot.{ListedSlot}
 use Rattle.nofs_names.specs.declared.lists.ListedSlot.TheVariants as found
@@ -46,22 +46,26 @@ module _ (old : DiskState) (k : Books) (d g slot : ℕ) (safe : IsSafe old k) wh
   pub list-memory : (new : DiskState) → StaysButFaults old new → Goes old k new k (step.List d g slot) no_claims (reply.Refused refusal.OutOfMemory)
   list-memory new stays = goes-memory old new (reads-keep old new stays) k (step.List d g slot) no_claims safe
 
-  pub list-memory-found : (mid new : DiskState) → StaysButFaults old mid → StaysButFaults mid new → Goes old k new k (step.List d g slot) no_claims (reply.Refused refusal.OutOfMemory)
+  pub list-memory-found : (mid new : DiskState) → StaysButFaults old mid → StaysButFaults mid new
+      → Goes old k new k (step.List d g slot) no_claims (reply.Refused refusal.OutOfMemory)
   list-memory-found mid new opened found = list-memory new (StaysButFaults-trans old mid new opened found)
 
-  pub list-memory-read : (mid new end : DiskState) → StaysButFaults old mid → StaysButFaults mid new → StaysButFaults new end → Goes old k end k (step.List d g slot) no_claims (reply.Refused refusal.OutOfMemory)
+  pub list-memory-read : (mid new end : DiskState) → StaysButFaults old mid → StaysButFaults mid new → StaysButFaults new end
+      → Goes old k end k (step.List d g slot) no_claims (reply.Refused refusal.OutOfMemory)
   list-memory-read mid new end opened found read = list-memory end (StaysButFaults-trans old new end (StaysButFaults-trans old mid new opened found) read)
 
 module _ (old : DiskState) (k : Books) (d g slot : ℕ) (is : IsDisk old) (safe : IsSafe old k) (going : k.stopped ≡ false) where
   list-late : (W : World) → IsLate (first_of (rows W W (step.List d g slot)))
   list-late W = first-late (directory_rows d g W) (late-row (not (is_some (W.files d) && eqb (generation_of W.files d) g)) refusal.Stale refl, (late-row (not (is_folder_at W.files d)) refusal.NotDirectory refl, tt))
 
-  pub list-unopened : (mid : DiskState) (last : LastRead) (res : Result Record Refusal) (why : Refusal) → OpensDirectory old mid k d g last res → res ≡ Err why → Goes old k mid k (step.List d g slot) no_claims (reply.Refused why)
-  list-unopened mid last res why opens e = goes-fails old mid k (step.List d g slot) (directory_rows d g) why is safe going opens.stays (subst (λ (r : Result Record Refusal). IfErr r (Fails old mid (KnownAgreed k) (directory_rows d g))) e opens.refused)
+  pub list-unopened : (mid : DiskState) (last : LastRead) (res : Result Record Refusal) (why : Refusal) → OpensDirectory old mid k d g last res
+      → res ≡ Err why → Goes old k mid k (step.List d g slot) no_claims (reply.Refused why)
+  list-unopened mid last res why opens e = goes-fails old mid k (step.List d g slot) (directory_rows d g) why is safe going opens.stays (subst (λ (r : Result Record Refusal). IfErr r (Fails old mid (KnownTrue k) (directory_rows d g))) e opens.refused)
       (λ t H p o q. q) list-late
 
   module _ (mid : DiskState) (last : LastRead) (r : Record) (opens : OpensDirectory old mid k d g last (Ok r)) where
-    pub list-unread : (new : DiskState) (next : LastRead) (e : Failed) → FindsListed mid new d slot next (Err e) → Goes old k new k (step.List d g slot) no_claims (reply.Refused refusal.ReadFault)
+    pub list-unread : (new : DiskState) (next : LastRead) (e : Failed) → FindsListed mid new d slot next (Err e)
+        → Goes old k new k (step.List d g slot) no_claims (reply.Refused refusal.ReadFault)
     list-unread new next e finds = goes-read old new k (step.List d g slot) is safe (StaysButFaults-trans old mid new opens.stays finds.stays) going
         (Rose-within old.faults mid.faults new.faults new.faults opens.stays.disk.faults finds.cause (le_refl new.faults)) (λ t H p o. list-late p.world)
 
@@ -74,7 +78,8 @@ module _ (old : DiskState) (k : Books) (d g slot : ℕ) (is : IsDisk old) (safe 
         let match = open-files old k H p o in
         (opens.passes t all p.world match, comes t (opens.there t all) p.world.files match))
 
-    value-in : IsTrue old.tells → IsThere d old.now → (F : Files) → FilesMatch F old.now → (l : ℕ) (v : Value) → l < 72 → value old.now d l ≡ v → value_of F d l ≡ v
+    value-in : IsTrue old.tells → IsThere d old.now → (F : Files) → FilesMatch F old.now → (l : ℕ) (v : Value) → l < 72 → value old.now d l ≡ v
+        → value_of F d l ≡ v
     value-in t there F match l v low e = value-at F old.now d r match there (record-of old mid k.at d r opens.stays opens.directory.known t) opens.directory.kind l v low e
 
     module _ (new : DiskState) (next : LastRead) (s : ListedSlot) (finds : FindsListed mid new d slot next (Ok s)) where
@@ -88,7 +93,8 @@ module _ (old : DiskState) (k : Books) (d g slot : ℕ) (is : IsDisk old) (safe 
           sym (ap (listed_reply F d) none))
 
       -- the first that is no hole
-      first-is : (here : ℕ) → IsTrue old.tells → IsThere d old.now → (F : Files) → FilesMatch F old.now → here < 72 → slot ≤ here → AreHoles old.now d slot here → is_hole (value_of F d here) ≡ false
+      first-is : (here : ℕ) → IsTrue old.tells → IsThere d old.now → (F : Files) → FilesMatch F old.now → here < 72 → slot ≤ here
+          → AreHoles old.now d slot here → is_hole (value_of F d here) ≡ false
           → least_from (λ l. not (is_hole (value_of F d l))) slot (72 - slot) ≡ Some here
       first-is here t there F match low mine holes no_hole = least-first (λ l. not (is_hole (value_of F d l))) slot (72 - slot) here
           (λ l a b. let v = value-in t there F match l Hole (omega (arith, b, low)) (holes l a b) in rw v refl) (rw no_hole refl) mine (omega (arith, low, mine))
@@ -102,7 +108,8 @@ module _ (old : DiskState) (k : Books) (d g slot : ℕ) (is : IsDisk old) (safe 
           ap reply.LostNames en ∙ sym (ap (listed_reply F d) f ∙ (λ j. cond (is_lost (v j)) (reply.LostNames here) (reply.Names here (lines_in_slot F d here)))))
 
       module _ (here : ℕ) (e : s ≡ found.Holds here) (end : DiskState) (res : Result (List NameLine) Refusal) (reads : ReadsLines new end d here res) where
-        pub list-names : (lines : List NameLine) (number : ℕ) → res ≡ Ok lines → number ≡ here → Goes old k end k (step.List d g slot) no_claims (reply.Names number lines)
+        pub list-names : (lines : List NameLine) (number : ℕ) → res ≡ Ok lines → number ≡ here
+            → Goes old k end k (step.List d g slot) no_claims (reply.Names number lines)
         list-names lines number er en =
             let ok : ReadsLines new end d here (Ok lines) = subst (λ (z : Result (List NameLine) Refusal). ReadsLines new end d here z) er reads in
             let stays : StaysButFaults old new = StaysButFaults-trans old mid new opens.stays finds.stays in

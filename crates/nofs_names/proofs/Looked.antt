@@ -28,7 +28,7 @@ use Rattle.nofs_state.proofs.Replies.{goes-row, goes-answer, open-files}
 use Rattle.nofs_state.proofs.Rows.{IsLate, first-late, late-row}
 use Rattle.nofs_state.proofs.Machine.{agreed-live, are-agreed}
 use Rattle.nofs_names.specs.Searching.{IsFoundEntry}
-use Rattle.nofs_names.specs.Refusing.{Fails, KnownAgreed, IsThere, directory_rows, missing_rows, OpensDirectory, FindsPair}
+use Rattle.nofs_names.specs.Refusing.{Fails, KnownTrue, IsThere, directory_rows, missing_rows, OpensDirectory, FindsPair}
 use Rattle.nofs_names.specs.declared.searching.Paired.{Paired}
 use Rattle.nofs_names.proofs.PairTests.{kind-of}
 use Rattle.nofs_names.proofs.Parts.{first-left, first-right, fails-after, fails-given, goes-fails}
@@ -41,7 +41,9 @@ look-reads d g name = record { no_inode = refl; no_block = λ F. refl; gives = �
 pub missing-late : (W : World) (d : ℕ) (name : List ℕ) → IsLate (missing W d name)
 missing-late W d name why e = go (is_some (found W.files d name)) (first_dead W.files d name) (first_lost_slot W.files d) e
   where
-    go : (b : Bool) (x y : Option ℕ) → cond b None (first_of (option_map refusal.LostEntry x ∷ option_map refusal.LostSlot y ∷ Some refusal.Missing ∷ [])) ≡ Some why → reads_nothing why ≡ false
+    go : (b : Bool) (x y : Option ℕ)
+        → cond b None (first_of (option_map refusal.LostEntry x ∷ option_map refusal.LostSlot y ∷ Some refusal.Missing ∷ [])) ≡ Some why
+        → reads_nothing why ≡ false
     go true x y h = cc h
     go false (Some x) y h = ap reads_nothing (let q : why ≡ refusal.LostEntry x = cc h in q)
     go false None (Some y) h = ap reads_nothing (let q : why ≡ refusal.LostSlot y = cc h in q)
@@ -59,21 +61,24 @@ module _ (old : DiskState) (k : Books) (d g : ℕ) (name : List ℕ) (is : IsDis
     look-late W why e = first-late (directory_rows d g W ++ missing_rows d name W)
         (late-row (not (is_some (W.files d) && eqb (generation_of W.files d) g)) refusal.Stale refl, (late-row (not (is_folder_at W.files d)) refusal.NotDirectory refl, (missing-late W d name, tt))) why (sym (rows-are W) ∙ e)
 
-    pub look-unopened : (mid : DiskState) (last : LastRead) (res : Result Record Refusal) (why : Refusal) → OpensDirectory old mid k d g last res → res ≡ Err why → Goes old k mid k (step.Look d g name) no_claims (reply.Refused why)
-    look-unopened mid last res why opens e = goes-fails old mid k (step.Look d g name) (directory_rows d g) why is safe going opens.stays (subst (λ (r : Result Record Refusal). IfErr r (Fails old mid (KnownAgreed k) (directory_rows d g))) e opens.refused)
+    pub look-unopened : (mid : DiskState) (last : LastRead) (res : Result Record Refusal) (why : Refusal) → OpensDirectory old mid k d g last res
+        → res ≡ Err why → Goes old k mid k (step.Look d g name) no_claims (reply.Refused why)
+    look-unopened mid last res why opens e = goes-fails old mid k (step.Look d g name) (directory_rows d g) why is safe going opens.stays (subst (λ (r : Result Record Refusal). IfErr r (Fails old mid (KnownTrue k) (directory_rows d g))) e opens.refused)
         (λ t H p o q. rows-are p.world ∙ first-left (directory_rows d g p.world) (missing_rows d name p.world) why q) look-late
 
     module _ (mid new : DiskState) (last names records : LastRead) (r : Record) (opens : OpensDirectory old mid k d g last (Ok r)) where
       none-before : IsTrue old.tells → (H : List Entry1) (p : Past) → IsOpen old k H p → first_of (directory_rows d g p.world) ≡ None
       none-before t H p o = opens.passes t (are-agreed old k H p safe o) p.world (open-files old k H p o)
 
-      pub look-missing : (res : Result Paired Refusal) (why : Refusal) → FindsPair mid new k.at d name names records res → res ≡ Err why → Goes old k new k (step.Look d g name) no_claims (reply.Refused why)
+      pub look-missing : (res : Result Paired Refusal) (why : Refusal) → FindsPair mid new k.at d name names records res → res ≡ Err why
+          → Goes old k new k (step.Look d g name) no_claims (reply.Refused why)
       look-missing res why finds e = goes-fails old new k (step.Look d g name) (missing_rows d name) why is safe going (StaysButFaults-trans old mid new opens.stays finds.stays)
-          (fails-given old new (IsThere d) (KnownAgreed k) (missing_rows d name) why opens.there
+          (fails-given old new (IsThere d) (KnownTrue k) (missing_rows d name) why opens.there
           (fails-after old mid new (IsThere d) (missing_rows d name) why opens.stays (subst (λ (q : Result Paired Refusal). IfErr q (Fails mid new (IsThere d) (missing_rows d name))) e finds.refused)))
           (λ t H p o q. rows-are p.world ∙ first-right (directory_rows d g p.world) (missing_rows d name p.world) (none-before t H p o) ∙ q) look-late
 
-      pub look-found : (it : Paired) → FindsPair mid new k.at d name names records (Ok it) → Goes old k new k (step.Look d g name) no_claims (reply.Found (record { inode = it.inode; generation = it.record.generation; kind = it.kind }))
+      pub look-found : (it : Paired) → FindsPair mid new k.at d name names records (Ok it)
+          → Goes old k new k (step.Look d g name) no_claims (reply.Found (record { inode = it.inode; generation = it.record.generation; kind = it.kind }))
       look-found it finds = goes-answer old new k (step.Look d g name) is safe (StaysButFaults-trans old mid new opens.stays finds.stays) (reply.Found (record { inode = it.inode; generation = it.record.generation; kind = it.kind })) refl refl (look-reads d g name) going
           (λ t H p o.
           let match = open-files old k H p o in

@@ -35,7 +35,7 @@ use Rattle.nofs_state.proofs.Replies.{goes-row, goes-read, open-files}
 use Rattle.nofs_state.proofs.Rows.{IsLate, first-late, late-row}
 use Rattle.nofs_state.proofs.Machine.{are-agreed}
 use Rattle.nofs_names.specs.Searching.{Passed}
-use Rattle.nofs_names.specs.Refusing.{Fails, KnownAgreed, IsThere, directory_rows, exists_rows, OpensDirectory, FindsNone}
+use Rattle.nofs_names.specs.Refusing.{Fails, KnownTrue, IsThere, directory_rows, exists_rows, OpensDirectory, FindsNone}
 use Rattle.nofs_names.specs.Makes.{FindsInode, MayMake, NoInode, PlaceIs, RowsLeft, RoomLeft, made_answer, room_left}
 use Rattle.nofs_names.specs.Placing.{FindsEntrySlot, FitsSlot, IsEntrySlot, IsPlaceOf, IsSlotCell, LiesInside, SlotFails, TakesBlocks, slot_blocks, room_rows}
 use Rattle.nofs_names.specs.declared.ending.Ended.{Ended}
@@ -97,7 +97,7 @@ module _ (old : DiskState) (k : Books) (d g : ℕ) (name : List ℕ) (kind : Fil
     pub make-unopened : (mid : DiskState) (last : LastRead) (res : Result Record Refusal) (why : Refusal) → OpensDirectory old mid k d g last res
         → res ≡ Err why → Goes old k mid k (step.Make d g name kind) no_claims (reply.Refused why)
     make-unopened mid last res why opens e = goes-fails old mid k (step.Make d g name kind) (directory_rows d g) why is safe going opens.stays
-        (subst (λ (r : Result Record Refusal). IfErr r (Fails old mid (KnownAgreed k) (directory_rows d g))) e opens.refused)
+        (subst (λ (r : Result Record Refusal). IfErr r (Fails old mid (KnownTrue k) (directory_rows d g))) e opens.refused)
         (λ t H p o q. rows-are p.world p.world ∙ first-left (directory_rows d g p.world)
         (exists_rows d name p.world ++ (directory_full p.world d name ∷ room_left d g name kind p.world p.world)) why q) make-late
 
@@ -116,7 +116,7 @@ module _ (old : DiskState) (k : Books) (d g : ℕ) (name : List ℕ) (kind : Fil
           → Goes old k new k (step.Make d g name kind) no_claims (reply.Refused why)
       make-exists res why none e = goes-fails old new k (step.Make d g name kind) (exists_rows d name) why is safe going
           (StaysButFaults-trans old mid new opens.stays none.stays)
-          (fails-given old new (IsThere d) (KnownAgreed k) (exists_rows d name) why opens.there
+          (fails-given old new (IsThere d) (KnownTrue k) (exists_rows d name) why opens.there
           (fails-after old mid new (IsThere d) (exists_rows d name) why opens.stays
           (subst (λ (z : Result Unfound Refusal). IfErr z (Fails mid new (IsThere d) (exists_rows d name))) e none.refused)))
           (λ t H p o z. to-exists t H p o p.world ∙ first-left (exists_rows d name p.world)
@@ -179,7 +179,7 @@ module _ (old : DiskState) (k : Books) (d g : ℕ) (name : List ℕ) (kind : Fil
       (late-row _ _ refl, (late-row _ _ refl, (late-row _ refusal.SerialsSpent refl, tt))) why (sym (left t H p o p.world) ∙ e)
 
   -- the slot was not found
-  pub make-no-slot : (e : ℕ) (there : IsTrue old.tells → KnownAgreed k old.now → IsThere d old.now) → PlaceIs old k d name e
+  pub make-no-slot : (e : ℕ) (there : IsTrue old.tells → KnownTrue k old.now → IsThere d old.now) → PlaceIs old k d name e
       → (mid : DiskState) (at : SuperBlock) (last : LastRead) (res : Result EntrySlot Refusal) (why : Refusal) → FindsEntrySlot old mid at d (e / 16) last res
       → res ≡ Err why → Goes old k mid k (step.Make d g name kind) no_claims (reply.Refused why)
   make-no-slot e there place mid at last res why finds is-e = go (subst (λ (z : Result EntrySlot Refusal). IfErr z (SlotFails old mid d (e / 16))) is-e
@@ -308,7 +308,7 @@ module _ (old new : DiskState) (stays : StaysButFaults old new) (k : Books) wher
 
 -- how many blocks an entry in this slot asks for
 pub slot-needs : (b : DiskState) (k : Books) (d g : ℕ) (name : List ℕ) (kind : FileKind) (e : ℕ) (at : SuperBlock) (s : EntrySlot) → IsSafe b k
-    → (IsTrue b.tells → KnownAgreed k b.now → IsThere d b.now) → e < entry_limit → PlaceIs b k d name e → FitsSlot at (e / 16) s
+    → (IsTrue b.tells → KnownTrue k b.now → IsThere d b.now) → e < entry_limit → PlaceIs b k d name e → FitsSlot at (e / 16) s
     → (IsTrue b.tells → IsEntrySlot b.now d (e / 16) s)
     → IsTrue b.tells → (H : List Entry1) (p : Past) → IsOpen b k H p → blocks_needed p.world.files (step.Make d g name kind) ≡ slot_blocks s
 slot-needs b k d g name kind e at s safe there range place fits slot t H p o = make-asks p.world.files b.now d e (open-files b k H p o)

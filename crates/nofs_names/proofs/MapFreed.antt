@@ -1,5 +1,7 @@
 -- What the maps say after an inode and its blocks were freed.
-use Rattle.std.proofs.Common.{◌≡◌, ◌≢◌, ℕ, ◌-◌, ◌<◌, ◌≤◌, ◌⊎◌, inl, inr, Bool, true, false, leb, ltb, eqb, eqb-true, eq-eqb, lt-ltb, ◌&&◌, ◌||◌, not, List, length, refl, sym, ap, ◌∙◌, arith}
+use Rattle.std.proofs.Common.{◌≡◌, ◌≢◌, ℕ, ◌-◌, ◌<◌, ◌≤◌, ◌⊎◌, inl, inr, Bool, true, false, leb, ltb, eqb, eqb-true, eq-eqb, lt-ltb, ◌&&◌, ◌||◌, not, List, length, refl, sym, ap, ◌∙◌, arith, Option, None, Some, subst}
+use Rattle.nofs_agree.proofs.Learning.{told-other, told-set}
+use Rattle.nofs_agree.specs.Chains.{told}
 use Rattle.std.specs.Prelude.{slice_set}
 use Rattle.std.proofs.lemmas.Bool.{cases_lt, cases_eq}
 use Rattle.std.proofs.lemmas.Bool.Decides.{nat_tests}
@@ -54,7 +56,8 @@ module _ (k l : Books) (i : ℕ) (freed : List Bool) (owned : ℕ → Bool) (siz
   known-inode : (j : ℕ) → knows_inode l j ≡ (knows_inode k j || eqb j i)
   known-inode j = (λ z. leb 1 j && (leb j (a.at z).inodes && not (is_set (a.unknown_inodes z) (j - 1)))) ∙ go (cases_eq j i) (cases_lt j 1)
     where
-      go : (j ≡ i) ⊎ (j ≢ i) → (j < 1) ⊎ (1 ≤ j) → (leb 1 j && (leb j k.at.inodes && not (is_set (slice_set k.unknown_inodes (i - 1) false) (j - 1)))) ≡ (knows_inode k j || eqb j i)
+      go : (j ≡ i) ⊎ (j ≢ i) → (j < 1) ⊎ (1 ≤ j)
+          → (leb 1 j && (leb j k.at.inodes && not (is_set (slice_set k.unknown_inodes (i - 1) false) (j - 1)))) ≡ (knows_inode k j || eqb j i)
       go (inl here) low =
           let b : is_set (slice_set k.unknown_inodes (i - 1) false) (j - 1) ≡ false = ap (λ (n : ℕ). is_set (slice_set k.unknown_inodes (i - 1) false) (n - 1)) here ∙ bit-here k.unknown_inodes false sizes.unknown_inodes in
           let t : eqb j i ≡ true = eq-eqb j i here in
@@ -106,8 +109,10 @@ module _ (k l : Books) (i : ℕ) (freed : List Bool) (owned : ℕ → Bool) (siz
       | inr other ↦ bit-other k.free_inodes true j one other ∙ sym ((λ z. is_set k.free_inodes (j - 1) || not-eqb j i other z) ∙ or-false (is_set k.free_inodes (j - 1)))
     ]);
     free_blocks = λ q low. a.blocks.freeing q low ∙ (λ z. is_set k.free_blocks q || same q low z);
-    agreed_inodes = λ j one most t. elim (cases_eq j i) [
-      | inl here ↦ absurd (let z = ap (λ (bits : List Bool). is_set bits (j - 1)) a.agreed_inodes ∙ ap (λ (n : ℕ). is_set (slice_set k.agreed_inodes (i - 1) false) (n - 1)) here ∙ bit-here k.agreed_inodes false sizes.agreed_inodes in cc (z, t))
-      | inr other ↦ (other, sym (ap (λ (bits : List Bool). is_set bits (j - 1)) a.agreed_inodes ∙ bit-other k.agreed_inodes false j one other) ∙ t)
+    agreement = λ j v t. elim (cases_eq j i) [
+      | inl here ↦
+          let set : told (slice_set k.agreement (i - 1) None) j ≡ Some v = sym (ap (λ (known : List (Option Bool)). told known j) a.agreement) ∙ t in
+          absurd (cc (told-set k.agreement i None v above (subst (λ (n : ℕ). told (slice_set k.agreement (i - 1) None) n ≡ Some v) here set)))
+      | inr other ↦ (other, sym (ap (λ (known : List (Option Bool)). told known j) a.agreement ∙ told-other k.agreement i j None above other) ∙ t)
     ];
   }

@@ -15,7 +15,7 @@ use Rattle.nofs_agree.proofs.Climbs.{KnowsInode-on}
 use Rattle.nofs_state.specs.declared.books.Books.{Books}
 use Rattle.nofs_state.proofs.Keeping.{open-back, reads-keep}
 use Rattle.nofs_names.specs.Searching.{IsFoundEntry, KnowsPaired}
-use Rattle.nofs_names.specs.Refusing.{IsThere, KnownAgreed}
+use Rattle.nofs_names.specs.Refusing.{IsThere, KnownTrue}
 use Rattle.nofs_names.specs.Renames.{FoundIn}
 use Rattle.nofs_state.specs.Owing.{RowsPass}
 use Rattle.nofs_names.specs.Drops.{HasNoNames}
@@ -32,9 +32,9 @@ module _ (old new : DiskState) (stays : StaysButFaults old new) where
   pub directory-on : (at : SuperBlock) (i g : ℕ) (r : Record) → KnowsDirectory old at i g r → KnowsDirectory new at i g r
   directory-on at i g r k = record { known = KnowsInode-on old new at i r stays k.known; kind = k.kind; generation = k.generation }
 
-  pub there-on : (k : Books) (d : ℕ) → (IsTrue old.tells → KnownAgreed k old.now → IsThere d old.now) → IsTrue new.tells → KnownAgreed k new.now
+  pub there-on : (k : Books) (d : ℕ) → (IsTrue old.tells → KnownTrue k old.now → IsThere d old.now) → IsTrue new.tells → KnownTrue k new.now
       → IsThere d new.now
-  there-on k d there t = subst (λ (X : Image). KnownAgreed k X → IsThere d X) now (there (back t))
+  there-on k d there t = subst (λ (X : Image). KnownTrue k X → IsThere d X) now (there (back t))
 
   pub paired-on : (at : SuperBlock) (q : Paired) → KnowsPaired old at q → KnowsPaired new at q
   paired-on at q k = (KnowsInode-on old new at q.inode q.record stays k.0, k.1, k.2, k.3, k.4)
@@ -46,9 +46,9 @@ module _ (old new : DiskState) (stays : StaysButFaults old new) where
   no-names-on i none t F m = none (back t) F (subst (λ (X : Image). FilesMatch F X) stays.cells.now m)
 
   pub gone-on : (k : Books) (d g : ℕ) (q : Paired) (b : Bool)
-      → (IsTrue old.tells → KnownAgreed k old.now → (F : Files) → FilesMatch F old.now → is_gone (drop_meta F q.inode (link_to d q.entry g)) ≡ b)
-      → IsTrue new.tells → KnownAgreed k new.now → (F : Files) → FilesMatch F new.now → is_gone (drop_meta F q.inode (link_to d q.entry g)) ≡ b
-  gone-on k d g q b gone t all F m = gone (back t) (subst (λ (X : Image). KnownAgreed k X) stays.cells.now all) F
+      → (IsTrue old.tells → KnownTrue k old.now → (F : Files) → FilesMatch F old.now → is_gone (drop_meta F q.inode (link_to d q.entry g)) ≡ b)
+      → IsTrue new.tells → KnownTrue k new.now → (F : Files) → FilesMatch F new.now → is_gone (drop_meta F q.inode (link_to d q.entry g)) ≡ b
+  gone-on k d g q b gone t all F m = gone (back t) (subst (λ (X : Image). KnownTrue k X) stays.cells.now all) F
       (subst (λ (X : Image). FilesMatch F X) stays.cells.now m)
 
   pub rows-on : (k : Books) (s : Step) → RowsPass old k s → RowsPass new k s

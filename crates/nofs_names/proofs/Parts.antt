@@ -20,7 +20,7 @@ use Rattle.nofs_state.specs.declared.books.Books.{Books}
 use Rattle.nofs_state.proofs.Replies.{goes-row, goes-read, open-files}
 use Rattle.nofs_state.proofs.Rows.{IsLate}
 use Rattle.nofs_state.proofs.Machine.{are-agreed}
-use Rattle.nofs_names.specs.Refusing.{Fails, ByRow, ByRead, KnownAgreed}
+use Rattle.nofs_names.specs.Refusing.{Fails, ByRow, ByRead, KnownTrue}
 
 pub first-left : (a b : List (Option Refusal)) (w : Refusal) → first_of a ≡ Some w → first_of (a ++ b) ≡ Some w
 first-left [] b w e = cc e
@@ -33,19 +33,23 @@ first-right (None ∷ a) b e = first-right a b e
 first-right (Some x ∷ a) b e = cc e
 
 -- a part that refuses after other reads
-pub fails-after : (old mid new : DiskState) (given : Image → Type 0) (part : World → List (Option Refusal)) (why : Refusal) → StaysButFaults old mid → Fails mid new given part why → Fails old new given part why
+pub fails-after : (old mid new : DiskState) (given : Image → Type 0) (part : World → List (Option Refusal)) (why : Refusal) → StaysButFaults old mid
+    → Fails mid new given part why → Fails old new given part why
 fails-after old mid new given part why stays (ByRow plain range comes) = ByRow plain range (λ t.
     subst (λ (X : Image). given X → (W : World) → FilesMatch W.files X → first_of (part W) ≡ Some why) stays.cells.now (comes (told-on old mid stays t)))
 fails-after old mid new given part why stays (ByRead is rose) = ByRead is (Rose-within old.faults mid.faults new.faults new.faults stays.disk.faults rose (le_refl new.faults))
 
 -- what is given for one part follows from what is given for the step
-pub fails-given : (old new : DiskState) (given first : Image → Type 0) (part : World → List (Option Refusal)) (why : Refusal) → (IsTrue old.tells → first old.now → given old.now) → Fails old new given part why → Fails old new first part why
+pub fails-given : (old new : DiskState) (given first : Image → Type 0) (part : World → List (Option Refusal)) (why : Refusal)
+    → (IsTrue old.tells → first old.now → given old.now) → Fails old new given part why → Fails old new first part why
 fails-given old new given first part why follows (ByRow plain range comes) = ByRow plain range (λ t f. comes t (follows t f))
 fails-given old new given first part why follows (ByRead is rose) = ByRead is rose
 
 -- the step refuses where a part of it does
-pub goes-fails : (old new : DiskState) (k : Books) (s : Step) (part : World → List (Option Refusal)) (why : Refusal) → IsDisk old → IsSafe old k → k.stopped ≡ false → StaysButFaults old new → Fails old new (KnownAgreed k) part why
-    → (IsTrue old.tells → (H : List Entry1) (p : Past) → IsOpen old k H p → first_of (part p.world) ≡ Some why → first_of (rows p.world p.world s) ≡ Some why) → ((W : World) → IsLate (first_of (rows W W s))) → Goes old k new k s no_claims (reply.Refused why)
+pub goes-fails : (old new : DiskState) (k : Books) (s : Step) (part : World → List (Option Refusal)) (why : Refusal) → IsDisk old → IsSafe old k
+    → k.stopped ≡ false → StaysButFaults old new → Fails old new (KnownTrue k) part why
+    → (IsTrue old.tells → (H : List Entry1) (p : Past) → IsOpen old k H p → first_of (part p.world) ≡ Some why → first_of (rows p.world p.world s) ≡ Some why)
+    → ((W : World) → IsLate (first_of (rows W W s))) → Goes old k new k s no_claims (reply.Refused why)
 goes-fails old new k s part why is safe going stays (ByRow plain range comes) row-is late =
     goes-row old new k s is safe stays why plain range going (λ t H p o. row-is t H p o (comes t (are-agreed old k H p safe o) p.world (open-files old k H p o)))
 goes-fails old new k s part why is safe going stays (ByRead e rose) row-is late =

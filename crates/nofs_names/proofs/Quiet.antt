@@ -45,7 +45,8 @@ module _ (X : Image) (k : Books) (W : World) (s : Step) (G : Files) (says : Says
   homes-same : (q : ℕ) → homes_after W s no_claims V.files q ≡ W.homes q
   homes-same q = rw (quiet.none_claimed q, homes_after) (go (W.homes q) refl)
     where
-      go : (h : Option Home) → W.homes q ≡ h → (elim h as (λ (_ : Option Home). Option Home) [ None ↦ None | Some home ↦ cond (has_block V.files home) (Some home) None ]) ≡ h
+      go : (h : Option Home) → W.homes q ≡ h
+          → (elim h as (λ (_ : Option Home). Option Home) [ None ↦ None | Some home ↦ cond (has_block V.files home) (Some home) None ]) ≡ h
       go None e = refl
       go (Some home) e = let b : has_block V.files home ≡ true = subst (λ (F : Files). has_block F home ≡ true) (sym quiet.files) (quiet.blocks home (home-has W X match homes past q home e)) in rw b refl
 
@@ -82,7 +83,7 @@ module _ (X : Image) (k : Books) (W : World) (s : Step) (G : Files) (says : Says
     known_blocks = λ q. refl;
     free_inodes = λ j a b. says.free_inodes j a b ∙ (λ q. says.known_inodes j q && not (sym (V-inode j) q));
     free_blocks = λ q lt. says.free_blocks q lt ∙ (λ n. says.known_blocks q n && not (sym (V-block q) n));
-    agreed_inodes = λ j a b t. V-file j ∙ says.agreed_inodes j a b t;
+    agreement = λ j a t. V-file j ∙ says.agreement j a t;
   }
 
 -- A cell of a directory is given, and nothing else
@@ -101,11 +102,13 @@ block_in o k = cond (ltb k slot_limit) (is_bytes (elim o [ None ↦ Hole | Some 
 pub cell-used : (F : Files) (d g k : ℕ) (v : Value) (j : ℕ) → is_some (files_after F (cell_given d g k v no_meta) j) ≡ is_some (F j)
 cell-used F d g k v j = go (F j)
   where
-    go : (o : Option FileState) → is_some (elim o as (λ (_ : Option FileState). Option FileState) [ None ↦ None | Some f ↦ Some (filled (cell_given d g k v no_meta) j f) ]) ≡ is_some o
+    go : (o : Option FileState)
+        → is_some (elim o as (λ (_ : Option FileState). Option FileState) [ None ↦ None | Some f ↦ Some (filled (cell_given d g k v no_meta) j f) ]) ≡ is_some o
     go None = refl
     go (Some f) = refl
 
-pub cell-blocks : (F : Files) (d g k : ℕ) (v : Value) → is_bytes v ≡ true → (home : Home) → has_block F home ≡ true → has_block (files_after F (cell_given d g k v no_meta)) home ≡ true
+pub cell-blocks : (F : Files) (d g k : ℕ) (v : Value) → is_bytes v ≡ true → (home : Home) → has_block F home ≡ true
+    → has_block (files_after F (cell_given d g k v no_meta)) home ≡ true
 cell-blocks F d g k v ev home h = go (F home.inode) refl h
   where
     inside : (f : FileState) (b : Bool) → cond b (is_bytes (f.values home.slot)) (is_present (f.nodes (path_of home.slot))) ≡ true

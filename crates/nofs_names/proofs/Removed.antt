@@ -1,5 +1,6 @@
 -- The contract of the writes of Drop where the inode goes.
-use Rattle.std.proofs.Common.{◌≡◌, ℕ, ◌+◌, ◌-◌, ◌*◌, ◌/◌, ◌%◌, ◌^◌, ◌<◌, ◌≤◌, ◌||◌, inl, inr, Bool, true, false, List, [], ◌∷◌, length, Some, IsTrue, Result, Ok, Err, refl, sym, ap, ◌∙◌, subst, subst₂, arith}
+use Rattle.std.proofs.Common.{◌≡◌, ℕ, ◌+◌, ◌-◌, ◌*◌, ◌/◌, ◌%◌, ◌^◌, ◌<◌, ◌≤◌, ◌||◌, inl, inr, Bool, true, false, List, [], ◌∷◌, length, Some, IsTrue, Result, Ok, Err, refl, sym, ap, ◌∙◌, subst, subst₂, arith, None}
+use Rattle.std.proofs.lemmas.List.{length-set}
 use Rattle.nofs_disk.specs.Disk.{DiskState, IsDisk, StaysButFaults, cell_at}
 use Rattle.nofs_disk.specs.Number.{put_bytes, zeros}
 use Rattle.nofs_model.specs.Cells.{Cell, Pointer, Record, SuperBlock, tag_of, is_live, free_record}
@@ -35,7 +36,7 @@ use Rattle.nofs_state.proofs.Replies.{open-files}
 use Rattle.nofs_state.proofs.Machine.{agreed-live, are-agreed}
 use Rattle.nofs_state.proofs.Tables.{HasRecord, table_block}
 use Rattle.nofs_names.specs.Searching.{IsFoundEntry}
-use Rattle.nofs_names.specs.Refusing.{IsThere, KnownAgreed}
+use Rattle.nofs_names.specs.Refusing.{IsThere, KnownTrue}
 use Rattle.nofs_names.specs.Renames.{FoundIn, done_answer}
 use Rattle.nofs_state.specs.Owing.{RowsPass}
 use Rattle.nofs_names.specs.Drops.{ClearedIn, HasNoNames}
@@ -48,17 +49,18 @@ use Rattle.nofs_names.proofs.Dropping.{gone-ends, gone-done, drop-proper, EndsWe
 
 -- the maps have the sizes of the disk
 pub sizes-of : (d : DiskState) (k : Books) → IsSafe d k → HasSizes k
-sizes-of d k s = record { unknown_inodes = s.unknown_inodes; free_inodes = s.free_inodes; agreed_inodes = s.agreed_inodes; unknown_blocks = s.unknown_blocks; free_blocks = s.free_blocks }
+sizes-of d k s = record { unknown_inodes = s.unknown_inodes; free_inodes = s.free_inodes; agreement = s.agreement; unknown_blocks = s.unknown_blocks; free_blocks = s.free_blocks }
 
 -- the maps after the removal have the sizes, too, and free blocks of the data area alone
-pub safe-freed : (d : DiskState) (k l : Books) (i : ℕ) (freed : List Bool) → IsSafe d k → FreedAs k l i freed → length freed ≡ k.at.blocks → ((n : ℕ) → is_set freed n ≡ true → 1 + k.at.inodes / 4 ≤ n) → IsSafe d l
+pub safe-freed : (d : DiskState) (k l : Books) (i : ℕ) (freed : List Bool) → IsSafe d k → FreedAs k l i freed → length freed ≡ k.at.blocks
+    → ((n : ℕ) → is_set freed n ≡ true → 1 + k.at.inodes / 4 ≤ n) → IsSafe d l
 safe-freed d k l i freed s a size in_area = record {
   at = subst (λ (z : SuperBlock). IsAt d z) (sym a.at) s.at;
   mount = subst (λ (z : SuperBlock). z.mount < 2 ^ 24) (sym a.at) s.mount;
   serial = subst (λ (n : ℕ). n ≤ 2 ^ 40) (sym a.serial) s.serial;
   unknown_inodes = ap length a.unknown_inodes ∙ set-length k.unknown_inodes (i - 1) false ∙ s.unknown_inodes ∙ sym (ap (λ (z : SuperBlock). z.inodes) a.at);
   free_inodes = ap length a.free_inodes ∙ set-length k.free_inodes (i - 1) true ∙ s.free_inodes ∙ sym (ap (λ (z : SuperBlock). z.inodes) a.at);
-  agreed_inodes = ap length a.agreed_inodes ∙ set-length k.agreed_inodes (i - 1) false ∙ s.agreed_inodes ∙ sym (ap (λ (z : SuperBlock). z.inodes) a.at);
+  agreement = ap length a.agreement ∙ length-set k.agreement (i - 1) None ∙ s.agreement ∙ sym (ap (λ (z : SuperBlock). z.inodes) a.at);
   unknown_blocks = a.blocks.unknown_size ∙ s.unknown_blocks ∙ sym (ap (λ (z : SuperBlock). z.blocks) a.at);
   free_blocks = a.blocks.free_size ∙ s.free_blocks ∙ sym (ap (λ (z : SuperBlock). z.blocks) a.at);
   in_area = λ n t. subst (λ (z : SuperBlock). 1 + z.inodes / 4 ≤ n) (sym a.at) (elim (cases_lt n k.at.blocks) [
@@ -75,11 +77,16 @@ safe-freed d k l i freed s a size in_area = record {
     by-bit n true e t = in_area n e
     by-bit n false e t = s.in_area n (sym ((λ z. is_set k.free_blocks n || e z) ∙ or-false (is_set k.free_blocks n)) ∙ t)
 
-pub removed-goes : (b new : DiskState) (k l : Books) (d g : ℕ) (name : List ℕ) (r : Record) (x : Pointer) (c1 c2 : Cell) (q : Paired) (freed : List Bool) → IsDisk b → IsDisk new → IsSafe b k → k.stopped ≡ false
-    → KnowsDirectory b k.at d r.generation r → r.generation ≡ g → (IsTrue b.tells → KnownAgreed k b.now → IsThere d b.now) → KnowsInode b k.at q.inode q.record → q.record.kind ≡ Some q.kind → FoundIn b d name q → HasNoNames b q.inode → LosesName b k d g q → 0 < x.block
+pub removed-goes : (b new : DiskState) (k l : Books) (d g : ℕ) (name : List ℕ) (r : Record) (x : Pointer) (c1 c2 : Cell) (q : Paired) (freed : List Bool)
+    → IsDisk b → IsDisk new → IsSafe b k → k.stopped ≡ false
+    → KnowsDirectory b k.at d r.generation r → r.generation ≡ g → (IsTrue b.tells → KnownTrue k b.now → IsThere d b.now) → KnowsInode b k.at q.inode q.record
+    → q.record.kind ≡ Some q.kind → FoundIn b d name q → HasNoNames b q.inode → LosesName b k d g q → 0 < x.block
     → (IsTrue b.tells → find b.now d (path_of (q.entry / 16)) ≡ answer.Holds x) → ClearedIn b x (q.entry % 16) c1
-    → (IsTrue b.tells → RecordIn (cell_at b.now (table_block q.inode)) q.inode free_record c2) → tag_of c2.tag ≡ Some (table_tag (table_block q.inode)) → BlocksOf b k.at q.inode freed
-    → RowsPass b k (step.Drop d g name) → (result : Result (Unit {0}) Refusal) (m : Books) → Stores b k new m ((x.block, c1) ∷ (table_block q.inode, c2) ∷ []) result → (result ≡ Ok tt → FreedAs m l q.inode freed) → ((why : Refusal) → result ≡ Err why → l ≡ m)
+    → (IsTrue b.tells → RecordIn (cell_at b.now (table_block q.inode)) q.inode free_record c2) → tag_of c2.tag ≡ Some (table_tag (table_block q.inode))
+    → BlocksOf b k.at q.inode freed
+    → RowsPass b k (step.Drop d g name) → (result : Result (Unit {0}) Refusal) (m : Books)
+    → Stores b k new m ((x.block, c1) ∷ (table_block q.inode, c2) ∷ []) result → (result ≡ Ok tt → FreedAs m l q.inode freed)
+    → ((why : Refusal) → result ≡ Err why → l ≡ m)
     → Goes b k new l (step.Drop d g name) no_claims (done_answer (reply.Dropped true) result)
 removed-goes b new k l d g name r x c1 c2 q freed is_b is_new safe going directory gen there record-known q-kind found-in no_names loses positive held cleared table table-tag blocks pass result m stores ok err = go stores
   where
@@ -95,7 +102,8 @@ removed-goes b new k l d g name r x c1 c2 q freed is_b is_new safe going directo
     has : (H : List Entry1) (p : Past) → IsTrue b.tells → IsOpen b k H p → HasRecord b.now q.inode free_record c2
     has H p tells o = let f = pair H p tells o in record { range = (live-stands b.now q.inode (agreed-live b.now q.inode f.pair.agreed)).range; here = (table tells).here; others = (table tells).others }
 
-    gone : (H : List Entry1) (p : Past) (tells : IsTrue b.tells) (o : IsOpen b k H p) → drop_meta p.world.files (pair H p tells o).pair.entry.inode (link_to d q.entry g) ≡ Gone
+    gone : (H : List Entry1) (p : Past) (tells : IsTrue b.tells) (o : IsOpen b k H p)
+        → drop_meta p.world.files (pair H p tells o).pair.entry.inode (link_to d q.entry g) ≡ Gone
     gone H p tells o = is-gone (drop_meta p.world.files (pair H p tells o).pair.entry.inode (link_to d q.entry g))
         (ap (λ (i : ℕ). is_gone (drop_meta p.world.files i (link_to d q.entry g))) (pair H p tells o).pair.names ∙ loses tells (are-agreed b k H p safe o) p.world.files (open-files b k H p o))
       where
@@ -104,7 +112,8 @@ removed-goes b new k l d g name r x c1 c2 q freed is_b is_new safe going directo
         is-gone (Is kind size links) e = cc e
 
     -- the maps once the blocks are freed
-    freed-now : (H : List Entry1) (p : Past) (tells : IsTrue b.tells) (o : IsOpen b k H p) → FreedAs k l q.inode freed → Freed k l (pair H p tells o).pair.entry.inode (λ n. is_of (pair H p tells o).pair.entry.inode (p.world.homes n))
+    freed-now : (H : List Entry1) (p : Past) (tells : IsTrue b.tells) (o : IsOpen b k H p) → FreedAs k l q.inode freed
+        → Freed k l (pair H p tells o).pair.entry.inode (λ n. is_of (pair H p tells o).pair.entry.inode (p.world.homes n))
     freed-now H p tells o a = subst (λ (i : ℕ). Freed k l i (λ n. is_of i (p.world.homes n))) (sym (pair H p tells o).pair.names)
         (freed-from k l q.inode freed (λ n. is_of q.inode (p.world.homes n)) (sizes-of b k safe) range.0 range.1 a
         (λ n low. blocks.owned tells (pair H p tells o).pair.agreed n low ∙ ap (is_of q.inode) (sym (o.homes n (subst (λ (z : ℕ). n < z) (sym o.says.blocks) low))))
@@ -113,7 +122,8 @@ removed-goes b new k l d g name r x c1 c2 q freed is_b is_new safe going directo
         range : (1 ≤ q.inode) × (q.inode ≤ k.at.inodes)
         range = record-known.range (let e : is_live q.record ≡ true = rw q-kind refl in e)
 
-    go : Stores b k new m ((x.block, c1) ∷ (table_block q.inode, c2) ∷ []) result → Goes b k new l (step.Drop d g name) no_claims (done_answer (reply.Dropped true) result)
+    go : Stores b k new m ((x.block, c1) ∷ (table_block q.inode, c2) ∷ []) result
+        → Goes b k new l (step.Drop d g name) no_claims (done_answer (reply.Dropped true) result)
     go (Stored writes same e) =
         let a : FreedAs k l q.inode freed = subst (λ (z : Books). FreedAs z l q.inode freed) same (ok e) in
         subst (λ (z : Result (Unit {0}) Refusal). Goes b k new l (step.Drop d g name) no_claims (done_answer (reply.Dropped true) z)) (sym e)
@@ -135,20 +145,23 @@ removed-goes b new k l d g name r x c1 c2 q freed is_b is_new safe going directo
 
 -- from the state before the table was read
 pub remove-ends : (old mid new : DiskState) (k m l : Books) (d g : ℕ) (name : List ℕ) (r : Record) (x : Pointer) (c1 before c2 : Cell) (q : Paired) (freed : List Bool) (result : Result (Unit {0}) Refusal) → IsDisk mid → IsDisk new → StaysButFaults old mid → IsSafe old k → k.stopped ≡ false
-    → KnowsDirectory old k.at d r.generation r → r.generation ≡ g → (IsTrue old.tells → KnownAgreed k old.now → IsThere d old.now) → KnowsInode old k.at q.inode q.record → q.record.kind ≡ Some q.kind → FoundIn old d name q → HasNoNames old q.inode → LosesName old k d g q → 0 < x.block
+    → KnowsDirectory old k.at d r.generation r → r.generation ≡ g → (IsTrue old.tells → KnownTrue k old.now → IsThere d old.now)
+    → KnowsInode old k.at q.inode q.record → q.record.kind ≡ Some q.kind → FoundIn old d name q → HasNoNames old q.inode → LosesName old k d g q → 0 < x.block
     → (IsTrue old.tells → find old.now d (path_of (q.entry / 16)) ≡ answer.Holds x) → ClearedIn old x (q.entry % 16) c1
-    → (IsTrue old.tells → before ≡ cell_at old.now (table_block q.inode)) → RecordIn before q.inode free_record c2 → tag_of c2.tag ≡ Some (table_tag (table_block q.inode)) → BlocksOf old k.at q.inode freed
-    → RowsPass old k (step.Drop d g name) → Stores mid k new m ((x.block, c1) ∷ (table_block q.inode, c2) ∷ []) result → (result ≡ Ok tt → FreedAs m l q.inode freed) → ((why : Refusal) → result ≡ Err why → l ≡ m)
+    → (IsTrue old.tells → before ≡ cell_at old.now (table_block q.inode)) → RecordIn before q.inode free_record c2
+    → tag_of c2.tag ≡ Some (table_tag (table_block q.inode)) → BlocksOf old k.at q.inode freed
+    → RowsPass old k (step.Drop d g name) → Stores mid k new m ((x.block, c1) ∷ (table_block q.inode, c2) ∷ []) result
+    → (result ≡ Ok tt → FreedAs m l q.inode freed) → ((why : Refusal) → result ≡ Err why → l ≡ m)
     → Goes old k new l (step.Drop d g name) no_claims (done_answer (reply.Dropped true) result)
 remove-ends old mid new k m l d g name r x c1 before c2 q freed result is_mid is_new stays safe going directory gen there record-known q-kind found-in no_names loses positive held cleared table record-in table-tag blocks pass stores ok err =
     goes-after old mid (reads-keep old mid stays) new k l (step.Drop d g name) no_claims (done_answer (reply.Dropped true) result)
     (removed-goes mid new k l d g name r x c1 c2 q freed is_mid is_new (safe-keeps old mid (reads-keep old mid stays) k safe) going
     (record { known = KnowsInode-on old mid k.at d r stays directory.known; kind = directory.kind; generation = directory.generation }) gen
-    (λ t. subst (λ (X : Image). KnownAgreed k X → IsThere d X) (sym now) (there (told t)))
+    (λ t. subst (λ (X : Image). KnownTrue k X → IsThere d X) (sym now) (there (told t)))
     (KnowsInode-on old mid k.at q.inode q.record stays record-known) q-kind
     (λ t. subst (λ (X : Image). IsThere d X → (F : Files) → FilesMatch F X → IsFoundEntry F X d name q) (sym now) (found-in (told t)))
     (λ t F w. no_names (told t) F (subst (λ (X : Image). FilesMatch F X) now w))
-    (λ t all F w. loses (told t) (subst (λ (X : Image). KnownAgreed k X) now all) F (subst (λ (X : Image). FilesMatch F X) now w))
+    (λ t all F w. loses (told t) (subst (λ (X : Image). KnownTrue k X) now all) F (subst (λ (X : Image). FilesMatch F X) now w))
     positive
     (λ t. subst (λ (X : Image). find X d (path_of (q.entry / 16)) ≡ answer.Holds x) (sym now) (held (told t)))
     (record {

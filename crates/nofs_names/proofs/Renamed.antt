@@ -32,14 +32,15 @@ use Rattle.nofs_state.proofs.Keeping.{goes-after, open-back, reads-keep, safe-ke
 use Rattle.nofs_state.proofs.Replies.{goes-row, goes-read, open-files}
 use Rattle.nofs_state.proofs.Machine.{agreed-live, are-agreed}
 use Rattle.nofs_names.specs.Searching.{IsFoundEntry}
-use Rattle.nofs_names.specs.Refusing.{IsThere, KnownAgreed}
+use Rattle.nofs_names.specs.Refusing.{IsThere, KnownTrue}
 use Rattle.nofs_names.specs.Renames.{FoundIn, HoldFails, HoldsSlot, done_answer}
 use Rattle.nofs_state.specs.Owing.{RowsPass}
 use Rattle.nofs_names.specs.declared.searching.Paired.{Paired}
 use Rattle.nofs_names.proofs.Renaming.{claim, rename-done, rename-proper, rename-numbered}
 
 -- the entry that was found stands in a slot that holds
-pub slot-holds : (F : Files) (X : Image) (d : ℕ) (name : List ℕ) (q : Paired) → FilesMatch F X → agreed (files_in X) d ≡ true → IsFoundEntry F X d name q → (x : Pointer) × (find X d (path_of (q.entry / 16)) ≡ answer.Holds x)
+pub slot-holds : (F : Files) (X : Image) (d : ℕ) (name : List ℕ) (q : Paired) → FilesMatch F X → agreed (files_in X) d ≡ true → IsFoundEntry F X d name q
+    → (x : Pointer) × (find X d (path_of (q.entry / 16)) ≡ answer.Holds x)
 slot-holds F X d name q match a f =
     let m = matched-agreed F X d match (agreed-live X d a) a in
     let parts = entry-parts (F d) m.file q.entry f.pair.entry m.is f.pair.at in
@@ -47,7 +48,8 @@ slot-holds F X d name q match a f =
     let v : m.file.values (q.entry / 16) ≡ value_in X (find X d (path_of (q.entry / 16))) = m.values (q.entry / 16) (omega (arith, range)) in
     go (find X d (path_of (q.entry / 16))) refl (sym (ap (λ (w : _). entry_held w q.entry) v) ∙ parts.2)
   where
-    go : (b : PathAnswer) → find X d (path_of (q.entry / 16)) ≡ b → entry_held (value_in X b) q.entry ≡ Some f.pair.entry → (x : Pointer) × (find X d (path_of (q.entry / 16)) ≡ answer.Holds x)
+    go : (b : PathAnswer) → find X d (path_of (q.entry / 16)) ≡ b → entry_held (value_in X b) q.entry ≡ Some f.pair.entry
+        → (x : Pointer) × (find X d (path_of (q.entry / 16)) ≡ answer.Holds x)
     go answer.Hole e h = cc h
     go answer.Lost e h = cc h
     go (answer.Holds x) e h = (x, e)
@@ -55,10 +57,14 @@ slot-holds F X d name q match a f =
 -- from the state before the write
 
 pub renamed-goes : (b new : DiskState) (k l : Books) (d g : ℕ) (name other : List ℕ) (r : Record) (x : Pointer) (c : Cell) (q : Paired) (result : Result (Unit {0}) Refusal) → IsDisk b → IsDisk new → IsSafe b k → k.stopped ≡ false
-    → KnowsDirectory b k.at d r.generation r → r.generation ≡ g → (IsTrue b.tells → KnownAgreed k b.now → IsThere d b.now) → FoundIn b d name q → 0 < x.block → (IsTrue b.tells → find b.now d (path_of (q.entry / 16)) ≡ answer.Holds x)
-    → (IsTrue b.tells → length (cell_at b.now x.block).payload ≡ 1024) → Spells (spelled_entry q.inode q.record.generation other) (record { inode = q.inode; generation = q.record.generation; name = other })
-    → (IsTrue b.tells → c.payload ≡ put_bytes (64 * (q.entry % 16)) (spelled_entry q.inode q.record.generation other) (cell_at b.now x.block).payload) → (IsTrue b.tells → c.tag ≡ (cell_at b.now x.block).tag)
-    → RowsPass b k (step.Rename d g name other) → Stores b k new l ((x.block, c) ∷ []) result → Goes b k new l (step.Rename d g name other) no_claims (done_answer reply.Renamed result)
+    → KnowsDirectory b k.at d r.generation r → r.generation ≡ g → (IsTrue b.tells → KnownTrue k b.now → IsThere d b.now) → FoundIn b d name q → 0 < x.block
+    → (IsTrue b.tells → find b.now d (path_of (q.entry / 16)) ≡ answer.Holds x)
+    → (IsTrue b.tells → length (cell_at b.now x.block).payload ≡ 1024)
+    → Spells (spelled_entry q.inode q.record.generation other) (record { inode = q.inode; generation = q.record.generation; name = other })
+    → (IsTrue b.tells → c.payload ≡ put_bytes (64 * (q.entry % 16)) (spelled_entry q.inode q.record.generation other) (cell_at b.now x.block).payload)
+    → (IsTrue b.tells → c.tag ≡ (cell_at b.now x.block).tag)
+    → RowsPass b k (step.Rename d g name other) → Stores b k new l ((x.block, c) ∷ []) result
+    → Goes b k new l (step.Rename d g name other) no_claims (done_answer reply.Renamed result)
 renamed-goes b new k l d g name other r x c q result is_b is_new safe going directory gen there found-in positive held whole spells payload tag pass stores = go stores
   where
     apart : IsApart ((x.block, c) ∷ []) 0
@@ -90,22 +96,24 @@ renamed-goes b new k l d g name other r x c q result is_b is_new safe going dire
 -- from the state before the slot was found
 
 module _ (old mid : DiskState) (k : Books) (d g : ℕ) (name other : List ℕ) (r : Record) (q : Paired) (is_old : IsDisk old) (safe : IsSafe old k) (going : k.stopped ≡ false)
-    (directory : KnowsDirectory old k.at d r.generation r) (gen : r.generation ≡ g) (there : IsTrue old.tells → KnownAgreed k old.now → IsThere d old.now) (found-in : FoundIn old d name q) (pass : RowsPass old k (step.Rename d g name other)) where
+    (directory : KnowsDirectory old k.at d r.generation r) (gen : r.generation ≡ g) (there : IsTrue old.tells → KnownTrue k old.now → IsThere d old.now) (found-in : FoundIn old d name q) (pass : RowsPass old k (step.Rename d g name other)) where
   now-in : StaysButFaults old mid → mid.now ≡ old.now
   now-in stays = stays.cells.now
 
   told : StaysButFaults old mid → IsTrue mid.tells → IsTrue old.tells
   told stays t = subst (λ (b : Bool). IsTrue b) stays.disk.tells t
 
-  pub rename-ends : (new : DiskState) (l : Books) (x : Pointer) (before c : Cell) (result : Result (Unit {0}) Refusal) → IsDisk mid → IsDisk new → StaysButFaults old mid → InArea k.at (answer.Holds x) → (IsTrue old.tells → find old.now d (path_of (q.entry / 16)) ≡ answer.Holds x)
-      → (IsTrue old.tells → before ≡ cell_at old.now x.block) → length before.payload ≡ 1024 → Spells (spelled_entry q.inode q.record.generation other) (record { inode = q.inode; generation = q.record.generation; name = other })
+  pub rename-ends : (new : DiskState) (l : Books) (x : Pointer) (before c : Cell) (result : Result (Unit {0}) Refusal) → IsDisk mid → IsDisk new
+      → StaysButFaults old mid → InArea k.at (answer.Holds x) → (IsTrue old.tells → find old.now d (path_of (q.entry / 16)) ≡ answer.Holds x)
+      → (IsTrue old.tells → before ≡ cell_at old.now x.block) → length before.payload ≡ 1024
+      → Spells (spelled_entry q.inode q.record.generation other) (record { inode = q.inode; generation = q.record.generation; name = other })
       → c.payload ≡ put_bytes (64 * (q.entry % 16)) (spelled_entry q.inode q.record.generation other) before.payload → c.tag ≡ before.tag
       → Stores mid k new l ((x.block, c) ∷ []) result → Goes old k new l (step.Rename d g name other) no_claims (done_answer reply.Renamed result)
   rename-ends new l x before c result is_mid is_new stays area held cell whole spells payload tag stores =
       goes-after old mid (reads-keep old mid stays) new k l (step.Rename d g name other) no_claims (done_answer reply.Renamed result)
       (renamed-goes mid new k l d g name other r x c q result is_mid is_new (safe-keeps old mid (reads-keep old mid stays) k safe) going
       (record { known = KnowsInode-on old mid k.at d r stays directory.known; kind = directory.kind; generation = directory.generation }) gen
-      (λ t. subst (λ (X : Image). KnownAgreed k X → IsThere d X) (sym (now-in stays)) (there (told stays t)))
+      (λ t. subst (λ (X : Image). KnownTrue k X → IsThere d X) (sym (now-in stays)) (there (told stays t)))
       (λ t. subst (λ (X : Image). IsThere d X → (F : Files) → FilesMatch F X → IsFoundEntry F X d name q) (sym (now-in stays)) (found-in (told stays t)))
       (let a = area.0 in omega (arith, a))
       (λ t. subst (λ (X : Image). find X d (path_of (q.entry / 16)) ≡ answer.Holds x) (sym (now-in stays)) (held (told stays t)))
@@ -119,7 +127,8 @@ module _ (old mid : DiskState) (k : Books) (d g : ℕ) (name other : List ℕ) (
       was t = cell (told stays t) ∙ ap (λ (X : Image). cell_at X x.block) (sym (now-in stays))
 
   -- the slot was not found
-  pub rename-unheld : (last : LastRead) (res : Result Pointer Refusal) (why : Refusal) → HoldsSlot old mid k.at d (q.entry / 16) last res → res ≡ Err why → Goes old k mid k (step.Rename d g name other) no_claims (reply.Refused why)
+  pub rename-unheld : (last : LastRead) (res : Result Pointer Refusal) (why : Refusal) → HoldsSlot old mid k.at d (q.entry / 16) last res → res ≡ Err why
+      → Goes old k mid k (step.Rename d g name other) no_claims (reply.Refused why)
   rename-unheld last res why holds e = go (subst (λ (z : Result Pointer Refusal). IfErr z (HoldFails old mid d (q.entry / 16))) e holds.refused)
     where
       go : HoldFails old mid d (q.entry / 16) why → Goes old k mid k (step.Rename d g name other) no_claims (reply.Refused why)

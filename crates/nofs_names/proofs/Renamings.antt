@@ -28,7 +28,7 @@ use Rattle.nofs_state.proofs.Replies.{goes-row, open-files}
 use Rattle.nofs_state.proofs.Rows.{IsLate, first-late, late-row}
 use Rattle.nofs_state.proofs.Machine.{are-agreed}
 use Rattle.nofs_names.specs.Searching.{IsFoundEntry, Passed}
-use Rattle.nofs_names.specs.Refusing.{Fails, KnownAgreed, IsThere, directory_rows, missing_rows, exists_rows, OpensDirectory, FindsPair, FindsNone}
+use Rattle.nofs_names.specs.Refusing.{Fails, KnownTrue, IsThere, directory_rows, missing_rows, exists_rows, OpensDirectory, FindsPair, FindsNone}
 use Rattle.nofs_state.specs.Owing.{RowsPass}
 use Rattle.nofs_names.specs.declared.searching.Paired.{Paired}
 use Rattle.nofs_names.specs.declared.searching.Unfound.{Unfound}
@@ -45,15 +45,17 @@ module _ (old : DiskState) (k : Books) (d g : ℕ) (name other : List ℕ) (is :
     rename-bad-new bad = goes-row old old k (step.Rename d g name other) is safe (StaysButFaults-refl old) refusal.BadName refl tt going (λ tells H p o. rw (ok, bad) refl)
 
     module _ (good : is_name other ≡ true) where
-      rows-are : (W V : World) → first_of (rows W V (step.Rename d g name other)) ≡ first_of (directory_rows d g W ++ (missing_rows d name W ++ exists_rows d other W))
+      rows-are : (W V : World)
+          → first_of (rows W V (step.Rename d g name other)) ≡ first_of (directory_rows d g W ++ (missing_rows d name W ++ exists_rows d other W))
       rows-are W V = rw (ok, good) refl
 
       late : (W : World) → IsLate (first_of (rows W W (step.Rename d g name other)))
       late W why e = first-late (directory_rows d g W ++ (missing_rows d name W ++ exists_rows d other W))
           (late-row (not (is_some (W.files d) && eqb (generation_of W.files d) g)) refusal.Stale refl, (late-row (not (is_folder_at W.files d)) refusal.NotDirectory refl, (missing-late W d name, (late-row (is_some (found W.files d other)) refusal.Exists refl, tt)))) why (sym (rows-are W W) ∙ e)
 
-      pub rename-unopened : (mid : DiskState) (last : LastRead) (res : Result Record Refusal) (why : Refusal) → OpensDirectory old mid k d g last res → res ≡ Err why → Goes old k mid k (step.Rename d g name other) no_claims (reply.Refused why)
-      rename-unopened mid last res why opens e = goes-fails old mid k (step.Rename d g name other) (directory_rows d g) why is safe going opens.stays (subst (λ (r : Result Record Refusal). IfErr r (Fails old mid (KnownAgreed k) (directory_rows d g))) e opens.refused)
+      pub rename-unopened : (mid : DiskState) (last : LastRead) (res : Result Record Refusal) (why : Refusal) → OpensDirectory old mid k d g last res
+          → res ≡ Err why → Goes old k mid k (step.Rename d g name other) no_claims (reply.Refused why)
+      rename-unopened mid last res why opens e = goes-fails old mid k (step.Rename d g name other) (directory_rows d g) why is safe going opens.stays (subst (λ (r : Result Record Refusal). IfErr r (Fails old mid (KnownTrue k) (directory_rows d g))) e opens.refused)
           (λ t H p o q. rows-are p.world p.world ∙ first-left (directory_rows d g p.world) (missing_rows d name p.world ++ exists_rows d other p.world) why q) late
 
       module _ (mid : DiskState) (last : LastRead) (r : Record) (opens : OpensDirectory old mid k d g last (Ok r)) where
@@ -61,9 +63,10 @@ module _ (old : DiskState) (k : Books) (d g : ℕ) (name other : List ℕ) (is :
         none-before t H p o = opens.passes t (are-agreed old k H p safe o) p.world (open-files old k H p o)
 
         module _ (new : DiskState) (names records : LastRead) where
-          pub rename-missing : (res : Result Paired Refusal) (why : Refusal) → FindsPair mid new k.at d name names records res → res ≡ Err why → Goes old k new k (step.Rename d g name other) no_claims (reply.Refused why)
+          pub rename-missing : (res : Result Paired Refusal) (why : Refusal) → FindsPair mid new k.at d name names records res → res ≡ Err why
+              → Goes old k new k (step.Rename d g name other) no_claims (reply.Refused why)
           rename-missing res why finds e = goes-fails old new k (step.Rename d g name other) (missing_rows d name) why is safe going (StaysButFaults-trans old mid new opens.stays finds.stays)
-              (fails-given old new (IsThere d) (KnownAgreed k) (missing_rows d name) why opens.there
+              (fails-given old new (IsThere d) (KnownTrue k) (missing_rows d name) why opens.there
               (fails-after old mid new (IsThere d) (missing_rows d name) why opens.stays (subst (λ (q : Result Paired Refusal). IfErr q (Fails mid new (IsThere d) (missing_rows d name))) e finds.refused)))
               (λ t H p o q. rows-are p.world p.world ∙ first-right (directory_rows d g p.world) (missing_rows d name p.world ++ exists_rows d other p.world) (none-before t H p o) ∙ first-left (missing_rows d name p.world) (exists_rows d other p.world) why q) late
 
@@ -79,12 +82,14 @@ module _ (old : DiskState) (k : Books) (d g : ℕ) (name other : List ℕ) (is :
             none-missing : IsTrue old.tells → (H : List Entry1) (p : Past) → IsOpen old k H p → first_of (missing_rows d name p.world) ≡ None
             none-missing t H p o = rw (found-here t H p o) refl
 
-            to-exists : IsTrue old.tells → (H : List Entry1) (p : Past) → IsOpen old k H p → (V : World) → first_of (rows p.world V (step.Rename d g name other)) ≡ first_of (exists_rows d other p.world)
+            to-exists : IsTrue old.tells → (H : List Entry1) (p : Past) → IsOpen old k H p → (V : World)
+                → first_of (rows p.world V (step.Rename d g name other)) ≡ first_of (exists_rows d other p.world)
             to-exists t H p o V = rows-are p.world V ∙ first-right (directory_rows d g p.world) (missing_rows d name p.world ++ exists_rows d other p.world) (none-before t H p o) ∙ first-right (missing_rows d name p.world) (exists_rows d other p.world) (none-missing t H p o)
 
-            pub rename-exists : (res : Result Unfound Refusal) (why : Refusal) → FindsNone new end d other names2 records2 res → res ≡ Err why → Goes old k end k (step.Rename d g name other) no_claims (reply.Refused why)
+            pub rename-exists : (res : Result Unfound Refusal) (why : Refusal) → FindsNone new end d other names2 records2 res → res ≡ Err why
+                → Goes old k end k (step.Rename d g name other) no_claims (reply.Refused why)
             rename-exists res why none e = goes-fails old end k (step.Rename d g name other) (exists_rows d other) why is safe going (StaysButFaults-trans old new end to-new none.stays)
-                (fails-given old end (IsThere d) (KnownAgreed k) (exists_rows d other) why opens.there
+                (fails-given old end (IsThere d) (KnownTrue k) (exists_rows d other) why opens.there
                 (fails-after old new end (IsThere d) (exists_rows d other) why to-new (subst (λ (z : Result Unfound Refusal). IfErr z (Fails new end (IsThere d) (exists_rows d other))) e none.refused)))
                 (λ t H p o z. to-exists t H p o p.world ∙ z) late
 

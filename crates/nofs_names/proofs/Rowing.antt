@@ -21,7 +21,7 @@ use Rattle.nofs_state.specs.declared.books.Books.{Books}
 use Rattle.nofs_state.specs.declared.opening.Opened.{Opened}
 use Rattle.nofs_state.proofs.Machine.{agreed-live, stale-none, stale-some}
 use Rattle.nofs_names.specs.Searching.{Passed, Searches}
-use Rattle.nofs_names.specs.Refusing.{Fails, ByRow, ByRead, KnownAgreed, directory_rows, OpensDirectory, FindsPair, IsPairOf, missing_in, unused_in, FindsNone, hole_place, place_of_entry}
+use Rattle.nofs_names.specs.Refusing.{Fails, ByRow, ByRead, KnownTrue, directory_rows, OpensDirectory, FindsPair, IsPairOf, missing_in, unused_in, FindsNone, hole_place, place_of_entry}
 use Rattle.nofs_names.specs.declared.searching.Paired.{Paired}
 use Rattle.nofs_names.specs.declared.searching.Unfound.{Unfound}
 use Rattle.nofs_names.specs.declared.searching.Searched.{Searched}
@@ -37,7 +37,8 @@ current-agreed X i g c = go (agreed (files_in X) i) refl c
     go false e h = absurd (let z : false ≡ true = h in cc z)
 
 -- whether an agreed inode is a directory
-pub folder-at : (F : Files) (X : Image) (i : ℕ) (r : Record) (kind : FileKind) → FilesMatch F X → agreed (files_in X) i ≡ true → inode X i ≡ r → r.kind ≡ Some kind → is_folder_at F i ≡ is_folder kind
+pub folder-at : (F : Files) (X : Image) (i : ℕ) (r : Record) (kind : FileKind) → FilesMatch F X → agreed (files_in X) i ≡ true → inode X i ≡ r
+    → r.kind ≡ Some kind → is_folder_at F i ≡ is_folder kind
 folder-at F X i r kind match a er ek =
     let m = matched-agreed F X i match (agreed-live X i a) a in
     let k : Some m.file.kind ≡ Some kind = sym (kind-of F X i m.file match a m.is) ∙ ap (λ (q : Record). q.kind) er ∙ ek in
@@ -58,7 +59,7 @@ module _ (old new : DiskState) (k : Books) (d g : ℕ) (last : LastRead) (res : 
     refused = go why (subst (λ (q : Result Opened Refusal). IfErr q (OpenFails old new k d g)) e opens.refused);
   }
     where
-      go : (w : Refusal) → OpenFails old new k d g w → Fails old new (KnownAgreed k) (directory_rows d g) w
+      go : (w : Refusal) → OpenFails old new k d g w → Fails old new (KnownTrue k) (directory_rows d g) w
       go refusal.Stale fails = ByRow refl tt (λ t all W match. rw (stale-some W old.now d g match (fails t all)) refl)
       go refusal.ReadFault fails = ByRead refl fails
       go _ fails = absurd fails
@@ -67,7 +68,7 @@ module _ (old new : DiskState) (k : Books) (d g : ℕ) (last : LastRead) (res : 
     opened : Opens old new k d g last (Ok it)
     opened = subst (λ (q : Result Opened Refusal). Opens old new k d g last q) is opens
 
-    folder-of : IsTrue old.tells → KnownAgreed k old.now → (W : World) → FilesMatch W.files old.now → is_folder_at W.files d ≡ is_folder it.kind
+    folder-of : IsTrue old.tells → KnownTrue k old.now → (W : World) → FilesMatch W.files old.now → is_folder_at W.files d ≡ is_folder it.kind
     folder-of t all W match = folder-at W.files old.now d it.found it.kind match (current-agreed old.now d g (opened.current t all)) (record-of old new k.at d it.found opens.stays opened.known.known t) opened.known.kind
 
     pub directory-file : is_folder it.kind ≡ false → OpensDirectory old new k d g last (Err refusal.NotDirectory)
@@ -110,7 +111,8 @@ found-none W d name e h = rw h refl
 plain-missing : (u : Unfound) (why : Refusal) → Some why ≡ missing_in u → is_plain why ≡ true
 plain-missing u why e = go u.dead u.lost (e)
   where
-    go : (a b : Option ℕ) → Some why ≡ first_of (option_map refusal.LostEntry a ∷ option_map refusal.LostSlot b ∷ Some refusal.Missing ∷ []) → is_plain why ≡ true
+    go : (a b : Option ℕ) → Some why ≡ first_of (option_map refusal.LostEntry a ∷ option_map refusal.LostSlot b ∷ Some refusal.Missing ∷ [])
+        → is_plain why ≡ true
     go (Some a) b h = ap is_plain (let s : why ≡ refusal.LostEntry a = cc h in s)
     go None (Some b) h = ap is_plain (let s : why ≡ refusal.LostSlot b = cc h in s)
     go None None h = ap is_plain (let s : why ≡ refusal.Missing = cc h in s)
@@ -124,7 +126,8 @@ range-missing u why e = go u.dead u.lost (e)
     go None None h = let s : why ≡ refusal.Missing = cc h in subst (λ (w : Refusal). InRange w) (sym s) tt
 
 module _ (old new : DiskState) (at : SuperBlock) (d : ℕ) (name : List ℕ) (names records : LastRead) where
-  pub pair-found : (s : Searched) (res : Result Paired Refusal) → Searches old new at d name names records (Ok s) → IsPairOf s res → FindsPair old new at d name names records res
+  pub pair-found : (s : Searched) (res : Result Paired Refusal) → Searches old new at d name names records (Ok s) → IsPairOf s res
+      → FindsPair old new at d name names records res
   pair-found (searched.Found p) res search is = subst (λ (r : Result Paired Refusal). FindsPair old new at d name names records r) (sym is) (record {
     stays = search.stays;
     known = search.known;
@@ -142,7 +145,8 @@ module _ (old new : DiskState) (at : SuperBlock) (d : ℕ) (name : List ℕ) (na
         refused = ByRow (plain-missing u why ew) (range-missing u why ew) (λ t there W match. let m = missing-is W.files W d name u refl (search.answer t W.files match there) ∙ sym ew in rw m refl);
       })
 
-  pub name-unused : (s : Searched) (res : Result Unfound Refusal) → Searches old new at d name names records (Ok s) → res ≡ unused_in s → FindsNone old new d name names records res
+  pub name-unused : (s : Searched) (res : Result Unfound Refusal) → Searches old new at d name names records (Ok s) → res ≡ unused_in s
+      → FindsNone old new d name names records res
   name-unused (searched.Found p) res search is = subst (λ (r : Result Unfound Refusal). FindsNone old new d name names records r) (sym is) (record {
     stays = search.stays;
     seen = tt;

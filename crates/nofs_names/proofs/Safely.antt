@@ -1,5 +1,6 @@
 -- Claims, and a step that ends with its writes, over any disk.
-use Rattle.std.proofs.Common.{◌≡◌, ◌≢◌, ℕ, ◌+◌, ◌-◌, ◌*◌, ◌/◌, ◌^◌, ◌<◌, ◌≤◌, Bool, true, false, ltb, ltb-true, ◌||◌, List, Option, is_some, Result, Ok, Err}
+use Rattle.std.proofs.Common.{◌≡◌, ◌≢◌, ℕ, ◌+◌, ◌-◌, ◌*◌, ◌/◌, ◌^◌, ◌<◌, ◌≤◌, Bool, true, false, ltb, ltb-true, ◌||◌, List, Option, is_some, Result, Ok, Err, Some}
+use Rattle.std.proofs.lemmas.List.{length-set}
 use Rattle.std.proofs.Common.{inl, inr, refl, sym, ap, ◌∙◌, subst, subst₂, arith}
 use Rattle.std.specs.Prelude.{slice_set}
 use Rattle.std.proofs.lemmas.Bool.{cases_eq}
@@ -46,7 +47,7 @@ inode-safe d k i serial s = record {
   serial = omega (arith, serial);
   unknown_inodes = s.unknown_inodes;
   free_inodes = set-length k.free_inodes (i - 1) false ∙ s.free_inodes;
-  agreed_inodes = set-length k.agreed_inodes (i - 1) true ∙ s.agreed_inodes;
+  agreement = length-set k.agreement (i - 1) (Some true) ∙ s.agreement;
   unknown_blocks = s.unknown_blocks;
   free_blocks = s.free_blocks;
   in_area = s.in_area;
@@ -59,7 +60,7 @@ block-safe d k b within serial s = record {
   serial = omega (arith, serial);
   unknown_inodes = s.unknown_inodes;
   free_inodes = s.free_inodes;
-  agreed_inodes = s.agreed_inodes;
+  agreement = s.agreement;
   unknown_blocks = s.unknown_blocks;
   free_blocks = set-length k.free_blocks b false ∙ s.free_blocks;
   in_area = λ q t. elim (cases_eq q b) [
@@ -171,7 +172,8 @@ few-blocks entry.WithLeaf = omega arith
 
 -- what the inode's claim leaves for the entry
 pub may-enter : (old mid : DiskState) (k : Books) (d : ℕ) (dr : Record) (p : EntryPlace) (i : ℕ) (name : List ℕ) (new : Record) → StaysButFaults old mid
-    → KnowsDirectory old k.at d dr.generation dr → p.entry < entry_limit → FitsSlot k.at (p.entry / 16) p.slot → AreFree k.free_blocks (slot_blocks p.slot) p.blocks
+    → KnowsDirectory old k.at d dr.generation dr → p.entry < entry_limit → FitsSlot k.at (p.entry / 16) p.slot
+    → AreFree k.free_blocks (slot_blocks p.slot) p.blocks
     → k.serial + 1 + slot_blocks p.slot ≤ 2 ^ 40 → is_raised k ≡ true → 1 ≤ i → i ≤ k.at.inodes → NameOk name → HasRecordSpelling new
     → MayEnter mid (made_books k i) d dr p.entry p.slot p.blocks (record { inode = i; generation = k.at.mount * 2 ^ 40 + k.serial; name = name }) new
 may-enter old mid k d dr p i name new stays directory range fits free stamps raised above within ok spelling = record {

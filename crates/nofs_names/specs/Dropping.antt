@@ -18,7 +18,7 @@ use Rattle.nofs_model.specs.declared.path.PathAnswer.TheVariants as answer
 use Rattle.nofs_agree.specs.Reading.{KnowsDirectory}
 use Rattle.nofs_state.specs.declared.books.Books.{Books}
 use Rattle.nofs_names.specs.Searching.{KnowsPaired}
-use Rattle.nofs_names.specs.Refusing.{Fails, IsThere, KnownAgreed}
+use Rattle.nofs_names.specs.Refusing.{Fails, IsThere, KnownTrue}
 use Rattle.nofs_names.specs.Renames.{FoundIn}
 use Rattle.nofs_state.specs.Owing.{RowsPass}
 use Rattle.nofs_names.specs.Drops.{ClearedIn, HasNoNames}
@@ -41,7 +41,7 @@ pub record FindsEmpty (old new : DiskState) (i : ℕ) (result : Result (Unit {0}
 pub record MayDrop (d : DiskState) (k : Books) (i g : ℕ) (name : List ℕ) (r : Record) (q : Paired) : Type 0 where
   pub directory : KnowsDirectory d k.at i r.generation r
   pub generation : r.generation ≡ g
-  pub there : IsTrue d.tells → KnownAgreed k d.now → IsThere i d.now
+  pub there : IsTrue d.tells → KnownTrue k d.now → IsThere i d.now
   pub known : KnowsPaired d k.at q
   pub found : FoundIn d i name q
   pub no_names : HasNoNames d q.inode

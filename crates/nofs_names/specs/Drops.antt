@@ -9,7 +9,7 @@ use Rattle.nofs_machine.specs.Meta.{is_gone}
 use Rattle.nofs_machine.specs.Machine.{is_folder_at, is_paired, drop_meta, link_to, without_link}
 use Rattle.nofs_machine.specs.History.{FilesMatch}
 use Rattle.nofs_state.specs.declared.books.Books.{Books}
-use Rattle.nofs_names.specs.Refusing.{KnownAgreed}
+use Rattle.nofs_names.specs.Refusing.{KnownTrue}
 use Rattle.nofs_names.specs.declared.searching.Paired.{Paired}
 
 -- the record without a back link
@@ -28,4 +28,4 @@ HasNoNames d i = IsTrue d.tells → (F : Files) → FilesMatch F d.now → is_fo
 
 -- the inode has another name, or is one that never goes
 abbrev pub KeepsName : DiskState → Books → ℕ → ℕ → Paired → Type 0
-KeepsName d k i g q = IsTrue d.tells → KnownAgreed k d.now → (F : Files) → FilesMatch F d.now → is_gone (drop_meta F q.inode (link_to i q.entry g)) ≡ false
+KeepsName d k i g q = IsTrue d.tells → KnownTrue k d.now → (F : Files) → FilesMatch F d.now → is_gone (drop_meta F q.inode (link_to i q.entry g)) ≡ false

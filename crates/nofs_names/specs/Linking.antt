@@ -19,12 +19,12 @@ use Rattle.nofs_machine.specs.declared.steps.Step.TheVariants as step
 use Rattle.nofs_machine.specs.declared.replies.Refusal.{Refusal}
 use Rattle.nofs_machine.specs.declared.replies.Refusal.TheVariants as refusal
 use Rattle.nofs_agree.specs.Reading.{IsLast, KnowsDirectory, KnowsInode}
-use Rattle.nofs_agree.specs.Chains.{AreAgreed, is_agreed_link}
+use Rattle.nofs_agree.specs.Chains.{AreTrue, is_agreed_link}
 use Rattle.nofs_agree.specs.declared.reads.LastRead.{LastRead}
 use Rattle.nofs_state.specs.Standing.{IsOpen, Past}
 use Rattle.nofs_state.specs.declared.books.Books.{Books}
 use Rattle.nofs_names.specs.Placing.{IsEntrySlot, IsSlotCell}
-use Rattle.nofs_names.specs.Refusing.{Fails, IsThere, KnownAgreed, PartPasses, exists_rows}
+use Rattle.nofs_names.specs.Refusing.{Fails, IsThere, KnownTrue, PartPasses, exists_rows}
 use Rattle.nofs_state.specs.Owing.{RowsPass}
 use Rattle.nofs_names.specs.declared.entering.EntryPlace.{EntryPlace}
 use Rattle.nofs_names.specs.declared.links.Both.{Both}
@@ -47,9 +47,9 @@ pub record AreBoth (d : DiskState) (at : SuperBlock) (i g j of : ℕ) (b : Both)
 pub record OpensBoth (old new : DiskState) (k : Books) (d g i of : ℕ) (result : Result Both Refusal) : Type 0 where
   pub stays : StaysButFaults old new
   pub known : IfOk result (AreBoth new k.at d g i of)
-  pub there : OnOk result (IsTrue old.tells → KnownAgreed k old.now → IsThere d old.now × IsThere i old.now)
-  pub passes : OnOk result (PartPasses old (KnownAgreed k) (both_rows d g i of))
-  pub refused : IfErr result (Fails old new (KnownAgreed k) (both_rows d g i of))
+  pub there : OnOk result (IsTrue old.tells → KnownTrue k old.now → IsThere d old.now × IsThere i old.now)
+  pub passes : OnOk result (PartPasses old (KnownTrue k) (both_rows d g i of))
+  pub refused : IfErr result (Fails old new (KnownTrue k) (both_rows d g i of))
 
 -- both of these kinds
 abbrev pub both_as : FileKind → FileKind → Record → Record → Result Both Refusal
@@ -63,10 +63,10 @@ both_as kind.Directory kind.File d f = Ok (record { directory = d; file = f })
 abbrev pub dead_place : Image → ℕ → List BackLink → Option ℕ
 dead_place X i links = machine.place_for_link (λ link. not (is_agreed_link (files_in X) i link)) links 0
 
-pub record TellsDeadPlace (old new : DiskState) (known : List Bool) (i : ℕ) (r : Record) (last : LastRead) (result : Result (Option ℕ) Failed) : Type 0 where
+pub record TellsDeadPlace (old new : DiskState) (known : List (Option Bool)) (i : ℕ) (r : Record) (last : LastRead) (result : Result (Option ℕ) Failed) : Type 0 where
   pub stays : StaysButFaults old new
   pub range : IfOk result (λ o. IfSome o (λ b. b < 4))
-  pub found : IfOk result (λ o. IsTrue old.tells → AreAgreed old.now known → o ≡ dead_place old.now i r.links)
+  pub found : IfOk result (λ o. IsTrue old.tells → AreTrue old.now known → o ≡ dead_place old.now i r.links)
   pub kept : OnOk result (IsLast new last)
   pub cause : OnErr result (Rose old.faults new.faults)
 
@@ -75,13 +75,13 @@ place_or_many None = Err refusal.TooManyLinks
 place_or_many (Some b) = Ok b
 
 -- what the place of a back link is given
-abbrev pub IsKnown : List Bool → ℕ → Image → Type 0
-IsKnown known i X = AreAgreed X known × IsThere i X
+abbrev pub IsKnown : List (Option Bool) → ℕ → Image → Type 0
+IsKnown known i X = AreTrue X known × IsThere i X
 
 abbrev pub many_rows : ℕ → World → List (Option Refusal)
 many_rows i W = too_many_links W i ∷ []
 
-pub record FindsLinkPlace (old new : DiskState) (known : List Bool) (i : ℕ) (last : LastRead) (result : Result ℕ Refusal) : Type 0 where
+pub record FindsLinkPlace (old new : DiskState) (known : List (Option Bool)) (i : ℕ) (last : LastRead) (result : Result ℕ Refusal) : Type 0 where
   pub stays : StaysButFaults old new
   pub range : IfOk result (λ b. b < 4)
   pub found : IfOk result (λ b. IsTrue old.tells → IsKnown known i old.now → (F : Files) → FilesMatch F old.now → link_place F i ≡ Some b)
@@ -114,7 +114,7 @@ named_rows d name i s W V = exists_rows d name W ++ (many_rows i W ++ new_rows d
 -- a directory and a file are there, and the name is one
 pub record StandsLink (d : DiskState) (k : Books) (i g : ℕ) (name : List ℕ) (j of : ℕ) (b : Both) : Type 0 where
   pub known : AreBoth d k.at i g j of b
-  pub there : IsTrue d.tells → KnownAgreed k d.now → IsThere i d.now × IsThere j d.now
+  pub there : IsTrue d.tells → KnownTrue k d.now → IsThere i d.now × IsThere j d.now
   pub name_is : is_name name ≡ true
 
 -- the places of the entry and of the back link
@@ -127,7 +127,7 @@ SpotIs d k j b = IsTrue d.tells → (H : List Entry1) (p : Past) → IsOpen d k 
 -- what Link knows before it writes
 pub record MayLink (b : DiskState) (k : Books) (d g : ℕ) (both : Both) (p : EntryPlace) (it : Entry) (spot : ℕ) : Type 0 where
   pub known : AreBoth b k.at d g it.inode it.generation both
-  pub there : IsTrue b.tells → KnownAgreed k b.now → IsThere d b.now × IsThere it.inode b.now
+  pub there : IsTrue b.tells → KnownTrue k b.now → IsThere d b.now × IsThere it.inode b.now
   pub place : PlaceIs b k d it.name p.entry
   pub link : SpotIs b k it.inode spot
   pub slot : IsTrue b.tells → IsEntrySlot b.now d (p.entry / 16) p.slot

@@ -22,7 +22,7 @@ use Rattle.nofs_agree.specs.Reading.{KnowsDirectory}
 use Rattle.nofs_state.specs.Books.{InodesFit, Says}
 use Rattle.nofs_state.specs.Standing.{IsOpen, Past}
 use Rattle.nofs_state.specs.declared.books.Books.{Books}
-use Rattle.nofs_names.specs.Refusing.{IsThere, KnownAgreed}
+use Rattle.nofs_names.specs.Refusing.{IsThere, KnownTrue}
 use Rattle.nofs_names.specs.Placing.{AreFree, FitsSlot, IsEntrySlot, IsSlotCell, slot_blocks}
 use Rattle.nofs_names.specs.declared.entering.EntryPlace.{EntryPlace}
 
@@ -79,7 +79,7 @@ RoomLeft d k i g name kind = IsTrue d.tells → (H : List Entry1) (p : Past) →
 pub record MayMake (d : DiskState) (k : Books) (i g : ℕ) (name : List ℕ) (r : Record) (p : EntryPlace) (made : ℕ) : Type 0 where
   pub directory : KnowsDirectory d k.at i r.generation r
   pub generation : r.generation ≡ g
-  pub there : IsTrue d.tells → KnownAgreed k d.now → IsThere i d.now
+  pub there : IsTrue d.tells → KnownTrue k d.now → IsThere i d.now
   pub good : NameOk name
   pub range : p.entry < entry_limit
   pub place : PlaceIs d k i name p.entry

@@ -15,7 +15,7 @@ use Rattle.nofs_machine.specs.declared.replies.Reply.{Reply}
 use Rattle.nofs_machine.specs.declared.replies.Reply.TheVariants as reply
 use Rattle.nofs_machine.specs.declared.replies.Found.{Found}
 use Rattle.nofs_agree.specs.Reading.{IsLast, KnowsDirectory}
-use Rattle.nofs_agree.specs.Chains.{AreAgreed}
+use Rattle.nofs_agree.specs.Chains.{AreTrue}
 use Rattle.nofs_agree.specs.declared.reads.LastRead.{LastRead}
 use Rattle.nofs_state.specs.Steps.{is_plain}
 use Rattle.nofs_state.specs.declared.books.Books.{Books}
@@ -27,7 +27,8 @@ use Rattle.nofs_names.specs.declared.searching.Searched.TheVariants as searched
 
 -- a part of a step refuses: by the first of these rows of the machine, or because a read failed
 pub data Fails (old new : DiskState) (given : Image → Type 0) (rows : World → List (Option Refusal)) (why : Refusal) : Type 0 where
-  ByRow : is_plain why ≡ true → InRange why → (IsTrue old.tells → given old.now → (W : World) → FilesMatch W.files old.now → first_of (rows W) ≡ Some why) → Fails old new given rows why
+  ByRow : is_plain why ≡ true → InRange why → (IsTrue old.tells → given old.now → (W : World) → FilesMatch W.files old.now → first_of (rows W) ≡ Some why)
+      → Fails old new given rows why
   ByRead : why ≡ refusal.ReadFault → Rose old.faults new.faults → Fails old new given rows why
 
 -- a part does not refuse: none of these rows comes
@@ -39,8 +40,8 @@ abbrev pub IsThere : ℕ → Image → Type 0
 IsThere d X = agreed (files_in X) d ≡ true
 
 -- those that are known to be agreed are
-abbrev pub KnownAgreed : Books → Image → Type 0
-KnownAgreed k X = AreAgreed X k.agreed_inodes
+abbrev pub KnownTrue : Books → Image → Type 0
+KnownTrue k X = AreTrue X k.agreement
 
 -- the rows of a directory, and of a name that is looked for
 abbrev pub directory_rows : ℕ → ℕ → World → List (Option Refusal)
@@ -53,10 +54,10 @@ pub record OpensDirectory (old new : DiskState) (k : Books) (d g : ℕ) (last : 
   pub stays : StaysButFaults old new
   pub directory : IfOk result (λ r. KnowsDirectory new k.at d r.generation r)
   pub generation : IfOk result (λ r. r.generation ≡ g)
-  pub passes : IfOk result (λ r. PartPasses old (KnownAgreed k) (directory_rows d g))
-  pub there : IfOk result (λ r. IsTrue old.tells → KnownAgreed k old.now → IsThere d old.now)
+  pub passes : IfOk result (λ r. PartPasses old (KnownTrue k) (directory_rows d g))
+  pub there : IfOk result (λ r. IsTrue old.tells → KnownTrue k old.now → IsThere d old.now)
   pub kept : OnOk result (IsLast new last)
-  pub refused : IfErr result (Fails old new (KnownAgreed k) (directory_rows d g))
+  pub refused : IfErr result (Fails old new (KnownTrue k) (directory_rows d g))
 
 -- a name was looked for
 pub record FindsPair (old new : DiskState) (at : SuperBlock) (d : ℕ) (name : List ℕ) (names records : LastRead) (result : Result Paired Refusal) : Type 0 where

@@ -9,14 +9,14 @@ use Rattle.nofs_machine.specs.Meta.{is_gone}
 use Rattle.nofs_machine.specs.Machine.{drop_meta, link_to}
 use Rattle.nofs_machine.specs.History.{FilesMatch}
 use Rattle.nofs_state.specs.declared.books.Books.{Books}
-use Rattle.nofs_names.specs.Refusing.{KnownAgreed}
+use Rattle.nofs_names.specs.Refusing.{KnownTrue}
 use Rattle.nofs_names.specs.declared.searching.Paired.{Paired}
 
 -- the maps have the sizes of the disk
 pub record HasSizes (k : Books) : Type 0 where
   pub unknown_inodes : length k.unknown_inodes ≡ k.at.inodes
   pub free_inodes : length k.free_inodes ≡ k.at.inodes
-  pub agreed_inodes : length k.agreed_inodes ≡ k.at.inodes
+  pub agreement : length k.agreement ≡ k.at.inodes
   pub unknown_blocks : length k.unknown_blocks ≡ k.at.blocks
   pub free_blocks : length k.free_blocks ≡ k.at.blocks
 
@@ -28,7 +28,7 @@ pub record FreedAs (k l : Books) (i : ℕ) (freed : List Bool) : Type 0 where
   pub history : l.history ≡ k.history
   pub unknown_inodes : l.unknown_inodes ≡ slice_set k.unknown_inodes (i - 1) false
   pub free_inodes : l.free_inodes ≡ slice_set k.free_inodes (i - 1) true
-  pub agreed_inodes : l.agreed_inodes ≡ slice_set k.agreed_inodes (i - 1) false
+  pub agreement : l.agreement ≡ slice_set k.agreement (i - 1) None
   pub blocks : AreFreed freed k.at.blocks k.free_blocks k.unknown_blocks l.free_blocks l.unknown_blocks
 
 -- whether a home is one of this inode
@@ -44,4 +44,4 @@ pub record BlocksOf (d : DiskState) (at : SuperBlock) (i : ℕ) (freed : List Bo
 
 -- the inode loses its last name
 abbrev pub LosesName : DiskState → Books → ℕ → ℕ → Paired → Type 0
-LosesName d k i g q = IsTrue d.tells → KnownAgreed k d.now → (F : Files) → FilesMatch F d.now → is_gone (drop_meta F q.inode (link_to i q.entry g)) ≡ true
+LosesName d k i g q = IsTrue d.tells → KnownTrue k d.now → (F : Files) → FilesMatch F d.now → is_gone (drop_meta F q.inode (link_to i q.entry g)) ≡ true

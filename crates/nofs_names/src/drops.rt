@@ -184,7 +184,7 @@ fn drop_cleared<D: Disk + Drop>(
     match keeps_name(
         &mut core.disk,
         &core.books.at,
-        &core.books.agreed_inodes,
+        &core.books.agreement,
         found.inode,
         &found.record,
         &rest.links,

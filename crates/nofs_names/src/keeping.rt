@@ -6,8 +6,7 @@ ghost use Rattle.nofs_agree.specs.Chains.{TellsAgreed, is_agreed_link};
 ghost use Rattle.nofs_agree.specs.Reading.{IsLast, KnowsInode};
 ghost use Rattle.nofs_names.specs.Keeping.{TellsKept};
 
-use nofs_agree::{LastRead, is_agreed_link};
-use nofs_bits::Bits;
+use nofs_agree::{Known, LastRead, is_agreed_link};
 use nofs_disk::{Disk, Failed};
 use nofs_inode::{BackLink, Record};
 use nofs_super::SuperBlock;
@@ -17,7 +16,7 @@ use nofs_super::SuperBlock;
 pub(crate) fn keeps_name<D: Disk>(
     disk: &mut D,
     at: &SuperBlock,
-    known: &Bits,
+    known: &Known,
     inode: u32,
     it: &Record,
     links: &[BackLink; 4],
@@ -37,7 +36,7 @@ pub(crate) fn keeps_name<D: Disk>(
 fn has_agreed_link<D: Disk>(
     disk: &mut D,
     at: &SuperBlock,
-    known: &Bits,
+    known: &Known,
     inode: u32,
     it: &Record,
     links: &[BackLink; 4],

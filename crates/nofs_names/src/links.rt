@@ -18,8 +18,7 @@ use crate::ending::{Ended, refused};
 use crate::entering::{EntryPlace, enter, read_tables};
 use crate::opening::find_unused;
 use crate::placing::{entry_place, find_entry_slot, take_blocks};
-use nofs_agree::{LastRead, is_agreed_link};
-use nofs_bits::Bits;
+use nofs_agree::{Known, LastRead, is_agreed_link};
 use nofs_dirent::{Entry, name_ok};
 use nofs_disk::{Disk, Failed};
 use nofs_inode::{BackLink, FileKind, Record};
@@ -104,7 +103,7 @@ fn open_both<D: Disk>(
     of: u64,
 ) -> Result<Both, Refusal>
     requires numbers { IsAt (D.state disk.old) books.now.at }
-    requires agreed { length books.now.agreed_inodes ≡ books.now.at.inodes }
+    requires agreed { length books.now.agreement ≡ books.now.at.inodes }
     ensures { OpensBoth (D.state disk.old) (D.state disk.new) books.now directory generation inode of result }
 {
     let mut last = LastRead::NONE;
@@ -170,7 +169,7 @@ fn link_opened<D: Disk + Drop>(
     let link = match link_place(
         &mut core.disk,
         &core.books.at,
-        &core.books.agreed_inodes,
+        &core.books.agreement,
         inode,
         &both.file,
         &mut records,
@@ -310,7 +309,7 @@ fn linked(it: &Record, place: u32, link: BackLink) -> Record
 fn link_place<D: Disk>(
     disk: &mut D,
     at: &SuperBlock,
-    known: &Bits,
+    known: &Known,
     inode: u32,
     it: &Record,
     last: &mut LastRead,
@@ -369,7 +368,7 @@ fn is_empty(link: &BackLink) -> bool
 fn dead_place<D: Disk>(
     disk: &mut D,
     at: &SuperBlock,
-    known: &Bits,
+    known: &Known,
     inode: u32,
     it: &Record,
     last: &mut LastRead,

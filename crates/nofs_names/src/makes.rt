@@ -8,7 +8,7 @@ ghost use Rattle.nofs_state.specs.Books.{IsSafe};
 ghost use Rattle.nofs_state.specs.Steps.{Goes};
 ghost use Rattle.nofs_machine.specs.declared.steps.Step.TheVariants as step;
 ghost use Rattle.nofs_names.specs.Makes.{AreInodesFull, FindsInode, MayMake, PlaceIs, RowsLeft, is_raised, made_answer, made_record};
-ghost use Rattle.nofs_names.specs.Refusing.{IsThere, KnownAgreed};
+ghost use Rattle.nofs_names.specs.Refusing.{IsThere, KnownTrue};
 ghost use Rattle.nofs_state.specs.Owing.{RowsPass};
 
 use crate::ending::{Ended, refused};
@@ -122,7 +122,7 @@ fn make_entry<D: Disk + Drop>(
     requires going { core.old.books.stopped ≡ false }
     requires directory { KnowsDirectory (D.state core.old.disk) core.old.books.at directory it.now.generation it.now }
     requires generation { it.now.generation ≡ generation }
-    requires there { IsTrue (D.state core.old.disk).tells → KnownAgreed core.old.books (D.state core.old.disk).now → IsThere directory (D.state core.old.disk).now }
+    requires there { IsTrue (D.state core.old.disk).tells → KnownTrue core.old.books (D.state core.old.disk).now → IsThere directory (D.state core.old.disk).now }
     requires name { NameOk name }
     requires entry { entry < entry_limit }
     requires place { PlaceIs (D.state core.old.disk) core.old.books directory name entry }

@@ -29,7 +29,7 @@ pub(crate) fn open_directory<D: Disk>(
     last: &mut LastRead,
 ) -> Result<Record, Refusal>
     requires numbers { IsAt (D.state disk.old) books.now.at }
-    requires agreed { length books.now.agreed_inodes ≡ books.now.at.inodes }
+    requires agreed { length books.now.agreement ≡ books.now.at.inodes }
     requires last { IsLast (D.state disk.old) last.old }
     ensures { OpensDirectory (D.state disk.old) (D.state disk.new) books.now directory generation last.new result }
 {

@@ -30,7 +30,7 @@ fn free_all(books: &mut Books, freed: &FreedBlocks, inode: u32)
     let number = u64::from(inode) - 1;
     books.unknown_inodes.set(number, false);
     books.free_inodes.set(number, true);
-    books.agreed_inodes.set(number, false);
+    books.agreement.set(inode, None);
     books.free_blocks(freed);
 }
 

@@ -10,7 +10,7 @@ ghost use Rattle.nofs_agree.specs.Reading.{IsLast, KnowsDirectory};
 ghost use Rattle.nofs_state.specs.Books.{IsSafe};
 ghost use Rattle.nofs_state.specs.Steps.{Goes};
 ghost use Rattle.nofs_names.specs.Searching.{KnowsPaired};
-ghost use Rattle.nofs_names.specs.Refusing.{IsThere, KnownAgreed};
+ghost use Rattle.nofs_names.specs.Refusing.{IsThere, KnownTrue};
 ghost use Rattle.nofs_names.specs.Renames.{FoundIn, done_answer};
 ghost use Rattle.nofs_state.specs.Owing.{RowsPass};
 
@@ -121,7 +121,7 @@ fn rename_found<D: Disk + Drop>(
     requires going { core.old.books.stopped ≡ false }
     requires directory { KnowsDirectory (D.state core.old.disk) core.old.books.at directory it.now.generation it.now }
     requires generation { it.now.generation ≡ generation }
-    requires there { IsTrue (D.state core.old.disk).tells → KnownAgreed core.old.books (D.state core.old.disk).now → IsThere directory (D.state core.old.disk).now }
+    requires there { IsTrue (D.state core.old.disk).tells → KnownTrue core.old.books (D.state core.old.disk).now → IsThere directory (D.state core.old.disk).now }
     requires known { KnowsPaired (D.state core.old.disk) core.old.books.at found.now }
     requires found { FoundIn (D.state core.old.disk) directory old.now found.now }
     requires name { NameOk new.now }

@@ -41,12 +41,15 @@ pub record IsElement (old : DiskState) (k : Books) (s : Step) (stood : Option Bo
   pub no_row : (H : List Entry1) (p : Past) → IsOpen old k H p → first_of (rows p.world p.world s) ≡ None
   pub safe : (new : DiskState) (used : Bool) → StaysButFaults old new → Fits used → IsSafe new (learned used)
   pub stands : (used : Bool) → stood ≡ Some used → (H : List Entry1) (p : Past) → IsOpen old k H p → used ≡ answer old.now
-  pub by_stood : (new : DiskState) (used : Bool) → StaysButFaults old new → stood ≡ Some used → IsTrue old.tells → (caller : ℕ) (H : List Entry1) (p : Past) → IsOpen old k H p → Follows old new k H p (entry caller old new s no_claims (reply.Seen used))
-  pub by_learned : (new : DiskState) (used : Bool) → StaysButFaults old new → IsTrue old.tells → (caller : ℕ) (H : List Entry1) (p : Past) → IsOpen old k H p → used ≡ answer old.now
+  pub by_stood : (new : DiskState) (used : Bool) → StaysButFaults old new → stood ≡ Some used → IsTrue old.tells → (caller : ℕ) (H : List Entry1) (p : Past)
+      → IsOpen old k H p → Follows old new k H p (entry caller old new s no_claims (reply.Seen used))
+  pub by_learned : (new : DiskState) (used : Bool) → StaysButFaults old new → IsTrue old.tells → (caller : ℕ) (H : List Entry1) (p : Past) → IsOpen old k H p
+      → used ≡ answer old.now
       → Follows old new (learned used) H p (entry caller old new s no_claims (reply.Seen used))
 
 module _ (old : DiskState) (k : Books) (is : IsDisk old) (safe : IsSafe old k) (going : k.stopped ≡ false) where
-  pub block-element : (b : ℕ) → b < k.at.blocks → IsElement old k (step.SeeBlock b) (verdict_of_block k b) (learned_block k b) (λ X. is_used_block X b) (InData k b)
+  pub block-element : (b : ℕ) → b < k.at.blocks
+      → IsElement old k (step.SeeBlock b) (verdict_of_block k b) (learned_block k b) (λ X. is_used_block X b) (InData k b)
   block-element b low = record {
     at = λ used. refl;
     history = λ used. refl;
@@ -58,7 +61,8 @@ module _ (old : DiskState) (k : Books) (is : IsDisk old) (safe : IsSafe old k) (
     by_learned = λ new used stays tells caller H p o right. block-learned old new k b used is safe stays going low caller H p tells o (right ∙ sym (machine-block old k H p o b low));
   }
 
-  pub inode-element : (Fits : Bool → Type 0) (i : ℕ) → 1 ≤ i → i ≤ k.at.inodes → IsElement old k (step.SeeInode i) (verdict_of_inode k i) (learned_inode k i) (λ X. is_used_inode X i) Fits
+  pub inode-element : (Fits : Bool → Type 0) (i : ℕ) → 1 ≤ i → i ≤ k.at.inodes
+      → IsElement old k (step.SeeInode i) (verdict_of_inode k i) (learned_inode k i) (λ X. is_used_inode X i) Fits
   inode-element Fits i low high = record {
     at = λ used. refl;
     history = λ used. refl;
@@ -81,7 +85,8 @@ module _ (old : DiskState) (k : Books) (is : IsDisk old) (safe : IsSafe old k) (
   inode-beyond i outside = goes-row old old k (step.SeeInode i) is safe (StaysButFaults-refl old) refusal.BadRange refl tt going (λ tells H p o. rw (subst (λ (n : ℕ). (eqb i 0 || ltb n i) ≡ true) (sym o.says.inodes) outside) refl)
 
 -- what an element that is seen leaves
-goes-seen : (old new : DiskState) (k l : Books) (s : Step) (used : Bool) → StaysButFaults old new → k.stopped ≡ false → l.stopped ≡ false → IsSafe new l → l.at ≡ k.at → l.history ≡ k.history
+goes-seen : (old new : DiskState) (k l : Books) (s : Step) (used : Bool) → StaysButFaults old new → k.stopped ≡ false → l.stopped ≡ false → IsSafe new l
+    → l.at ≡ k.at → l.history ≡ k.history
     → (IsTrue old.tells → (caller : ℕ) (H : List Entry1) (p : Past) → IsOpen old k H p → Follows old new l H p (entry caller old new s no_claims (reply.Seen used))) → Goes old k new l s no_claims (reply.Seen used)
 goes-seen old new k l s used stays going still safe at history follows = record {
   disk = stays.disk;
@@ -97,20 +102,22 @@ goes-seen old new k l s used stays going still safe at history follows = record 
 }
 
 module _ (old : DiskState) (k : Books) (s : Step) (stood : Option Bool) (learned : Bool → Books) (answer : Image → Bool) (Fits : Bool → Type 0) (is : IsDisk old) (safe : IsSafe old k) (going : k.stopped ≡ false) (element : IsElement old k s stood learned answer Fits) where
-  pub element-seen : (new : DiskState) (l : Books) (result : Result Bool Failed) (used : Bool) → Verifies old k new l stood learned answer Fits result → result ≡ Ok used → Goes old k new l s no_claims (reply.Seen used)
+  pub element-seen : (new : DiskState) (l : Books) (result : Result Bool Failed) (used : Bool) → Verifies old k new l stood learned answer Fits result
+      → result ≡ Ok used → Goes old k new l s no_claims (reply.Seen used)
   element-seen new l result used (Stood u is-stood stays same e) is-ok =
       let su : u ≡ used = let z = sym e ∙ is-ok in cc z in
       subst (λ (m : Books). Goes old k new m s no_claims (reply.Seen used)) (sym same)
       (goes-seen old new k k s used stays going going (safe-on old new k stays safe) refl refl (element.by_stood new used stays (is-stood ∙ ap Some su)))
   element-seen new l result used (Learned u none judged fits same e) is-ok =
       let su : u ≡ used = let z = sym e ∙ is-ok in cc z in
-      let j : Judges old new k.agreed_inodes answer (Ok used) = subst (λ (q : Bool). Judges old new k.agreed_inodes answer (Ok q)) su judged in
+      let j : Judges old new k.agreement answer (Ok used) = subst (λ (q : Bool). Judges old new k.agreement answer (Ok q)) su judged in
       subst (λ (m : Books). Goes old k new m s no_claims (reply.Seen used)) (sym (same ∙ ap learned su))
       (goes-seen old new k (learned used) s used j.stays going (element.stopped used ∙ going) (element.safe new used j.stays (subst Fits su fits)) (element.at used) (element.history used)
       (λ tells caller H p o. element.by_learned new used j.stays tells caller H p o (j.found tells (are-agreed old k H p safe o))))
   element-seen new l result used (Unread x judged same e) is-ok = absurd (let z = sym e ∙ is-ok in cc z)
 
-  pub element-unread : (new : DiskState) (l : Books) (result : Result Bool Failed) (x : Failed) → Verifies old k new l stood learned answer Fits result → result ≡ Err x → Goes old k new l s no_claims (reply.Refused refusal.ReadFault)
+  pub element-unread : (new : DiskState) (l : Books) (result : Result Bool Failed) (x : Failed) → Verifies old k new l stood learned answer Fits result
+      → result ≡ Err x → Goes old k new l s no_claims (reply.Refused refusal.ReadFault)
   element-unread new l result x (Stood u is-stood stays same e) is-err = absurd (let z = sym e ∙ is-err in cc z)
   element-unread new l result x (Learned u none judged fits same e) is-err = absurd (let z = sym e ∙ is-err in cc z)
   element-unread new l result x (Unread y judged same e) is-err =

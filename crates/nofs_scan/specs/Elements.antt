@@ -7,7 +7,7 @@ use Rattle.nofs_machine.specs.declared.steps.ElementKind.{ElementKind}
 use Rattle.nofs_machine.specs.declared.steps.ElementKind.TheVariants as element
 use Rattle.nofs_machine.specs.declared.steps.Step.{Step}
 use Rattle.nofs_machine.specs.declared.steps.Step.TheVariants as step
-use Rattle.nofs_agree.specs.Chains.{AreAgreed}
+use Rattle.nofs_agree.specs.Chains.{AreTrue}
 use Rattle.nofs_state.specs.Verdicts.{learned_block, learned_inode, verdict_of_block, verdict_of_inode}
 use Rattle.nofs_state.specs.declared.books.Books.{Books}
 use Rattle.nofs_scan.specs.declared.evidence.Verdict.{Verdict}
@@ -54,11 +54,15 @@ least_free element.Block at = 1 + at.inodes / 4
 abbrev pub MayLearn : ElementKind → Books → ℕ → Bool → Type 0
 MayLearn kind k item used = used ≡ false → least_free kind k.at ≤ item
 
--- a verdict is the scan's, where the disk tells and those that the books have as agreed are
-pub record IsRight (d : DiskState) (k : Books) (kind : ElementKind) (v : Verdict) : Type 0 where
-  pub range : HasElement kind k.at v.item
-  pub may : MayLearn kind k v.item v.used
-  pub scan : IsTrue d.tells → AreAgreed d.now k.agreed_inodes → v.used ≡ is_used kind d.now v.item
+-- a verdict is the scan's, where the disk tells and what is known of inodes is true
+pub record IsSeen (d : DiskState) (at : SuperBlock) (known : List (Option Bool)) (kind : ElementKind) (v : Verdict) : Type 0 where
+  pub range : HasElement kind at v.item
+  pub may : v.used ≡ false → least_free kind at ≤ v.item
+  pub scan : IsTrue d.tells → AreTrue d.now known → v.used ≡ is_used kind d.now v.item
+
+-- so it is where what these books know is
+abbrev pub IsRight : DiskState → Books → ElementKind → Verdict → Type 0
+IsRight d k kind v = IsSeen d k.at k.agreement kind v
 
 -- the verdict at a place
 abbrev pub verdict_at : List Verdict → ℕ → Verdict

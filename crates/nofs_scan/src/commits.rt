@@ -36,7 +36,7 @@ fn settle(books: &mut Books, kind: ElementKind, item: u64, used: bool) -> bool
     requires range { HasElement kind books.old.at item }
     requires inodes { length books.old.unknown_inodes ≡ books.old.at.inodes }
     requires free_inodes { length books.old.free_inodes ≡ books.old.at.inodes }
-    requires agreed { length books.old.agreed_inodes ≡ books.old.at.inodes }
+    requires agreed { length books.old.agreement ≡ books.old.at.inodes }
     requires blocks { length books.old.unknown_blocks ≡ books.old.at.blocks }
     requires free_blocks { length books.old.free_blocks ≡ books.old.at.blocks }
     requires small { books.old.at.inodes < 2 ^ 32 }

@@ -2,8 +2,10 @@
 ghost use Rattle.std.specs.Prelude.{◌≡◌, ◌<◌, ◌≤◌, ◌^◌, length, false, true, All, Err, IfErr, IfOk};
 ghost use Rattle.nofs_machine.specs.declared.replies.Refusal.TheVariants as refusal;
 ghost use Rattle.nofs_disk.specs.Disk.{StaysButFaults};
+ghost use Rattle.nofs_agree.specs.Chains.{Learns};
 ghost use Rattle.nofs_agree.specs.Reading.{IsAt};
 ghost use Rattle.nofs_state.specs.Books.{IsSafe};
+ghost use Rattle.nofs_state.specs.Knowing.{with_agreement};
 ghost use Rattle.nofs_scan.specs.Elements.{HasElement, items_of};
 ghost use Rattle.nofs_machine.specs.declared.steps.ElementKind.TheVariants as element;
 ghost use Rattle.nofs_scan.specs.Looking.{LookFails, LooksAll, LooksAt};
@@ -11,15 +13,17 @@ ghost use Rattle.nofs_scan.specs.Looking.{LookFails, LooksAll, LooksAt};
 use crate::evidence::{Evidence, Verdicts};
 use crate::reading::{read_block_sight, read_inode_sight};
 use crate::sights::Sight;
+use nofs_agree::Known;
 use nofs_disk::{Disk, Failed};
 use nofs_lists::ListOf;
 use nofs_machine::{ElementKind, Refusal};
-use nofs_state::{Books, Core};
+use nofs_state::Core;
+use nofs_super::SuperBlock;
 use std::alloc::Global;
 use std::snapshot::Snapshot;
 
-/// Looks at 1 to 64 elements. It makes no entry and changes no map: the verdicts are committed
-/// later, one by one.
+/// Looks at 1 to 64 elements. It makes no entry, and no verdict changes: they are committed later, one by one. What it finds of
+/// inodes on the ways up, which are agreed and which are not, the books know from then on.
 ///
 /// # Errors
 ///
@@ -34,7 +38,8 @@ pub fn look_batch<D: Disk + Drop>(
     requires some { 1 ≤ length items.now }
     requires most { length items.now ≤ 64 }
     requires range { All (HasElement kind core.old.books.at) items.now }
-    ensures books { core.new.books ≡ core.old.books }
+    ensures books { core.new.books ≡ with_agreement core.old.books core.new.books.agreement }
+    ensures learns { Learns (D.state core.old.disk) core.old.books.agreement core.new.books.agreement }
     ensures stays { StaysButFaults (D.state core.old.disk) (D.state core.new.disk) }
     ensures core { IfOk result (λ evidence. evidence.core.value ≡ core.old) }
     ensures kind { IfOk result (λ evidence. evidence.kind ≡ kind) }
@@ -47,7 +52,8 @@ pub fn look_batch<D: Disk + Drop>(
         return Err(Refusal::Stopped);
     }
     let early = Snapshot::of(&*core);
-    let sights = match look_at_all(alloc, &mut core.disk, &core.books, kind, items) {
+    let known = &mut core.books.agreement;
+    let sights = match look_at_all(alloc, &mut core.disk, &core.books.at, known, kind, items) {
         Ok(sights) => sights,
         Err(why) => return Err(why),
     };
@@ -62,21 +68,23 @@ pub fn look_batch<D: Disk + Drop>(
 fn look_at_all<D: Disk>(
     alloc: Global,
     disk: &mut D,
-    books: &Books,
+    at: &SuperBlock,
+    known: &mut Known,
     kind: ElementKind,
     items: &[u64],
 ) -> Result<ListOf<Sight>, Refusal>
-    requires safe { IsSafe (D.state disk.old) books.now }
-    requires going { books.now.stopped ≡ false }
-    requires range { All (HasElement kind books.now.at) items.now }
-    ensures { LooksAll (D.state disk.old) books.now (D.state disk.new) kind items.now result }
+    requires numbers { IsAt (D.state disk.old) at.now }
+    requires known { length known.old ≡ at.now.inodes }
+    requires range { All (HasElement kind at.now) items.now }
+    requires small { at.now.inodes < 2 ^ 32 }
+    ensures { LooksAll (D.state disk.old) at.now known.old known.new (D.state disk.new) kind items.now result }
 {
     let mut sights = match Vec::with_capacity(alloc, items.len()) {
         Ok(room) => ListOf::from_vec(room),
         Err(_) => return Err(Refusal::OutOfMemory),
     };
     for place in 0..items.len() {
-        let sight = match look_at(disk, books, kind, items[place]) {
+        let sight = match look_at(disk, at, known, kind, items[place]) {
             Ok(sight) => sight,
             Err(_) => return Err(Refusal::ReadFault),
         };
@@ -91,42 +99,53 @@ fn look_at_all<D: Disk>(
 // What is read of an element.
 fn look_at<D: Disk>(
     disk: &mut D,
-    books: &Books,
+    at: &SuperBlock,
+    known: &mut Known,
     kind: ElementKind,
     item: u64,
 ) -> Result<Sight, Failed>
-    requires numbers { IsAt (D.state disk.old) books.now.at }
-    requires agreed { length books.now.agreed_inodes ≡ books.now.at.inodes }
-    requires range { HasElement kind books.now.at item }
-    requires small { books.now.at.inodes < 2 ^ 32 }
-    ensures { LooksAt (D.state disk.old) books.now (D.state disk.new) kind item result }
+    requires numbers { IsAt (D.state disk.old) at.now }
+    requires known { length known.old ≡ at.now.inodes }
+    requires range { HasElement kind at.now item }
+    requires small { at.now.inodes < 2 ^ 32 }
+    ensures { LooksAt (D.state disk.old) at.now known.old known.new (D.state disk.new) kind item result }
 {
     match kind {
-        ElementKind::Inode => look_at_inode(disk, books, item as u32),
-        ElementKind::Block => look_at_block(disk, books, item),
+        ElementKind::Inode => look_at_inode(disk, at, known, item as u32),
+        ElementKind::Block => look_at_block(disk, at, known, item),
     }
 }
 
-fn look_at_inode<D: Disk>(disk: &mut D, books: &Books, inode: u32) -> Result<Sight, Failed>
-    requires numbers { IsAt (D.state disk.old) books.now.at }
-    requires agreed { length books.now.agreed_inodes ≡ books.now.at.inodes }
-    requires range { HasElement element.Inode books.now.at inode }
-    ensures { LooksAt (D.state disk.old) books.now (D.state disk.new) element.Inode inode result }
+fn look_at_inode<D: Disk>(
+    disk: &mut D,
+    at: &SuperBlock,
+    known: &mut Known,
+    inode: u32,
+) -> Result<Sight, Failed>
+    requires numbers { IsAt (D.state disk.old) at.now }
+    requires known { length known.old ≡ at.now.inodes }
+    requires range { HasElement element.Inode at.now inode }
+    ensures { LooksAt (D.state disk.old) at.now known.old known.new (D.state disk.new) element.Inode inode result }
 {
-    let sight = read_inode_sight(disk, &books.at, &books.agreed_inodes, inode)?;
+    let sight = read_inode_sight(disk, at, known, inode)?;
     Ok(Sight::Inode(sight))
 }
 
 // A block of the superblock or the inode table is not read.
-fn look_at_block<D: Disk>(disk: &mut D, books: &Books, block: u64) -> Result<Sight, Failed>
-    requires numbers { IsAt (D.state disk.old) books.now.at }
-    requires agreed { length books.now.agreed_inodes ≡ books.now.at.inodes }
-    requires range { HasElement element.Block books.now.at block }
-    ensures { LooksAt (D.state disk.old) books.now (D.state disk.new) element.Block block result }
+fn look_at_block<D: Disk>(
+    disk: &mut D,
+    at: &SuperBlock,
+    known: &mut Known,
+    block: u64,
+) -> Result<Sight, Failed>
+    requires numbers { IsAt (D.state disk.old) at.now }
+    requires known { length known.old ≡ at.now.inodes }
+    requires range { HasElement element.Block at.now block }
+    ensures { LooksAt (D.state disk.old) at.now known.old known.new (D.state disk.new) element.Block block result }
 {
-    if block <= books.at.inodes / 4 {
+    if block <= at.inodes / 4 {
         return Ok(Sight::Fixed(block));
     }
-    let sight = read_block_sight(disk, &books.at, &books.agreed_inodes, block)?;
+    let sight = read_block_sight(disk, at, known, block)?;
     Ok(Sight::Block(sight))
 }

@@ -1,7 +1,7 @@
 //! What an element has on the disk, read block by block.
 //!
-//! Promise: each sight is that of the disk's image, whatever the bytes are. A read changes nothing,
-//! takes no memory, and fails only where the disk's count of faults rose.
+//! Promise: each sight is that of the disk's image, whatever the bytes are. A read changes no disk, takes no memory, and fails only
+//! where the disk's count of faults rose. What it finds of inodes on the ways up is known from then on.
 ghost use Rattle.std.specs.Prelude.{◌≡◌, ◌<◌, IfOk, IsTrue, length};
 ghost use Rattle.nofs_inode.specs.declared.inode.FileKind.TheVariants as kind;
 ghost use Rattle.nofs_dirent.specs.Entries.{entry_bytes, entry_in};
@@ -16,8 +16,7 @@ ghost use Rattle.nofs_scan.specs.Sights as sights;
 
 use crate::judging::is_slot;
 use crate::sights::{Above, BlockSight, BlocksAbove, InodeSight, LinkSight, Named, TagSight};
-use nofs_agree::{LastRead, PathAnswer, check_chain, find_slot, read_block, read_inode};
-use nofs_bits::Bits;
+use nofs_agree::{Known, LastRead, PathAnswer, find_slot, learn_chain, read_block, read_inode};
 use nofs_disk::{Disk, Failed, Tag, read_tag, read_u32_at, read_u64_at};
 use nofs_inode::{BackLink, FileKind, Record};
 use nofs_model::{Place, names_inode, place_of, record_pointer};
@@ -32,12 +31,12 @@ use nofs_super::SuperBlock;
 pub fn read_inode_sight<D: Disk>(
     disk: &mut D,
     at: &SuperBlock,
-    known: &Bits,
+    known: &mut Known,
     inode: u32,
 ) -> Result<InodeSight, Failed>
     requires numbers { IsAt (D.state disk.old) at.now }
-    requires known { length known.now ≡ at.now.inodes }
-    ensures sees { Sees (D.state disk.old) (D.state disk.new) known.now (λ X. sights.inode_sight X inode) result }
+    requires known { length known.old ≡ at.now.inodes }
+    ensures sees { Sees (D.state disk.old) (D.state disk.new) known.old known.new (λ X. sights.inode_sight X inode) result }
     ensures inode { IfOk result (λ sight. sight.inode ≡ inode) }
 {
     let in_table = read_record(disk, at, inode)?;
@@ -61,12 +60,12 @@ fn read_record<D: Disk>(disk: &mut D, at: &SuperBlock, inode: u32) -> Result<Rec
 fn read_links<D: Disk>(
     disk: &mut D,
     at: &SuperBlock,
-    known: &Bits,
+    known: &mut Known,
     links: &[BackLink; 4],
 ) -> Result<[LinkSight; 4], Failed>
     requires numbers { IsAt (D.state disk.old) at.now }
-    requires known { length known.now ≡ at.now.inodes }
-    ensures { Sees (D.state disk.old) (D.state disk.new) known.now (λ X. sights.link_sights X links.now) result }
+    requires known { length known.old ≡ at.now.inodes }
+    ensures { Sees (D.state disk.old) (D.state disk.new) known.old known.new (λ X. sights.link_sights X links.now) result }
 {
     let low = read_two(disk, at, known, &links[0], &links[1])?;
     let high = read_two(disk, at, known, &links[2], &links[3])?;
@@ -76,13 +75,13 @@ fn read_links<D: Disk>(
 fn read_two<D: Disk>(
     disk: &mut D,
     at: &SuperBlock,
-    known: &Bits,
+    known: &mut Known,
     one: &BackLink,
     two: &BackLink,
 ) -> Result<(LinkSight, LinkSight), Failed>
     requires numbers { IsAt (D.state disk.old) at.now }
-    requires known { length known.now ≡ at.now.inodes }
-    ensures { Sees (D.state disk.old) (D.state disk.new) known.now (λ X. (sights.link_sight X one.now, sights.link_sight X two.now)) result }
+    requires known { length known.old ≡ at.now.inodes }
+    ensures { Sees (D.state disk.old) (D.state disk.new) known.old known.new (λ X. (sights.link_sight X one.now, sights.link_sight X two.now)) result }
 {
     let first = read_link(disk, at, known, one)?;
     let second = read_link(disk, at, known, two)?;
@@ -93,12 +92,12 @@ fn read_two<D: Disk>(
 fn read_link<D: Disk>(
     disk: &mut D,
     at: &SuperBlock,
-    known: &Bits,
+    known: &mut Known,
     link: &BackLink,
 ) -> Result<LinkSight, Failed>
     requires numbers { IsAt (D.state disk.old) at.now }
-    requires known { length known.now ≡ at.now.inodes }
-    ensures { Sees (D.state disk.old) (D.state disk.new) known.now (λ X. sights.link_sight X link.now) result }
+    requires known { length known.old ≡ at.now.inodes }
+    ensures { Sees (D.state disk.old) (D.state disk.new) known.old known.new (λ X. sights.link_sight X link.now) result }
 {
     let entry = read_link_entry(disk, at, link)?;
     let agreed = read_agreed(disk, at, known, link.directory)?;
@@ -109,14 +108,14 @@ fn read_link<D: Disk>(
 fn read_agreed<D: Disk>(
     disk: &mut D,
     at: &SuperBlock,
-    known: &Bits,
+    known: &mut Known,
     inode: u32,
 ) -> Result<bool, Failed>
     requires numbers { IsAt (D.state disk.old) at.now }
-    requires known { length known.now ≡ at.now.inodes }
-    ensures { Sees (D.state disk.old) (D.state disk.new) known.now (λ X. files.agreed (files.files_in X) inode) result }
+    requires known { length known.old ≡ at.now.inodes }
+    ensures { Sees (D.state disk.old) (D.state disk.new) known.old known.new (λ X. files.agreed (files.files_in X) inode) result }
 {
-    check_chain(disk, at, known, inode)
+    learn_chain(disk, at, known, inode)
 }
 
 // The entry that a back link names, in a directory of its generation.
@@ -199,13 +198,13 @@ fn bytes_of(payload: &[u8; 1024], at: u32) -> &[u8]
 pub fn read_block_sight<D: Disk>(
     disk: &mut D,
     at: &SuperBlock,
-    known: &Bits,
+    known: &mut Known,
     block: u64,
 ) -> Result<BlockSight, Failed>
     requires numbers { IsAt (D.state disk.old) at.now }
-    requires known { length known.now ≡ at.now.inodes }
+    requires known { length known.old ≡ at.now.inodes }
     requires block { block < at.now.blocks }
-    ensures sees { Sees (D.state disk.old) (D.state disk.new) known.now (λ X. sights.block_sight X block) result }
+    ensures sees { Sees (D.state disk.old) (D.state disk.new) known.old known.new (λ X. sights.block_sight X block) result }
     ensures block { IfOk result (λ sight. sight.block ≡ block) }
 {
     let tag = read_own_tag(disk, at, block)?;
@@ -227,12 +226,12 @@ fn read_own_tag<D: Disk>(disk: &mut D, at: &SuperBlock, block: u64) -> Result<Op
 fn read_tagged<D: Disk>(
     disk: &mut D,
     at: &SuperBlock,
-    known: &Bits,
+    known: &mut Known,
     tag: Option<Tag>,
 ) -> Result<Option<TagSight>, Failed>
     requires numbers { IsAt (D.state disk.old) at.now }
-    requires known { length known.now ≡ at.now.inodes }
-    ensures { Sees (D.state disk.old) (D.state disk.new) known.now (λ X. sights.tagged_in X tag) result }
+    requires known { length known.old ≡ at.now.inodes }
+    ensures { Sees (D.state disk.old) (D.state disk.new) known.old known.new (λ X. sights.tagged_in X tag) result }
 {
     match tag {
         None => Ok(None),
@@ -250,13 +249,13 @@ fn read_tagged<D: Disk>(
 fn read_slot<D: Disk>(
     disk: &mut D,
     at: &SuperBlock,
-    known: &Bits,
+    known: &mut Known,
     tag: Tag,
 ) -> Result<TagSight, Failed>
     requires numbers { IsAt (D.state disk.old) at.now }
-    requires known { length known.now ≡ at.now.inodes }
+    requires known { length known.old ≡ at.now.inodes }
     requires slot { IsTrue (slots.is_slot tag.slot) }
-    ensures { Sees (D.state disk.old) (D.state disk.new) known.now (λ X. sights.tag_sight X tag) result }
+    ensures { Sees (D.state disk.old) (D.state disk.new) known.old known.new (λ X. sights.tag_sight X tag) result }
 {
     let found = read_slot_way(disk, at, tag.inode, place_of(tag.slot))?;
     let agreed = read_agreed(disk, at, known, tag.inode)?;

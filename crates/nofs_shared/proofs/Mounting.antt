@@ -49,7 +49,7 @@ module _ (k : Books) (h : HistoryState) where
     known_blocks = s.known_blocks;
     free_inodes = s.free_inodes;
     free_blocks = s.free_blocks;
-    agreed_inodes = s.agreed_inodes;
+    agreement = s.agreement;
   }
 
   pub safe-history : (d : DiskState) → IsSafe d k → IsSafe d with
@@ -59,7 +59,7 @@ module _ (k : Books) (h : HistoryState) where
     serial = s.serial;
     unknown_inodes = s.unknown_inodes;
     free_inodes = s.free_inodes;
-    agreed_inodes = s.agreed_inodes;
+    agreement = s.agreement;
     unknown_blocks = s.unknown_blocks;
     free_blocks = s.free_blocks;
     in_area = s.in_area;
@@ -97,7 +97,8 @@ module _ (k : Books) (h : HistoryState) where
     }
 
 -- the same mount with other room in its history
-pub mount-history : (found d : DiskState) (first : ℕ) (k : Books) (h : HistoryState) → h.start ≡ k.history.start → h.entries ≡ k.history.entries → IsMount found d first k → IsMount found d first (record k { history = h })
+pub mount-history : (found d : DiskState) (first : ℕ) (k : Books) (h : HistoryState) → h.start ≡ k.history.start → h.entries ≡ k.history.entries
+    → IsMount found d first k → IsMount found d first (record k { history = h })
 mount-history found d first k h start entries m = record {
   safe = safe-history k h d m.safe;
   disk = m.disk;
@@ -115,7 +116,8 @@ mount-history found d first k h start entries m = record {
   };
 }
   where
-    go : (p : Past) → IsOpen d k k.history.entries p ⊎ IsStopped d k k.history.entries p → IsOpen d (record k { history = h }) k.history.entries p ⊎ IsStopped d (record k { history = h }) k.history.entries p
+    go : (p : Past) → IsOpen d k k.history.entries p ⊎ IsStopped d k k.history.entries p
+        → IsOpen d (record k { history = h }) k.history.entries p ⊎ IsStopped d (record k { history = h }) k.history.entries p
     go p (inl o) = inl (open-history k h d k.history.entries p start o)
     go p (inr o) = inr (stopped-history k h d k.history.entries p start o)
 
@@ -129,7 +131,8 @@ forms-later (e ∷ H) m b n c f =
     let later = f.0.later in
     omega (arith, rest, from, later)
 
-pub forms-append : (H : List Entry1) (m : ℕ) (b : Bool) (n : ℕ) (c : Bool) (e : Entry1) (end : ℕ) (last : Bool) → Forms m b H n c → IsNextEntry n c e → end ≡ e.to → last ≡ (c || is_write_fault e.reply) → Forms m b (H ++ e ∷ []) end last
+pub forms-append : (H : List Entry1) (m : ℕ) (b : Bool) (n : ℕ) (c : Bool) (e : Entry1) (end : ℕ) (last : Bool) → Forms m b H n c → IsNextEntry n c e
+    → end ≡ e.to → last ≡ (c || is_write_fault e.reply) → Forms m b (H ++ e ∷ []) end last
 forms-append [] m b n c e end last f next is_end is_last =
     (subst₂ (λ (k : ℕ) (t : Bool). IsNextEntry k t e) f.0 f.1 next, (is_end, is_last ∙ ap (λ (t : Bool). t || is_write_fault e.reply) f.1))
 forms-append (x ∷ H) m b n c e end last f next is_end is_last = (f.0, forms-append H x.to (b || is_write_fault x.reply) n c e end last f.1 next is_end is_last)
@@ -206,7 +209,8 @@ module _ (old new : DiskState) (k l : Books) (r : Reply) (g : IsSafeStep old k n
     here = entry caller old new s c r
 
     rests-more : IsOpen old k H p ⊎ IsStopped old k H p → IsOpen new l (H ++ here ∷ []) q ⊎ IsStopped new l (H ++ here ∷ []) q
-        → ((X : Image) → Picks old.may old.blocks X → IsAllowed p.base H old.moment X) → (X : Image) → Picks new.may new.blocks X → IsAllowed q.base (H ++ here ∷ []) new.moment X
+        → ((X : Image) → Picks old.may old.blocks X → IsAllowed p.base H old.moment X) → (X : Image) → Picks new.may new.blocks X
+        → IsAllowed q.base (H ++ here ∷ []) new.moment X
     rests-more was now rest X picks = elim (cases_lt old.moment new.moment) [
       | inl later ↦ rests-later H here old.moment new (all-by was) later refl q now X picks
       | inr none ↦
@@ -255,7 +259,8 @@ module _ (found old new : DiskState) (first : ℕ) (k l : Books) (m : IsMount fo
     };
   }
     where
-      go : (p : Past) → IsOpen old k k.history.entries p ⊎ IsStopped old k k.history.entries p → IsOpen new k k.history.entries p ⊎ IsStopped new k k.history.entries p
+      go : (p : Past) → IsOpen old k k.history.entries p ⊎ IsStopped old k k.history.entries p
+          → IsOpen new k k.history.entries p ⊎ IsStopped new k k.history.entries p
       go p (inl o) = inl (open-keeps old new keep k k.history.entries p o)
       go p (inr o) = inr (stopped-keeps old new keep k k.history.entries p o)
 
@@ -272,7 +277,8 @@ module _ (found old new : DiskState) (first : ℕ) (k l : Books) (m : IsMount fo
     abbrev this : Entry1
     this = entry caller old new s c r
 
-    pub goes-leads : IsSoundDisk found → (p : Past) → IsOpen old k k.history.entries p ⊎ IsStopped old k k.history.entries p → Leads new l this k.history.entries p
+    pub goes-leads : IsSoundDisk found → (p : Past) → IsOpen old k k.history.entries p ⊎ IsStopped old k k.history.entries p
+        → Leads new l this k.history.entries p
     goes-leads q p (inr o) = (p, record { base = refl; first = refl; next = (g.from_stopped (told q) caller k.history.entries p o).next mem }, inr ((g.from_stopped (told q) caller k.history.entries p o).done mem))
     goes-leads q p (inl o) = go (is_write_fault r) refl
       where
@@ -324,11 +330,13 @@ module _ (found old new : DiskState) (first : ℕ) (k l : Books) (m : IsMount fo
         all : h.entries ≡ k.history.entries ++ e ∷ []
         all = entries ∙ ap (λ (x : HistoryState). x.entries ++ e ∷ []) g.history
 
-        go : (p : Past) → IsOpen new l (k.history.entries ++ e ∷ []) p ⊎ IsStopped new l (k.history.entries ++ e ∷ []) p → IsOpen new (record l { history = h }) (k.history.entries ++ e ∷ []) p ⊎ IsStopped new (record l { history = h }) (k.history.entries ++ e ∷ []) p
+        go : (p : Past) → IsOpen new l (k.history.entries ++ e ∷ []) p ⊎ IsStopped new l (k.history.entries ++ e ∷ []) p
+            → IsOpen new (record l { history = h }) (k.history.entries ++ e ∷ []) p ⊎ IsStopped new (record l { history = h }) (k.history.entries ++ e ∷ []) p
         go p (inl o) = inl (open-history l h new (k.history.entries ++ e ∷ []) p start o)
         go p (inr o) = inr (stopped-history l h new (k.history.entries ++ e ∷ []) p start o)
 
   -- so after a step of the mount
   pub mount-goes : (s : Step) (c : Claims) (r : Reply) (caller : ℕ) (g : Goes old k new l s c r) (mem : is_out_of_memory r ≡ false)
-      → (h : HistoryState) → h.start ≡ l.history.start → h.entries ≡ l.history.entries ++ entry caller old new s c r ∷ [] → IsMount found new first (record l { history = h })
+      → (h : HistoryState) → h.start ≡ l.history.start → h.entries ≡ l.history.entries ++ entry caller old new s c r ∷ []
+      → IsMount found new first (record l { history = h })
   mount-goes s c r caller g mem = mount-more s c r caller (goes-safely g) mem (λ q st. (goes-leads s c r caller g mem q st.past st.now, g.sound (told q) k.history.entries st.past st.now found.moment st.sound))

@@ -2,6 +2,7 @@
 ghost use Rattle.std.specs.Prelude.{◌≡◌, ◌+◌, ◌-◌, ◌<◌, ◌≤◌, ◌^◌, ℕ, true, false, All, IfOk, IfErr, length};
 ghost use Rattle.nofs_machine.specs.Steps.{Fits, is_out_of_memory};
 ghost use Rattle.nofs_state.specs.Books.{IsSafe};
+ghost use Rattle.nofs_state.specs.Knowing.{with_agreement};
 ghost use Rattle.nofs_disk.specs.Disk.{StaysButFaults};
 ghost use Rattle.nofs_scan.specs.Elements.{HasElement, items_of, see_step, verdict_at};
 ghost use Rattle.nofs_shared.specs.Sees.{is_of_sweep};
@@ -92,7 +93,8 @@ fn commit_in<D: Disk + Drop>(
 }
 
 impl<D: Disk + Drop> Mount<D> {
-    /// Looks at 1 to 64 elements. It makes no entry: each verdict is committed later.
+    /// Looks at 1 to 64 elements. It makes no entry, and changes no verdict: each is committed later. What it finds of inodes on the
+    /// ways up, which are agreed and which are not, the mount knows from then on.
     ///
     /// # Errors
     ///
@@ -105,7 +107,7 @@ impl<D: Disk + Drop> Mount<D> {
         items: &[u64],
     ) -> Result<Evidence<D>, Refusal>
         requires count { (1 ≤ length items.now) × (length items.now ≤ 64) }
-        ensures same { (self.new.core.books ≡ self.old.core.books) × (self.new.found ≡ self.old.found) × (self.new.first ≡ self.old.first) × (self.new.kept ≡ self.old.kept) }
+        ensures same { (self.new.core.books ≡ with_agreement self.old.core.books self.new.core.books.agreement) × (self.new.found ≡ self.old.found) × (self.new.first ≡ self.old.first) × (self.new.kept ≡ self.old.kept) }
         ensures stays { StaysButFaults (D.state self.old.core.disk) (D.state self.new.core.disk) }
         ensures refused { IfErr result (BatchFails (D.state self.old.core.disk) self.old.core.books (D.state self.new.core.disk) kind items.now) }
         ensures asked { IfOk result (λ evidence. (evidence.kind ≡ kind) × (items_of evidence.verdicts ≡ items.now)) }

@@ -12,7 +12,9 @@ use Rattle.nofs_machine.specs.World.{world_of}
 use Rattle.nofs_machine.specs.History.{agreed_files}
 use Rattle.nofs_machine.specs.HistoryState.{HistoryState}
 use Rattle.nofs_crashlaw.proofs.FirstStage.{law-first-stage}
+use Rattle.nofs_agree.specs.Chains.{told}
 use Rattle.nofs_agree.specs.Reading.{IsAt}
+use Rattle.nofs_agree.proofs.Learning.{told-nothing}
 use Rattle.nofs_state.specs.Books.{IsRoom, Says}
 use Rattle.nofs_state.specs.Standing.{IsOpen}
 use Rattle.nofs_state.specs.Beginning.{first_past}
@@ -39,7 +41,7 @@ new_books at first room start = record {
   at = at;
   unknown_inodes = room.unknown_inodes;
   free_inodes = room.free_inodes;
-  agreed_inodes = room.agreed_inodes;
+  agreement = room.agreement;
   unknown_blocks = room.unknown_blocks;
   free_blocks = room.free_blocks;
   serial = first;
@@ -47,7 +49,8 @@ new_books at first room start = record {
   history = record { start = start; entries = []; spare = room.history.spare };
 }
 
-special-known : (i inodes : ℕ) (set : Bool) → 4 ≤ inodes → (1 ≤ i → i ≤ inodes → set ≡ leb 2 (i - 1)) → (eqb i 1 || eqb i 2) ≡ (leb 1 i && (leb i inodes && not set))
+special-known : (i inodes : ℕ) (set : Bool) → 4 ≤ inodes → (1 ≤ i → i ≤ inodes → set ≡ leb 2 (i - 1))
+    → (eqb i 1 || eqb i 2) ≡ (leb 1 i && (leb i inodes && not set))
 special-known i inodes set some h = elim (cases_lt i 1) [
   | inl zero ↦ grind (arith, nat_tests)
   | inr low ↦ elim (cases_lt inodes i) [
@@ -66,7 +69,8 @@ not-both : (a b : Bool) → (a && not (a || b)) ≡ false
 not-both true b = refl
 not-both false b = refl
 
-says-first : (X : Image) (at : SuperBlock) (first start : ℕ) (room : Room) → super_at X ≡ at → 4 ≤ at.inodes → 2 + at.inodes / 4 ≤ at.blocks → IsRoom at room → Says (new_books at first room start) (world_of X first)
+says-first : (X : Image) (at : SuperBlock) (first start : ℕ) (room : Room) → super_at X ≡ at → 4 ≤ at.inodes → 2 + at.inodes / 4 ≤ at.blocks → IsRoom at room
+    → Says (new_books at first room start) (world_of X first)
 unfolding world_of
 says-first X at first start room same some table r = record {
   version = ap (λ (q : SuperBlock). q.version) same;
@@ -79,10 +83,11 @@ says-first X at first start room same some table r = record {
   known_blocks = λ p. ap (λ (q : SuperBlock). leb p (q.inodes / 4)) same ∙ fixed-known p at.blocks (at.inodes / 4) (is_set room.unknown_blocks p) (omega (arith, table)) (λ low. r.unknown_blocks.each p low);
   free_inodes = λ i low high. ap (λ (bits : _). is_set bits (i - 1)) r.free_inodes ∙ set-none at.inodes (i - 1) ∙ sym (not-both (is_special i) (is_some (agreed_files X i)));
   free_blocks = λ p low. ap (λ (bits : _). is_set bits p) r.free_blocks ∙ set-none at.blocks p ∙ sym (not-both (leb p ((super_at X).inodes / 4)) (is_some (owner X p)));
-  agreed_inodes = λ i low high t. absurd (let e : is_set room.agreed_inodes (i - 1) ≡ false = ap (λ (bits : _). is_set bits (i - 1)) r.agreed_inodes ∙ set-none at.inodes (i - 1) in cc (t, e));
+  agreement = λ i a t. absurd (let e : told room.agreement i ≡ None = ap (λ (known : _). told known i) r.agreement ∙ told-nothing at.inodes i in cc (t, e));
 }
 
-pub open-first : (d : DiskState) (at : SuperBlock) (first : ℕ) (room : Room) → IsDisk d → IsAt d at → IsRoom at room → IsTrue d.tells → IsSettled d → IsTrue (is_mountable d.now) → 0 < at.mount * 2 ^ 40 + first
+pub open-first : (d : DiskState) (at : SuperBlock) (first : ℕ) (room : Room) → IsDisk d → IsAt d at → IsRoom at room → IsTrue d.tells → IsSettled d
+    → IsTrue (is_mountable d.now) → 0 < at.mount * 2 ^ 40 + first
     → IsBelow (at.mount * 2 ^ 40 + first) d.now → IsOpen d (new_books at first room d.moment) [] (first_past d first)
 unfolding world_of
 open-first d at first room is numbers r tells settled mountable positive below =
@@ -112,8 +117,10 @@ open-first d at first room is numbers r tells settled mountable positive below =
       no_fault = tt;
     }
 
-pub open-with : (d : DiskState) (at : SuperBlock) (first moment : ℕ) (room : Room) (h : HistoryState) → IsDisk d → IsAt d at → IsRoom at room → moment ≡ d.moment
-    → h ≡ record { start = moment; entries = []; spare = room.history.spare } → IsTrue d.tells → IsSettled d → IsTrue (is_mountable d.now) → 0 < at.mount * 2 ^ 40 + first
+pub open-with : (d : DiskState) (at : SuperBlock) (first moment : ℕ) (room : Room) (h : HistoryState) → IsDisk d → IsAt d at → IsRoom at room
+    → moment ≡ d.moment
+    → h ≡ record { start = moment; entries = []; spare = room.history.spare } → IsTrue d.tells → IsSettled d → IsTrue (is_mountable d.now)
+    → 0 < at.mount * 2 ^ 40 + first
     → IsBelow (at.mount * 2 ^ 40 + first) d.now → IsOpen d (record (new_books at first room moment) { history = h }) [] (first_past d first)
 open-with d at first moment room h is numbers r same eh tells settled mountable positive below =
     let e : h ≡ record { start = d.moment; entries = []; spare = room.history.spare } = eh ∙ (λ j. record { start = same j; entries = []; spare = room.history.spare }) in

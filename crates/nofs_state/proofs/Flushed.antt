@@ -44,7 +44,8 @@ flush-given : (F : Files) (caller i g : ℕ) (old new : DiskState) → given_by 
 unfolding gives
 flush-given F caller i g old new = refl
 
-safe-flushed : (old new : DiskState) (k : Books) {result : Result (Unit {0}) Failed} (stop : Bool) → Flushes old new result → IsSafe old k → IsSafe new (record k { stopped = stop })
+safe-flushed : (old new : DiskState) (k : Books) {result : Result (Unit {0}) Failed} (stop : Bool) → Flushes old new result → IsSafe old k
+    → IsSafe new (record k { stopped = stop })
 safe-flushed old new k stop f s = record {
   at = record {
     geometry = subst (λ (n : ℕ). IsGeometry n k.at.blocks k.at.inodes) (sym f.disk.blocks) s.at.geometry;
@@ -54,7 +55,7 @@ safe-flushed old new k stop f s = record {
   serial = s.serial;
   unknown_inodes = s.unknown_inodes;
   free_inodes = s.free_inodes;
-  agreed_inodes = s.agreed_inodes;
+  agreement = s.agreement;
   unknown_blocks = s.unknown_blocks;
   free_blocks = s.free_blocks;
   in_area = s.in_area;
@@ -62,7 +63,8 @@ safe-flushed old new k stop f s = record {
 
 module _ (old new : DiskState) (k : Books) (i g : ℕ) (is_old : IsDisk old) (is_new : IsDisk new) (safe : IsSafe old k) (going : k.stopped ≡ false)
     (comes : IsTrue old.tells → (H : List Entry1) (p : Past) → IsOpen old k H p → (V : World) → first_of (rows p.world V (step.Flush i g)) ≡ None) where
-  open-flushed : (caller : ℕ) (H : List Entry1) (p : Past) → IsTrue old.tells → IsOpen old k H p → Flushes old new (Ok tt) → IsOpen new k (H ++ flush_entry caller old new i g ∷ []) (record p { mark = old.now; stamps = next_stamp p.world })
+  open-flushed : (caller : ℕ) (H : List Entry1) (p : Past) → IsTrue old.tells → IsOpen old k H p → Flushes old new (Ok tt)
+      → IsOpen new k (H ++ flush_entry caller old new i g ∷ []) (record p { mark = old.now; stamps = next_stamp p.world })
   open-flushed caller H p tells o f =
       let e : Entry1 = flush_entry caller old new i g in
       let F : Files = files_along (agreed_files p.base) H in

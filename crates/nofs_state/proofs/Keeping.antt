@@ -142,7 +142,7 @@ module _ (old new : DiskState) (keep : Keeping old new) where
     serial = s.serial;
     unknown_inodes = s.unknown_inodes;
     free_inodes = s.free_inodes;
-    agreed_inodes = s.agreed_inodes;
+    agreement = s.agreement;
     unknown_blocks = s.unknown_blocks;
     free_blocks = s.free_blocks;
     in_area = s.in_area;
@@ -183,10 +183,12 @@ module _ (old new : DiskState) (keep : Keeping old new) where
       either H p (inl o) = inl (open-keeps k H p o)
       either H p (inr o) = inr (stopped-keeps k H p o)
 
-      again : (H : List Entry1) (p : Past) (caller : ℕ) → Follows new end l H p (entry caller new end s c r) → Follows old end l H p (entry caller new end s c r)
+      again : (H : List Entry1) (p : Past) (caller : ℕ) → Follows new end l H p (entry caller new end s c r)
+          → Follows old end l H p (entry caller new end s c r)
       again H p caller f = record { none = f.none; done = f.done; fault = f.fault }
 
-      still : (H : List Entry1) (p : Past) (caller : ℕ) → StaysStopped new end l H p (entry caller new end s c r) → StaysStopped old end l H p (entry caller new end s c r)
+      still : (H : List Entry1) (p : Past) (caller : ℕ) → StaysStopped new end l H p (entry caller new end s c r)
+          → StaysStopped old end l H p (entry caller new end s c r)
       still H p caller f = record { none = f.none; done = f.done; next = f.next }
 
   -- no memory

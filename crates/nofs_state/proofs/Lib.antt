@@ -25,3 +25,4 @@ pub mod MovedBlocks
 pub mod SafeSteps
 pub mod Tallying
 pub mod WritingOut
+pub mod Knowing

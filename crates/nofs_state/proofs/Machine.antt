@@ -1,7 +1,5 @@
 -- What the machine says of a file, in the words of the disk.
-use Rattle.std.proofs.Common.{◌≡◌, ℕ, ◌-◌, ◌≤◌, Bool, true, false, ◌&&◌, not, leb, List, length, Option, Some, None, is_some, refl, sym, ap, ◌∙◌, subst, arith}
-use Rattle.std.proofs.lemmas.Bool.{and_parts, leb-true}
-use Rattle.nofs_bits.specs.Bits.{is_set}
+use Rattle.std.proofs.Common.{◌≡◌, ℕ, Bool, true, false, ◌&&◌, not, List, Option, Some, None, is_some, refl, sym, ap, ◌∙◌, subst}
 use Rattle.nofs_disk.specs.Disk.{DiskState}
 use Rattle.nofs_model.specs.Cells.{BackLink, SuperBlock, is_live}
 use Rattle.nofs_model.specs.Image.{Image, inode, Files, FileState, files_in, agreed, is_pair, pairs}
@@ -16,7 +14,8 @@ use Rattle.nofs_model.proofs.Chains.{agreed-holds}
 use Rattle.nofs_law_untouched.proofs.Matching.{agreed-files-is, matched-agreed, gen-of}
 use Rattle.nofs_law_untouched.proofs.Alike.{same-of, same-alike, pairs-alike, agreed-some, live-some}
 use Rattle.nofs_law_maps.proofs.Homes.{uses-inode}
-use Rattle.nofs_agree.specs.Chains.{AreAgreed, is_agreed_link}
+use Rattle.nofs_agree.specs.Chains.{AreTrue, is_agreed_link, told}
+use Rattle.nofs_agree.proofs.Learning.{if-told}
 use Rattle.nofs_state.specs.Books.{IsSafe}
 use Rattle.nofs_state.specs.Standing.{IsOpen, Past}
 use Rattle.nofs_state.specs.Opening.{is_current}
@@ -52,7 +51,8 @@ same-none None s = refl
 same-none (Some f) s = absurd s
 
 -- a pair of the machine is one of the disk with an agreed directory
-pub machine-pair : (F : Files) (X : Image) (i : ℕ) (link : BackLink) → FilesMatch F X → agreed (files_in X) i ≡ true → is_pair F i link ≡ is_agreed_link (files_in X) i link
+pub machine-pair : (F : Files) (X : Image) (i : ℕ) (link : BackLink) → FilesMatch F X → agreed (files_in X) i ≡ true
+    → is_pair F i link ≡ is_agreed_link (files_in X) i link
 machine-pair F X i link match a = go (agreed (files_in X) link.directory) refl
   where
     go : (b : Bool) → agreed (files_in X) link.directory ≡ b → is_pair F i link ≡ (is_pair (files_in X) i link && agreed (files_in X) link.directory)
@@ -82,12 +82,7 @@ stale-none W X i g match c = stale-is W X i g match ∙ rw c refl
 pub stale-some : (W : World) (X : Image) (i g : ℕ) → FilesMatch W.files X → is_current X i g ≡ false → stale W i g ≡ Some refusal.Stale
 stale-some W X i g match c = stale-is W X i g match ∙ rw c refl
 
--- those that the books say are agreed are
-pub are-agreed : (d : DiskState) (k : Books) (H : List Entry1) (p : Past) → IsSafe d k → IsOpen d k H p → AreAgreed d.now k.agreed_inodes
-are-agreed d k H p safe o i known =
-    let a = and_parts (leb 1 i) (leb i (length k.agreed_inodes) && is_set k.agreed_inodes (i - 1)) known in
-    let b = and_parts (leb i (length k.agreed_inodes)) (is_set k.agreed_inodes (i - 1)) a.1 in
-    let low : 1 ≤ i = leb-true 1 i a.0 in
-    let high : i ≤ length k.agreed_inodes = leb-true i (length k.agreed_inodes) b.0 in
-    let len = safe.agreed_inodes in
-    sym (uses-inode p.world.files d.now (open-files d k H p o) i) ∙ o.says.agreed_inodes i low (omega (arith, high, len)) b.1
+-- what the books know of inodes is true
+pub are-agreed : (d : DiskState) (k : Books) (H : List Entry1) (p : Past) → IsSafe d k → IsOpen d k H p → AreTrue d.now k.agreement
+are-agreed d k H p safe o i =
+    if-told (told k.agreement i) (λ a. agreed (files_in d.now) i ≡ a) (λ a known. sym (uses-inode p.world.files d.now (open-files d k H p o) i) ∙ o.says.agreement i a known)

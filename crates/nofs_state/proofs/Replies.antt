@@ -55,7 +55,8 @@ open-files d k H p o = subst (λ (F : Files). FilesMatch F d.now) (sym o.files) 
 -- Homes stay where nothing is claimed and the files stay
 
 -- each used block is that of a slot that has its block
-pub home-has : (W : World) (X : Image) → FilesMatch W.files X → HomesMatch W X → ((b : ℕ) → W.blocks ≤ b → W.homes b ≡ None) → (p : ℕ) (h : Home) → W.homes p ≡ Some h → has_block W.files h ≡ true
+pub home-has : (W : World) (X : Image) → FilesMatch W.files X → HomesMatch W X → ((b : ℕ) → W.blocks ≤ b → W.homes b ≡ None) → (p : ℕ) (h : Home)
+    → W.homes p ≡ Some h → has_block W.files h ≡ true
 home-has W X match homes past p h e = elim (cases_lt p W.blocks) [
   | inl low ↦
       let o = sym (homes p low) ∙ e in
@@ -65,10 +66,12 @@ home-has W X match homes past p h e = elim (cases_lt p W.blocks) [
   | inr high ↦ absurd (let n = past p high in cc (n, e))
 ]
 
-pub homes-stay : (W : World) (X : Image) (s : Step) → FilesMatch W.files X → HomesMatch W X → ((b : ℕ) → W.blocks ≤ b → W.homes b ≡ None) → cell_slot W.files s ≡ None → homes_after W s no_claims W.files ≡ W.homes
+pub homes-stay : (W : World) (X : Image) (s : Step) → FilesMatch W.files X → HomesMatch W X → ((b : ℕ) → W.blocks ≤ b → W.homes b ≡ None)
+    → cell_slot W.files s ≡ None → homes_after W s no_claims W.files ≡ W.homes
 homes-stay W X s match homes past slot = λ j p. at p j
   where
-    go : (p : ℕ) (o : Option Home) → W.homes p ≡ o → (elim o as (λ (_ : Option Home). Option Home) [ None ↦ None | Some home ↦ cond (has_block W.files home) (Some home) None ]) ≡ o
+    go : (p : ℕ) (o : Option Home) → W.homes p ≡ o
+        → (elim o as (λ (_ : Option Home). Option Home) [ None ↦ None | Some home ↦ cond (has_block W.files home) (Some home) None ]) ≡ o
     go p None e = refl
     go p (Some h) e = rw (home-has W X match homes past p h e) refl
 
@@ -92,7 +95,8 @@ refused-idle F e why is safe =
     }
 
 -- a failed read
-pub by-read : (W : World) (e : Entry1) → W.stopped ≡ false → ((why : Refusal) → first_of (rows W W e.step) ≡ Some why → reads_nothing why ≡ false) → e.reply ≡ reply.Refused refusal.ReadFault → e.claims ≡ no_claims → Next W e W
+pub by-read : (W : World) (e : Entry1) → W.stopped ≡ false → ((why : Refusal) → first_of (rows W W e.step) ≡ Some why → reads_nothing why ≡ false)
+    → e.reply ≡ reply.Refused refusal.ReadFault → e.claims ≡ no_claims → Next W e W
 by-read W e going late is none = go (first_of (rows W W e.step)) refl
   where
     go : (o : Option Refusal) → first_of (rows W W e.step) ≡ o → Next W e W
@@ -100,7 +104,8 @@ by-read W e going late is none = go (first_of (rows W W e.step)) refl
     go (Some why) eo = ByRow why going eo (inr (is, late why eo)) none (keeps-all W) going (nothing-learned W e.step)
 
 -- an answer of a step that reads alone
-pub by-answer : (W : World) (X : Image) (e : Entry1) → W.stopped ≡ false → FilesMatch W.files X → HomesMatch W X → ((b : ℕ) → W.blocks ≤ b → W.homes b ≡ None) → IsReading e.step
+pub by-answer : (W : World) (X : Image) (e : Entry1) → W.stopped ≡ false → FilesMatch W.files X → HomesMatch W X → ((b : ℕ) → W.blocks ≤ b → W.homes b ≡ None)
+    → IsReading e.step
     → first_of (rows W W e.step) ≡ None → e.reply ≡ reply_of W e.step e.claims → e.claims ≡ no_claims → Next W e W
 by-answer W X e going match homes past reads none is claims = Done going none is claim files homes-are serial (refl, refl, refl, refl, going) learned
   where
@@ -143,7 +148,7 @@ safe-on old new k stays s = record {
   serial = s.serial;
   unknown_inodes = s.unknown_inodes;
   free_inodes = s.free_inodes;
-  agreed_inodes = s.agreed_inodes;
+  agreement = s.agreement;
   unknown_blocks = s.unknown_blocks;
   free_blocks = s.free_blocks;
   in_area = s.in_area;
@@ -191,7 +196,9 @@ module _ (old new : DiskState) (k : Books) (s : Step) (is : IsDisk old) (safe : 
   }
 
   -- a refusal by a row of the machine
-  pub goes-row : (why : Refusal) → is_plain why ≡ true → InRange why → k.stopped ≡ false → (IsTrue old.tells → (H : List Entry1) (p : Past) → IsOpen old k H p → first_of (rows p.world p.world s) ≡ Some why) → Goes old k new k s no_claims (reply.Refused why)
+  pub goes-row : (why : Refusal) → is_plain why ≡ true → InRange why → k.stopped ≡ false
+      → (IsTrue old.tells → (H : List Entry1) (p : Past) → IsOpen old k H p → first_of (rows p.world p.world s) ≡ Some why)
+      → Goes old k new k s no_claims (reply.Refused why)
   goes-row why plain range going comes = record {
     disk = stays.disk;
     past = stays.past;
@@ -231,7 +238,8 @@ module _ (old new : DiskState) (k : Books) (s : Step) (is : IsDisk old) (safe : 
   }
 
   -- a read failed
-  pub goes-read : k.stopped ≡ false → Rose old.faults new.faults → (IsTrue old.tells → (H : List Entry1) (p : Past) → IsOpen old k H p → (why : Refusal) → first_of (rows p.world p.world s) ≡ Some why → reads_nothing why ≡ false)
+  pub goes-read : k.stopped ≡ false → Rose old.faults new.faults
+      → (IsTrue old.tells → (H : List Entry1) (p : Past) → IsOpen old k H p → (why : Refusal) → first_of (rows p.world p.world s) ≡ Some why → reads_nothing why ≡ false)
       → Goes old k new k s no_claims (reply.Refused refusal.ReadFault)
   goes-read going rose late = record {
     disk = stays.disk;
@@ -273,7 +281,8 @@ module _ (old new : DiskState) (k : Books) (s : Step) (is : IsDisk old) (safe : 
 
   -- an answer
   pub goes-answer : (r : Reply) → is_refused r ≡ false → is_flushed r ≡ false → IsReading s → k.stopped ≡ false
-      → (IsTrue old.tells → (H : List Entry1) (p : Past) → IsOpen old k H p → (first_of (rows p.world p.world s) ≡ None) × (r ≡ reply_of p.world s no_claims)) → Goes old k new k s no_claims r
+      → (IsTrue old.tells → (H : List Entry1) (p : Past) → IsOpen old k H p → (first_of (rows p.world p.world s) ≡ None) × (r ≡ reply_of p.world s no_claims))
+      → Goes old k new k s no_claims r
   goes-answer r accepted plain reads going comes = record {
     disk = stays.disk;
     past = stays.past;

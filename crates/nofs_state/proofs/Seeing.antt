@@ -35,7 +35,8 @@ use Rattle.nofs_state.proofs.Replies.{homes-stay, keeps-all, open-files}
 pub machine-inode : (d : DiskState) (k : Books) (H : List Entry1) (p : Past) → IsOpen d k H p → (i : ℕ) → uses_inode p.world i ≡ is_used_inode d.now i
 machine-inode d k H p o i = ap (λ (b : Bool). is_special i || b) (uses-inode p.world.files d.now (open-files d k H p o) i)
 
-pub machine-block : (d : DiskState) (k : Books) (H : List Entry1) (p : Past) → IsOpen d k H p → (b : ℕ) → b < k.at.blocks → uses_block p.world b ≡ is_used_block d.now b
+pub machine-block : (d : DiskState) (k : Books) (H : List Entry1) (p : Past) → IsOpen d k H p → (b : ℕ) → b < k.at.blocks
+    → uses_block p.world b ≡ is_used_block d.now b
 machine-block d k H p o b low =
     let inodes : p.world.inodes ≡ (super_at d.now).inodes = o.says.inodes ∙ sym (ap (λ q. q.inodes) o.at) in
     let home = o.homes b (let e = o.says.blocks in omega (arith, e, low)) in
@@ -66,7 +67,8 @@ pub record Sees (W V : World) (s : Step) (used : Bool) : Type 0 where
   pub learns : Learns W s true V
 
 module _ (old new : DiskState) (k l : Books) (s : Step) (used : Bool) (is : IsDisk old) (stays : StaysButFaults old new) (at : l.at ≡ k.at) (history : l.history ≡ k.history) (going : k.stopped ≡ false) (still : l.stopped ≡ false) where
-  next-seen : (caller : ℕ) (H : List Entry1) (p : Past) (V : World) → IsOpen old k H p → IsSeeing s → Sees p.world V s used → Next p.world (entry caller old new s no_claims (reply.Seen used)) V
+  next-seen : (caller : ℕ) (H : List Entry1) (p : Past) (V : World) → IsOpen old k H p → IsSeeing s → Sees p.world V s used
+      → Next p.world (entry caller old new s no_claims (reply.Seen used)) V
   next-seen caller H p V o seeing sees = Done (o.says.stopped ∙ going) sees.rows sees.reply claim files homes-are serial (sees.keeps.version, sees.keeps.blocks, sees.keeps.inodes, sees.keeps.mount, sees.going) sees.learns
     where
       W : World
@@ -90,7 +92,8 @@ module _ (old new : DiskState) (k l : Books) (s : Step) (used : Bool) (is : IsDi
       serial : V.serial ≡ W.serial + inodes_needed s + blocks_needed W.files s
       serial = let a = seeing.no_inode in let b = seeing.no_block W.files in let e = sees.keeps.serial in omega (arith, a, b, e)
 
-  pub follows-seen : (caller : ℕ) (H : List Entry1) (p : Past) (V : World) → IsTrue old.tells → IsOpen old k H p → IsSeeing s → Sees p.world V s used → Says l V → Follows old new l H p (entry caller old new s no_claims (reply.Seen used))
+  pub follows-seen : (caller : ℕ) (H : List Entry1) (p : Past) (V : World) → IsTrue old.tells → IsOpen old k H p → IsSeeing s → Sees p.world V s used
+      → Says l V → Follows old new l H p (entry caller old new s no_claims (reply.Seen used))
   follows-seen caller H p V tells o seeing sees says = record {
     none = λ t. cc;
     done = λ n f. (
@@ -103,7 +106,8 @@ module _ (old new : DiskState) (k l : Books) (s : Step) (used : Bool) (is : IsDi
     fault = λ t. cc;
   }
 
-pub seen-causes : (old new : DiskState) (k l : Books) (used : Bool) → KeepsCells old new → k.stopped ≡ false → l.stopped ≡ false → Causes old new k l (reply.Seen used)
+pub seen-causes : (old new : DiskState) (k l : Books) (used : Bool) → KeepsCells old new → k.stopped ≡ false → l.stopped ≡ false
+    → Causes old new k l (reply.Seen used)
 seen-causes old new k l used cells going still = record {
   stopped = λ t n. absurd (cc (t, going));
   not_stopped = λ e. cc;
@@ -148,7 +152,8 @@ learns-block W p = record {
     or-true true = refl
     or-true false = refl
 
-    why : (q : ℕ) (b : Bool) → eqb q p ≡ b → (b || W.known_blocks q) ≡ true → (W.known_blocks q ≡ true) ⊎ ((uses_block W q ≡ true) ⊎ ((uses_block W q ≢ uses_block W q) ⊎ ((true ≡ true) × (eqb q p ≡ true))))
+    why : (q : ℕ) (b : Bool) → eqb q p ≡ b → (b || W.known_blocks q) ≡ true
+        → (W.known_blocks q ≡ true) ⊎ ((uses_block W q ≡ true) ⊎ ((uses_block W q ≢ uses_block W q) ⊎ ((true ≡ true) × (eqb q p ≡ true))))
     why q true e k = inr (inr (inr (refl, e)))
     why q false e k = inl k
 
@@ -178,7 +183,8 @@ pub in-range : (a b : ℕ) → a < b → ltb a b ≡ true
 in-range a b h = grind (arith, nat_tests)
 
 -- the maps with one more block
-says-block : (k : Books) (W : World) (p : ℕ) (used : Bool) → Says k W → p < k.at.blocks → length k.unknown_blocks ≡ k.at.blocks → length k.free_blocks ≡ k.at.blocks → used ≡ uses_block W p → Says (learned_block k p used) (with_block W p)
+says-block : (k : Books) (W : World) (p : ℕ) (used : Bool) → Says k W → p < k.at.blocks → length k.unknown_blocks ≡ k.at.blocks
+    → length k.free_blocks ≡ k.at.blocks → used ≡ uses_block W p → Says (learned_block k p used) (with_block W p)
 says-block k W p used s low unknown free right = record {
   version = s.version;
   blocks = s.blocks;
@@ -190,7 +196,7 @@ says-block k W p used s low unknown free right = record {
   known_blocks = known;
   free_inodes = s.free_inodes;
   free_blocks = free-is;
-  agreed_inodes = s.agreed_inodes;
+  agreement = s.agreement;
 }
   where
     known : (q : ℕ) → (eqb q p || W.known_blocks q) ≡ (ltb q k.at.blocks && not (is_set (slice_set k.unknown_blocks p false) q))
@@ -228,7 +234,7 @@ safe-block d k p used s lies = record {
   serial = s.serial;
   unknown_inodes = s.unknown_inodes;
   free_inodes = s.free_inodes;
-  agreed_inodes = s.agreed_inodes;
+  agreement = s.agreement;
   unknown_blocks = set-length k.unknown_blocks p false ∙ s.unknown_blocks;
   free_blocks = set-length k.free_blocks p (not used) ∙ s.free_blocks;
   in_area = area;
@@ -260,7 +266,8 @@ module _ (old new : DiskState) (k : Books) (b : ℕ) (used : Bool) (is : IsDisk 
   block-stands H p o stood = stands (p.world.known_blocks b) (uses_block p.world b) (is_set k.free_blocks b) used (block-known H p o stood) (o.says.free_blocks b low) (block-parts stood).1
 
   -- the verdict stood
-  pub block-stood : (caller : ℕ) (H : List Entry1) (p : Past) → IsTrue old.tells → IsOpen old k H p → verdict_of_block k b ≡ Some used → Follows old new k H p (entry caller old new (step.SeeBlock b) no_claims (reply.Seen used))
+  pub block-stood : (caller : ℕ) (H : List Entry1) (p : Past) → IsTrue old.tells → IsOpen old k H p → verdict_of_block k b ≡ Some used
+      → Follows old new k H p (entry caller old new (step.SeeBlock b) no_claims (reply.Seen used))
   block-stood caller H p tells o stood = follows-seen old new k k (step.SeeBlock b) used is stays refl refl going going caller H p p.world tells o (sees-block b)
       (record { rows = block-row p.world p.world b k.at.blocks o.says.blocks low; reply = ap reply.Seen (block-stands H p o stood); keeps = keeps-all p.world; going = o.says.stopped ∙ going; learns = learns-again p.world b (block-known H p o stood) }) o.says
 

@@ -1,7 +1,8 @@
 -- One more inode is known, with the verdict of the disk.
-use Rattle.std.proofs.Common.{◌≡◌, ◌≢◌, ℕ, zero, suc, ◌-◌, ◌≤◌, ◌⊎◌, inl, inr, Bool, true, false, ◌&&◌, ◌||◌, not, eqb, ltb, leb, List, length, Some, None, is_some, IsTrue, refl, sym, ap, ◌∙◌, subst, eq-eqb, eqb-true, arith}
+use Rattle.std.proofs.Common.{◌≡◌, ◌≢◌, if◌then◌else◌, ℕ, zero, suc, ◌-◌, ◌≤◌, ◌⊎◌, inl, inr, Bool, true, false, ◌&&◌, ◌||◌, not, eqb, ltb, leb, List, length, Some, None, is_some, IsTrue, refl, sym, ap, ◌∙◌, subst, eq-eqb, eqb-true, arith}
 use Rattle.std.specs.Prelude.{slice_set}
-use Rattle.std.proofs.lemmas.Bool.{cases_eq, ne_eqb, and_parts}
+use Rattle.std.proofs.lemmas.Bool.{cases_eq, ne_eqb}
+use Rattle.std.proofs.lemmas.List.{length-set}
 use Rattle.std.proofs.lemmas.Bool.Decides.{nat_tests}
 use Rattle.nofs_bits.specs.Bits.{is_set}
 use Rattle.nofs_disk.specs.Disk.{DiskState, IsDisk, StaysButFaults}
@@ -14,6 +15,8 @@ use Rattle.nofs_machine.specs.Next.{Keeps, Learns}
 use Rattle.nofs_machine.specs.declared.history.Entry1.{Entry1}
 use Rattle.nofs_machine.specs.declared.steps.Step.TheVariants as step
 use Rattle.nofs_machine.specs.declared.replies.Reply.TheVariants as reply
+use Rattle.nofs_agree.specs.Chains.{told}
+use Rattle.nofs_agree.proofs.Learning.{told-here, told-other}
 use Rattle.nofs_state.specs.Books.{IsSafe, Says}
 use Rattle.nofs_state.specs.Standing.{IsOpen, Past}
 use Rattle.nofs_state.specs.Steps.{Follows, entry}
@@ -43,7 +46,8 @@ learns-inode W i = record {
     or-true true = refl
     or-true false = refl
 
-    why : (j : ℕ) (b : Bool) → eqb j i ≡ b → (b || W.known_inodes j) ≡ true → (W.known_inodes j ≡ true) ⊎ ((uses_inode W j ≡ true) ⊎ ((uses_inode W j ≢ uses_inode W j) ⊎ (eqb j i ≡ true)))
+    why : (j : ℕ) (b : Bool) → eqb j i ≡ b → (b || W.known_inodes j) ≡ true
+        → (W.known_inodes j ≡ true) ⊎ ((uses_inode W j ≡ true) ⊎ ((uses_inode W j ≢ uses_inode W j) ⊎ (eqb j i ≡ true)))
     why j true e k = inr (inr (inr e))
     why j false e k = inl k
 
@@ -73,7 +77,8 @@ inode-row W V i n e low high = let t : (eqb i 0 || ltb W.inodes i) ≡ false = n
 
 -- the maps with one more inode
 module _ (k : Books) (W : World) (i : ℕ) (used : Bool) (s : Says k W) (low : 1 ≤ i) (high : i ≤ k.at.inodes) (right : used ≡ uses_inode W i) where
-  known-is : length k.unknown_inodes ≡ k.at.inodes → (j : ℕ) → (eqb j i || W.known_inodes j) ≡ (leb 1 j && (leb j k.at.inodes && not (is_set (slice_set k.unknown_inodes (i - 1) false) (j - 1))))
+  known-is : length k.unknown_inodes ≡ k.at.inodes → (j : ℕ)
+      → (eqb j i || W.known_inodes j) ≡ (leb 1 j && (leb j k.at.inodes && not (is_set (slice_set k.unknown_inodes (i - 1) false) (j - 1))))
   known-is len zero = rw (ne_eqb 0 i (λ e. let z : 0 ≡ i = e in omega (arith, z, low))) (s.known_inodes 0)
   known-is len (suc n) = elim (cases_eq (suc n) i) [
     | inl same ↦
@@ -83,7 +88,8 @@ module _ (k : Books) (W : World) (i : ℕ) (used : Bool) (s : Says k W) (low : 1
     | inr other ↦ rw (ne_eqb (suc n) i other, set-other k.unknown_inodes (i - 1) (suc n - 1) false (λ e. other (omega (arith, e, low)))) (s.known_inodes (suc n))
   ]
 
-  free-is : length k.free_inodes ≡ k.at.inodes → (j : ℕ) → 1 ≤ j → j ≤ k.at.inodes → is_set (slice_set k.free_inodes (i - 1) (not used)) (j - 1) ≡ ((eqb j i || W.known_inodes j) && not (uses_inode W j))
+  free-is : length k.free_inodes ≡ k.at.inodes → (j : ℕ) → 1 ≤ j → j ≤ k.at.inodes
+      → is_set (slice_set k.free_inodes (i - 1) (not used)) (j - 1) ≡ ((eqb j i || W.known_inodes j) && not (uses_inode W j))
   free-is len j from to = elim (cases_eq j i) [
     | inl same ↦
         let here : is_set (slice_set k.free_inodes (i - 1) (not used)) (i - 1) ≡ not used = set-here k.free_inodes (i - 1) (not used) (omega (arith, len, low, high)) in
@@ -91,21 +97,27 @@ module _ (k : Books) (W : World) (i : ℕ) (used : Bool) (s : Says k W) (low : 1
     | inr other ↦ set-other k.free_inodes (i - 1) (j - 1) (not used) (λ e. other (omega (arith, e, low, from))) ∙ s.free_inodes j from to ∙ rw (ne_eqb j i other) refl
   ]
 
-  agreed-is : length k.agreed_inodes ≡ k.at.inodes → (j : ℕ) → 1 ≤ j → j ≤ k.at.inodes → is_set (slice_set k.agreed_inodes (i - 1) (used && ltb 2 i)) (j - 1) ≡ true → is_some (W.files j) ≡ true
-  agreed-is len j from to e = elim (cases_eq j i) [
-    | inl same ↦
-        let here : is_set (slice_set k.agreed_inodes (i - 1) (used && ltb 2 i)) (i - 1) ≡ (used && ltb 2 i) = set-here k.agreed_inodes (i - 1) (used && ltb 2 i) (omega (arith, len, low, high)) in
-        let both = and_parts used (ltb 2 i) (sym here ∙ subst (λ (m : ℕ). is_set (slice_set k.agreed_inodes (i - 1) (used && ltb 2 i)) (m - 1) ≡ true) same e) in
-        let plain : is_special i ≡ false = above i both.1 in
-        let u : uses_inode W i ≡ true = sym right ∙ both.0 in
-        subst (λ (m : ℕ). is_some (W.files m) ≡ true) (sym same) (ap (λ (b : Bool). b || is_some (W.files i)) (sym plain) ∙ u)
-    | inr other ↦ s.agreed_inodes j from to (sym (set-other k.agreed_inodes (i - 1) (j - 1) (used && ltb 2 i) (λ q. other (omega (arith, q, low, from)))) ∙ e)
-  ]
+  agreed-is : length k.agreement ≡ k.at.inodes → (j : ℕ) (a : Bool)
+      → told (if ltb 2 i then slice_set k.agreement (i - 1) (Some used) else k.agreement) j ≡ Some a → is_some (W.files j) ≡ a
+  agreed-is len j a e = go (ltb 2 i) refl e
     where
       above : (n : ℕ) → ltb 2 n ≡ true → (eqb n 1 || eqb n 2) ≡ false
       above n h = grind (arith, nat_tests)
 
-  says-inode : length k.unknown_inodes ≡ k.at.inodes → length k.free_inodes ≡ k.at.inodes → length k.agreed_inodes ≡ k.at.inodes → Says (learned_inode k i used) (with_inode W i)
+      go : (b : Bool) → ltb 2 i ≡ b → told (if b then slice_set k.agreement (i - 1) (Some used) else k.agreement) j ≡ Some a → is_some (W.files j) ≡ a
+      go false low-one t = s.agreement j a t
+      go true h t = elim (cases_eq j i) [
+        | inl same ↦
+            let here : told (slice_set k.agreement (i - 1) (Some used)) i ≡ Some used = told-here k.agreement i (Some used) low (omega (arith, len, high)) in
+            let t-here : told (slice_set k.agreement (i - 1) (Some used)) i ≡ Some a = subst (λ (m : ℕ). told (slice_set k.agreement (i - 1) (Some used)) m ≡ Some a) same t in
+            let is : used ≡ a = cc (here, t-here) in
+            let plain : is_special i ≡ false = above i h in
+            subst (λ (m : ℕ). is_some (W.files m) ≡ a) (sym same) (ap (λ (b : Bool). b || is_some (W.files i)) (sym plain) ∙ sym right ∙ is)
+        | inr other ↦ s.agreement j a (sym (told-other k.agreement i j (Some used) low other) ∙ t)
+      ]
+
+  says-inode : length k.unknown_inodes ≡ k.at.inodes → length k.free_inodes ≡ k.at.inodes → length k.agreement ≡ k.at.inodes
+      → Says (learned_inode k i used) (with_inode W i)
   says-inode unknown free agreed = record {
     version = s.version;
     blocks = s.blocks;
@@ -117,7 +129,7 @@ module _ (k : Books) (W : World) (i : ℕ) (used : Bool) (s : Says k W) (low : 1
     known_blocks = s.known_blocks;
     free_inodes = free-is free;
     free_blocks = s.free_blocks;
-    agreed_inodes = agreed-is agreed;
+    agreement = agreed-is agreed;
   }
 
 -- what holds over any disk, with one more inode
@@ -128,11 +140,15 @@ safe-inode d k i used s = record {
   serial = s.serial;
   unknown_inodes = set-length k.unknown_inodes (i - 1) false ∙ s.unknown_inodes;
   free_inodes = set-length k.free_inodes (i - 1) (not used) ∙ s.free_inodes;
-  agreed_inodes = set-length k.agreed_inodes (i - 1) (used && ltb 2 i) ∙ s.agreed_inodes;
+  agreement = known-length (ltb 2 i);
   unknown_blocks = s.unknown_blocks;
   free_blocks = s.free_blocks;
   in_area = s.in_area;
 }
+  where
+    known-length : (b : Bool) → length (if b then slice_set k.agreement (i - 1) (Some used) else k.agreement) ≡ k.at.inodes
+    known-length true = length-set k.agreement (i - 1) (Some used) ∙ s.agreement
+    known-length false = s.agreement
 
 module _ (old new : DiskState) (k : Books) (i : ℕ) (used : Bool) (is : IsDisk old) (safe : IsSafe old k) (stays : StaysButFaults old new) (going : k.stopped ≡ false) (low : 1 ≤ i) (high : i ≤ k.at.inodes) where
   -- what is known of it is known, and the verdict that stands is the machine's
@@ -146,7 +162,8 @@ module _ (old new : DiskState) (k : Books) (i : ℕ) (used : Bool) (is : IsDisk 
   inode-stands H p o stood = stands (p.world.known_inodes i) (uses_inode p.world i) (is_set k.free_inodes (i - 1)) used (inode-known H p o stood) (o.says.free_inodes i low high) (inode-parts stood).1
 
   -- the verdict stood
-  pub inode-stood : (caller : ℕ) (H : List Entry1) (p : Past) → IsTrue old.tells → IsOpen old k H p → verdict_of_inode k i ≡ Some used → Follows old new k H p (entry caller old new (step.SeeInode i) no_claims (reply.Seen used))
+  pub inode-stood : (caller : ℕ) (H : List Entry1) (p : Past) → IsTrue old.tells → IsOpen old k H p → verdict_of_inode k i ≡ Some used
+      → Follows old new k H p (entry caller old new (step.SeeInode i) no_claims (reply.Seen used))
   inode-stood caller H p tells o stood = follows-seen old new k k (step.SeeInode i) used is stays refl refl going going caller H p p.world tells o (sees-inode i)
       (record { rows = inode-row p.world p.world i k.at.inodes o.says.inodes low high; reply = ap reply.Seen (inode-stands H p o stood); keeps = keeps-all p.world; going = o.says.stopped ∙ going; learns = learns-again p.world i (inode-known H p o stood) }) o.says
 
@@ -155,4 +172,4 @@ module _ (old new : DiskState) (k : Books) (i : ℕ) (used : Bool) (is : IsDisk 
       → Follows old new (learned_inode k i used) H p (entry caller old new (step.SeeInode i) no_claims (reply.Seen used))
   inode-learned caller H p tells o right = follows-seen old new k (learned_inode k i used) (step.SeeInode i) used is stays refl refl going going caller H p (with_inode p.world i) tells o (sees-inode i)
       (record { rows = inode-row p.world (with_inode p.world i) i k.at.inodes o.says.inodes low high; reply = ap reply.Seen right; keeps = keeps-inode p.world i; going = o.says.stopped ∙ going; learns = learns-inode p.world i })
-      (says-inode k p.world i used o.says low high right safe.unknown_inodes safe.free_inodes safe.agreed_inodes)
+      (says-inode k p.world i used o.says low high right safe.unknown_inodes safe.free_inodes safe.agreement)

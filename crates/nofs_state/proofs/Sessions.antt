@@ -27,7 +27,7 @@ module _ (d : DiskState) (k : Books) (h : HistoryState) (start : h.start ≡ k.h
     serial = s.serial;
     unknown_inodes = s.unknown_inodes;
     free_inodes = s.free_inodes;
-    agreed_inodes = s.agreed_inodes;
+    agreement = s.agreement;
     unknown_blocks = s.unknown_blocks;
     free_blocks = s.free_blocks;
     in_area = s.in_area;
@@ -51,7 +51,7 @@ module _ (d : DiskState) (k : Books) (h : HistoryState) (start : h.start ≡ k.h
     known_blocks = s.known_blocks;
     free_inodes = s.free_inodes;
     free_blocks = s.free_blocks;
-    agreed_inodes = s.agreed_inodes;
+    agreement = s.agreement;
   }
 
   pub open-with : (H : List Entry1) (p : Past) → IsOpen d k H p → IsOpen d (with_history k h) H p
@@ -83,7 +83,8 @@ module _ (old : DiskState) (k : Books) (new : DiskState) (l : Books) (s : Step) 
   start' = start ∙ ap (λ (x : HistoryState). x.start) (sym goes.history)
 
   -- a step with an entry, once the entry is pushed
-  pub stands-after : h.entries ≡ k.history.entries ++ entry caller old new s c r ∷ [] → is_out_of_memory r ≡ false → Stands old k base first → Stands new (with_history l h) base first
+  pub stands-after : h.entries ≡ k.history.entries ++ entry caller old new s c r ∷ [] → is_out_of_memory r ≡ false → Stands old k base first
+      → Stands new (with_history l h) base first
   stands-after e memory (going p b f o) = by_fault (is_write_fault r) refl
     where
       by_fault : (w : Bool) → is_write_fault r ≡ w → Stands new (with_history l h) base first
@@ -106,7 +107,8 @@ module _ (old : DiskState) (k : Books) (new : DiskState) (l : Books) (s : Step) 
       (subst (λ (H : List Entry1). IsStopped new (with_history l h) H p) (sym e) (stopped-with new l h start' k.history.entries p ((goes.from_stopped tells caller k.history.entries p o).none memory)))
 
 -- the entry as code makes it
-pub stands-kept : (old : DiskState) (k : Books) (new : DiskState) (l : Books) (s : Step) (c : Claims) (r : Reply) → Goes old k new l s c r → IsTrue old.tells → (base : Image) (first caller from spare : ℕ) → from ≡ old.moment → is_out_of_memory r ≡ false → Stands old k base first
+pub stands-kept : (old : DiskState) (k : Books) (new : DiskState) (l : Books) (s : Step) (c : Claims) (r : Reply) → Goes old k new l s c r → IsTrue old.tells
+    → (base : Image) (first caller from spare : ℕ) → from ≡ old.moment → is_out_of_memory r ≡ false → Stands old k base first
     → Stands new (with_history l (record { start = l.history.start; entries = l.history.entries ++ record { caller = caller; from = from; to = new.moment; step = s; reply = r; claims = c } ∷ []; spare = spare })) base first
 stands-kept old k new l s c r goes tells base first caller from spare same memory stands =
     stands-after old k new l s c r goes tells base first caller (record { start = l.history.start; entries = l.history.entries ++ record { caller = caller; from = from; to = new.moment; step = s; reply = r; claims = c } ∷ []; spare = spare })
@@ -115,11 +117,13 @@ stands-kept old k new l s c r goes tells base first caller from spare same memor
     memory stands
 
 -- where memory was wanting
-pub stands-still : (old : DiskState) (k : Books) (new : DiskState) (l : Books) (s : Step) (c : Claims) (r : Reply) → Goes old k new l s c r → IsTrue old.tells → (base : Image) (first : ℕ) → is_out_of_memory r ≡ true → Stands old k base first → Stands new l base first
+pub stands-still : (old : DiskState) (k : Books) (new : DiskState) (l : Books) (s : Step) (c : Claims) (r : Reply) → Goes old k new l s c r → IsTrue old.tells
+    → (base : Image) (first : ℕ) → is_out_of_memory r ≡ true → Stands old k base first → Stands new l base first
 stands-still old k new l s c r goes tells base first memory stands =
     stands-none old k new l s c r goes tells base first 0 l.history (ap (λ (x : HistoryState). x.start) goes.history) (ap (λ (x : HistoryState). x.entries) goes.history) memory stands
 
 -- memory for entries was taken
-pub stands-with : (d : DiskState) (k : Books) (h : HistoryState) (base : Image) (first : ℕ) → h.start ≡ k.history.start → h.entries ≡ k.history.entries → Stands d k base first → Stands d (with_history k h) base first
+pub stands-with : (d : DiskState) (k : Books) (h : HistoryState) (base : Image) (first : ℕ) → h.start ≡ k.history.start → h.entries ≡ k.history.entries
+    → Stands d k base first → Stands d (with_history k h) base first
 stands-with d k h base first start e (going p b f o) = going p b f (subst (λ (H : List Entry1). IsOpen d (with_history k h) H p) (sym e) (open-with d k h start k.history.entries p o))
 stands-with d k h base first start e (ended p b f o) = ended p b f (subst (λ (H : List Entry1). IsStopped d (with_history k h) H p) (sym e) (stopped-with d k h start k.history.entries p o))

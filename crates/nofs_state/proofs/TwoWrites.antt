@@ -16,18 +16,21 @@ use Rattle.nofs_state.specs.Writing.{OneOf, IsApart, image_after, WritesAll}
 use Rattle.nofs_state.proofs.Done.{Adds-map}
 
 -- other blocks stay, whatever comes of a write
-pub write-other : (old new : DiskState) (block : ℕ) (cell : Cell) (r : Result (Unit {0}) Failed) (b : ℕ) → Writes old new block cell r → b ≢ block → cell_at new.now b ≡ cell_at old.now b
+pub write-other : (old new : DiskState) (block : ℕ) (cell : Cell) (r : Result (Unit {0}) Failed) (b : ℕ) → Writes old new block cell r → b ≢ block
+    → cell_at new.now b ≡ cell_at old.now b
 write-other old new block cell r b w ne = go r w.ok w.err
   where
     set : new.now ≡ slice_set old.now block cell → cell_at new.now b ≡ cell_at old.now b
     set e = ap (λ (X : Image). cell_at X b) e ∙ get_or-set_other old.now block b cell no_cell ne
 
-    go : (q : Result (Unit {0}) Failed) → OnOk q (new.now ≡ slice_set old.now block cell) → OnErr q ((new.now ≡ old.now) ⊎ (new.now ≡ slice_set old.now block cell)) → cell_at new.now b ≡ cell_at old.now b
+    go : (q : Result (Unit {0}) Failed) → OnOk q (new.now ≡ slice_set old.now block cell)
+        → OnErr q ((new.now ≡ old.now) ⊎ (new.now ≡ slice_set old.now block cell)) → cell_at new.now b ≡ cell_at old.now b
     go (Ok u) ok err = set ok
     go (Err x) ok err = elim err [ inl same ↦ ap (λ (X : Image). cell_at X b) same | inr e ↦ set e ]
 
 -- the first failed
-pub first-fails : (old new : DiskState) (b : ℕ) (c : Cell) (ws : List (ℕ × Cell)) (x : Failed) → IsDisk new → Writes old new b c (Err x) → WritesAll old new ((b, c) ∷ ws) (Err x)
+pub first-fails : (old new : DiskState) (b : ℕ) (c : Cell) (ws : List (ℕ × Cell)) (x : Failed) → IsDisk new → Writes old new b c (Err x)
+    → WritesAll old new ((b, c) ∷ ws) (Err x)
 first-fails old new b c ws x is w = record {
   adds = Adds-writes (OneOf ((b, c) ∷ ws)) old new b c is w (inl (refl, refl));
   later = (let m = w.moment in omega (arith, m));
@@ -48,7 +51,8 @@ one-write old new b c (Ok done) is w = record {
 }
 
 -- the second is done, whatever comes of it
-pub second-ends : (old mid new : DiskState) (b d : ℕ) (c e : Cell) (r : Result (Unit {0}) Failed) → IsDisk mid → IsDisk new → Writes old mid b c (Ok tt) → Writes mid new d e r → WritesAll old new ((b, c) ∷ (d, e) ∷ []) r
+pub second-ends : (old mid new : DiskState) (b d : ℕ) (c e : Cell) (r : Result (Unit {0}) Failed) → IsDisk mid → IsDisk new → Writes old mid b c (Ok tt)
+    → Writes mid new d e r → WritesAll old new ((b, c) ∷ (d, e) ∷ []) r
 second-ends old mid new b d c e r is_mid is_new w v = record {
   adds = Adds-trans (OneOf ((b, c) ∷ (d, e) ∷ [])) old mid new
       (Adds-writes (OneOf ((b, c) ∷ (d, e) ∷ [])) old mid b c is_mid w (inl (refl, refl)))
@@ -68,7 +72,8 @@ second-ends old mid new b d c e r is_mid is_new w v = record {
     err (Err x) s = Rose-within old.faults mid.faults new.faults new.faults w.disk.faults s (le_refl new.faults)
 
 -- the first is done, and then the others, whatever comes of them
-pub then-others : (old mid new : DiskState) (b : ℕ) (c : Cell) (ws : List (ℕ × Cell)) (r : Result (Unit {0}) Failed) → IsDisk mid → Writes old mid b c (Ok tt) → WritesAll mid new ws r → WritesAll old new ((b, c) ∷ ws) r
+pub then-others : (old mid new : DiskState) (b : ℕ) (c : Cell) (ws : List (ℕ × Cell)) (r : Result (Unit {0}) Failed) → IsDisk mid → Writes old mid b c (Ok tt)
+    → WritesAll mid new ws r → WritesAll old new ((b, c) ∷ ws) r
 then-others old mid new b c ws r is_mid w v = record {
   adds = Adds-trans (OneOf ((b, c) ∷ ws)) old mid new
       (Adds-writes (OneOf ((b, c) ∷ ws)) old mid b c is_mid w (inl (refl, refl)))
@@ -88,7 +93,8 @@ then-others old mid new b c ws r is_mid w v = record {
     err (Err x) s = Rose-within old.faults mid.faults new.faults new.faults w.disk.faults s (le_refl new.faults)
 
 -- the maps and numbers stay those of the disk, where no write is of the superblock
-pub safe-writes : (old new : DiskState) (k : Books) (ws : List (ℕ × Cell)) (r : Result (Unit {0}) Failed) (stop : Bool) → WritesAll old new ws r → IsApart ws 0 → IsSafe old k → IsSafe new (record k { stopped = stop })
+pub safe-writes : (old new : DiskState) (k : Books) (ws : List (ℕ × Cell)) (r : Result (Unit {0}) Failed) (stop : Bool) → WritesAll old new ws r
+    → IsApart ws 0 → IsSafe old k → IsSafe new (record k { stopped = stop })
 safe-writes old new k ws r stop w apart s = record {
   at = record {
     geometry = subst (λ (n : ℕ). IsGeometry n k.at.blocks k.at.inodes) (sym w.adds.disk.blocks) s.at.geometry;
@@ -98,7 +104,7 @@ safe-writes old new k ws r stop w apart s = record {
   serial = s.serial;
   unknown_inodes = s.unknown_inodes;
   free_inodes = s.free_inodes;
-  agreed_inodes = s.agreed_inodes;
+  agreement = s.agreement;
   unknown_blocks = s.unknown_blocks;
   free_blocks = s.free_blocks;
   in_area = s.in_area;

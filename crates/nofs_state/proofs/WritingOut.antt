@@ -19,7 +19,8 @@ use Rattle.nofs_state.specs.declared.books.Books.{Books}
 use Rattle.nofs_state.proofs.Keeping.{Keeping, open-keeps, safe-keeps, stopped-keeps}
 
 -- there was no room for the call
-pub out-refused : {E : Type 0} (old new : DiskState) (result : Result (Unit {0}) E) → IsDisk new → MakesReady old new 1 result → WroteOne old new (Err fault.OutOfMemory)
+pub out-refused : {E : Type 0} (old new : DiskState) (result : Result (Unit {0}) E) → IsDisk new → MakesReady old new 1 result
+    → WroteOne old new (Err fault.OutOfMemory)
 out-refused old new result is ready =
     let same = ready.cells.moment in
     record {
@@ -116,7 +117,8 @@ module _ (old new : DiskState) (result : Result (Option ℕ) OutFault) (out : Wr
     images = at-each-out (λ m X. IsSound X) from s.picks s.images;
   }
 
-  lasts-out : (B : Image) (H : List Entry1) (M : Image) (S start : ℕ) → ((X : Image) → Picks old.may old.blocks X → IsAllowed B H old.moment X) → AtEach (λ m X. IsAllowed B H m X) start old → Lasts B H M S start before → Lasts B H M S start new
+  lasts-out : (B : Image) (H : List Entry1) (M : Image) (S start : ℕ) → ((X : Image) → Picks old.may old.blocks X → IsAllowed B H old.moment X)
+      → AtEach (λ m X. IsAllowed B H m X) start old → Lasts B H M S start before → Lasts B H M S start new
   lasts-out B H M S start rest images l = record {
     size = l.size;
     first = l.first;
@@ -125,7 +127,8 @@ module _ (old new : DiskState) (result : Result (Option ℕ) OutFault) (out : Wr
     images = at-each-out (λ m X. IsAllowed B H m X) start rest images;
   }
 
-  pub open-out : (k : Books) (H : List Entry1) (p : Past) → ((X : Image) → Picks old.may old.blocks X → IsAllowed p.base H old.moment X) → IsOpen old k H p → IsOpen new k H p
+  pub open-out : (k : Books) (H : List Entry1) (p : Past) → ((X : Image) → Picks old.may old.blocks X → IsAllowed p.base H old.moment X) → IsOpen old k H p
+      → IsOpen new k H p
   open-out k H p rest was =
       let o : IsOpen before k H p = open-keeps old before keep k H p was in
       record {
@@ -151,7 +154,8 @@ module _ (old new : DiskState) (result : Result (Option ℕ) OutFault) (out : Wr
         no_fault = o.no_fault;
       }
 
-  pub stopped-out : (k : Books) (H : List Entry1) (p : Past) → ((X : Image) → Picks old.may old.blocks X → IsAllowed p.base H old.moment X) → IsStopped old k H p → IsStopped new k H p
+  pub stopped-out : (k : Books) (H : List Entry1) (p : Past) → ((X : Image) → Picks old.may old.blocks X → IsAllowed p.base H old.moment X)
+      → IsStopped old k H p → IsStopped new k H p
   stopped-out k H p rest was =
       let o : IsStopped before k H p = stopped-keeps old before keep k H p was in
       record {
@@ -170,7 +174,7 @@ module _ (old new : DiskState) (result : Result (Option ℕ) OutFault) (out : Wr
         serial = s.serial;
         unknown_inodes = s.unknown_inodes;
         free_inodes = s.free_inodes;
-        agreed_inodes = s.agreed_inodes;
+        agreement = s.agreement;
         unknown_blocks = s.unknown_blocks;
         free_blocks = s.free_blocks;
         in_area = s.in_area;

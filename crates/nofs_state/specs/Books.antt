@@ -1,10 +1,11 @@
 -- What the maps of a mount say of the machine's world.
-use Rattle.std.specs.Prelude.{◌≡◌, ℕ, ◌+◌, ◌-◌, ◌*◌, ◌/◌, ◌^◌, ◌<◌, ◌≤◌, Bool, true, false, ◌&&◌, not, List, [], length, is_some, replicate, nat_le, nat_lt, slice_set}
+use Rattle.std.specs.Prelude.{◌≡◌, ℕ, ◌+◌, ◌-◌, ◌*◌, ◌/◌, ◌^◌, ◌<◌, ◌≤◌, Bool, true, false, ◌&&◌, not, List, [], length, Some, None, is_some, replicate, nat_le, nat_lt, slice_set}
 use Rattle.nofs_bits.specs.Bits.{is_set}
 use Rattle.nofs_machine.specs.HistoryState.{HistoryState}
 use Rattle.nofs_disk.specs.Disk.{DiskState}
 use Rattle.nofs_model.specs.Cells.{Pointer, SuperBlock}
 use Rattle.nofs_machine.specs.World.{World, is_free_inode, is_free_block}
+use Rattle.nofs_agree.specs.Chains.{told}
 use Rattle.nofs_agree.specs.Reading.{IsAt}
 use Rattle.nofs_state.specs.declared.books.Books.{Books}
 use Rattle.nofs_state.specs.declared.books.InodeClaim.{InodeClaim}
@@ -24,7 +25,7 @@ pub record SetsFrom (places from to : ℕ) (bits : List Bool) : Type 0 where
 pub record IsRoom (at : SuperBlock) (room : Room) : Type 0 where
   pub unknown_inodes : MapsAll at.inodes 2 room.unknown_inodes
   pub free_inodes : room.free_inodes ≡ replicate at.inodes false
-  pub agreed_inodes : room.agreed_inodes ≡ replicate at.inodes false
+  pub agreement : room.agreement ≡ replicate at.inodes None
   pub unknown_blocks : MapsAll at.blocks (1 + at.inodes / 4) room.unknown_blocks
   pub free_blocks : room.free_blocks ≡ replicate at.blocks false
   pub empty : room.history.entries ≡ []
@@ -45,7 +46,7 @@ pub record IsSafe (d : DiskState) (k : Books) : Type 0 where
   pub serial : k.serial ≤ 2 ^ 40
   pub unknown_inodes : length k.unknown_inodes ≡ k.at.inodes
   pub free_inodes : length k.free_inodes ≡ k.at.inodes
-  pub agreed_inodes : length k.agreed_inodes ≡ k.at.inodes
+  pub agreement : length k.agreement ≡ k.at.inodes
   pub unknown_blocks : length k.unknown_blocks ≡ k.at.blocks
   pub free_blocks : length k.free_blocks ≡ k.at.blocks
   pub in_area : (p : ℕ) → is_set k.free_blocks p ≡ true → 1 + k.at.inodes / 4 ≤ p
@@ -70,7 +71,7 @@ pub record Says (k : Books) (W : World) : Type 0 where
   pub known_blocks : (p : ℕ) → W.known_blocks p ≡ knows_block k p
   pub free_inodes : (i : ℕ) → 1 ≤ i → i ≤ k.at.inodes → is_set k.free_inodes (i - 1) ≡ is_free_inode W i
   pub free_blocks : (p : ℕ) → p < k.at.blocks → is_set k.free_blocks p ≡ is_free_block W p
-  pub agreed_inodes : (i : ℕ) → 1 ≤ i → i ≤ k.at.inodes → is_set k.agreed_inodes (i - 1) ≡ true → is_some (W.files i) ≡ true
+  pub agreement : (i : ℕ) (agreed : Bool) → told k.agreement i ≡ Some agreed → is_some (W.files i) ≡ agreed
 
 -- what a claim of this block gives
 abbrev pub claimed_pointer : Books → ℕ → Pointer
@@ -86,7 +87,7 @@ claimed_inode k i = record { inode = i; generation = k.at.mount * 2 ^ 40 + k.ser
 
 -- and leaves of the books
 abbrev pub made_books : Books → ℕ → Books
-made_books k i = record k { free_inodes = slice_set k.free_inodes (i - 1) false; agreed_inodes = slice_set k.agreed_inodes (i - 1) true; serial = k.serial + 1 }
+made_books k i = record k { free_inodes = slice_set k.free_inodes (i - 1) false; agreement = slice_set k.agreement (i - 1) (Some true); serial = k.serial + 1 }
 
 -- the books with another history
 abbrev pub with_history : Books → HistoryState → Books

@@ -10,3 +10,4 @@ pub mod Counted
 pub mod Owing
 pub mod WritingOut
 pub mod Pointing
+pub mod Knowing

@@ -6,7 +6,7 @@ use Rattle.nofs_model.specs.Image.{Image, inode, files_in, agreed}
 use Rattle.nofs_machine.specs.declared.replies.Refusal.{Refusal}
 use Rattle.nofs_machine.specs.declared.replies.Refusal.TheVariants as refusal
 use Rattle.nofs_agree.specs.Reading.{IsLast, KnowsInode}
-use Rattle.nofs_agree.specs.Chains.{AreAgreed}
+use Rattle.nofs_agree.specs.Chains.{AreTrue}
 use Rattle.nofs_agree.specs.declared.reads.LastRead.{LastRead}
 use Rattle.nofs_state.specs.declared.books.Books.{Books}
 use Rattle.nofs_state.specs.declared.opening.Opened.{Opened}
@@ -23,13 +23,13 @@ pub record IsOpened (d : DiskState) (at : SuperBlock) (i g : ℕ) (it : Opened) 
 
 -- why a file is not opened
 abbrev pub OpenFails : DiskState → DiskState → Books → ℕ → ℕ → Refusal → Type 0
-OpenFails old new k i g refusal.Stale = IsTrue old.tells → AreAgreed old.now k.agreed_inodes → is_current old.now i g ≡ false
+OpenFails old new k i g refusal.Stale = IsTrue old.tells → AreTrue old.now k.agreement → is_current old.now i g ≡ false
 OpenFails old new k i g refusal.ReadFault = Rose old.faults new.faults
 OpenFails old new k i g _ = ⊥
 
 pub record Opens (old new : DiskState) (k : Books) (i g : ℕ) (last : LastRead) (result : Result Opened Refusal) : Type 0 where
   pub stays : StaysButFaults old new
   pub known : IfOk result (IsOpened new k.at i g)
-  pub current : IfOk result (λ it. IsTrue old.tells → AreAgreed old.now k.agreed_inodes → is_current old.now i g ≡ true)
+  pub current : IfOk result (λ it. IsTrue old.tells → AreTrue old.now k.agreement → is_current old.now i g ≡ true)
   pub kept : OnOk result (IsLast new last)
   pub refused : IfErr result (OpenFails old new k i g)

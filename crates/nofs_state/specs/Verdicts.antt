@@ -1,18 +1,18 @@
 -- Which elements are used, by the disk and by the maps, and what a map learns of one.
-use Rattle.std.specs.Prelude.{◌≡◌, ℕ, ◌+◌, ◌-◌, ◌/◌, ◌≤◌, Bool, false, ◌&&◌, not, List, Option, Some, None, if◌then◌else◌, ◌==◌, nat_lt, IsTrue, Result, Ok, Err, IfOk, OnErr, slice_set}
+use Rattle.std.specs.Prelude.{◌≡◌, ℕ, ◌+◌, ◌-◌, ◌/◌, ◌≤◌, Bool, false, not, List, Option, Some, None, if◌then◌else◌, ◌==◌, nat_lt, IsTrue, Result, Ok, Err, IfOk, OnErr, slice_set}
 use Rattle.nofs_bits.specs.Bits.{is_set}
 use Rattle.nofs_disk.specs.declared.Failed.{Failed}
 use Rattle.nofs_disk.specs.Disk.{DiskState, StaysButFaults, Rose}
 use Rattle.nofs_model.specs.Image.{Image, is_used_inode, is_used_block}
 use Rattle.nofs_model.specs.declared.path.PathAnswer.{PathAnswer}
 use Rattle.nofs_model.specs.declared.path.PathAnswer.TheVariants as answer
-use Rattle.nofs_agree.specs.Chains.{AreAgreed}
+use Rattle.nofs_agree.specs.Chains.{AreTrue}
 use Rattle.nofs_state.specs.declared.books.Books.{Books}
 
--- the answer is this one of the image, where the disk tells and those that are known are agreed
-pub record Judges (old new : DiskState) (known : List Bool) (answer : Image → Bool) (result : Result Bool Failed) : Type 0 where
+-- the answer is this one of the image, where the disk tells and what is known is true
+pub record Judges (old new : DiskState) (known : List (Option Bool)) (answer : Image → Bool) (result : Result Bool Failed) : Type 0 where
   pub stays : StaysButFaults old new
-  pub found : IfOk result (λ a. IsTrue old.tells → AreAgreed old.now known → a ≡ answer old.now)
+  pub found : IfOk result (λ a. IsTrue old.tells → AreTrue old.now known → a ≡ answer old.now)
   pub cause : OnErr result (Rose old.faults new.faults)
 
 -- a slot holds this block
@@ -38,7 +38,7 @@ abbrev pub learned_inode : Books → ℕ → Bool → Books
 learned_inode k i used = record k {
   unknown_inodes = slice_set k.unknown_inodes (i - 1) false;
   free_inodes = slice_set k.free_inodes (i - 1) (not used);
-  agreed_inodes = slice_set k.agreed_inodes (i - 1) (used && nat_lt 2 i);
+  agreement = if nat_lt 2 i then slice_set k.agreement (i - 1) (Some used) else k.agreement;
 }
 
 -- a block that is not used lies in the data area
@@ -48,8 +48,9 @@ InData k p used = used ≡ false → 1 + k.at.inodes / 4 ≤ p
 -- an element is verified: its verdict stood, is learned from the disk, or could not be read
 pub data Verifies (old : DiskState) (k : Books) (new : DiskState) (l : Books) (stood : Option Bool) (learned : Bool → Books) (answer : Image → Bool) (Fits : Bool → Type 0) (result : Result Bool Failed) : Type 0 where
   Stood : (used : Bool) → stood ≡ Some used → StaysButFaults old new → l ≡ k → result ≡ Ok used → Verifies old k new l stood learned answer Fits result
-  Learned : (used : Bool) → stood ≡ None → Judges old new k.agreed_inodes answer (Ok used) → Fits used → l ≡ learned used → result ≡ Ok used → Verifies old k new l stood learned answer Fits result
-  Unread : (x : Failed) → Judges old new k.agreed_inodes answer (Err x) → l ≡ k → result ≡ Err x → Verifies old k new l stood learned answer Fits result
+  Learned : (used : Bool) → stood ≡ None → Judges old new k.agreement answer (Ok used) → Fits used → l ≡ learned used → result ≡ Ok used
+      → Verifies old k new l stood learned answer Fits result
+  Unread : (x : Failed) → Judges old new k.agreement answer (Err x) → l ≡ k → result ≡ Err x → Verifies old k new l stood learned answer Fits result
 
 -- that a block is
 abbrev pub VerifiesBlock : DiskState → Books → DiskState → Books → ℕ → Result Bool Failed → Type 0

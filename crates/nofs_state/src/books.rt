@@ -6,6 +6,7 @@ ghost use Rattle.nofs_super.specs.Geometry.{IsGeometry};
 ghost use Rattle.nofs_machine.specs.World.{World, next_block, next_inode};
 ghost use Rattle.nofs_state.specs.Books.{InodesFit, IsRoom, MapsAll, MapsFit, Says, claimed_books, claimed_inode, claimed_pointer, made_books};
 
+use nofs_agree::Known;
 use nofs_bits::Bits;
 use nofs_disk::{Pointer, stamp_of};
 use nofs_machine::History;
@@ -21,8 +22,8 @@ pub struct Books {
     pub unknown_inodes: Bits,
     /// The inodes that were examined and are free.
     pub free_inodes: Bits,
-    /// Some inodes above 2 that are known to be agreed.
-    pub agreed_inodes: Bits,
+    /// Which inodes are known to be agreed, and which not to be. A disk may have more of both.
+    pub agreement: Known,
     /// The blocks that were not examined.
     pub unknown_blocks: Bits,
     /// The blocks that were examined and are free.
@@ -57,7 +58,7 @@ pub struct Counts {
 pub struct Room {
     pub unknown_inodes: Bits,
     pub free_inodes: Bits,
-    pub agreed_inodes: Bits,
+    pub agreement: Known,
     pub unknown_blocks: Bits,
     pub free_blocks: Bits,
     pub history: History,
@@ -74,7 +75,7 @@ impl Room {
         Ok(Room {
             unknown_inodes: all_from(alloc, at.inodes, 2)?,
             free_inodes: Bits::new(alloc, at.inodes)?,
-            agreed_inodes: Bits::new(alloc, at.inodes)?,
+            agreement: Known::nothing(alloc, at.inodes)?,
             unknown_blocks: all_from(alloc, at.blocks, 1 + at.inodes / 4)?,
             free_blocks: Bits::new(alloc, at.blocks)?,
             history,
@@ -155,7 +156,7 @@ impl Books {
     pub fn claim_inode(&mut self, inode: u32) -> InodeClaim
         requires above { 1 ≤ inode }
         requires within { inode ≤ length self.old.free_inodes }
-        requires agreed { inode ≤ length self.old.agreed_inodes }
+        requires agreed { inode ≤ length self.old.agreement }
         requires serial { self.old.serial < 2 ^ 40 }
         requires mount { self.old.at.mount < 2 ^ 24 }
         ensures claim { result ≡ claimed_inode self.old inode }
@@ -165,7 +166,7 @@ impl Books {
         let place = u64::from(inode) - 1;
         self.serial += 1;
         self.free_inodes.set(place, false);
-        self.agreed_inodes.set(place, true);
+        self.agreement.set(inode, Some(true));
         InodeClaim { inode, generation }
     }
 }

@@ -1,6 +1,6 @@
 //! Verdicts of the disk: which blocks and which inodes its scan has as used.
 //!
-//! Promise: each answer is the definition's, where the inodes that are said to be agreed are.
+//! Promise: each answer is the definition's, where what is said to be known of inodes is true.
 ghost use Rattle.std.specs.Prelude.{◌≡◌, ◌<◌, ◌+◌, ◌/◌, ◌≤◌, length, is_some, Some, false, IfOk};
 ghost use Rattle.nofs_model.specs.Owners as owners;
 ghost use Rattle.nofs_model.specs.Slots as slots;
@@ -8,8 +8,7 @@ ghost use Rattle.nofs_model.specs.Files as files;
 ghost use Rattle.nofs_agree.specs.Reading.{IsAt};
 ghost use Rattle.nofs_state.specs.Verdicts.{Judges, names_block};
 
-use nofs_agree::{LastRead, PathAnswer, check_chain, check_path, read_block};
-use nofs_bits::Bits;
+use nofs_agree::{Known, LastRead, PathAnswer, check_chain, check_path, read_block};
 use nofs_disk::{Disk, Failed, Tag, read_tag};
 use nofs_model::is_slot;
 use nofs_super::SuperBlock;
@@ -22,7 +21,7 @@ use nofs_super::SuperBlock;
 pub fn check_inode<D: Disk>(
     disk: &mut D,
     at: &SuperBlock,
-    known: &Bits,
+    known: &Known,
     inode: u32,
 ) -> Result<bool, Failed>
     requires numbers { IsAt (D.state disk.old) at.now }
@@ -49,7 +48,7 @@ fn is_special(inode: u32) -> bool
 pub fn check_block<D: Disk>(
     disk: &mut D,
     at: &SuperBlock,
-    known: &Bits,
+    known: &Known,
     block: u64,
 ) -> Result<bool, Failed>
     requires numbers { IsAt (D.state disk.old) at.now }
@@ -68,7 +67,7 @@ pub fn check_block<D: Disk>(
 fn has_owner<D: Disk>(
     disk: &mut D,
     at: &SuperBlock,
-    known: &Bits,
+    known: &Known,
     block: u64,
 ) -> Result<bool, Failed>
     requires numbers { IsAt (D.state disk.old) at.now }
@@ -91,7 +90,7 @@ fn has_owner<D: Disk>(
 fn is_owned<D: Disk>(
     disk: &mut D,
     at: &SuperBlock,
-    known: &Bits,
+    known: &Known,
     block: u64,
     tag: &Tag,
 ) -> Result<bool, Failed>

@@ -43,7 +43,7 @@ impl<D: Disk + Drop> Core<D> {
                 at,
                 unknown_inodes: room.unknown_inodes,
                 free_inodes: room.free_inodes,
-                agreed_inodes: room.agreed_inodes,
+                agreement: room.agreement,
                 unknown_blocks: room.unknown_blocks,
                 free_blocks: room.free_blocks,
                 serial: first,

@@ -52,13 +52,15 @@ impl Books {
         requires from_one { 1 ≤ inode }
         requires unknown { inode - 1 < length self.old.unknown_inodes }
         requires free { inode - 1 < length self.old.free_inodes }
-        requires agreed { inode - 1 < length self.old.agreed_inodes }
+        requires agreed { inode - 1 < length self.old.agreement }
         ensures { self.new ≡ learned_inode self.old inode used }
     {
         let place = u64::from(inode) - 1;
         self.unknown_inodes.set(place, false);
         self.free_inodes.set(place, !used);
-        self.agreed_inodes.set(place, used && inode > 2);
+        if inode > 2 {
+            self.agreement.set(inode, Some(used));
+        }
     }
 
     /// Sets the verdict of a block where it was not examined, and answers the one that stands.
@@ -81,7 +83,7 @@ impl Books {
         requires from_one { 1 ≤ inode }
         requires unknown { inode - 1 < length self.old.unknown_inodes }
         requires free { inode - 1 < length self.old.free_inodes }
-        requires agreed { inode - 1 < length self.old.agreed_inodes }
+        requires agreed { inode - 1 < length self.old.agreement }
         ensures { Settles self.old self.new (verdict_of_inode self.old inode) (learned_inode self.old inode) used result }
     {
         match self.verdict_of_inode(inode) {
@@ -112,7 +114,7 @@ impl<D: Disk + Drop> Core<D> {
                 let used = match check_block(
                     &mut self.disk,
                     &self.books.at,
-                    &self.books.agreed_inodes,
+                    &self.books.agreement,
                     block,
                 ) {
                     Ok(used) => used,
@@ -142,7 +144,7 @@ impl<D: Disk + Drop> Core<D> {
                 let used = match check_inode(
                     &mut self.disk,
                     &self.books.at,
-                    &self.books.agreed_inodes,
+                    &self.books.agreement,
                     inode,
                 ) {
                     Ok(used) => used,

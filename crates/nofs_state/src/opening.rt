@@ -29,7 +29,7 @@ pub fn open_inode<D: Disk>(
     last: &mut LastRead,
 ) -> Result<Opened, Refusal>
     requires numbers { IsAt (D.state disk.old) books.now.at }
-    requires agreed { length books.now.agreed_inodes ≡ books.now.at.inodes }
+    requires agreed { length books.now.agreement ≡ books.now.at.inodes }
     requires last { IsLast (D.state disk.old) last.old }
     ensures { Opens (D.state disk.old) (D.state disk.new) books.now inode generation last.new result }
 {
@@ -40,7 +40,7 @@ pub fn open_inode<D: Disk>(
     if found.generation != generation {
         return Err(Refusal::Stale);
     }
-    match check_chain(disk, &books.at, &books.agreed_inodes, inode) {
+    match check_chain(disk, &books.at, &books.agreement, inode) {
         Ok(true) => with_kind(found),
         Ok(false) => Err(Refusal::Stale),
         Err(_) => Err(Refusal::ReadFault),

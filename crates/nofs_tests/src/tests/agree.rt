@@ -6,8 +6,7 @@ ghost use Rattle.nofs_model.specs.Slots.{is_slot};
 ghost use Rattle.nofs_agree.specs.Reading.{IsAt};
 
 use crate::tests::disks::{disk_of, fail_read};
-use nofs_agree::{PathAnswer, check_chain, check_path};
-use nofs_bits::Bits;
+use nofs_agree::{Known, PathAnswer, check_chain, check_path, learn_chain};
 use nofs_disk::{Cell, Failed, Pointer};
 use nofs_examples::*;
 use nofs_memdisk::MemDisk;
@@ -84,30 +83,47 @@ fn chain(
     match numbers(disk) {
         None => Ok(None),
         Some(at) => {
-            let known = bits_of(alloc, at.inodes, known)?;
+            let known = known_of(alloc, at.inodes, known)?;
             Ok(Some(check_chain(disk, &at, &known, inode)))
         }
     }
 }
 
-/// The bits of these inodes.
-fn bits_of(alloc: Global, inodes: u64, known: &[u32]) -> Result<Bits, AllocError>
-    ensures { IfOk result (λ bits. length bits ≡ inodes) }
+/// These inodes are known to be agreed.
+fn known_of(alloc: Global, inodes: u64, known: &[u32]) -> Result<Known, AllocError>
+    ensures { IfOk result (λ all. length all ≡ inodes) }
 {
-    let mut bits = Bits::new(alloc, inodes)?;
+    let mut all = Known::nothing(alloc, inodes)?;
     for inode in known {
-        set_bit(&mut bits, inodes, *inode);
+        set_known(&mut all, inodes, *inode);
     }
-    Ok(bits)
+    Ok(all)
 }
 
-fn set_bit(bits: &mut Bits, inodes: u64, inode: u32)
-    requires { length bits.old ≡ inodes }
-    ensures { length bits.new ≡ inodes }
+fn set_known(known: &mut Known, inodes: u64, inode: u32)
+    requires { length known.old ≡ inodes }
+    ensures { length known.new ≡ inodes }
 {
     if 1 <= inode && u64::from(inode) <= inodes {
-        bits.set(u64::from(inode) - 1, true);
+        known.set(inode, Some(true));
     }
+}
+
+/// Whether the check that keeps what it finds answers for each inode whether it is among these, and what it finds is told from then on.
+fn learns(alloc: Global, disk: &mut MemDisk, names: &[u32]) -> Result<bool, AllocError> {
+    let Some(at) = numbers(disk) else {
+        return Ok(false);
+    };
+    let mut known = Known::nothing(alloc, at.inodes)?;
+    for inode in 0..18 {
+        let answer = learn_chain(disk, &at, &mut known, inode);
+        let is_there = 1 <= inode && u64::from(inode) <= at.inodes;
+        let told = is_there.then_some(names.contains(&inode));
+        if answer != Ok(names.contains(&inode)) || known.told(inode) != told {
+            return Ok(false);
+        }
+    }
+    Ok(true)
 }
 
 // What is expected
@@ -228,6 +244,7 @@ fn answers(
 ) -> Result<(), Fail> {
     assert!(rt; is_mountable(cells));
     let mut disk = disk_of(alloc, cells)?;
+    assert!(rt; learns(alloc, &mut disk, names)?);
     for inode in 0..18 {
         let want = names.contains(&inode);
         assert_eq!(rt; is_agreed(cells, inode), want, "inode {inode}");

@@ -1,0 +1,64 @@
+//! What is known of inodes: whether each is agreed.
+//!
+//! Promise: what was set of an inode is what is told of it. Whether that is true is its user's to see to.
+ghost use Rattle.std.specs.Prelude.{◌≡◌, ◌-◌, ◌≤◌, IfOk, None, length, replicate, slice_set};
+ghost use Rattle.nofs_agree.specs.Chains.{LearnsOne, told};
+
+use std::alloc::{AllocError, Global};
+use std::marker::Model;
+
+/// What is known of some inodes: `Some(true)` is agreed, `Some(false)` is not, and of the others nothing is known. No call but
+/// `nothing` takes memory.
+#[derive(Drop)]
+pub struct Known {
+    // Place `i - 1` is inode `i`.
+    inodes: Vec<Option<bool>>,
+}
+
+impl Model for Known {
+    ghost use Rattle.std.specs.Prelude.{Bool, List, Option};
+
+    ghost Value = { List (Option Bool) };
+
+    ghost view = { λ known. known.inodes.items };
+}
+
+impl Known {
+    /// Nothing is known of so many inodes.
+    pub fn nothing(alloc: Global, inodes: u64) -> Result<Self, AllocError>
+        ensures { IfOk result (λ known. known ≡ replicate inodes None) }
+    {
+        Ok(Known {
+            inodes: vec![in alloc; None; inodes as usize]?,
+        })
+    }
+
+    /// Whether an inode is agreed; `None` where that isn't known, and where there is no such inode.
+    pub fn told(&self, inode: u32) -> Option<bool>
+        ensures { result ≡ told self.now inode }
+    {
+        let place = inode as usize;
+        if place == 0 || place > self.inodes.len() {
+            return None;
+        }
+        self.inodes[place - 1]
+    }
+
+    /// Makes known whether an inode is agreed, where there is such an inode.
+    pub(crate) fn learn(&mut self, inode: u32, agreed: bool)
+        ensures { LearnsOne self.old self.new inode agreed }
+    {
+        if 1 <= inode && inode as usize <= self.inodes.len() {
+            self.set(inode, Some(agreed));
+        }
+    }
+
+    /// Sets what is known of an inode, and changes nothing of the others.
+    pub fn set(&mut self, inode: u32, agreed: Option<bool>)
+        requires from_one { 1 ≤ inode }
+        requires within { inode ≤ length self.old }
+        ensures { self.new ≡ slice_set self.old (inode - 1) agreed }
+    {
+        self.inodes[inode as usize - 1] = agreed;
+    }
+}
