@@ -1,5 +1,5 @@
 -- What a pass knows, and what a call tells it.
-use Rattle.std.specs.Prelude.{◌≡◌, ℕ, ◌+◌, ◌*◌, ◌<◌, ◌≤◌, List, ◌++◌, length, drop, Some}
+use Rattle.std.specs.Prelude.{◌≡◌, ℕ, ◌+◌, ◌*◌, ◌^◌, ◌<◌, ◌≤◌, List, ◌++◌, length, drop, Some}
 use mathlib.Core.List.{IsPrefix}
 use Rattle.nofs_turn.specs.declared.view.View.{View}
 use Rattle.nofs_turn.specs.Lists.{numbered}
@@ -17,6 +17,15 @@ pub record Ran {E F Out : Type 0} (tells : F → List E → List E → Out → T
   pub told : tells part before after out
   pub looked_more : v.looks < looks_now
   pub now : w ≡ record v { seen = after; mine = v.mine ++ numbered (length before) (drop (length before) after); looks = looks_now; last = 2 * length before }
+
+-- A section ran on the value x, and y is what it left. Beside its answer stands the number of entries
+pub record RanOnce {T E F Out : Type 0} (entries : T → List E) (fixed : T → F) (tells : F → List E → List E → Out → Type 0) (x y : T) (answer : Out × ℕ) : Type 0 where
+  pub same_part : fixed y ≡ fixed x
+  pub keeps : IsPrefix (entries x) (entries y)
+  pub at_most_one : length (entries y) ≤ length (entries x) + 1
+  pub told : tells (fixed x) (entries x) (entries y) answer.0
+  pub kept : answer.1 ≡ length (entries y)
+  pub small : answer.1 < 2 ^ 63
 
 -- what the pass v knows lets the section run
 abbrev pub MayRun : {E F : Type 0} → (F → List E → Type 0) → View E F → Type 0

@@ -36,7 +36,7 @@ const NAP: u64 = 1;
 
 impl<V: Kept> Turn<V> {
     ghost use Rattle.nofs_turn.specs.Views.{looked, gave, joined};
-    ghost use Rattle.nofs_turn.specs.Passes.{Ran, MayRun, Closes, Waited};
+    ghost use Rattle.nofs_turn.specs.Passes.{Ran, RanOnce, MayRun, Closes, Waited};
     ghost use Rattle.nofs_turn.specs.Rules.{TakesFree, TakesBusy};
     ghost use Rattle.nofs_turn.specs.Turns.{view_of, IsPassOf};
     ghost use Rattle.nofs_turn.specs.Lists.{rises};
@@ -86,16 +86,30 @@ impl<V: Kept> Turn<V> {
         ensures ran { (x y : V) × (V.entries x ≡ seat.old.me.0.seen) × (seat.old.me.0.fixed ≡ Some (V.fixed x)) × IsPrefix (V.entries x) (V.entries y) × (length (V.entries y) ≤ length (V.entries x) + 1) × S.tells section (V.fixed x) (V.entries x) (V.entries y) result × (seat.new.me ≡ (gave seat.old.me.0 (V.entries y), [])) }
         ensures rising { rises 0 seat.new.me.0.mine ≡ true }
     {
-        let Some(mut value) = self.table.shared.exchange(seat, 0, None) else {
-            unreachable!()
-        };
-        let out = section.run(&mut value);
-        let kept = value.kept();
-        let nothing = self.table.shared.exchange(seat, 0, Some(value));
-        let None = nothing else { unreachable!() };
+        let (out, kept) = self.run_in_place(seat, section);
         self.table.shared.store::<Give>(seat, 0, 2 * kept);
         self.wake();
         out
+    }
+
+    // Runs the section on the value where it lies, and counts its entries. A value is not moved, however large it is.
+    fn run_in_place<S: Section<V>>(
+        &self,
+        seat: &mut Seat<Option<V>, View<V::Entry, V::Fixed>>,
+        section: S,
+    ) -> (S::Out, u64)
+        requires of { seat.old.table_id ≡ self.now.table.shared.table_id }
+        requires carries { (x : V) × (seat.old.me.1 ≡ (0, Some x) ∷ []) × S.asks section (V.fixed x) (V.entries x) }
+        ensures same { (seat.new.table_id ≡ seat.old.table_id) × (seat.new.id ≡ seat.old.id) × (seat.new.me.0 ≡ seat.old.me.0) }
+        ensures ran { (x y : V) × (seat.old.me.1 ≡ (0, Some x) ∷ []) × (seat.new.me.1 ≡ (0, Some y) ∷ []) × RanOnce V.entries V.fixed (S.tells section) x y result }
+    {
+        match seat.slot_mut(&self.table.shared, 0) {
+            Some(value) => {
+                let out = section.run(value);
+                (out, value.kept())
+            }
+            None => unreachable!(),
+        }
     }
 
     // Wakes one thread that is counted, and takes it off the count: the gives that come before it is up send no
