@@ -6,6 +6,7 @@ Each image is asked what the cases in `damages` say (`damage_cases.py` has their
 definitions; both have to be what the program says. Images by the hundred are drawn from fixed seeds."""
 import os
 import random
+import struct
 import subprocess
 import sys
 import tempfile
@@ -245,7 +246,8 @@ class ScanTimes(unittest.TestCase):
     A check of an inode or of a block's owner reads a record and an entry, and for each of four back links goes up from directory to
     directory until it meets the root, an inode of which it is known whether it is agreed, or a link that is no pair. Then that is
     known of each directory on the way, too. So each directory is walked once, and an element costs a few reads: not more where names
-    are many, where entries or tags name one inode, or where a chain is deep, hangs on nothing or is a loop."""
+    are many, where entries or tags name one inode, or where a chain is deep, hangs on nothing or is a loop. And a read that no other
+    leads to is one of a cell, not of a window of 64 cells: so it costs not more where each block names a drawn inode and slot."""
 
     def setUp(self):
         self.room = Room(self)
@@ -266,6 +268,12 @@ class ScanTimes(unittest.TestCase):
                            ("loops of two directories", loops(1152)), ("tags that all name one slot", tags_of_one(1152))):
             cost = self.cost(data)
             self.assertLess(cost, 10 * max(honest, 0.01), name)
+
+    def test_an_image_of_drawn_slots_costs_at_most_ten_times_an_honest_one(self):
+        laying = Laying()
+        laying.new("8192", "2048")
+        honest = self.cost(bytes(laying.data))
+        self.assertLess(self.cost(drawn_slots(8192, 2048, random.Random(1))), 10 * max(honest, 0.01))
 
     def test_a_chain_of_any_depth_costs_at_most_ten_times_an_honest_tree(self):
         depth = 1152
@@ -372,6 +380,32 @@ def tags_of_one(count):
         building.laying.tag(block, "inode", "3", "generation", "103", "stamp", str(building.area + 80))
     building.entry(building.area, 0, 3, 103)
     return building.data()
+
+
+def drawn_slots(blocks, inodes, draw):
+    """An image whose records are files and directories with drawn links and pointers, and whose blocks each name a drawn slot."""
+    area, is_file = 1 + inodes // 4, lambda inode: inode % 2 == 0
+
+    def pointers(count):
+        return b"".join(struct.pack("<QQ", draw.randrange(area, blocks), 7) for _ in range(count))
+
+    def record(inode):
+        count = 4 if is_file(inode) else 1
+        links = b"".join(struct.pack("<IIQ", draw.randrange(1, inodes, 2), draw.randrange(1152), 9) for _ in range(count))
+        head = struct.pack("<QIIQQ", 99 if is_file(inode) else 9, 1 if is_file(inode) else 2, count, 4 << 20 if is_file(inode) else 0, 0)
+        return head + links.ljust(64, b"\0") + pointers(9) + (pointers(1) if is_file(inode) else bytes(16))
+
+    def data_cell():
+        inode = draw.randrange(1, inodes + 1)
+        slot = draw.randrange(72, 4168) if is_file(inode) else draw.randrange(72)
+        tag = struct.pack("<IIQQQ", 1 if is_file(inode) else 2, inode, 99 if is_file(inode) else 9, slot, 7)
+        return pointers(64) + tag
+
+    def table_cell(block):
+        return b"".join(record(4 * block - 3 + at) for at in range(4)) + struct.pack("<IIQQQ", 4, 0, 0, block, 0)
+
+    first = (b"NoFSv001" + struct.pack("<IIQQQ", 2, 0, blocks, inodes, 0)).ljust(1024, b"\0") + struct.pack("<IIQQQ", 5, 0, 0, 0, 0)
+    return first + b"".join(map(table_cell, range(1, area))) + b"".join(data_cell() for _ in range(area, blocks))
 
 
 def cell_of(data, block):

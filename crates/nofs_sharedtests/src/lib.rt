@@ -15,3 +15,5 @@ mod passes;
 mod rows;
 #[cfg(test)]
 mod tests;
+#[cfg(test)]
+mod wanting;

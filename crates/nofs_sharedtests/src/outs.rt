@@ -2,20 +2,28 @@
 //! back none.
 use crate::passes::two_passes;
 use crate::rows::{formatted, is_stored, is_used, mounted, put, put_step, seen};
+use crate::wanting::Wanting;
 use nofs_cache::Cached;
-use nofs_disk::Disk;
-use nofs_machine::{Step, Steps};
+use nofs_disk::{Disk, OutFault};
+use nofs_machine::{ElementKind, Step, Steps};
 use nofs_memdisk::MemDisk;
-use nofs_shared::Mount;
+use nofs_scan::judge;
+use nofs_shared::{Mount, Serves, SharedPass};
 use std::alloc::Global;
+use std::sync::Wait;
 use std::test::Fail;
 
-// A mount of a cache over a new disk of 16 blocks, whose block 1 holds the inodes.
-fn cached(alloc: Global) -> Result<Mount<Cached<MemDisk>>, Fail> {
+// A cache over a new disk of 16 blocks, whose block 1 holds the inodes.
+fn cache(alloc: Global) -> Result<Cached<MemDisk>, Fail> {
     match Cached::new(alloc, formatted(alloc, 16, 4)?) {
-        Ok(disk) => mounted(alloc, disk, 0),
+        Ok(disk) => Ok(disk),
         Err(_) => Err("no cache".into()),
     }
+}
+
+// A mount of it.
+fn cached(alloc: Global) -> Result<Mount<Cached<MemDisk>>, Fail> {
+    mounted(alloc, cache(alloc)?, 0)
 }
 
 // Puts a block of bytes, for which block 15 is examined: whether both went well.
@@ -64,5 +72,49 @@ fn a_pass_of_a_mount_over_a_cache_writes_out_too(rt: HostRuntime) -> Result<(), 
         assert_eq!(rt; flusher.write_out(), Ok(block));
     }
     assert_eq!(rt; flusher.progress(), 2);
+    Ok(())
+}
+
+// Writes out until nothing is left: how many blocks.
+fn write_all_out<R: Wait, V: Serves>(pass: &mut SharedPass<'_, R, V>) -> u64 {
+    let mut blocks = 0;
+    for _ in 0..10 {
+        match pass.write_out() {
+            Ok(Some(_)) => blocks += 1,
+            _ => return blocks,
+        }
+    }
+    blocks
+}
+
+// The mount finds memory to begin, for two puts and for six write-outs. So a later write-out that says `None` did not ask it.
+#[test]
+fn a_write_out_asks_the_mount_only_after_a_step(rt: HostRuntime) -> Result<(), Fail> {
+    let alloc = rt.alloc();
+    let disk = Wanting {
+        under: cache(alloc)?,
+        rooms: 9,
+    };
+    let Some((shared, first, second)) = two_passes(alloc, mounted(alloc, disk, 0)?) else {
+        panic!(rt; "no passes")
+    };
+    let mut user = shared.pass(&rt, alloc, 1, first);
+    let mut flusher = shared.pass(&rt, alloc, 11, second);
+    assert_eq!(rt; seen(&user.step(Step::SeeBlock { block: 15 })), Some(false));
+    for _ in 0..2 {
+        assert!(rt; is_stored(&user.step(put_step(alloc, 0)?)));
+        assert_eq!(rt; write_all_out(&mut flusher), 2);
+    }
+    assert_eq!(rt; flusher.write_out(), Ok(None));
+    let Ok(evidence) = user.look_batch(ElementKind::Block, &[14]) else {
+        panic!(rt; "no evidence")
+    };
+    assert_eq!(rt;
+        seen(&user.commit(&evidence, 0, judge(&evidence, 0))),
+        Some(false)
+    );
+    assert_eq!(rt; flusher.write_out(), Ok(None));
+    assert_eq!(rt; seen(&user.step(Step::SeeBlock { block: 13 })), Some(false));
+    assert_eq!(rt; flusher.write_out(), Err(OutFault::OutOfMemory));
     Ok(())
 }
