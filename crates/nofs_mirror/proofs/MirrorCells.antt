@@ -12,11 +12,13 @@ use Rattle.nofs_disk.specs.Disk.{DiskState, Flushes, IsDisk, IsSameDisk, KeepsPa
 use Rattle.nofs_disk.specs.Moments.{AtEach, AtEach-flushes, AtEach-writes}
 use Rattle.nofs_mirror.specs.declared.asking.SideAnswer.{SideAnswer}
 use Rattle.nofs_mirror.specs.declared.asking.SideAnswer.TheVariants.{Out, Done, Fault}
+use Rattle.nofs_mirror.specs.declared.log.Sides.{Sides}
+use Rattle.nofs_mirror.specs.declared.mirror.MirrorStart.{MirrorStart}
 use Rattle.nofs_mirror.specs.declared.past.MirrorCall.{MirrorCall}
 use Rattle.nofs_mirror.specs.declared.past.Span.{Span}
 use Rattle.nofs_mirror.specs.Asking.{SideFlushes, SideWrites, is_asked, lead_stays, other_stays}
-use Rattle.nofs_mirror.specs.Laws.{first_picks}
-use Rattle.nofs_mirror.specs.Mirror.{IsMirrored, IsSide, LeftBy, if_told}
+use Rattle.nofs_mirror.specs.Laws.{MirrorKeeps, first_picks}
+use Rattle.nofs_mirror.specs.Mirror.{IsMirrored, IsSide, LeftBy, if_told, last_span, may_after, now_of}
 use Rattle.nofs_mirror.proofs.SidePast.{marked_later, marked_more}
 
 -- facts that are known to have a proof
@@ -28,6 +30,24 @@ pub cells_known : (xs ys : List Cell) → ∥ xs ≡ ys ∥₁ → xs ≡ ys
 cells_known xs ys known =
     ext_get_or no_cell xs ys (∥∥₁_elim known (ℕ_set _ _) (λ e. ap length e))
     (λ b low. cell_known (cell_at xs b) (cell_at ys b) (∥∥₁_elim known ∥∥₁_prop (λ e. ∣ ap (λ l. cell_at l b) e ∣₁)))
+
+-- what the ghost fields of a mirror say
+abbrev pub Holds : DiskState → DiskState → DiskState → MirrorStart → List MirrorCall → ℕ → Sides → Type 0
+Holds lead other first opening past spare sides = record {
+  lead_side : IsSide opening.blocks spare (λ c. c.lead) opening.lead past lead;
+  other_side : IsSide opening.blocks spare (λ c. c.other) opening.other past other;
+  lead_in : sides.lead_in ≡ (last_span (λ c. c.lead) opening.lead past).is_in;
+  other_in : sides.other_in ≡ (last_span (λ c. c.other) opening.other past).is_in;
+  some_in : IsTrue (sides.lead_in || sides.other_in);
+  kept : ∥ MirrorKeeps lead other first opening past ∥₁;
+}
+
+-- the cells that a mirror may hold, as its sides tell of them, and its present cells
+abbrev pub may_of : DiskState → DiskState → DiskState → MirrorStart → List MirrorCall → ℕ → List Cell
+may_of lead other first opening past = may_after lead.was other.was opening.blocks first.may past
+
+abbrev pub cells_of : DiskState → DiskState → MirrorStart → List MirrorCall → List Cell
+cells_of lead other opening past = now_of (last_span (λ c. c.lead) opening.lead past).is_in opening.blocks lead.now other.now
 
 -- each cell that a side may hold the mirror may
 abbrev pub Covers : ℕ → (ℕ → List Cell) → (ℕ → List Cell) → Type 0

@@ -71,21 +71,13 @@ flushed_now Out Fault lead lead_new other other_new x y done p q f h = cc
 
 lead_done : (a o : SideAnswer) → any_done a o ≡ true → IsTrue (lead_stays a o) → is_done a ≡ true
 lead_done Done o done stays = refl
-lead_done Fault Done done stays = cc
-lead_done Fault Out done stays = cc
-lead_done Fault Fault done stays = cc
+lead_done Fault o done stays = cc
 lead_done Out o done stays = cc
 
 other_done : (a o : SideAnswer) → any_done a o ≡ true → IsTrue (other_stays a o) → is_done o ≡ true
-other_done Out Out done stays = cc
-other_done Out Done done stays = refl
-other_done Out Fault done stays = cc
-other_done Done Out done stays = cc
-other_done Done Done done stays = refl
-other_done Done Fault done stays = cc
-other_done Fault Out done stays = cc
-other_done Fault Done done stays = refl
-other_done Fault Fault done stays = cc
+other_done Out o done stays = done
+other_done Done o done stays = stays
+other_done Fault o done stays = stays
 
 -- the one cell that is there
 below_true : (n b : ℕ) (x : List Cell) → b < n → only_below n x b ≡ cell_at x b ∷ []

@@ -7,8 +7,11 @@ use Rattle.nofs_mirror.specs.declared.past.Span.{Span}
 use Rattle.nofs_mirror.specs.Laws.{SideLeft-later}
 use Rattle.nofs_mirror.specs.Mirror.{IsMarkedBySide, LeftBy, SideLeft, last_span, no_call}
 
-marked_tail : (side : MirrorCall → Span) (opened : Span) (call : MirrorCall) (past : List MirrorCall) (u : ℕ) → IsMarkedBySide side opened (call ∷ past) u → IsMarkedBySide side opened past u
-marked_tail side opened call past u m = record { start = m.start; begins = λ k low. m.begins (suc k) (omega arith); ends = λ k low. m.ends (suc k) (omega arith) }
+-- the calls without the last one
+pub marked_tail : (side : MirrorCall → Span) (opened : Span) (call : MirrorCall) (past : List MirrorCall) (u : ℕ)
+    → IsMarkedBySide side opened (call ∷ past) u → IsMarkedBySide side opened past u
+marked_tail side opened call past u m =
+    record { start = m.start; begins = λ k low. m.begins (suc k) (omega arith); ends = λ k low. m.ends (suc k) (omega arith) }
 
 pub marked_later : (side : MirrorCall → Span) (opened : Span) (past : List MirrorCall) (u v : ℕ) → u ≤ v → IsMarkedBySide side opened past u → IsMarkedBySide side opened past v
 marked_later side opened past u v le m = record {

@@ -1,13 +1,8 @@
-use Rattle.nofs_mirror.specs.Past.{past_calls}
 use Rattle.nofs_mirror.proofs.MirrorReads.{lead_served, other_served}
 use Rattle.nofs_mirror.proofs.mirror.Mirror.apart.Goals as goal
 
 pub returns-clause-lead_serves : goal.returns-clause-lead_serves
-returns-clause-lead_serves g c =
-    let old = c.args.self in
-    lead_served (g.A.Disk.state old.lead) (g.B.Disk.state old.other) (g.A.Disk.state old.first.value) old.opening (past_calls old.log.past.value) old.log.spare old.log.faults old.log.sides.lead_in old.lead_side old.lead_in old.kept
+returns-clause-lead_serves g c = lead_served c.args.self
 
 pub returns-clause-other_serves : goal.returns-clause-other_serves
-returns-clause-other_serves g c =
-    let old = c.args.self in
-    other_served (g.A.Disk.state old.lead) (g.B.Disk.state old.other) (g.A.Disk.state old.first.value) old.opening (past_calls old.log.past.value) old.log.spare old.log.faults old.log.sides.other_in old.other_side old.other_in old.kept
+returns-clause-other_serves g c = other_served c.args.self
