@@ -5,3 +5,4 @@ pub mod CacheCalls
 pub mod CacheWrites
 pub mod CacheFlushes
 pub mod CacheLeaves
+pub mod CachedCalls

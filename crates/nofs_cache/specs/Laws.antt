@@ -1,5 +1,5 @@
 -- A cached disk is a disk.
-use Rattle.std.proofs.Common.{◌≡◌, ◌≢◌, ℕ, ◌+◌, ◌*◌, ◌^◌, ◌<◌, true, false, List, [], ◌∷◌, ◌++◌, length, set, arith, inl, inr, refl, sym, subst, ◌∙◌}
+use Rattle.std.proofs.Common.{◌≡◌, ◌≢◌, ℕ, ◌+◌, ◌*◌, ◌^◌, ◌<◌, true, false, List, [], ◌∷◌, ◌++◌, length, arith, inl, inr, refl, sym, subst, ◌∙◌}
 use Rattle.std.specs.Prelude.{Bool, Contains, IsTrue}
 use Rattle.std.proofs.Math.Logic.{∥∥₁_elim, ∥∥₁_prop}
 use Rattle.std.proofs.lemmas.Bool.{cases_eq, eq-eqb, ne_eqb}
@@ -25,24 +25,6 @@ written_here h block cell = rw (eq-eqb block block refl)
 pub written_other : (h : Held) (block b : ℕ) (cell : Cell) → b ≢ block → (written h block cell).may b ≡ h.may b
 written_other h block b cell other = rw (ne_eqb b block other)
 
-written-held : (n : ℕ) (h : Held) (block : ℕ) (cell : Cell) → IsHeld n h → IsHeld n (written h block cell)
-written-held n h block cell is = record {
-  len = length-set h.now block cell ∙ is.len;
-  has_now = λ b low. elim (cases_eq b block) [
-    | inl same ↦
-        let F : ℕ → Type 0 = λ k. Contains ((written h block cell).may k) (cell_at (set h.now block cell) k) in
-        let here : Contains (h.may block ++ cell ∷ []) (cell_at (set h.now block cell) block) =
-        let G : Cell → Type 0 = λ c. Contains (h.may block ++ cell ∷ []) c in
-        subst G (sym (get_or-set_same h.now block cell no_cell (let e = is.len in omega arith))) (Contains-push (h.may block) cell) in
-        let H : List Cell → Type 0 = λ l. Contains l (cell_at (set h.now block cell) block) in
-        subst F (sym same) (subst H (sym (written_here h block cell)) here)
-    | inr other ↦
-        let G : Cell → Type 0 = λ c. Contains (h.may b) c in
-        let H : List Cell → Type 0 = λ l. Contains l (cell_at (set h.now block cell) b) in
-        subst H (sym (written_other h block b cell other)) (subst G (sym (get_or-set_other h.now block b cell no_cell other)) (is.has_now b low))
-  ];
-}
-
 single : (c : Cell) → Contains (c ∷ []) c
 single c = (0, omega arith, refl)
 
@@ -54,8 +36,21 @@ only_has cells c has =
 
 pub held-held : (n : ℕ) (first : Held) (past : List CacheCall) → IsHeld n first → IsHeld n (held first past)
 held-held n first [] is = is
-held-held n first (Write block cell at ∷ past) is = written-held n (held first past) block cell.value (held-held n first past is)
-held-held n first (Flush true from to ∷ past) is = let h = held-held n first past is in record { len = h.len; has_now = λ b low. only_has ((held first past).may b) (cell_at (held first past).now b) (h.has_now b low) }
+held-held n first (Write block cell at ∷ past) is =
+    let h = held first past in
+    let before = held-held n first past is in
+    record {
+      len = length-set h.now block cell.value ∙ before.len;
+      has_now = λ b low. elim (cases_eq b block) [
+        | inl same ↦
+            let inside : block < length h.now = let len = before.len in omega arith in
+            rw (same, written_here h block cell.value, get_or-set_same h.now block cell.value no_cell inside) (Contains-push (h.may block) cell.value)
+        | inr other ↦ rw (written_other h block b cell.value other, get_or-set_other h.now block b cell.value no_cell other) (before.has_now b low)
+      ];
+    }
+held-held n first (Flush true from to ∷ past) is =
+    let h = held-held n first past is in
+    record { len = h.len; has_now = λ b low. only_has ((held first past).may b) (cell_at (held first past).now b) (h.has_now b low) }
 held-held n first (Flush false from to ∷ past) is = held-held n first past is
 
 -- what the disk below held as it was given
