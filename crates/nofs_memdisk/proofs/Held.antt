@@ -56,7 +56,7 @@ may_cases base calls block cell taken c has =
 pub flush_of : (base : List Cell) (calls : List Call) (settles : Bool) → held_after base (calls ++ Flush settles ∷ []) ≡ after_flush settles (held_after base calls)
 flush_of base calls settles = held_after-push base calls (Flush settles)
 
-flush_now : (settles : Bool) (held : Held) → (after_flush settles held).now ≡ held.now
+pub flush_now : (settles : Bool) (held : Held) → (after_flush settles held).now ≡ held.now
 flush_now true held = refl
 flush_now false held = refl
 

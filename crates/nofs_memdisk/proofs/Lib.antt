@@ -4,3 +4,4 @@ pub mod Leaves
 pub mod Made
 pub mod Sized
 pub mod Versions
+pub mod Keeping

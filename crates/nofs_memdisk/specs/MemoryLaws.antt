@@ -1,5 +1,5 @@
 -- A disk in memory is a disk.
-use Rattle.std.proofs.Common.{◌≡◌, ℕ, ◌+◌, ◌*◌, ◌^◌, ◌<◌, true, false, List, [], ◌∷◌, ◌++◌, length, set, arith, inl, inr, refl, sym, subst, ◌∙◌}
+use Rattle.std.proofs.Common.{◌≡◌, ℕ, ◌+◌, ◌*◌, ◌^◌, ◌<◌, true, false, List, [], ◌∷◌, ◌++◌, length, arith, inl, inr, refl, sym, subst, ◌∙◌}
 use Rattle.std.specs.Prelude.{Contains, fold}
 use Rattle.std.proofs.lemmas.Bool.{cases_eq, cases_lt, eq-eqb, le-ltb, lt-ltb, ne_eqb}
 use Rattle.std.proofs.lemmas.List.{length-set, get_or-set_same, get_or-set_other, take_all}
@@ -33,16 +33,9 @@ written-held n held block cell is = record {
   len = length-set held.now block cell ∙ is.len;
   has_now = λ b low. elim (cases_eq b block) [
     | inl same ↦
-        let F : ℕ → Type 0 = λ k. Contains ((written held block cell).may k) (cell_at (set held.now block cell) k) in
-        let here : Contains (held.may block ++ cell ∷ []) (cell_at (set held.now block cell) block) =
-        let G : Cell → Type 0 = λ c. Contains (held.may block ++ cell ∷ []) c in
-        subst G (sym (get_or-set_same held.now block cell no_cell (let e = is.len in omega arith))) (Contains-push (held.may block) cell) in
-        let H : List Cell → Type 0 = λ l. Contains l (cell_at (set held.now block cell) block) in
-        subst F (sym same) (subst H (sym (written_here held block cell)) here)
-    | inr other ↦
-        let G : Cell → Type 0 = λ c. Contains (held.may b) c in
-        let H : List Cell → Type 0 = λ l. Contains l (cell_at (set held.now block cell) b) in
-        subst H (sym (written_other held block b cell other)) (subst G (sym (get_or-set_other held.now block b cell no_cell other)) (is.has_now b low))
+        let inside : block < length held.now = let len = is.len in omega arith in
+        rw (same, written_here held block cell, get_or-set_same held.now block cell no_cell inside) (Contains-push (held.may block) cell)
+    | inr other ↦ rw (written_other held block b cell other, get_or-set_other held.now block b cell no_cell other) (is.has_now b low)
   ];
 }
 
