@@ -233,10 +233,11 @@ kept_same under first past before after same kept =
     subst F (sym same) kept
 
 -- nothing was written yet
-pub kept_begins : (under : DiskState) (entries : List DirtyEntry) → IsDisk under → entries ≡ [] → ∥ CacheKeeps under under [] entries ∥₁
-kept_begins under entries is none =
+pub kept_begins : (under : DiskState) (entries : List DirtyEntry) {first : DiskState} {past : List CacheCall} → IsDisk under → entries ≡ []
+    → first ≡ under → past ≡ [] → ∥ CacheKeeps under first past entries ∥₁
+kept_begins under entries is none given none_made =
     let len : length entries ≡ 0 = ap length none in
-    ∣ record {
+    rw (given, none_made) (∣ record {
       covers = record { below = λ b c low has. has; kept = λ i low. absurd (omega arith) };
       picks = record {
         begun = omega arith;
@@ -247,4 +248,4 @@ kept_begins under entries is none =
       };
       agrees = record { len = refl; kept = λ i low. absurd (omega arith); clean = λ b clean. refl };
       within = record { beyond = is.beyond; sized = is.sized };
-    } ∣₁
+    } ∣₁)

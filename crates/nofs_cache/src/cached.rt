@@ -64,20 +64,13 @@ fn start() -> Snapshot<Past>
     Snapshot::of(&Past::Start)
 }
 
-// The calls with one more.
-fn later(call: CacheCall, past: Snapshot<Past>) -> Snapshot<Past>
-    ensures { past_calls result.value ≡ call ∷ past_calls past.value }
-{
-    let next = Past::Made(call, past);
-    Snapshot::of(&next)
-}
-
 // Adds a call.
 fn add(call: CacheCall, past: &mut Snapshot<Past>)
     ensures { past_calls past.new.value ≡ call ∷ past_calls past.old.value }
 {
     let earlier = mem::replace(past, Snapshot::of(&Past::Start));
-    *past = later(call, earlier);
+    let next = Past::Made(call, earlier);
+    *past = Snapshot::of(&next);
 }
 
 /// There is no memory for the slots of a cache. The disk that was given comes back as it was.
