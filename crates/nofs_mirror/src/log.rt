@@ -36,27 +36,13 @@ pub struct Log {
     ghost counted: { faults < 2 ^ 64 },
 }
 
-// No calls.
-fn start() -> Snapshot<Past>
-    ensures { past_calls result.value ≡ [] }
-{
-    Snapshot::of(&Past::Start)
-}
-
-// The calls with one more.
-fn later(call: MirrorCall, past: Snapshot<Past>) -> Snapshot<Past>
-    ensures { past_calls result.value ≡ call ∷ past_calls past.value }
-{
-    let next = Past::Made(call, past);
-    Snapshot::of(&next)
-}
-
 // Adds a call.
 fn add(call: MirrorCall, past: &mut Snapshot<Past>)
     ensures { past_calls past.new.value ≡ call ∷ past_calls past.old.value }
 {
     let earlier = mem::replace(past, Snapshot::of(&Past::Start));
-    *past = later(call, earlier);
+    let next = Past::Made(call, earlier);
+    *past = Snapshot::of(&next);
 }
 
 // Counts a fault, up to the greatest u64.
@@ -124,7 +110,7 @@ impl Log {
         ensures faults { result.faults ≡ 0 }
     {
         Log {
-            past: start(),
+            past: Snapshot::of(&Past::Start),
             sides: Sides {
                 lead_in: true,
                 other_in,
