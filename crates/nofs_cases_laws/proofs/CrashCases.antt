@@ -3,6 +3,7 @@ use Rattle.std.proofs.Common.{max, ◌≡◌, ℕ, zero, suc, ◌+◌, ◌*◌, 
 use Rattle.std.specs.List.{list_all}
 use Rattle.std.specs.Prelude.{slice_index}
 use Rattle.std.proofs.lemmas.Bool.{cases_lt}
+use Rattle.std.proofs.lemmas.List.{get_or-replicate}
 use Rattle.nofs_disk.specs.Disk.{IsDisk, IsSettled, IsSizedCell, Picks}
 use Rattle.nofs_disk.specs.Adds.{WasOr}
 use Rattle.nofs_inode.specs.declared.inode.FileKind.TheVariants.{File}
@@ -37,7 +38,7 @@ use Rattle.nofs_cases_steps.specs.StateCases.{put_entry, alone, put_may}
 use Rattle.nofs_cases_steps.proofs.Images.{root_record, label_record, mountable, first-records, put-records, data-two, data-three, not-data-one, put-tag}
 use Rattle.nofs_cases_steps.proofs.Slots.{empty-value}
 use Rattle.nofs_cases_steps.proofs.Matches.{agreed-file, same-none}
-use Rattle.nofs_cases_steps.proofs.Below.{tag-low, record-low, no-links-low, free-low, table-cell, blank-low, cells-low, range-is, tail-blank}
+use Rattle.nofs_cases_steps.proofs.Below.{tag-low, record-low, no-links-low, free-low, table-cell, blank-low, cells-low, range-is}
 use Rattle.nofs_cases_steps.proofs.FileCases.{first-inode, first-plain, first-empty, first-free, first-old, first-label, put-inode, put-slot, put-touches, put-content, put-lies-of, put-match}
 use Rattle.nofs_cases_steps.proofs.StateCases.{first-low, first-is-below, one-of}
 use Rattle.nofs_cases_steps.proofs.LeafCase.{leaf-inode, leaf-grows, deep-empty}
@@ -53,20 +54,28 @@ each-small [] e k = omega arith
 each-small (x ∷ xs) e zero = ltb-true x 256 (and-both (ltb x 256) (list_all (λ b. ltb b 256) xs) e).0
 each-small (x ∷ xs) e (suc k) = each-small xs (and-both (ltb x 256) (list_all (λ b. ltb b 256) xs) e).1 k
 
+-- a cell of the right lengths, each of whose numbers is a byte
+pub sized-cell : (c : Cell) → length c.payload ≡ 1024 → length c.tag ≡ 32 → list_all (λ b. ltb b 256) c.payload ≡ true → list_all (λ b. ltb b 256) c.tag ≡ true
+    → IsSizedCell c
+sized-cell c payload tag bytes tag_bytes = record {
+  payload = record { len = payload; each = each-small c.payload bytes };
+  tag = record { len = tag; each = each-small c.tag tag_bytes };
+}
+
 sized-super : IsSizedCell super_block
-sized-super = record { payload = record { len = refl; each = each-small super_block.payload refl }; tag = record { len = refl; each = each-small super_block.tag refl } }
+sized-super = sized-cell super_block refl refl refl refl
 
 sized-first : IsSizedCell first_table
-sized-first = record { payload = record { len = refl; each = each-small first_table.payload refl }; tag = record { len = refl; each = each-small first_table.tag refl } }
+sized-first = sized-cell first_table refl refl refl refl
 
 sized-put : IsSizedCell put_table
-sized-put = record { payload = record { len = refl; each = each-small put_table.payload refl }; tag = record { len = refl; each = each-small put_table.tag refl } }
+sized-put = sized-cell put_table refl refl refl refl
 
 sized-block : IsSizedCell (put_block 7)
-sized-block = record { payload = record { len = refl; each = each-small (put_block 7).payload refl }; tag = record { len = refl; each = each-small (put_block 7).tag refl } }
+sized-block = sized-cell (put_block 7) refl refl refl refl
 
 pub sized-blank : IsSizedCell blank
-sized-blank = record { payload = record { len = refl; each = each-small blank.payload refl }; tag = record { len = refl; each = each-small blank.tag refl } }
+sized-blank = sized-cell blank refl refl refl refl
 
 -- each cell of an image
 pub sized-image : (t x : Cell) → IsSizedCell t → IsSizedCell x → (b : ℕ) → b < 16 → IsSizedCell (cell_at (image_of t x blank) b)
@@ -74,7 +83,7 @@ sized-image t x st sx zero lt = sized-super
 sized-image t x st sx (suc zero) lt = st
 sized-image t x st sx (suc (suc zero)) lt = sx
 sized-image t x st sx (suc (suc (suc zero))) lt = sized-blank
-sized-image t x st sx (suc (suc (suc (suc n)))) lt = subst IsSizedCell (sym (tail-blank n (omega (arith, lt)))) sized-blank
+sized-image t x st sx (suc (suc (suc (suc n)))) lt = subst IsSizedCell (sym (get_or-replicate 12 n blank _ (omega (arith, lt)))) sized-blank
 
 -- The state of the disk after a mount
 

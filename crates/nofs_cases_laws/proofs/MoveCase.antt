@@ -1,5 +1,5 @@
 -- A durable move on the disk with one name is a run of the machine.
-use Rattle.std.proofs.Common.{◌≡◌, ◌≢◌, ℕ, zero, suc, ◌+◌, ◌-◌, ◌*◌, ◌/◌, ◌%◌, ◌^◌, ◌<◌, ◌≤◌, ◌⊎◌, inl, inr, Bool, true, false, cond, eqb, leb, ltb, lt-ltb}
+use Rattle.std.proofs.Common.{◌≡◌, ◌≢◌, ℕ, zero, suc, ◌+◌, ◌-◌, ◌*◌, ◌/◌, ◌^◌, ◌<◌, ◌≤◌, inl, inr, Bool, true, false, eqb, leb, ltb, lt-ltb}
 use Rattle.std.proofs.Common.{le-ltb, List, [], ◌∷◌, ◌++◌, Option, Some, None, refl, sym, ap, ◌∙◌, subst, arith}
 use Rattle.std.proofs.lemmas.Bool.{cases_lt}
 use Rattle.nofs_ptrs.specs.Paths.{slot_limit}
@@ -7,7 +7,7 @@ use Rattle.nofs_disk.specs.Disk.{IsSizedCell}
 use Rattle.nofs_disk.specs.Number.{put_number, put_bytes, zeros}
 use Rattle.nofs_dirent.specs.Names.{is_name}
 use Rattle.nofs_inode.specs.declared.inode.FileKind.TheVariants.{File, Directory as Folder}
-use Rattle.nofs_model.specs.Cells.{FileKind, Pointer, Record, SuperBlock, number_at, entry_of, entry_fields, spelled_entry, null, is_null}
+use Rattle.nofs_model.specs.Cells.{FileKind, Pointer, Record, SuperBlock, number_at, entry_of, entry_fields, spelled_entry, null}
 use Rattle.nofs_model.specs.Image.{super_at, inode, InRecord, Under, child, path_of, slot_of, record_pointer, find, value, value_in, node_in, FileState}
 use Rattle.nofs_model.specs.Image.{Files, files_in, agreed, owner, Home, is_pair, is_special, IsBelow}
 use Rattle.nofs_model.specs.declared.path.PathAnswer.{PathAnswer}
@@ -17,14 +17,14 @@ use Rattle.nofs_model.specs.declared.value.Value.TheVariants.{Hole, Bytes}
 use Rattle.nofs_model.proofs.Find.{judged-built-null}
 use Rattle.nofs_model.proofs.Paths.{path_of-slot, slot_of-path_of}
 use Rattle.nofs_machine.specs.Search.{first_of, least_from}
-use Rattle.nofs_machine.specs.Machine.{nothing, gives, link_given, found, first_dead, place_for, link_place, with_entry, link_to, files_after}
+use Rattle.nofs_machine.specs.Machine.{gives, link_given, found, first_dead, place_for, link_place, with_entry, link_to, files_after}
 use Rattle.nofs_machine.specs.History.{agreed_files}
 use Rattle.nofs_machine.specs.World.{World, world_of, inodes_needed, blocks_needed, free_blocks, unverified_blocks, next_block}
 use Rattle.nofs_machine.specs.Refusals.{rows, row}
 use Rattle.nofs_machine.specs.Answers.{reply_of}
 use Rattle.nofs_machine.specs.Claims.{no_claims, next_stamp, IsBlockClaim, IsInodeClaim, IsClaim, NoInode, Unclaimed, homes_after}
 use Rattle.nofs_machine.specs.declared.history.Claims.{Claims}
-use Rattle.nofs_machine.specs.Next.{Next, Done, Run}
+use Rattle.nofs_machine.specs.Next.{Next, Done, Run, takes_time}
 use Rattle.nofs_machine.specs.declared.history.Entry1.{Entry1}
 use Rattle.nofs_machine.specs.declared.steps.Step.TheVariants as step
 use Rattle.nofs_machine.specs.declared.replies.Reply.TheVariants as reply
@@ -35,8 +35,8 @@ use Rattle.nofs_law_runs.specs.Bases.{IsBase, IsHistory}
 use Rattle.nofs_law_paths.specs.Moves.{IsAlone}
 use Rattle.nofs_law_paths.proofs.Alone.{law-alone}
 use Rattle.nofs_cases_steps.specs.Images.{z, blank}
-use Rattle.nofs_cases_steps.specs.Worlds.{first_slot, three_files, block_two, entry_of_step}
-use Rattle.nofs_cases_steps.proofs.Images.{nth, root_record, label_record, numbers-are, mountable}
+use Rattle.nofs_cases_steps.specs.Worlds.{first_slot, three_files, world_known, block_two, entry_of_step}
+use Rattle.nofs_cases_steps.proofs.Images.{root_record, label_record, numbers-are, mountable}
 use Rattle.nofs_cases_steps.proofs.Slots.{IsPlain, pick, ArePlain, others-null, slot-is, empty-value}
 use Rattle.nofs_cases_steps.proofs.Matches.{agreed-file, none-is, first-value}
 use Rattle.nofs_cases_names.specs.Names.{short_entry_bytes, root_block, name_table, name_image, one_link}
@@ -46,21 +46,15 @@ use Rattle.nofs_cases_names.proofs.NameCases.{name-inode}
 use Rattle.nofs_cases_laws.specs.MoveCase.{look_entry, first_flush, link_entry, second_flush, drop_entry, move_entries, move_history, DirectoryCase, PairCase}
 use Rattle.nofs_cases_laws.specs.MoveCase.{MoveCase}
 use Rattle.nofs_cases_laws.proofs.HomesCases.{name-below}
-use Rattle.nofs_cases_laws.proofs.CrashCases.{each-small, sized-image, sized-blank}
+use Rattle.nofs_cases_laws.proofs.CrashCases.{sized-cell, sized-image}
 
 -- The base
 
 sized-table : IsSizedCell name_table
-sized-table = record {
-  payload = record { len = refl; each = each-small name_table.payload refl };
-  tag = record { len = refl; each = each-small name_table.tag refl };
-}
+sized-table = sized-cell name_table refl refl refl refl
 
 sized-entries : IsSizedCell (root_block (short_entry_bytes 97 ++ z 960))
-sized-entries = record {
-  payload = record { len = refl; each = each-small (root_block (short_entry_bytes 97 ++ z 960)).payload refl };
-  tag = record { len = refl; each = each-small (root_block (short_entry_bytes 97 ++ z 960)).tag refl };
-}
+sized-entries = sized-cell (root_block (short_entry_bytes 97 ++ z 960)) refl refl refl refl
 
 mount-is : (super_at name_image).mount ≡ 1
 mount-is = ap (λ (n : SuperBlock). n.mount) (numbers-are name_table (root_block (short_entry_bytes 97 ++ z 960)) blank)
@@ -178,18 +172,7 @@ files-are = λ j i. each-file i j
 
 -- with these files, homes and verdicts
 abbrev world_with : Files → (ℕ → Option Home) → (ℕ → Bool) → (ℕ → Bool) → World
-world_with F homes inodes blocks = record {
-  version = 1;
-  blocks = 16;
-  inodes = 4;
-  mount = 1;
-  serial = 2;
-  stopped = false;
-  files = F;
-  homes = homes;
-  known_inodes = inodes;
-  known_blocks = blocks;
-}
+world_with F homes inodes blocks = world_known F homes 2 inodes blocks
 
 world-is : world_of name_image 2 ≡ world_with move_files (owner name_image) (λ i. is_special i) (λ p. leb p 1)
 unfolding world_of
@@ -286,51 +269,38 @@ drop-leads homes inodes blocks = done linked_files dropped_files drop_entry home
 
 -- The history
 
+-- entries that lead from each world with files F to one with files G, from moment n on
+abbrev LeadOn : ℕ → Files → List Entry1 → Files → Type 0
+LeadOn n F es G = (homes : ℕ → Option Home) (inodes blocks : ℕ → Bool) → (homes2 : ℕ → Option Home) × (inodes2 : ℕ → Bool) × (blocks2 : ℕ → Bool)
+    × Run n (world_with F homes inodes blocks) es (world_with G homes2 inodes2 blocks2)
+
+-- an entry, and those behind it
+leads-on : (n : ℕ) (F G K : Files) (e : Entry1) (es : List Entry1) → Leads F e G → e.from ≡ n → e.from ≤ e.to → (takes_time e.reply ≡ true → e.from < e.to)
+    → LeadOn e.to G es K → LeadOn n F (e ∷ es) K
+leads-on n F G K e es leads at le takes rest homes inodes blocks =
+    let k = leads homes inodes blocks in
+    let r = rest k.0 k.1 k.2 in
+    (r.0, r.1, r.2, (world_with G k.0 k.1 k.2, at, le, takes, k.3, r.3))
+
+moves : LeadOn 0 move_files move_entries dropped_files
+moves =
+    leads-on 0 move_files move_files dropped_files look_entry (first_flush ∷ link_entry ∷ second_flush ∷ drop_entry ∷ []) look-leads refl (omega arith)
+    (λ t. cc t)
+    (leads-on look_entry.to move_files move_files dropped_files first_flush (link_entry ∷ second_flush ∷ drop_entry ∷ [])
+    (flush-leads move_files first_flush refl)
+    refl (omega arith) (λ t. omega arith)
+    (leads-on first_flush.to move_files linked_files dropped_files link_entry (second_flush ∷ drop_entry ∷ []) link-leads refl (omega arith) (λ t. cc t)
+    (leads-on link_entry.to linked_files linked_files dropped_files second_flush (drop_entry ∷ []) (flush-leads linked_files second_flush refl) refl
+    (omega arith)
+    (λ t. omega arith)
+    (leads-on second_flush.to linked_files dropped_files dropped_files drop_entry [] drop-leads refl (omega arith) (λ t. cc t)
+    (λ homes inodes blocks. (homes, inodes, blocks, refl))))))
+
 move-run : (V : World) × Run 0 (world_of name_image 2) move_entries V
 move-run =
-    let l = look-leads (owner name_image) (λ i. is_special i) (λ p. leb p 1) in
-    let f = flush-leads move_files first_flush refl l.0 l.1 l.2 in
-    let k = link-leads f.0 f.1 f.2 in
-    let s = flush-leads linked_files second_flush refl k.0 k.1 k.2 in
-    let d = drop-leads s.0 s.1 s.2 in
-    let V : World = world_with dropped_files d.0 d.1 d.2 in
-    let run : Run 0 (world_with move_files (owner name_image) (λ i. is_special i) (λ p. leb p 1)) move_entries V = (
-      world_with move_files l.0 l.1 l.2,
-      refl,
-      omega arith,
-      (λ t. cc t),
-      l.3,
-      (
-        world_with move_files f.0 f.1 f.2,
-        refl,
-        omega arith,
-        (λ t. omega arith),
-        f.3,
-        (
-          world_with linked_files k.0 k.1 k.2,
-          refl,
-          omega arith,
-          (λ t. cc t),
-          k.3,
-          (
-            world_with linked_files s.0 s.1 s.2,
-            refl,
-            omega arith,
-            (λ t. omega arith),
-            s.3,
-            (
-              V,
-              refl,
-              omega arith,
-              (λ t. cc t),
-              d.3,
-              refl,
-            ),
-          ),
-        ),
-      ),
-    ) in
-    (V, subst (λ (W : World). Run 0 W move_entries V) (sym world-is) run)
+    let r = moves (owner name_image) (λ i. is_special i) (λ p. leb p 1) in
+    let V : World = world_with dropped_files r.0 r.1 r.2 in
+    (V, subst (λ (W : World). Run 0 W move_entries V) (sym world-is) r.3)
 
 pub move-is-history : IsHistory name_image move_history
 move-is-history = record { first = 2; base = name-base; world = move-run.0; run = move-run.1 }

@@ -1,5 +1,6 @@
 -- Every number on these images is below a bound.
-use Rattle.std.proofs.Common.{◌≡◌, ◌≢◌, ℕ, zero, suc, ◌-◌, ◌%◌, ◌<◌, ◌≤◌, true, leb, replicate, Option, Some, IfSome, All, refl, sym, ap, ◌∙◌, subst, arith, leb-true}
+use Rattle.std.proofs.Common.{◌≡◌, ◌≢◌, ℕ, zero, suc, ◌-◌, ◌%◌, ◌<◌, ◌≤◌, true, leb, Option, Some, IfSome, All, refl, sym, ap, ◌∙◌, subst, arith, leb-true}
+use Rattle.std.proofs.lemmas.List.{get_or-replicate}
 use Rattle.nofs_model.specs.Cells.{Cell, Directory, Leaf, Tag, Pointer, Record, SuperBlock, tag_of, pointer_at, record_at, entry_in, free_record, null}
 use Rattle.nofs_model.specs.Image.{cell_at, super_at, is_inode, record_pointer, TagBelow, RecordBelow, CellBelow}
 use Rattle.nofs_model.proofs.Find.{and-both}
@@ -75,22 +76,6 @@ table-cell s t x y u a b c some tag h l = record {
 pub blank-low : (s : ℕ) → 0 < s → TagBelow s blank
 blank-low s some = tag-low s blank _ blank-tag some some (λ e. cc e) (λ e. cc e)
 
--- the blocks behind the first four
-pub tail-blank : (n : ℕ) → n < 12 → cell_at (replicate 12 blank) n ≡ blank
-tail-blank zero lt = refl
-tail-blank (suc zero) lt = refl
-tail-blank (suc (suc zero)) lt = refl
-tail-blank (suc (suc (suc zero))) lt = refl
-tail-blank (suc (suc (suc (suc zero)))) lt = refl
-tail-blank (suc (suc (suc (suc (suc zero))))) lt = refl
-tail-blank (suc (suc (suc (suc (suc (suc zero)))))) lt = refl
-tail-blank (suc (suc (suc (suc (suc (suc (suc zero))))))) lt = refl
-tail-blank (suc (suc (suc (suc (suc (suc (suc (suc zero)))))))) lt = refl
-tail-blank (suc (suc (suc (suc (suc (suc (suc (suc (suc zero))))))))) lt = refl
-tail-blank (suc (suc (suc (suc (suc (suc (suc (suc (suc (suc zero)))))))))) lt = refl
-tail-blank (suc (suc (suc (suc (suc (suc (suc (suc (suc (suc (suc zero))))))))))) lt = refl
-tail-blank (suc (suc (suc (suc (suc (suc (suc (suc (suc (suc (suc (suc n)))))))))))) lt = absurd (omega (arith, lt))
-
 -- each cell of an image
 pub cells-low : (s : ℕ) (t x y u v w : Cell) → 0 < s → CellBelow s (image_of t x y) 1 u → TagBelow s v → TagBelow s w → (b : ℕ) → b < 16 → CellBelow s (image_of t x y) b (cell_at (image_of u v w) b)
 cells-low s t x y u v w some table two three zero lt = plain-cell s t x y 0 super_block (λ e. absurd (omega (arith, e))) (tag-low s super_block _ super-tag some some (λ e. cc e) (λ e. cc e))
@@ -98,5 +83,5 @@ cells-low s t x y u v w some table two three (suc zero) lt = table
 cells-low s t x y u v w some table two three (suc (suc zero)) lt = plain-cell s t x y 2 v (λ e. absurd (omega (arith, e))) two
 cells-low s t x y u v w some table two three (suc (suc (suc zero))) lt = plain-cell s t x y 3 w (λ e. absurd (omega (arith, e))) three
 cells-low s t x y u v w some table two three (suc (suc (suc (suc n)))) lt =
-    subst (λ (c : Cell). CellBelow s (image_of t x y) (suc (suc (suc (suc n)))) c) (sym (tail-blank n (omega (arith, lt))))
+    subst (λ (c : Cell). CellBelow s (image_of t x y) (suc (suc (suc (suc n)))) c) (sym (get_or-replicate 12 n blank _ (omega (arith, lt))))
     (plain-cell s t x y (suc (suc (suc (suc n)))) blank (λ e. absurd (omega (arith, e))) (blank-low s some))

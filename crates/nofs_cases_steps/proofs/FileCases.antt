@@ -1,10 +1,13 @@
 -- A Put with a claimed block, one in place, and a Resize.
-use Rattle.std.proofs.Common.{max, ◌≡◌, ◌≢◌, ℕ, zero, suc, ◌+◌, ◌^◌, ◌<◌, ◌≤◌, ◌⊎◌, inl, inr, true, false, eqb, [], ◌∷◌, Some, None, refl, sym, ap, ap₂, ◌∙◌, subst, arith, le-leb, Contains}
+use Rattle.std.proofs.Common.{max, ◌≡◌, ◌≢◌, ℕ, zero, suc, ◌+◌, ◌^◌, ◌<◌, inl, inr, true, false, eqb, [], ◌∷◌, Some, None, refl, sym, ap, ap₂, ◌∙◌, subst}
+use Rattle.std.proofs.Common.{arith, le-leb}
 use Rattle.nofs_disk.specs.Number.{put_bytes}
 use Rattle.nofs_inode.specs.declared.inode.FileKind.TheVariants.{File, Directory}
-use Rattle.nofs_model.specs.Cells.{Content, Tag, Pointer, Record, tag_of, null, is_null, is_live, free_record}
-use Rattle.nofs_model.specs.Image.{cell_at, is_data_block, inode, Path, InRecord, Under, path_of, IsSlot, tag_for, record_pointer, find, files_in, agreed, IsFree, Files, FileState, is_folder}
+use Rattle.nofs_model.specs.Cells.{Cell, Pointer, Record, tag_of, null, is_null, is_live, free_record}
+use Rattle.nofs_model.specs.Image.{cell_at, inode, Path, InRecord, Under, path_of, IsSlot, tag_for, record_pointer, find, files_in, agreed, IsFree, Files}
+use Rattle.nofs_model.specs.Image.{FileState, is_folder}
 use Rattle.nofs_model.specs.declared.path.PathAnswer.TheVariants as answer
+use Rattle.nofs_model.specs.declared.value.Value.{Value}
 use Rattle.nofs_model.specs.declared.value.Value.TheVariants.{Hole, Bytes}
 use Rattle.nofs_machine.specs.Machine.{put_content, trimmed}
 use Rattle.nofs_machine.specs.History.{FilesMatch}
@@ -13,12 +16,15 @@ use Rattle.nofs_law_untouched.specs.Frames.{Touches, SameNames, OldPointers}
 use Rattle.nofs_law_untouched.specs.Grows.{Grows, IsPlaced}
 use Rattle.nofs_law_untouched.proofs.Touching.{rewrites}
 use Rattle.nofs_law_files.specs.Puts.{PutLies, ClaimsPlaced}
-use Rattle.nofs_law_files.specs.Resizes.{first_slot_below, is_cut, ResizeLies}
+use Rattle.nofs_law_files.specs.Resizes.{first_slot_below, is_cut, cut_at, ResizeLies}
 use Rattle.nofs_cases_steps.specs.Images.{z, blank, image_of, first_table, first_image, put_table, put_block, put_image, resize_table, resize_image}
 use Rattle.nofs_cases_steps.specs.Worlds.{root_file, label_file, first_files, put_files, first_world, block_two}
 use Rattle.nofs_cases_steps.specs.FileCases.{put_step, put_places, put_claims, PutCase, PutHeldCase, ResizeCase, UntouchedCase, GrownCase}
-use Rattle.nofs_cases_steps.proofs.Images.{plain, nth, root_record, label_record, inode-is, first-records, put-records, resize-records, data-two, not-data-one, put-tag}
-use Rattle.nofs_cases_steps.proofs.Slots.{ArePlain, pick, plain-image, not-under, empty, old-pointers, others-null}
+use Rattle.nofs_cases_steps.proofs.Numbers.{each-number, none-of}
+use Rattle.nofs_cases_steps.proofs.Images.{plain, nth, root_record, label_record, HasRecords, inode-is, first-records, put-records, resize-records, data-two}
+use Rattle.nofs_cases_steps.proofs.Images.{put-tag}
+use Rattle.nofs_cases_steps.proofs.Steps.{each-block, stamp-is, same-names, label-touches}
+use Rattle.nofs_cases_steps.proofs.Slots.{ArePlain, pick, plain-image, no-pointers, not-under, empty, old-pointers}
 use Rattle.nofs_cases_steps.proofs.Matches.{root-agreed, label-agreed, first-tag, first-holds, same-empty, same-first, same-none, files-match}
 
 -- The three disks
@@ -39,11 +45,7 @@ pub put-plain : (byte : ℕ) → ArePlain (image_of put_table (put_block byte) b
 put-plain byte = plain-image put_table (put_block byte) blank (root_record null) (label_record 1 (block_two 0)) free_record null (block_two 0) null put-records refl refl refl
 
 pub no-pointer : (i : ℕ) → pick null null null i ≡ null
-no-pointer zero = refl
-no-pointer (suc zero) = refl
-no-pointer (suc (suc zero)) = refl
-no-pointer (suc (suc (suc zero))) = refl
-no-pointer (suc (suc (suc (suc n)))) = refl
+no-pointer = each-number (λ i. pick null null null i ≡ null) refl refl refl refl (λ n. refl)
 
 pub first-empty : (i : ℕ) (path : Path) → IsSlot path → find first_image i path ≡ answer.Hole
 first-empty i = empty first_image i (subst (λ (x : Pointer). inode first_image i ≡ plain (inode first_image i).generation (inode first_image i).kind (inode first_image i).links (inode first_image i).size x) (no-pointer i) (first-plain i))
@@ -75,37 +77,9 @@ first-match = files-match first_image (root_file Hole) (label_file 0 Hole) None 
 pub put-slot : (byte : ℕ) → tag_of (put_block byte).tag ≡ Some (tag_for (image_of put_table (put_block byte) blank) 2 (InRecord 0) (2 ^ 40))
 put-slot byte = put-tag byte ∙ sym (ap Some (first-tag (image_of put_table (put_block byte) blank) 2 (label_record 1 (block_two 0)) (2 ^ 40) (put-inode byte 2)))
 
--- all but inode 2
-pub but-two : (a b d c : Record) (j : ℕ) → eqb j 2 ≡ false → nth a b c j ≡ nth a d c j
-but-two a b d c zero e = refl
-but-two a b d c (suc zero) e = refl
-but-two a b d c (suc (suc zero)) e = cc e
-but-two a b d c (suc (suc (suc zero))) e = refl
-but-two a b d c (suc (suc (suc (suc n)))) e = refl
-
 pub put-touches : Touches (2 ^ 40) (λ j. eqb j 2) first_image put_image
-put-touches = record {
-  super = refl;
-  records = λ j e. put-inode 7 j ∙ but-two (root_record null) (label_record 1 (block_two 0)) (label_record 0 null) free_record j e ∙ sym (first-inode j);
-  blocks = blocks;
-}
-  where
-    fresh : (t : Tag) → tag_of (put_block 7).tag ≡ Some t → 2 ^ 40 ≤ t.stamp
-    fresh t e =
-        let a : Tag = record { kind = Content; inode = 2; generation = 2; slot = 0; stamp = 2 ^ 40 } in
-        let s : 2 ^ 40 ≡ t.stamp = ap (λ (q : Tag). q.stamp) (same a t (sym (put-tag 7) ∙ e)) in omega (arith, s)
-      where
-        same : (a t : Tag) → Some a ≡ Some t → a ≡ t
-        same a t h = cc h
-
-    blocks : (b : ℕ) → is_data_block first_image b ≡ true → (cell_at put_image b ≡ cell_at first_image b)
-        ⊎ ((IsFree first_image b × ((t : Tag) → tag_of (cell_at put_image b).tag ≡ Some t → 2 ^ 40 ≤ t.stamp))
-        ⊎ ((tag_of (cell_at put_image b).tag ≡ tag_of (cell_at first_image b).tag) × ((i : ℕ) × (path : Path) × (x : Pointer) × (eqb i 2 ≡ true) × (find first_image i path ≡ answer.Holds x) × (x.block ≡ b))))
-    blocks zero d = inl refl
-    blocks (suc zero) d = let n = not-data-one first_table blank blank in cc (n, d)
-    blocks (suc (suc zero)) d = inr (inl (first-free 2, fresh))
-    blocks (suc (suc (suc zero))) d = inl refl
-    blocks (suc (suc (suc (suc n)))) d = inl refl
+put-touches = label-touches (2 ^ 40) first_table blank blank put_table (put_block 7) blank (label_record 0 null) (label_record 1 (block_two 0)) first-records
+    put-records (inr (inl (first-free 2, stamp-is (2 ^ 40) (put_block 7) _ (put-tag 7) (omega arith)))) (inl refl)
 
 pub put-grows : Grows (2 ^ 40) first_image put_image 2 (path_of 0) put_places
 unfolding path_of
@@ -128,11 +102,7 @@ unfolding put_content trimmed put_bytes
 put-content = refl
 
 put-names : SameNames first_image put_image 2
-put-names = record {
-  kind = ap (λ (r : Record). r.kind) (put-inode 7 2) ∙ sym (ap (λ (r : Record). r.kind) (first-inode 2));
-  generation = ap (λ (r : Record). r.generation) (put-inode 7 2) ∙ sym (ap (λ (r : Record). r.generation) (first-inode 2));
-  links = ap (λ (r : Record). r.links) (put-inode 7 2) ∙ sym (ap (λ (r : Record). r.links) (first-inode 2));
-}
+put-names = same-names first_image put_image 2 (label_record 0 null) (label_record 1 (block_two 0)) (first-inode 2) (put-inode 7 2) refl
 
 -- the machine's file of the label, by its size and its first value
 pub record IsLabel (F : Files) (f : FileState) : Type 0 where
@@ -176,11 +146,8 @@ put-claim = record {
   cell = Claimed refl (omega arith) refl;
   leaf = Unclaimed refl;
   top = Unclaimed refl;
-  apart = ((λ y c. absurd (none c)), tt);
+  apart = ((λ y c. absurd (none-of c)), tt);
 }
-  where
-    none : {y : Pointer} → Contains [] y → ⊥
-    none c = omega (arith, c.1)
 
 pub put-case : PutCase
 put-case = (put-lies, put-placed, put-claim)
@@ -220,14 +187,8 @@ put-match = files-match put_image (root_file Hole) (label_file 1 (Bytes (7 ∷ z
     (λ n. ap (λ (r : Record). r.kind) (put-inode 7 (suc (suc (suc (suc n))))))
 
 pub put-old : (i : ℕ) → OldPointers (2 ^ 40 + 1) put_image i
-put-old i = old-pointers put_image i (pick null (block_two 0) null i) (put-plain 7 i) (2 ^ 40 + 1) (low i)
-  where
-    low : (i : ℕ) → (pick null (block_two 0) null i).stamp < 2 ^ 40 + 1
-    low zero = omega arith
-    low (suc zero) = omega arith
-    low (suc (suc zero)) = omega arith
-    low (suc (suc (suc zero))) = omega arith
-    low (suc (suc (suc (suc n)))) = omega arith
+put-old i = old-pointers put_image i (pick null (block_two 0) null i) (put-plain 7 i) (2 ^ 40 + 1)
+    (each-number (λ n. (pick null (block_two 0) null n).stamp < 2 ^ 40 + 1) (omega arith) (omega arith) (omega arith) (omega arith) (λ n. omega arith) i)
 
 again-content : put_content (Bytes (7 ∷ z 1023)) 1 0 0 (9 ∷ []) ≡ 9 ∷ z 1023
 unfolding put_content trimmed put_bytes
@@ -246,21 +207,16 @@ put-held-case =
       held = put-holds 7;
       super = refl;
       records = λ j ne. same j;
-      blocks = blocks;
-      names = record { kind = ap (λ (r : Record). r.kind) (same 2); generation = ap (λ (r : Record). r.generation) (same 2); links = ap (λ (r : Record). r.links) (same 2) };
+      blocks = each-block (λ b. b ≢ 2 → cell_at (image_of put_table (put_block 9) blank) b ≡ cell_at put_image b) put_table (put_block 7) blank
+          (λ ne. absurd (ne refl)) (λ ne. refl) (λ n ne. refl);
+      names = same-names put_image (image_of put_table (put_block 9) blank) 2 (label_record 1 (block_two 0)) (label_record 1 (block_two 0)) (put-inode 7 2)
+          (put-inode 9 2) refl;
       pointers = λ n. ap (λ (r : Record). record_pointer r n) (same 2);
       size = ap (λ (r : Record). r.size) (put-inode 9 2);
       tag = put-tag 9 ∙ sym (put-tag 7);
       content = sym again-content;
       old = λ j some. put-old j;
     }
-  where
-    blocks : (b : ℕ) → is_data_block put_image b ≡ true → b ≢ 2 → cell_at (image_of put_table (put_block 9) blank) b ≡ cell_at put_image b
-    blocks zero d ne = refl
-    blocks (suc zero) d ne = refl
-    blocks (suc (suc zero)) d ne = absurd (ne refl)
-    blocks (suc (suc (suc zero))) d ne = refl
-    blocks (suc (suc (suc (suc n)))) d ne = refl
 
 -- A Resize
 
@@ -272,45 +228,41 @@ all-cut (Under a n) = rw (all-cut a) refl
 pub uncut : (a : Path) → is_cut 0 a ≡ false → ⊥
 uncut a e = let t = all-cut a in cc (t, e)
 
-no-pointers : (size n : ℕ) → is_null (record_pointer (label_record size null) n) ≡ true
-no-pointers size zero = refl
-no-pointers size (suc m) = others-null (label_record size null) null refl m
+-- the label file without its block: neither its record nor any slot keeps a pointer
+module _ (F : Files) (t x y u : Cell) (size new s : ℕ) (p : Pointer) (v : Value) (before : HasRecords t (root_record null) (label_record size p) free_record)
+    (after : HasRecords u (root_record null) (label_record new null) free_record) (cut : cut_at (label_file size v) new ≡ 0) where
+  stays-none : (a : Path) → is_cut (cut_at (label_file size v) new) a ≡ false → ⊥
+  stays-none a e = uncut a (ap (λ (n : ℕ). is_cut n a) (sym cut) ∙ e)
 
-resize-touches : Touches (2 ^ 40) (λ j. eqb j 2) first_image resize_image
-resize-touches = record {
-  super = refl;
-  records = λ j e. resize-inode j ∙ but-two (root_record null) (label_record 5000 null) (label_record 0 null) free_record j e ∙ sym (first-inode j);
-  blocks = blocks;
-}
-  where
-    blocks : (b : ℕ) → is_data_block first_image b ≡ true → (cell_at resize_image b ≡ cell_at first_image b)
-        ⊎ ((IsFree first_image b × ((t : Tag) → tag_of (cell_at resize_image b).tag ≡ Some t → 2 ^ 40 ≤ t.stamp))
-        ⊎ ((tag_of (cell_at resize_image b).tag ≡ tag_of (cell_at first_image b).tag) × ((i : ℕ) × (path : Path) × (x : Pointer) × (eqb i 2 ≡ true) × (find first_image i path ≡ answer.Holds x) × (x.block ≡ b))))
-    blocks zero d = inl refl
-    blocks (suc zero) d = let n = not-data-one first_table blank blank in cc (n, d)
-    blocks (suc (suc n)) d = inl refl
+  after-is : inode (image_of u x y) 2 ≡ label_record new null
+  after-is = inode-is u x y (root_record null) (label_record new null) free_record after 2
+
+  pub cut-pointers : (n : ℕ) → is_null (record_pointer (inode (image_of u x y) 2) n) ≡ true
+  cut-pointers n = ap (λ (r : Record). is_null (record_pointer r n)) after-is ∙ no-pointers (label_record new null) refl n
+
+  pub cut-lies : FilesMatch F (image_of t x y) → F 2 ≡ Some (label_file size v) → ((j : ℕ) → OldPointers s (image_of t x y) j)
+      → ResizeLies F (image_of t x y) (image_of u x y) 2 2 new (label_file size v) s
+  cut-lies files is old = record {
+    files = files;
+    is = is;
+    generation = refl;
+    file = refl;
+    touches = label-touches s t x y u x y (label_record size p) (label_record new null) before after (inl refl) (inl refl);
+    names = same-names (image_of t x y) (image_of u x y) 2 (label_record size p) (label_record new null)
+        (inode-is t x y (root_record null) (label_record size p) free_record before 2) after-is refl;
+    size_is = ap (λ (r : Record). r.size) after-is;
+    record_cut = λ n gone. cut-pointers n;
+    record_stays = λ n stays. absurd (stays-none (InRecord n) stays);
+    cell_cut = λ b n q at stays h gone. absurd (stays-none b stays);
+    cell_stays = λ b n q at stays h. absurd (stays-none b stays);
+    whole = λ b n at stays. absurd (stays-none b stays);
+    content = λ k q lt below. absurd (omega (arith, below, cut));
+    old = λ j some. old j;
+  }
 
 pub resize-lies : ResizeLies first_files first_image resize_image 2 2 5000 (label_file 0 Hole) (2 ^ 40)
-resize-lies = record {
-  files = first-match;
-  is = refl;
-  generation = refl;
-  file = refl;
-  touches = resize-touches;
-  names = record {
-    kind = ap (λ (r : Record). r.kind) (resize-inode 2) ∙ sym (ap (λ (r : Record). r.kind) (first-inode 2));
-    generation = ap (λ (r : Record). r.generation) (resize-inode 2) ∙ sym (ap (λ (r : Record). r.generation) (first-inode 2));
-    links = ap (λ (r : Record). r.links) (resize-inode 2) ∙ sym (ap (λ (r : Record). r.links) (first-inode 2));
-  };
-  size_is = ap (λ (r : Record). r.size) (resize-inode 2);
-  record_cut = λ n cut. ap (λ (r : Record). is_null (record_pointer r n)) (resize-inode 2) ∙ no-pointers 5000 n;
-  record_stays = λ n stays. absurd (uncut (InRecord n) stays);
-  cell_cut = λ b n y at stays h cut. absurd (uncut b stays);
-  cell_stays = λ b n y at stays h. absurd (uncut b stays);
-  whole = λ b n at stays. absurd (uncut b stays);
-  content = λ k y lt cut. absurd (omega (arith, cut));
-  old = λ j some. first-old (2 ^ 40) (omega arith) j;
-}
+resize-lies = cut-lies first_files first_table blank blank resize_table 0 5000 (2 ^ 40) null Hole first-records resize-records refl first-match refl
+    (first-old (2 ^ 40) (omega arith))
 
 pub resize-case : ResizeCase
 resize-case = (resize-lies, record { inode = NoInode refl refl; cell = Unclaimed refl; leaf = Unclaimed refl; top = Unclaimed refl; apart = tt })

@@ -2,9 +2,11 @@
 use Rattle.std.proofs.Common.{◌≡◌, ℕ, zero, suc, ◌+◌, ◌/◌, ◌^◌, true, false, leb, ltb, ◌&&◌, List, [], ◌∷◌, Option, Some, refl, ap, arith}
 use Rattle.nofs_super.specs.Geometry.{format_fault}
 use Rattle.nofs_inode.specs.declared.inode.FileKind.TheVariants as file
-use Rattle.nofs_model.specs.Cells.{Cell, Content, Nothing, Table, Super, Pointer, FileKind, BackLink, Record, SuperBlock, free_record, null, number_at, tag_of, record_of, record_at, fields_in, link_in, pointer_in}
+use Rattle.nofs_model.specs.Cells.{Cell, Content, Nothing, Table, Super, Pointer, FileKind, BackLink, Record, SuperBlock, free_record, null, number_at, tag_of}
+use Rattle.nofs_model.specs.Cells.{record_of, record_at, fields_in, link_in, pointer_in}
 use Rattle.nofs_model.specs.Image.{is_mountable, super_in, is_super, is_geometry, super_at, is_data_block, inode}
 use Rattle.nofs_cases_steps.specs.Worlds.{no_links, block_two}
+use Rattle.nofs_cases_steps.proofs.Numbers.{one_of}
 use Rattle.nofs_cases_steps.specs.Images.{blank, super_block, image_of, first_table, put_table, put_block, resize_table}
 
 -- Numbers
@@ -42,11 +44,7 @@ label_record size x = plain 2 (Some file.File) no_links size x
 
 -- inodes 1 to 3 have these records, and no other is live
 abbrev pub nth : Record → Record → Record → ℕ → Record
-nth a b c zero = free_record
-nth a b c (suc zero) = a
-nth a b c (suc (suc zero)) = b
-nth a b c (suc (suc (suc zero))) = c
-nth a b c (suc (suc (suc (suc n)))) = free_record
+nth a b c = one_of free_record a b c
 
 pub record HasRecords (t : Cell) (a b c : Record) : Type 0 where
   pub one : record_at t.payload 0 ≡ a

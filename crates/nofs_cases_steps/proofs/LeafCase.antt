@@ -1,13 +1,12 @@
 -- A Put with a claimed block and a claimed leaf.
-use Rattle.std.proofs.Common.{◌≡◌, ◌≢◌, ℕ, zero, suc, ◌+◌, ◌^◌, ◌<◌, ◌≤◌, ◌⊎◌, inl, inr, Bool, true, false, eqb, ◌&&◌, [], ◌∷◌, Some, refl, sym, ap, ◌∙◌, subst, arith, Contains}
-use Rattle.std.proofs.lemmas.Bool.{cases_eq}
+use Rattle.std.proofs.Common.{◌≡◌, ℕ, ◌+◌, ◌^◌, ◌⊎◌, inl, inr, true, false, eqb, [], ◌∷◌, Some, refl, sym, ap, ◌∙◌, subst, arith}
 use Rattle.nofs_disk.specs.Number.{put_bytes}
 use Rattle.nofs_inode.specs.declared.inode.FileKind.TheVariants.{File}
-use Rattle.nofs_model.specs.Cells.{Content, Leaf, Tag, Pointer, Record, tag_of, number_at, null, is_null, pointer_at, pointer_in, record_of, record_at, fields_in, link_in, free_record}
-use Rattle.nofs_model.specs.Image.{cell_at, is_data_block, inode, Path, InRecord, Under, leaf, path_of, slot_of, IsSlot, tag_for, kind_in, record_pointer, find, IsFree}
+use Rattle.nofs_model.specs.Cells.{Content, Leaf, Pointer, Record, tag_of, number_at, null, is_null, pointer_at, pointer_in, record_of, record_at, fields_in}
+use Rattle.nofs_model.specs.Cells.{link_in, free_record}
+use Rattle.nofs_model.specs.Image.{cell_at, is_data_block, inode, Path, InRecord, Under, leaf, path_of, slot_of, IsSlot, tag_for, record_pointer, find}
 use Rattle.nofs_model.specs.declared.path.PathAnswer.TheVariants as answer
 use Rattle.nofs_model.specs.declared.value.Value.TheVariants.{Hole}
-use Rattle.nofs_model.proofs.Find.{and-both}
 use Rattle.nofs_machine.specs.Machine.{put_content, trimmed}
 use Rattle.nofs_machine.specs.Claims.{IsClaim, NoInode, Claimed, Unclaimed}
 use Rattle.nofs_law_untouched.specs.Frames.{Touches}
@@ -18,8 +17,11 @@ use Rattle.nofs_law_files.specs.Puts.{PutLies, ClaimsPlaced}
 use Rattle.nofs_cases_steps.specs.Images.{z, blank, first_table, first_image}
 use Rattle.nofs_cases_steps.specs.Worlds.{no_links, label_file, first_files, first_world, block_two}
 use Rattle.nofs_cases_steps.specs.LeafCase.{leaf_table, deep_block, leaf_block, leaf_image, block_three, leaf_places, leaf_claims, leaf_step, LeafCase}
-use Rattle.nofs_cases_steps.proofs.Images.{nth, root_record, label_record, HasRecords, inode-is, data-two, data-three, not-data-one}
-use Rattle.nofs_cases_steps.proofs.FileCases.{first-inode, first-empty, first-free, first-match, first-old, no-holds, but-two}
+use Rattle.nofs_cases_steps.proofs.Numbers.{none-of}
+use Rattle.nofs_cases_steps.proofs.Images.{nth, root_record, label_record, HasRecords, inode-is, first-records, data-two, data-three}
+use Rattle.nofs_cases_steps.proofs.Steps.{stamp-is, tag-is, but-leaf, same-names, label-touches}
+use Rattle.nofs_cases_steps.proofs.Leaves.{other-pointer}
+use Rattle.nofs_cases_steps.proofs.FileCases.{first-inode, first-empty, first-free, first-match, first-old, no-holds}
 
 abbrev pub leaf_record : Record
 leaf_record = record {
@@ -53,46 +55,12 @@ first-pointer : pointer_at leaf_block.payload 0 ≡ block_two 0
 unfolding pointer_at pointer_in number_at
 first-pointer = refl
 
-all_below : (ℕ → Bool) → ℕ → Bool
-all_below test zero = true
-all_below test (suc n) = test n && all_below test n
-
-each-below : (test : ℕ → Bool) (n k : ℕ) → all_below test n ≡ true → k < n → test k ≡ true
-unfolding all_below
-each-below test zero k e lt = absurd (omega (arith, lt))
-each-below test (suc n) k e lt = elim (cases_eq k n) [
-  | inl same ↦ ap test same ∙ (and-both (test n) (all_below test n) e).0
-  | inr ne ↦ each-below test n k (and-both (test n) (all_below test n) e).1 (omega (arith, lt, ne))
-]
-
-others-empty : all_below (λ n. is_null (pointer_at leaf_block.payload (suc n))) 63 ≡ true
-unfolding all_below pointer_at pointer_in number_at
-others-empty = refl
-
-other-pointer : (n : ℕ) → n < 64 → n ≢ 0 → is_null (pointer_at leaf_block.payload n) ≡ true
-other-pointer zero lt ne = absurd (ne refl)
-other-pointer (suc n) lt ne = each-below (λ n. is_null (pointer_at leaf_block.payload (suc n))) 63 n others-empty (omega (arith, lt))
-
 -- What the Put touches
 
-same-tag : (a t : Tag) → Some a ≡ Some t → a ≡ t
-same-tag a t h = cc h
-
 leaf-touches : Touches (2 ^ 40) (λ j. eqb j 2) first_image leaf_image
-leaf-touches = record {
-  super = refl;
-  records = λ j e. leaf-inode j ∙ but-two (root_record null) leaf_record (label_record 0 null) free_record j e ∙ sym (first-inode j);
-  blocks = blocks;
-}
-  where
-    blocks : (b : ℕ) → is_data_block first_image b ≡ true → (cell_at leaf_image b ≡ cell_at first_image b)
-        ⊎ ((IsFree first_image b × ((t : Tag) → tag_of (cell_at leaf_image b).tag ≡ Some t → 2 ^ 40 ≤ t.stamp))
-        ⊎ ((tag_of (cell_at leaf_image b).tag ≡ tag_of (cell_at first_image b).tag) × ((i : ℕ) × (path : Path) × (x : Pointer) × (eqb i 2 ≡ true) × (find first_image i path ≡ answer.Holds x) × (x.block ≡ b))))
-    blocks zero d = inl refl
-    blocks (suc zero) d = let n = not-data-one first_table blank blank in cc (n, d)
-    blocks (suc (suc zero)) d = inr (inl (first-free 2, λ t e. let s : 2 ^ 40 ≡ t.stamp = ap (λ (q : Tag). q.stamp) (same-tag _ t (sym deep-tag ∙ e)) in omega (arith, s)))
-    blocks (suc (suc (suc zero))) d = inr (inl (first-free 3, λ t e. let s : 2 ^ 40 + 1 ≡ t.stamp = ap (λ (q : Tag). q.stamp) (same-tag _ t (sym leaf-tag ∙ e)) in omega (arith, s)))
-    blocks (suc (suc (suc (suc n)))) d = inl refl
+leaf-touches = label-touches (2 ^ 40) first_table blank blank leaf_table deep_block leaf_block (label_record 0 null) leaf_record first-records leaf-records
+    (inr (inl (first-free 2, stamp-is (2 ^ 40) deep_block _ deep-tag (omega arith))))
+    (inr (inl (first-free 3, stamp-is (2 ^ 40) leaf_block _ leaf-tag (omega arith))))
 
 -- Its path: the leaf, and slot 8 under it
 
@@ -105,27 +73,11 @@ by-path P u l a (inr e) = subst P (sym e) l
 
 deep-slot : tag_of deep_block.tag ≡ Some (tag_for leaf_image 2 (Under leaf 0) (2 ^ 40))
 unfolding slot_of
-deep-slot = deep-tag ∙ sym (ap (λ (q : Record). Some (record { kind = kind_in q (Under leaf 0); inode = 2; generation = q.generation; slot = 8; stamp = 2 ^ 40 })) (leaf-inode 2))
+deep-slot = tag-is leaf_image 2 (Under leaf 0) leaf_record deep_block (2 ^ 40) (leaf-inode 2) deep-tag
 
 leaf-slot : tag_of leaf_block.tag ≡ Some (tag_for leaf_image 2 leaf (2 ^ 40 + 1))
 unfolding slot_of
-leaf-slot = leaf-tag ∙ sym (ap (λ (q : Record). Some (record { kind = kind_in q leaf; inode = 2; generation = q.generation; slot = 2 ^ 32; stamp = 2 ^ 40 + 1 })) (leaf-inode 2))
-
--- the record but for its leaf
-record-stays : (n : ℕ) → n ≢ 8 → record_pointer leaf_record n ≡ record_pointer (label_record 0 null) n
-record-stays zero ne = refl
-record-stays (suc zero) ne = refl
-record-stays (suc (suc zero)) ne = refl
-record-stays (suc (suc (suc zero))) ne = refl
-record-stays (suc (suc (suc (suc zero)))) ne = refl
-record-stays (suc (suc (suc (suc (suc zero))))) ne = refl
-record-stays (suc (suc (suc (suc (suc (suc zero)))))) ne = refl
-record-stays (suc (suc (suc (suc (suc (suc (suc zero))))))) ne = refl
-record-stays (suc (suc (suc (suc (suc (suc (suc (suc zero)))))))) ne = absurd (ne refl)
-record-stays (suc (suc (suc (suc (suc (suc (suc (suc (suc n))))))))) ne = rw (not-leaf n) refl
-  where
-    not-leaf : (n : ℕ) → eqb (suc (suc (suc (suc (suc (suc (suc (suc (suc n))))))))) 8 ≡ false
-    not-leaf n = grind arith
+leaf-slot = tag-is leaf_image 2 leaf leaf_record leaf_block (2 ^ 40 + 1) (leaf-inode 2) leaf-tag
 
 pub leaf-grows : Grows (2 ^ 40) first_image leaf_image 2 (path_of 8) leaf_places
 unfolding path_of
@@ -134,13 +86,14 @@ leaf-grows = record {
   not_null = by-path (λ a. is_null (leaf_places a) ≡ false) refl refl;
   area = by-path (λ a. is_data_block leaf_image (leaf_places a).block ≡ true) (data-two leaf_table deep_block leaf_block) (data-three leaf_table deep_block leaf_block);
   tag = by-path (λ a. tag_of (cell_at leaf_image (leaf_places a).block).tag ≡ Some (tag_for leaf_image 2 a (leaf_places a).stamp)) deep-slot leaf-slot;
-  record_stays = λ n off. ap (λ (r : Record). record_pointer r n) (leaf-inode 2) ∙ record-stays n (λ e. off (inr (ap InRecord e))) ∙ sym (ap (λ (r : Record). record_pointer r n) (first-inode 2));
+  record_stays = λ n off. ap (λ (r : Record). record_pointer r n) (leaf-inode 2) ∙ but-leaf (label_record 0 null) block_three n (λ e. off (inr (ap InRecord e)))
+      ∙ sym (ap (λ (r : Record). record_pointer r n) (first-inode 2));
   beside = λ b n slot on off. by-path
       (λ b. IsSlot (Under b n) → (OnPath (Under b n) → ⊥)
       → ((find first_image 2 b ≡ answer.Holds (leaf_places b)) × (pointer_at (cell_at leaf_image (leaf_places b).block).payload n ≡ pointer_at (cell_at first_image (leaf_places b).block).payload n))
       ⊎ ((find first_image 2 b ≡ answer.Hole) × (is_null (pointer_at (cell_at leaf_image (leaf_places b).block).payload n) ≡ true)))
       (λ slot off. absurd (not-pointers slot.0))
-      (λ slot off. inr (first-empty 2 leaf (omega arith), other-pointer n slot.1 (λ e. off (inl (ap (Under leaf) e)))))
+      (λ slot off. inr (first-empty 2 leaf (omega arith), other-pointer 0 n (λ e. off (inl (ap (Under leaf) e)))))
       b on slot (λ o. off (widen n b o));
   apart = λ b y slot off h. absurd (no-holds 2 b y slot h);
 }
@@ -164,11 +117,7 @@ leaf-lies = record {
   file = refl;
   range = omega arith;
   touches = leaf-touches;
-  names = record {
-    kind = ap (λ (r : Record). r.kind) (leaf-inode 2) ∙ sym (ap (λ (r : Record). r.kind) (first-inode 2));
-    generation = ap (λ (r : Record). r.generation) (leaf-inode 2) ∙ sym (ap (λ (r : Record). r.generation) (first-inode 2));
-    links = ap (λ (r : Record). r.links) (leaf-inode 2) ∙ sym (ap (λ (r : Record). r.links) (first-inode 2));
-  };
+  names = same-names first_image leaf_image 2 (label_record 0 null) leaf_record (first-inode 2) (leaf-inode 2) refl;
   size = ap (λ (r : Record). r.size) (leaf-inode 2);
   grows = leaf-grows;
   content = sym leaf-content;
@@ -195,11 +144,8 @@ leaf-claim = record {
   cell = Claimed refl (omega arith) refl;
   leaf = Claimed refl (omega arith) refl;
   top = Unclaimed refl;
-  apart = ((λ y c e. let s : 3 ≡ y.block = ap (λ (q : Pointer). q.block) (sole-is block_three y c) in omega (arith, s, e)), ((λ y c. absurd (none c)), tt));
+  apart = ((λ y c e. let s : 3 ≡ y.block = ap (λ (q : Pointer). q.block) (sole-is block_three y c) in omega (arith, s, e)), ((λ y c. absurd (none-of c)), tt));
 }
-  where
-    none : {y : Pointer} → Contains [] y → ⊥
-    none c = omega (arith, c.1)
 
 pub leaf-case : LeafCase
 leaf-case = (leaf-lies, leaf-placed, leaf-claim)

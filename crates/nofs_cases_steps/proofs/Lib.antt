@@ -1,7 +1,10 @@
+pub mod Numbers
 pub mod Images
 pub mod Slots
 pub mod Matches
 pub mod Below
+pub mod Steps
+pub mod Leaves
 pub mod FileCases
 pub mod StateCases
 pub mod LeafCase

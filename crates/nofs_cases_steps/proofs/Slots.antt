@@ -2,7 +2,8 @@
 use Rattle.std.proofs.Common.{◌≡◌, ℕ, zero, suc, ◌<◌, ◌⊎◌, inl, inr, true, false, eqb, Option, Some, None, refl, sym, ap, ◌∙◌, subst, arith}
 use Rattle.nofs_ptrs.specs.Paths.{slot_limit}
 use Rattle.nofs_model.specs.Cells.{Cell, Pointer, Record, null, is_null}
-use Rattle.nofs_model.specs.Image.{Image, inode, Path, InRecord, Under, path_of, is_pointer_slot, IsSlot, record_pointer, judged, find, pointer, value, value_in, agreed, IsFree, owner, Home}
+use Rattle.nofs_model.specs.Image.{Image, inode, Path, InRecord, Under, path_of, is_pointer_slot, IsSlot, record_pointer, judged, find, pointer, value}
+use Rattle.nofs_model.specs.Image.{value_in, agreed, IsFree, owner, Home}
 use Rattle.nofs_model.specs.declared.path.PathAnswer.{PathAnswer}
 use Rattle.nofs_model.specs.declared.path.PathAnswer.TheVariants as answer
 use Rattle.nofs_model.specs.declared.value.Value.TheVariants.{Hole}
@@ -11,6 +12,7 @@ use Rattle.nofs_model.proofs.Owners.{owner-holds, owner-slot}
 use Rattle.nofs_model.proofs.Paths.{path_of-slot, path_of-number}
 use Rattle.nofs_law_untouched.specs.Frames.{OldPointers}
 use Rattle.nofs_cases_steps.specs.Images.{image_of}
+use Rattle.nofs_cases_steps.proofs.Numbers.{one_of, each-number}
 use Rattle.nofs_cases_steps.proofs.Images.{plain, nth, HasRecords, inode-is}
 
 -- the record has this pointer in slot 0, and no other
@@ -19,24 +21,14 @@ IsPlain r x = r ≡ plain r.generation r.kind r.links r.size x
 
 -- the pointers of inodes 1 to 3
 abbrev pub pick : Pointer → Pointer → Pointer → ℕ → Pointer
-pick p q r zero = null
-pick p q r (suc zero) = p
-pick p q r (suc (suc zero)) = q
-pick p q r (suc (suc (suc zero))) = r
-pick p q r (suc (suc (suc (suc n)))) = null
+pick p q r = one_of null p q r
 
 abbrev pub ArePlain : Image → (ℕ → Pointer) → Type 0
 ArePlain X at = (i : ℕ) → IsPlain (inode X i) (at i)
 
 pub plain-image : (t x y : Cell) (a b c : Record) (p q r : Pointer) → HasRecords t a b c → IsPlain a p → IsPlain b q → IsPlain c r → ArePlain (image_of t x y) (pick p q r)
-plain-image t x y a b c p q r h pa pb pc i = subst (λ (s : Record). IsPlain s (pick p q r i)) (sym (inode-is t x y a b c h i)) (each i)
-  where
-    each : (i : ℕ) → IsPlain (nth a b c i) (pick p q r i)
-    each zero = refl
-    each (suc zero) = pa
-    each (suc (suc zero)) = pb
-    each (suc (suc (suc zero))) = pc
-    each (suc (suc (suc (suc n)))) = refl
+plain-image t x y a b c p q r h pa pb pc i = subst (λ (s : Record). IsPlain s (pick p q r i)) (sym (inode-is t x y a b c h i))
+    (each-number (λ n. IsPlain (nth a b c n) (pick p q r n)) refl pa pb pc (λ n. refl) i)
 
 -- every place of the record but the first is empty
 others-are : (r : Record) (x : Pointer) → IsPlain r x → (m : ℕ) → record_pointer r (suc m) ≡ null
@@ -62,6 +54,11 @@ others-are r x e m = ap (λ (s : Record). record_pointer s (suc m)) e ∙ go m
 
 pub others-null : (r : Record) (x : Pointer) → IsPlain r x → (m : ℕ) → is_null (record_pointer r (suc m)) ≡ true
 others-null r x is m = ap is_null (others-are r x is m)
+
+-- a record without a pointer
+pub no-pointers : (r : Record) → IsPlain r null → (n : ℕ) → is_null (record_pointer r n) ≡ true
+no-pointers r is zero = ap (λ (q : Record). is_null (record_pointer q 0)) is
+no-pointers r is (suc m) = others-null r null is m
 
 pub others-stamp : (r : Record) (x : Pointer) → IsPlain r x → (m : ℕ) → (record_pointer r (suc m)).stamp ≡ 0
 others-stamp r x is m = ap (λ (p : Pointer). p.stamp) (others-are r x is m)

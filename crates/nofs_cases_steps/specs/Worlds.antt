@@ -1,5 +1,5 @@
 -- The machine's files and worlds on these images.
-use Rattle.std.specs.Prelude.{ℕ, true, false, List, [], ◌∷◌, ◌+◌, ◌^◌, Option, Some, None, if◌then◌else◌, ◌==◌}
+use Rattle.std.specs.Prelude.{ℕ, Bool, true, false, List, [], ◌∷◌, ◌+◌, ◌^◌, Option, Some, None, if◌then◌else◌, ◌==◌}
 use Rattle.nofs_inode.specs.declared.inode.FileKind.TheVariants.{File, Directory}
 use Rattle.nofs_model.specs.Cells.{BackLink, Pointer, no_link, null}
 use Rattle.nofs_model.specs.Image.{Absent, FileState, Files, Home}
@@ -39,9 +39,9 @@ first_files = three_files (root_file Hole) (label_file 0 Hole) None
 abbrev pub put_files : Files
 put_files = three_files (root_file Hole) (label_file 1 (Bytes (7 ∷ z 1023))) None
 
--- a world with these files and homes, in which all is known
-abbrev pub world : Files → (ℕ → Option Home) → ℕ → World
-world F homes serial = record {
+-- a world with these files, homes and verdicts
+abbrev pub world_known : Files → (ℕ → Option Home) → ℕ → (ℕ → Bool) → (ℕ → Bool) → World
+world_known F homes serial inodes blocks = record {
   version = 1;
   blocks = 16;
   inodes = 4;
@@ -50,9 +50,13 @@ world F homes serial = record {
   stopped = false;
   files = F;
   homes = homes;
-  known_inodes = λ i. true;
-  known_blocks = λ p. true;
+  known_inodes = inodes;
+  known_blocks = blocks;
 }
+
+-- one in which all is known
+abbrev pub world : Files → (ℕ → Option Home) → ℕ → World
+world F homes serial = world_known F homes serial (λ i. true) (λ p. true)
 
 abbrev pub first_world : World
 first_world = world first_files (λ p. None) 0
