@@ -1,28 +1,25 @@
 -- The numbers in the cells that a Put, a Make, a Link and a Drop write.
-use Rattle.std.proofs.Common.{◌≡◌, ◌≢◌, ℕ, zero, suc, ◌+◌, ◌-◌, ◌%◌, ◌^◌, ◌<◌, ◌≤◌, ◌⊎◌, inl, inr, true, false, List, [], ◌∷◌, ◌++◌, Option, Some, IfSome}
+use Rattle.std.proofs.Common.{◌≡◌, ℕ, zero, suc, ◌+◌, ◌-◌, ◌%◌, ◌^◌, ◌<◌, ◌≤◌, inl, true, List, [], ◌∷◌, ◌++◌, Option, Some, IfSome}
 use Rattle.std.proofs.Common.{Contains, refl, sym, ap, ◌∙◌, subst, arith}
-use Rattle.nofs_model.specs.Cells.{Cell, Content, Directory, Entry, Pointer, BackLink, Record, record_at, record_of, fields_in, link_in, pointer_in}
-use Rattle.nofs_model.specs.Cells.{number_at, spelled_entry, entry_of, entry_fields, tag_of, null, is_null, is_live, free_record, no_link}
-use Rattle.nofs_model.specs.Image.{Image, cell_at, inode, InRecord, is_inode, tag_for, kind_in, find, pointer, record_pointer}
-use Rattle.nofs_model.specs.declared.path.PathAnswer.TheVariants as answer
-use Rattle.nofs_model.specs.declared.value.Value.TheVariants.{Hole, Bytes}
+use Rattle.nofs_model.specs.Cells.{Cell, Entry, Pointer, BackLink, Record, record_at}
+use Rattle.nofs_model.specs.Cells.{tag_of, null, is_live, free_record}
+use Rattle.nofs_model.specs.Image.{Image, inode, InRecord, is_inode, tag_for, kind_in, pointer, record_pointer}
 use Rattle.nofs_machine.specs.World.{World}
-use Rattle.nofs_machine.specs.Machine.{link_to}
 use Rattle.nofs_machine.specs.Claims.{no_claims}
 use Rattle.nofs_machine.specs.declared.history.Claims.{Claims}
 use Rattle.nofs_law_maps.specs.Fresh.{Numbered, Old}
 use Rattle.nofs_law_maps.specs.Pieces.{PointerFrom, Before, Claimed, Empty}
-use Rattle.nofs_law_numbers.specs.Cells.{CellFor, EntryWritten, Held, Zeros, RecordFrom, RecordBorn, RecordWritten, AsBefore, Changed, Made, Freed, table_tag}
+use Rattle.nofs_law_numbers.specs.Cells.{Held, Zeros, RecordWritten, AsBefore, Changed, Made, Freed}
 use Rattle.nofs_cases_steps.specs.Images.{z, blank, first_table, first_image, put_table, put_block, image_of}
-use Rattle.nofs_cases_steps.specs.Worlds.{no_links, first_world, block_two}
+use Rattle.nofs_cases_steps.specs.Worlds.{first_world, block_two}
 use Rattle.nofs_cases_steps.specs.FileCases.{put_claims}
-use Rattle.nofs_cases_steps.proofs.Images.{plain, root_record, label_record, HasRecords, put-records, data-two, table-tag}
-use Rattle.nofs_cases_steps.proofs.Slots.{IsPlain, others-null}
+use Rattle.nofs_cases_steps.proofs.Images.{root_record, label_record, HasRecords, put-records, data-two, table-tag}
+use Rattle.nofs_cases_steps.proofs.Slots.{IsPlain, others-null, no-pointers}
 use Rattle.nofs_cases_steps.proofs.Matches.{first-tag}
 use Rattle.nofs_cases_steps.proofs.Below.{range-is}
 use Rattle.nofs_cases_steps.proofs.FileCases.{first-inode, put-slot, put-inode}
 use Rattle.nofs_cases_names.specs.Names.{short_entry_bytes, root_block, name_table, name_image, name_world, drop_table, one_link}
-use Rattle.nofs_cases_names.specs.NameCases.{a, b, make_claims}
+use Rattle.nofs_cases_names.specs.NameCases.{make_claims}
 use Rattle.nofs_cases_names.proofs.Roots.{file_record, name-records, drop-records, root-tag}
 use Rattle.nofs_cases_names.proofs.NameCases.{spells-a, spells-b, written-a, linked, name-inode, name-holds, entries-case}
 use Rattle.nofs_cases_laws.specs.CellCases.{ContentCellCase, EntryInHoleCase, EntryInPlaceCase, TableChangedCase, TableMadeCase, TableFreedCase}
@@ -146,10 +143,6 @@ new-links l (suc (suc zero), lt, e) = Old (let g : 0 ≡ l.generation = ap (λ (
 new-links l (suc (suc (suc zero)), lt, e) = Old (let g : 0 ≡ l.generation = ap (λ (q : BackLink). q.generation) e in omega (arith, g))
 new-links l (suc (suc (suc (suc k))), lt, e) = absurd (omega (arith, lt))
 
-no-pointers : (n : ℕ) → n < 10 → is_null (record_pointer (file_record one_link) n) ≡ true
-no-pointers zero lt = refl
-no-pointers (suc m) lt = others-null (file_record one_link) null refl m
-
 pub table-made-case : TableMadeCase
 table-made-case = (
   first-numbers,
@@ -159,7 +152,8 @@ table-made-case = (
       (grown first_world make_claims first_image 1 (root_record (block_two 1)) (block_two 1) refl (ap is_live (first-inode 1))
       (sym (ap (λ (r : Record). r.generation) (first-inode 1))) (sym (ap (λ (r : Record). r.links) (first-inode 1))) (Claimed (only (block_two 1))))
       (AsBefore (sym (first-inode 2)))
-      (Made (record { claimed = λ e. omega (arith, e); generation = refl; links = new-links; pointers = no-pointers })) j range,
+      (Made (record { claimed = λ e. omega (arith, e); generation = refl; links = new-links; pointers = λ n lt. no-pointers (file_record one_link) refl n })) j
+      range,
 )
 
 pub table-freed-case : TableFreedCase

@@ -1,23 +1,25 @@
 -- Homes after steps on names, and the numbers before them and before a Put.
-use Rattle.std.proofs.Common.{◌≡◌, ℕ, zero, suc, ◌+◌, ◌^◌, ◌<◌, ◌++◌, [], Option, Some, IfSome, All, Contains, refl, sym, ap, subst, arith}
+use Rattle.std.proofs.Common.{◌≡◌, ℕ, ◌+◌, ◌^◌, ◌<◌, ◌++◌, Option, Some, IfSome, All, List, true, get_or, refl, sym, ap, subst, arith}
 use Rattle.nofs_dirent.specs.Names.{is_name}
 use Rattle.nofs_inode.specs.declared.inode.FileKind.TheVariants.{File}
-use Rattle.nofs_model.specs.Cells.{Directory, Leaf, Tag, Entry, Pointer, SuperBlock, number_at, pointer_at, entry_in, entry_of, entry_fields, null}
-use Rattle.nofs_model.specs.Image.{cell_at, path_of, TagBelow, CellBelow, IsBelow}
+use Rattle.nofs_model.specs.Cells.{Cell, Record, Directory, Leaf, Tag, SuperBlock, number_at, pointer_at, entry_in, entry_of, entry_fields, null}
+use Rattle.nofs_model.specs.Image.{path_of, TagBelow, IsBelow}
 use Rattle.nofs_machine.specs.Search.{least_from}
 use Rattle.nofs_machine.specs.Machine.{first_dead, place_for}
 use Rattle.nofs_machine.specs.Claims.{IsClaim, ClaimedInode, NoInode, Claimed, Unclaimed, no_claims}
 use Rattle.nofs_machine.specs.declared.steps.Step.TheVariants as step
 use Rattle.nofs_law_numbers.specs.Cells.{OldNumbers}
-use Rattle.nofs_cases_steps.specs.Images.{z, blank, first_table, first_image}
+use Rattle.nofs_cases_steps.specs.Images.{z, blank, image_of, first_table, first_image}
 use Rattle.nofs_cases_steps.specs.Worlds.{first_files, first_world, block_two}
-use Rattle.nofs_cases_steps.proofs.Images.{root_record, label_record, numbers-are, mountable}
+use Rattle.nofs_cases_steps.proofs.Numbers.{each-number, all_below, none-of}
+use Rattle.nofs_cases_steps.proofs.Images.{root_record, label_record, HasRecords, numbers-are, mountable}
 use Rattle.nofs_cases_steps.proofs.Below.{record-low, no-links-low, RecordsLow, table-cell, blank-low, cells-low}
 use Rattle.nofs_cases_steps.proofs.FileCases.{put-lies, put-placed}
 use Rattle.nofs_cases_steps.proofs.StateCases.{first-is-below}
 use Rattle.nofs_cases_names.specs.Names.{short_entry_bytes, root_block, name_table, name_image, one_link, name_files, name_world}
 use Rattle.nofs_cases_names.specs.NameCases.{a, b, make_claims}
-use Rattle.nofs_cases_names.proofs.Roots.{file_record, name-records, root-tag, first-entry}
+use Rattle.nofs_cases_names.proofs.Roots.{file_record, name-records, root-tag}
+use Rattle.nofs_cases_names.proofs.Entries.{is_low, entries-low}
 use Rattle.nofs_cases_names.proofs.NameCases.{make-case, rename-case, link-case, drop-name-case, drop-file-case}
 use Rattle.nofs_cases_laws.specs.HomesCases.{MakeHomesCase, LinkHomesCase, RenameHomesCase, DropNameHomesCase, DropFileHomesCase, MakeNumbersCase, LinkNumbersCase, RenameNumbersCase, DropNumbersCase, PutNumbersCase}
 
@@ -40,11 +42,8 @@ make-claim = record {
   cell = Claimed refl (omega arith) refl;
   leaf = Unclaimed refl;
   top = Unclaimed refl;
-  apart = ((λ y c. absurd (none c)), tt);
+  apart = ((λ y c. absurd (none-of c)), tt);
 }
-  where
-    none : {y : Pointer} → Contains [] y → ⊥
-    none c = omega (arith, c.1)
 
 link-claim : IsClaim name_world (step.Link 1 1 b 3 (2 ^ 40)) no_claims
 unfolding place_for first_dead least_from path_of entry_of entry_fields number_at is_name
@@ -71,11 +70,8 @@ pub first-numbers : OldNumbers first_world first_image
 first-numbers = record { positive = omega arith; mountable = mountable first_table blank blank; below = first-is-below (2 ^ 40) (omega arith) }
 
 one-link-low : (s : ℕ) → 2 ^ 40 + 1 < s → All (λ l. l.generation < s) one_link
-one-link-low s lt zero d low = omega (arith, lt)
-one-link-low s lt (suc zero) d low = omega (arith, lt)
-one-link-low s lt (suc (suc zero)) d low = omega (arith, lt)
-one-link-low s lt (suc (suc (suc zero))) d low = omega (arith, lt)
-one-link-low s lt (suc (suc (suc (suc k)))) d low = absurd (omega (arith, low))
+one-link-low s lt n d low = each-number (λ k. k < 4 → (get_or one_link k d).generation < s) (λ below. omega (arith, lt)) (λ below. omega (arith, lt))
+    (λ below. omega (arith, lt)) (λ below. omega (arith, lt)) (λ k below. absurd (omega (arith, below))) n low
 
 pub name-low : (s : ℕ) → 2 ^ 40 + 1 < s → RecordsLow s (root_record (block_two 1)) (label_record 0 null) (file_record one_link)
 name-low s lt = record {
@@ -84,42 +80,34 @@ name-low s lt = record {
   three = record-low s (file_record one_link) null refl (omega (arith, lt)) (one-link-low s lt) (omega (arith, lt));
 }
 
--- the cell has the entry a alone
-entries-low : (j : ℕ) → j < 16 → IfSome (entry_in (short_entry_bytes 97 ++ z 960) j) (λ e. e.generation < 2 ^ 40 + 2)
-unfolding entry_of entry_fields number_at is_name
-entries-low zero lt = subst (λ (o : Option Entry). IfSome o (λ e. e.generation < 2 ^ 40 + 2)) (sym first-entry) (omega arith)
-entries-low (suc zero) lt = tt
-entries-low (suc (suc zero)) lt = tt
-entries-low (suc (suc (suc zero))) lt = tt
-entries-low (suc (suc (suc (suc zero)))) lt = tt
-entries-low (suc (suc (suc (suc (suc zero))))) lt = tt
-entries-low (suc (suc (suc (suc (suc (suc zero)))))) lt = tt
-entries-low (suc (suc (suc (suc (suc (suc (suc zero))))))) lt = tt
-entries-low (suc (suc (suc (suc (suc (suc (suc (suc zero)))))))) lt = tt
-entries-low (suc (suc (suc (suc (suc (suc (suc (suc (suc zero))))))))) lt = tt
-entries-low (suc (suc (suc (suc (suc (suc (suc (suc (suc (suc zero)))))))))) lt = tt
-entries-low (suc (suc (suc (suc (suc (suc (suc (suc (suc (suc (suc zero))))))))))) lt = tt
-entries-low (suc (suc (suc (suc (suc (suc (suc (suc (suc (suc (suc (suc zero)))))))))))) lt = tt
-entries-low (suc (suc (suc (suc (suc (suc (suc (suc (suc (suc (suc (suc (suc zero))))))))))))) lt = tt
-entries-low (suc (suc (suc (suc (suc (suc (suc (suc (suc (suc (suc (suc (suc (suc zero)))))))))))))) lt = tt
-entries-low (suc (suc (suc (suc (suc (suc (suc (suc (suc (suc (suc (suc (suc (suc (suc zero))))))))))))))) lt = tt
-entries-low (suc (suc (suc (suc (suc (suc (suc (suc (suc (suc (suc (suc (suc (suc (suc (suc n)))))))))))))))) lt = absurd (omega (arith, lt))
+-- a disk whose root has one block of entries, each below the bound
 
-root-low : TagBelow (2 ^ 40 + 2) (root_block (short_entry_bytes 97 ++ z 960))
-root-low = record {
-  own = subst (λ (o : Option Tag). IfSome o (λ t. (t.generation < 2 ^ 40 + 2) × (t.stamp < 2 ^ 40 + 2))) (sym (root-tag (short_entry_bytes 97 ++ z 960))) (omega arith, omega arith);
-  entries = subst (λ (o : Option Tag). IfSome o (λ t. t.kind ≡ Directory → (j : ℕ) → j < 16 → IfSome (entry_in (short_entry_bytes 97 ++ z 960) j) (λ e. e.generation < 2 ^ 40 + 2))) (sym (root-tag (short_entry_bytes 97 ++ z 960))) (λ k j lt. entries-low j lt);
-  pointers = subst (λ (o : Option Tag). IfSome o (λ t. t.kind ≡ Leaf → (j : ℕ) → j < 64 → (pointer_at (short_entry_bytes 97 ++ z 960) j).stamp < 2 ^ 40 + 2)) (sym (root-tag (short_entry_bytes 97 ++ z 960))) (λ k. cc k);
+cell-low : (bytes : List ℕ) → ((j : ℕ) → j < 16 → IfSome (entry_in bytes j) (λ e. e.generation < 2 ^ 40 + 2)) → TagBelow (2 ^ 40 + 2) (root_block bytes)
+cell-low bytes entries = record {
+  own = subst (λ (o : Option Tag). IfSome o (λ t. (t.generation < 2 ^ 40 + 2) × (t.stamp < 2 ^ 40 + 2))) (sym (root-tag bytes)) (omega arith, omega arith);
+  entries = subst (λ (o : Option Tag). IfSome o (λ t. t.kind ≡ Directory → (j : ℕ) → j < 16 → IfSome (entry_in bytes j) (λ e. e.generation < 2 ^ 40 + 2)))
+      (sym (root-tag bytes)) (λ k j lt. entries j lt);
+  pointers = subst (λ (o : Option Tag). IfSome o (λ t. t.kind ≡ Leaf → (j : ℕ) → j < 64 → (pointer_at bytes j).stamp < 2 ^ 40 + 2)) (sym (root-tag bytes))
+      (λ k. cc k);
 }
 
--- each cell of the disk with one name
-name-cells : (c : ℕ) → c < 16 → CellBelow (2 ^ 40 + 2) name_image c (cell_at name_image c)
-name-cells = cells-low (2 ^ 40 + 2) name_table (root_block (short_entry_bytes 97 ++ z 960)) blank name_table (root_block (short_entry_bytes 97 ++ z 960)) blank (omega arith)
-    (table-cell (2 ^ 40 + 2) name_table (root_block (short_entry_bytes 97 ++ z 960)) blank name_table (root_record (block_two 1)) (label_record 0 null) (file_record one_link) (omega arith) refl name-records (name-low (2 ^ 40 + 2) (omega arith)))
-    root-low (blank-low (2 ^ 40 + 2) (omega arith))
+pub disk-below : (t : Cell) (bytes : List ℕ) (c : Record) → t.tag ≡ name_table.tag → HasRecords t (root_record (block_two 1)) (label_record 0 null) c
+    → RecordsLow (2 ^ 40 + 2) (root_record (block_two 1)) (label_record 0 null) c
+    → ((j : ℕ) → j < 16 → IfSome (entry_in bytes j) (λ e. e.generation < 2 ^ 40 + 2)) → IsBelow (2 ^ 40 + 2) (image_of t (root_block bytes) blank)
+disk-below t bytes c tag records low entries p lt =
+    cells-low (2 ^ 40 + 2) t (root_block bytes) blank t (root_block bytes) blank (omega arith)
+    (table-cell (2 ^ 40 + 2) t (root_block bytes) blank t (root_record (block_two 1)) (label_record 0 null) c (omega arith) tag records low)
+    (cell-low bytes entries) (blank-low (2 ^ 40 + 2) (omega arith)) p
+    (let n = ap (λ (q : SuperBlock). q.blocks) (numbers-are t (root_block bytes) blank) in omega (arith, n, lt))
+
+-- the cell has the entry a alone
+name-entries : all_below (λ j. is_low (2 ^ 40 + 2) (entry_in (short_entry_bytes 97 ++ z 960) j)) 16 ≡ true
+unfolding all_below is_low entry_of entry_fields number_at is_name
+name-entries = refl
 
 pub name-below : IsBelow (2 ^ 40 + 2) name_image
-name-below c low = name-cells c (let n = ap (λ (q : SuperBlock). q.blocks) (numbers-are name_table (root_block (short_entry_bytes 97 ++ z 960)) blank) in omega (arith, n, low))
+name-below = disk-below name_table (short_entry_bytes 97 ++ z 960) (file_record one_link) refl name-records (name-low (2 ^ 40 + 2) (omega arith))
+    (entries-low (2 ^ 40 + 2) (short_entry_bytes 97 ++ z 960) name-entries)
 
 pub name-numbers : OldNumbers name_world name_image
 name-numbers = record { positive = omega arith; mountable = mountable name_table (root_block (short_entry_bytes 97 ++ z 960)) blank; below = name-below }

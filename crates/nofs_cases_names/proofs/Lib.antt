@@ -1,2 +1,4 @@
 pub mod Roots
+pub mod RootSteps
+pub mod Entries
 pub mod NameCases

@@ -1,5 +1,5 @@
 -- Disks on which the root has one block of entries.
-use Rattle.std.proofs.Common.{◌≡◌, ℕ, zero, suc, ◌+◌, ◌^◌, ◌<◌, true, List, ◌++◌, Some, refl, sym, ap, ◌∙◌, subst, arith, Contains}
+use Rattle.std.proofs.Common.{◌≡◌, ℕ, suc, ◌+◌, ◌^◌, ◌<◌, true, List, ◌++◌, Some, refl, sym, ap, ◌∙◌, subst, arith, Contains}
 use Rattle.nofs_inode.specs.declared.inode.FileKind.TheVariants.{File, Directory as Folder}
 use Rattle.nofs_model.specs.Cells.{Cell, Directory, BackLink, Record, tag_of, number_at, null, is_live, free_record, record_of, record_at, fields_in, link_in, pointer_in, entry_in, entry_of, entry_fields}
 use Rattle.nofs_model.specs.Image.{inode, InRecord, path_of, tag_for, find, files_in, agreed}
@@ -16,6 +16,7 @@ use Rattle.nofs_cases_steps.specs.Images.{z, blank, image_of}
 use Rattle.nofs_cases_steps.specs.Worlds.{root_file, label_file, block_two}
 use Rattle.nofs_cases_names.specs.Names.{short_entry_bytes, root_block, name_table, link_table, drop_table, third_file, one_link, two_links, files_with}
 use Rattle.nofs_cases_names.specs.NameCases.{entry_named, a}
+use Rattle.nofs_cases_steps.proofs.Numbers.{each-number}
 use Rattle.nofs_cases_steps.proofs.Images.{plain, nth, root_record, label_record, HasRecords, inode-is, data-two}
 use Rattle.nofs_cases_steps.proofs.Slots.{IsPlain, ArePlain, pick, plain-image, old-pointers}
 use Rattle.nofs_cases_steps.proofs.Matches.{root-agreed, label-agreed, first-tag, first-holds, same-empty, same-first, files-match}
@@ -63,14 +64,8 @@ module _ (t : Cell) (bytes : List ℕ) (c : Record) (h : HasRecords t (root_reco
   two-agreed = label-agreed (image_of t (root_block bytes) blank) (ap (λ (r : Record). r.kind) (root-inode 2)) (ap (λ (r : Record). r.generation) (root-inode 2))
 
   pub root-old : (i : ℕ) → OldPointers (2 ^ 40 + 2) (image_of t (root_block bytes) blank) i
-  root-old i = old-pointers (image_of t (root_block bytes) blank) i (pick (block_two 1) null null i) (root-plain i) (2 ^ 40 + 2) (low i)
-    where
-      low : (i : ℕ) → (pick (block_two 1) null null i).stamp < 2 ^ 40 + 2
-      low zero = omega arith
-      low (suc zero) = omega arith
-      low (suc (suc zero)) = omega arith
-      low (suc (suc (suc zero))) = omega arith
-      low (suc (suc (suc (suc n)))) = omega arith
+  root-old i = old-pointers (image_of t (root_block bytes) blank) i (pick (block_two 1) null null i) (root-plain i) (2 ^ 40 + 2)
+      (each-number (λ n. (pick (block_two 1) null null n).stamp < 2 ^ 40 + 2) (omega arith) (omega arith) (omega arith) (omega arith) (λ n. omega arith) i)
 
 -- A disk on which entry 0 of the root names inode 3
 
