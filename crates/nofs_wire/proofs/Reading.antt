@@ -96,46 +96,46 @@ number-read first d g slot small =
 number-size : (first d g slot : ℕ) → length (head_bytes first d g (number_bytes 8 slot)) ≡ 21
 number-size first d g slot = length-head first d g (number_bytes 8 slot) ∙ ap (λ n. 13 + n) (length-number_bytes 8 slot)
 
+-- `make` is the step of what was read
+read-number : (first d g slot : ℕ) (make : ℕ → ℕ → ℕ → Step) → (first == 12) ≡ false → (first == 13) ≡ false → IsHandle d g → slot < 2 ^ 64
+    → ((L : List ℕ) → handled_of first L ≡ where_ends (length L == 21) (make (inode_of L) (generation_of L) (number_at 8 13 L)))
+    → step_of (head_bytes first d g (number_bytes 8 slot)) ≡ Some (make d g slot)
+read-number first d g slot make no_inode no_block h small is =
+    let R = number_bytes 8 slot in
+    let L = head_bytes first d g R in
+    let a = inode-back first d g R h.0 in
+    let b = generation-back first d g R h.1 in
+    let c = number-read first d g slot small in
+    handled first d g R no_inode no_block ∙ is L ∙ where-true _ _ _ (eq-eqb (length L) 21 (number-size first d g slot)) (λ k. make (a k) (b k) (c k))
+
 read-list : (d g slot : ℕ) → IsHandle d g → slot < 2 ^ 64 → step_of (head_bytes 6 d g (number_bytes 8 slot)) ≡ Some (step.List d g slot)
 unfolding handled_of list_of
-read-list d g slot h small =
-    let R = number_bytes 8 slot in
-    let a = inode-back 6 d g R h.0 in
-    let b = generation-back 6 d g R h.1 in
-    let c = number-read 6 d g slot small in
-    handled 6 d g R refl refl ∙ where-true _ _ _ (eq-eqb (length (head_bytes 6 d g R)) 21 (number-size 6 d g slot)) (λ k. step.List (a k) (b k) (c k))
+read-list d g slot h small = read-number 6 d g slot step.List refl refl h small (λ L. refl)
 
 read-get : (d g slot : ℕ) → IsHandle d g → slot < 2 ^ 64 → step_of (head_bytes 7 d g (number_bytes 8 slot)) ≡ Some (step.Get d g slot)
 unfolding handled_of get_of
-read-get d g slot h small =
-    let R = number_bytes 8 slot in
-    let a = inode-back 7 d g R h.0 in
-    let b = generation-back 7 d g R h.1 in
-    let c = number-read 7 d g slot small in
-    handled 7 d g R refl refl ∙ where-true _ _ _ (eq-eqb (length (head_bytes 7 d g R)) 21 (number-size 7 d g slot)) (λ k. step.Get (a k) (b k) (c k))
+read-get d g slot h small = read-number 7 d g slot step.Get refl refl h small (λ L. refl)
 
 read-resize : (d g slot : ℕ) → IsHandle d g → slot < 2 ^ 64 → step_of (head_bytes 9 d g (number_bytes 8 slot)) ≡ Some (step.Resize d g slot)
 unfolding handled_of resize_of
-read-resize d g slot h small =
-    let R = number_bytes 8 slot in
-    let a = inode-back 9 d g R h.0 in
-    let b = generation-back 9 d g R h.1 in
-    let c = number-read 9 d g slot small in
-    handled 9 d g R refl refl ∙ where-true _ _ _ (eq-eqb (length (head_bytes 9 d g R)) 21 (number-size 9 d g slot)) (λ k. step.Resize (a k) (b k) (c k))
+read-resize d g slot h small = read-number 9 d g slot step.Resize refl refl h small (λ L. refl)
+
+read-handle : (first d g : ℕ) (make : ℕ → ℕ → Step) → (first == 12) ≡ false → (first == 13) ≡ false → IsHandle d g
+    → ((L : List ℕ) → handled_of first L ≡ where_ends (length L == 13) (make (inode_of L) (generation_of L)))
+    → step_of (head_bytes first d g []) ≡ Some (make d g)
+read-handle first d g make no_inode no_block h is =
+    let L = head_bytes first d g [] in
+    let a = inode-back first d g [] h.0 in
+    let b = generation-back first d g [] h.1 in
+    handled first d g [] no_inode no_block ∙ is L ∙ where-true _ _ _ (eq-eqb (length L) 13 (length-head first d g [])) (λ k. make (a k) (b k))
 
 read-stat : (d g : ℕ) → IsHandle d g → step_of (head_bytes 10 d g []) ≡ Some (step.Stat d g)
 unfolding handled_of stat_of
-read-stat d g h =
-    let a = inode-back 10 d g [] h.0 in
-    let b = generation-back 10 d g [] h.1 in
-    handled 10 d g [] refl refl ∙ where-true _ _ _ (eq-eqb (length (head_bytes 10 d g [])) 13 (length-head 10 d g [])) (λ k. step.Stat (a k) (b k))
+read-stat d g h = read-handle 10 d g step.Stat refl refl h (λ L. refl)
 
 read-flush : (d g : ℕ) → IsHandle d g → step_of (head_bytes 11 d g []) ≡ Some (step.Flush d g)
 unfolding handled_of flush_of
-read-flush d g h =
-    let a = inode-back 11 d g [] h.0 in
-    let b = generation-back 11 d g [] h.1 in
-    handled 11 d g [] refl refl ∙ where-true _ _ _ (eq-eqb (length (head_bytes 11 d g [])) 13 (length-head 11 d g [])) (λ k. step.Flush (a k) (b k))
+read-flush d g h = read-handle 11 d g step.Flush refl refl h (λ L. refl)
 
 read-put : (d g slot at : ℕ) (bytes : List ℕ) → IsHandle d g → slot < 2 ^ 64 → at < 2 ^ 32
     → step_of (head_bytes 8 d g (number_bytes 8 slot ++ (number_bytes 4 at ++ bytes))) ≡ Some (step.Put d g slot at bytes)
@@ -168,33 +168,30 @@ module _ (first d g : ℕ) (name rest : List ℕ) (no_inode : (first == 12) ≡ 
       ap (λ n. drop n N) place ∙ sym (drop-drop (1 + length name) 13 N) ∙ ap (drop (1 + length name)) (rest-back first d g (name_bytes name ++ rest))
       ∙ drop_at (name_bytes name) rest (1 + length name) (omega arith)
 
+-- the name alone
+read-name : (first d g : ℕ) (name : List ℕ) (make : ℕ → ℕ → List ℕ → Step) → (first == 12) ≡ false → (first == 13) ≡ false → IsHandle d g
+    → ((L : List ℕ) → handled_of first L ≡ (name_at 13 L >>= λ m. where_ends (length L == 14 + length m) (make (inode_of L) (generation_of L) m)))
+    → step_of (head_bytes first d g (name_bytes name)) ≡ Some (make d g name)
+read-name first d g name make no_inode no_block h is =
+    let R = name_bytes name in
+    let L = head_bytes first d g R in
+    let same : head_bytes first d g (R ++ []) ≡ L = ap (head_bytes first d g) (append-nil R) in
+    let a = inode-back first d g R h.0 in
+    let b = generation-back first d g R h.1 in
+    let n : name_at 13 L ≡ Some name = ap (name_at 13) (sym same) ∙ found first d g name [] no_inode no_block in
+    let size : length L ≡ 14 + length name = length-head first d g R ∙ omega arith in
+    handled first d g R no_inode no_block
+    ∙ is L
+    ∙ ap (λ o. o >>= λ m. where_ends (length L == 14 + length m) (make (inode_of L) (generation_of L) m)) n
+    ∙ where-true _ _ _ (eq-eqb (length L) (14 + length name) size) (λ k. make (a k) (b k) name)
+
 read-look : (d g : ℕ) (name : List ℕ) → IsHandle d g → step_of (head_bytes 1 d g (name_bytes name)) ≡ Some (step.Look d g name)
 unfolding handled_of named_of look_of
-read-look d g name h =
-    let R = name_bytes name in
-    let L = head_bytes 1 d g R in
-    let same : head_bytes 1 d g (R ++ []) ≡ L = ap (head_bytes 1 d g) (append-nil R) in
-    let a = inode-back 1 d g R h.0 in
-    let b = generation-back 1 d g R h.1 in
-    let n : name_at 13 L ≡ Some name = ap (name_at 13) (sym same) ∙ found 1 d g name [] refl refl in
-    let size : length L ≡ 14 + length name = length-head 1 d g R ∙ omega arith in
-    handled 1 d g R refl refl
-    ∙ ap (λ o. o >>= λ m. named_of 1 m L) n
-    ∙ where-true _ _ _ (eq-eqb (length L) (14 + length name) size) (λ k. step.Look (a k) (b k) name)
+read-look d g name h = read-name 1 d g name step.Look refl refl h (λ L. refl)
 
 read-drop : (d g : ℕ) (name : List ℕ) → IsHandle d g → step_of (head_bytes 4 d g (name_bytes name)) ≡ Some (step.Drop d g name)
 unfolding handled_of named_of drop_of
-read-drop d g name h =
-    let R = name_bytes name in
-    let L = head_bytes 4 d g R in
-    let same : head_bytes 4 d g (R ++ []) ≡ L = ap (head_bytes 4 d g) (append-nil R) in
-    let a = inode-back 4 d g R h.0 in
-    let b = generation-back 4 d g R h.1 in
-    let n : name_at 13 L ≡ Some name = ap (name_at 13) (sym same) ∙ found 4 d g name [] refl refl in
-    let size : length L ≡ 14 + length name = length-head 4 d g R ∙ omega arith in
-    handled 4 d g R refl refl
-    ∙ ap (λ o. o >>= λ m. named_of 4 m L) n
-    ∙ where-true _ _ _ (eq-eqb (length L) (14 + length name) size) (λ k. step.Drop (a k) (b k) name)
+read-drop d g name h = read-name 4 d g name step.Drop refl refl h (λ L. refl)
 
 read-make : (d g : ℕ) (name : List ℕ) (kind : FileKind) → IsHandle d g
     → step_of (head_bytes 2 d g (name_bytes name ++ kind_byte kind ∷ [])) ≡ Some (step.Make d g name kind)
@@ -255,19 +252,22 @@ read-rename d g old new h =
     ∙ ap (λ o. o >>= λ m. where_ends (length L == 15 + length old + length m) (step.Rename (inode_of L) (generation_of L) old m)) second
     ∙ where-true _ _ _ (eq-eqb (length L) (15 + length old + length new) size) (λ k. step.Rename (a k) (b k) old new)
 
+-- a number alone
+read-alone : (first n x : ℕ) (make : ℕ → Step) → x < 256 ^ n
+    → step_of (first ∷ number_bytes n x) ≡ where_ends (length (first ∷ number_bytes n x) == n + 1) (make (number_at n 1 (first ∷ number_bytes n x)))
+    → step_of (first ∷ number_bytes n x) ≡ Some (make x)
+read-alone first n x make small is =
+    let L = first ∷ number_bytes n x in
+    let a : number_at n 1 L ≡ x = number-behind n 1 L (number_bytes n x) refl ∙ number-last n x small in
+    is ∙ where-true _ _ _ (eq-eqb (length L) (n + 1) (omega (arith, length-number_bytes n x))) (λ k. make (a k))
+
 read-see-inode : (i : ℕ) → i < 2 ^ 32 → step_of (12 ∷ number_bytes 4 i) ≡ Some (step.SeeInode i)
 unfolding step_of step_by see_inode_of
-read-see-inode i small =
-    let L = 12 ∷ number_bytes 4 i in
-    let a : number_at 4 1 L ≡ i = number-behind 4 1 L (number_bytes 4 i) refl ∙ number-last 4 i small in
-    where-true _ _ _ (eq-eqb (length L) 5 (omega (arith, length-number_bytes 4 i))) (λ k. step.SeeInode (a k))
+read-see-inode i small = read-alone 12 4 i step.SeeInode small refl
 
 read-see-block : (p : ℕ) → p < 2 ^ 64 → step_of (13 ∷ number_bytes 8 p) ≡ Some (step.SeeBlock p)
 unfolding step_of step_by see_block_of
-read-see-block p small =
-    let L = 13 ∷ number_bytes 8 p in
-    let a : number_at 8 1 L ≡ p = number-behind 8 1 L (number_bytes 8 p) refl ∙ number-last 8 p small in
-    where-true _ _ _ (eq-eqb (length L) 9 (omega (arith, length-number_bytes 8 p))) (λ k. step.SeeBlock (a k))
+read-see-block p small = read-alone 13 8 p step.SeeBlock small refl
 
 -- each step whose numbers fit is read from its body
 pub read-back : (s : Step) → FitsBody s → step_of (request_bytes s) ≡ Some s

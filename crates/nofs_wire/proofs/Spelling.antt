@@ -11,6 +11,7 @@ use Rattle.nofs_disk.specs.OneSpelling.{number_at-same}
 use Rattle.nofs_inode.specs.declared.inode.FileKind.{FileKind}
 use Rattle.nofs_inode.specs.declared.inode.FileKind.TheVariants.{File, Directory}
 use Rattle.nofs_machine.specs.declared.steps.Step.{Step}
+use Rattle.nofs_machine.specs.declared.steps.Step.TheVariants as step
 use Rattle.nofs_wire.specs.Replies.{number_bytes, kind_byte, name_bytes}
 use Rattle.nofs_wire.specs.Requests.{◌>>=◌, where_ends, name_length, has_name, name_at, kind_of, inode_of, generation_of, look_of, make_of, link_of, drop_of, rename_of, list_of, get_of, put_of, resize_of, stat_of, flush_of, see_inode_of, see_block_of, named_of, handled_of, step_by, step_of}
 use Rattle.nofs_wire.specs.Spelled.{head_bytes, request_bytes}
@@ -119,17 +120,25 @@ module _ (body : List ℕ) (each : (k : ℕ) → slice_index body k < 256) where
       ∙ append-nil (number_bytes n (number_at n at body))
 
   module _ (long : 13 ≤ length body) (s : Step) where
-    spelled-list : slice_index body 0 ≡ 6 → list_of body ≡ Some s → body ≡ request_bytes s
-    unfolding list_of request_bytes
-    spelled-list is e =
-        let p = where-parts _ _ s e in
-        head 6 is long ∙ ap (head_bytes 6 (inode_of body) (generation_of body)) (last-number 8 13 (eqb-true (length body) 21 p.0)) ∙ ap request_bytes p.1
+    -- what was read is the step, and the head and the rest spell it
+    spelled : (first : ℕ) (rest : List ℕ) (read : Step) → slice_index body 0 ≡ first → drop 13 body ≡ rest
+        → head_bytes first (inode_of body) (generation_of body) rest ≡ request_bytes read → read ≡ s → body ≡ request_bytes s
+    spelled first rest read is cut same e =
+        head first is long ∙ ap (head_bytes first (inode_of body) (generation_of body)) cut ∙ same ∙ ap request_bytes e
 
-    spelled-get : slice_index body 0 ≡ 7 → get_of body ≡ Some s → body ≡ request_bytes s
-    unfolding get_of request_bytes
-    spelled-get is e =
+    -- a step of a number
+    spelled-number : (first : ℕ) (read : Step) → slice_index body 0 ≡ first → where_ends (length body == 21) read ≡ Some s
+        → head_bytes first (inode_of body) (generation_of body) (number_bytes 8 (number_at 8 13 body)) ≡ request_bytes read → body ≡ request_bytes s
+    spelled-number first read is e same =
         let p = where-parts _ _ s e in
-        head 7 is long ∙ ap (head_bytes 7 (inode_of body) (generation_of body)) (last-number 8 13 (eqb-true (length body) 21 p.0)) ∙ ap request_bytes p.1
+        spelled first (number_bytes 8 (number_at 8 13 body)) read is (last-number 8 13 (eqb-true (length body) 21 p.0)) same p.1
+
+    -- one of the handle alone
+    spelled-handle : (first : ℕ) (read : Step) → slice_index body 0 ≡ first → where_ends (length body == 13) read ≡ Some s
+        → head_bytes first (inode_of body) (generation_of body) [] ≡ request_bytes read → body ≡ request_bytes s
+    spelled-handle first read is e same =
+        let p = where-parts _ _ s e in
+        spelled first [] read is (end-cut 13 (eqb-true (length body) 13 p.0)) same p.1
 
     spelled-put : slice_index body 0 ≡ 8 → put_of body ≡ Some s → body ≡ request_bytes s
     unfolding put_of request_bytes
@@ -141,38 +150,13 @@ module _ (body : List ℕ) (each : (k : ℕ) → slice_index body k < 256) where
         ∙ ap (λ l. number_bytes 8 (number_at 8 13 body) ++ l) (number-cut 4 21 (omega arith)))
         ∙ ap request_bytes p.1
 
-    spelled-resize : slice_index body 0 ≡ 9 → resize_of body ≡ Some s → body ≡ request_bytes s
-    unfolding resize_of request_bytes
-    spelled-resize is e =
-        let p = where-parts _ _ s e in
-        head 9 is long ∙ ap (head_bytes 9 (inode_of body) (generation_of body)) (last-number 8 13 (eqb-true (length body) 21 p.0)) ∙ ap request_bytes p.1
-
-    spelled-stat : slice_index body 0 ≡ 10 → stat_of body ≡ Some s → body ≡ request_bytes s
-    unfolding stat_of request_bytes
-    spelled-stat is e =
-        let p = where-parts _ _ s e in
-        head 10 is long ∙ ap (head_bytes 10 (inode_of body) (generation_of body)) (end-cut 13 (eqb-true (length body) 13 p.0)) ∙ ap request_bytes p.1
-
-    spelled-flush : slice_index body 0 ≡ 11 → flush_of body ≡ Some s → body ≡ request_bytes s
-    unfolding flush_of request_bytes
-    spelled-flush is e =
-        let p = where-parts _ _ s e in
-        head 11 is long ∙ ap (head_bytes 11 (inode_of body) (generation_of body)) (end-cut 13 (eqb-true (length body) 13 p.0)) ∙ ap request_bytes p.1
-
     module _ (name : List ℕ) (named : name_at 13 body ≡ Some name) where
-      spelled-look : slice_index body 0 ≡ 1 → look_of name body ≡ Some s → body ≡ request_bytes s
-      unfolding look_of request_bytes
-      spelled-look is e =
+      -- a step of the name alone
+      spelled-name : (first : ℕ) (read : Step) → slice_index body 0 ≡ first → where_ends (length body == 14 + length name) read ≡ Some s
+          → head_bytes first (inode_of body) (generation_of body) (name_bytes name) ≡ request_bytes read → body ≡ request_bytes s
+      spelled-name first read is e same =
           let p = where-parts _ _ s e in
-          head 1 is long ∙ ap (head_bytes 1 (inode_of body) (generation_of body)) (last-name 13 name named (eqb-true (length body) (14 + length name) p.0))
-          ∙ ap request_bytes p.1
-
-      spelled-drop : slice_index body 0 ≡ 4 → drop_of name body ≡ Some s → body ≡ request_bytes s
-      unfolding drop_of request_bytes
-      spelled-drop is e =
-          let p = where-parts _ _ s e in
-          head 4 is long ∙ ap (head_bytes 4 (inode_of body) (generation_of body)) (last-name 13 name named (eqb-true (length body) (14 + length name) p.0))
-          ∙ ap request_bytes p.1
+          spelled first (name_bytes name) read is (last-name 13 name named (eqb-true (length body) (14 + length name) p.0)) same p.1
 
       spelled-make : slice_index body 0 ≡ 2 → make_of name body ≡ Some s → body ≡ request_bytes s
       unfolding make_of request_bytes
@@ -210,15 +194,15 @@ module _ (body : List ℕ) (each : (k : ℕ) → slice_index body k < 256) where
           ∙ ap request_bytes p.1
 
       spelled-named : (first : ℕ) → slice_index body 0 ≡ first → named_of first name body ≡ Some s → body ≡ request_bytes s
-      unfolding named_of
+      unfolding named_of look_of drop_of request_bytes
       spelled-named first is e = elim (pick (first == 1) _ _ s e) [
-        | inl p ↦ spelled-look (is ∙ eqb-true first 1 p.0) p.1
+        | inl p ↦ spelled-name 1 (step.Look (inode_of body) (generation_of body) name) (is ∙ eqb-true first 1 p.0) p.1 refl
         | inr p ↦ elim (pick (first == 2) _ _ s p.1) [
           | inl p ↦ spelled-make (is ∙ eqb-true first 2 p.0) p.1
           | inr p ↦ elim (pick (first == 3) _ _ s p.1) [
             | inl p ↦ spelled-link (is ∙ eqb-true first 3 p.0) p.1
             | inr p ↦ elim (pick (first == 4) _ _ s p.1) [
-              | inl p ↦ spelled-drop (is ∙ eqb-true first 4 p.0) p.1
+              | inl p ↦ spelled-name 4 (step.Drop (inode_of body) (generation_of body) name) (is ∙ eqb-true first 4 p.0) p.1 refl
               | inr p ↦ elim (pick (first == 5) _ _ s p.1) [
                 | inl p ↦ spelled-rename (is ∙ eqb-true first 5 p.0) p.1
                 | inr p ↦ none-of s p.1
@@ -229,19 +213,19 @@ module _ (body : List ℕ) (each : (k : ℕ) → slice_index body k < 256) where
       ]
 
     spelled-handled : (first : ℕ) → slice_index body 0 ≡ first → handled_of first body ≡ Some s → body ≡ request_bytes s
-    unfolding handled_of
+    unfolding handled_of list_of get_of resize_of stat_of flush_of request_bytes
     spelled-handled first is e = elim (pick (first == 6) _ _ s e) [
-      | inl p ↦ spelled-list (is ∙ eqb-true first 6 p.0) p.1
+      | inl p ↦ spelled-number 6 (step.List (inode_of body) (generation_of body) (number_at 8 13 body)) (is ∙ eqb-true first 6 p.0) p.1 refl
       | inr p ↦ elim (pick (first == 7) _ _ s p.1) [
-        | inl p ↦ spelled-get (is ∙ eqb-true first 7 p.0) p.1
+        | inl p ↦ spelled-number 7 (step.Get (inode_of body) (generation_of body) (number_at 8 13 body)) (is ∙ eqb-true first 7 p.0) p.1 refl
         | inr p ↦ elim (pick (first == 8) _ _ s p.1) [
           | inl p ↦ spelled-put (is ∙ eqb-true first 8 p.0) p.1
           | inr p ↦ elim (pick (first == 9) _ _ s p.1) [
-            | inl p ↦ spelled-resize (is ∙ eqb-true first 9 p.0) p.1
+            | inl p ↦ spelled-number 9 (step.Resize (inode_of body) (generation_of body) (number_at 8 13 body)) (is ∙ eqb-true first 9 p.0) p.1 refl
             | inr p ↦ elim (pick (first == 10) _ _ s p.1) [
-              | inl p ↦ spelled-stat (is ∙ eqb-true first 10 p.0) p.1
+              | inl p ↦ spelled-handle 10 (step.Stat (inode_of body) (generation_of body)) (is ∙ eqb-true first 10 p.0) p.1 refl
               | inr p ↦ elim (pick (first == 11) _ _ s p.1) [
-                | inl p ↦ spelled-flush (is ∙ eqb-true first 11 p.0) p.1
+                | inl p ↦ spelled-handle 11 (step.Flush (inode_of body) (generation_of body)) (is ∙ eqb-true first 11 p.0) p.1 refl
                 | inr p ↦ let (name, named, rest) = bind-parts (name_at 13 body) _ s p.1 in spelled-named name named first is rest
               ]
             ]
@@ -250,26 +234,20 @@ module _ (body : List ℕ) (each : (k : ℕ) → slice_index body k < 256) where
       ]
     ]
 
-  spelled-see-inode : (s : Step) → slice_index body 0 ≡ 12 → see_inode_of body ≡ Some s → body ≡ request_bytes s
-  unfolding see_inode_of request_bytes
-  spelled-see-inode s is e =
+  -- a step of a number alone
+  spelled-alone : (first n : ℕ) (read s : Step) → slice_index body 0 ≡ first → where_ends (length body == n + 1) read ≡ Some s
+      → first ∷ number_bytes n (number_at n 1 body) ≡ request_bytes read → body ≡ request_bytes s
+  spelled-alone first n read s is e same =
       let p = where-parts _ _ s e in
-      let size = eqb-true (length body) 5 p.0 in
-      byte-cut 0 (omega arith) ∙ ap₂ (λ n l. n ∷ l) is (last-number 4 1 size) ∙ ap request_bytes p.1
-
-  spelled-see-block : (s : Step) → slice_index body 0 ≡ 13 → see_block_of body ≡ Some s → body ≡ request_bytes s
-  unfolding see_block_of request_bytes
-  spelled-see-block s is e =
-      let p = where-parts _ _ s e in
-      let size = eqb-true (length body) 9 p.0 in
-      byte-cut 0 (omega arith) ∙ ap₂ (λ n l. n ∷ l) is (last-number 8 1 size) ∙ ap request_bytes p.1
+      let size = eqb-true (length body) (n + 1) p.0 in
+      byte-cut 0 (omega arith) ∙ ap₂ (λ m l. m ∷ l) is (last-number n 1 (omega arith)) ∙ same ∙ ap request_bytes p.1
 
   spelled-by : (first : ℕ) (s : Step) → slice_index body 0 ≡ first → step_by first body ≡ Some s → body ≡ request_bytes s
-  unfolding step_by
+  unfolding step_by see_inode_of see_block_of request_bytes
   spelled-by first s is e = elim (pick (first == 12) _ _ s e) [
-    | inl p ↦ spelled-see-inode s (is ∙ eqb-true first 12 p.0) p.1
+    | inl p ↦ spelled-alone 12 4 (step.SeeInode (number_at 4 1 body)) s (is ∙ eqb-true first 12 p.0) p.1 refl
     | inr p ↦ elim (pick (first == 13) _ _ s p.1) [
-      | inl p ↦ spelled-see-block s (is ∙ eqb-true first 13 p.0) p.1
+      | inl p ↦ spelled-alone 13 8 (step.SeeBlock (number_at 8 1 body)) s (is ∙ eqb-true first 13 p.0) p.1 refl
       | inr p ↦ elim (pick (nat_lt (length body) 13) _ _ s p.1) [
         | inl p ↦ none-of s p.1
         | inr p ↦ spelled-handled (ltb-false (length body) 13 p.0) s first is p.1

@@ -54,29 +54,25 @@ module _ (inbox : InboxState) (size : ℕ) (left given new_given : Option (List 
       → option_to_list (step_in (front_of inbox.window) inbox.window) ≡ map made_step steps ++ others
   first-of steps others is = ap (λ f. option_to_list (step_in f inbox.window)) whole ∙ is
 
-  pub stops-fault : (most : ℕ) → AnswersInPart (step_of (body_of size inbox.window)) made new_made given new_given
-      → Stops most ended.SinkFault inbox left left given new_given made new_made
-  stops-fault most p = record {
+  stops-part : (most : ℕ) (e : WireEnd) (p : AnswersInPart (step_of (body_of size inbox.window)) made new_made given new_given)
+      → StopsSo most e inbox left [] p.steps (take p.count (replies_of p.steps)) → Stops most e inbox left left given new_given made new_made
+  stops-part most e p ends = record {
     bytes = [];
     steps = p.steps;
     written = take p.count (replies_of p.steps);
     takes = Consumes-nil left;
     makes = p.makes;
     gives = p.gives;
-    ends = (refl, (p.left, p.count, first-of p.steps p.left p.first, refl));
+    ends = ends;
   }
+
+  pub stops-fault : (most : ℕ) → AnswersInPart (step_of (body_of size inbox.window)) made new_made given new_given
+      → Stops most ended.SinkFault inbox left left given new_given made new_made
+  stops-fault most p = stops-part most ended.SinkFault p (refl, (p.left, p.count, first-of p.steps p.left p.first, refl))
 
   pub stops-memory : (most : ℕ) → AnswersInPart (step_of (body_of size inbox.window)) made new_made given new_given
       → Stops most ended.OutOfMemory inbox left left given new_given made new_made
-  stops-memory most p = record {
-    bytes = [];
-    steps = p.steps;
-    written = take p.count (replies_of p.steps);
-    takes = Consumes-nil left;
-    makes = p.makes;
-    gives = p.gives;
-    ends = (refl, (p.left, p.count, first-of p.steps p.left p.first, refl));
-  }
+  stops-memory most p = stops-part most ended.OutOfMemory p (refl, (p.left, p.count, first-of p.steps p.left p.first, refl))
 
   -- a frame that was answered whole
   pub goes-answered : (new : InboxState) (body : List ℕ) → body ≡ body_of size inbox.window → 4 + size ≤ length inbox.window

@@ -55,52 +55,41 @@ fn number(
     long(out, value)
 }
 
+/// A handle and a name, and so many bytes behind them.
+fn named(
+    out: &mut Vec<u8>,
+    kind: u8,
+    inode: u32,
+    generation: u64,
+    bytes: &[u8],
+    behind: usize,
+) -> Result<(), AllocError> {
+    let size = bytes.len().saturating_add(behind).saturating_add(14);
+    head(out, size, kind, inode, generation)?;
+    name(out, bytes)
+}
+
 fn note_named(out: &mut Vec<u8>, step: &Step) -> Result<(), AllocError> {
     match step {
         Step::Look {
             directory,
             generation,
             name: bytes,
-        } => {
-            head(
-                out,
-                14usize.saturating_add(bytes.as_slice().len()),
-                1,
-                *directory,
-                *generation,
-            )?;
-            name(out, bytes.as_slice())
-        }
+        } => named(out, 1, *directory, *generation, bytes.as_slice(), 0),
         Step::Make {
             directory,
             generation,
             name: bytes,
             kind,
         } => {
-            head(
-                out,
-                15usize.saturating_add(bytes.as_slice().len()),
-                2,
-                *directory,
-                *generation,
-            )?;
-            name(out, bytes.as_slice())?;
+            named(out, 2, *directory, *generation, bytes.as_slice(), 1)?;
             push(out, &[if *kind == FileKind::File { 1 } else { 2 }])
         }
         Step::Drop {
             directory,
             generation,
             name: bytes,
-        } => {
-            head(
-                out,
-                14usize.saturating_add(bytes.as_slice().len()),
-                4,
-                *directory,
-                *generation,
-            )?;
-            name(out, bytes.as_slice())
-        }
+        } => named(out, 4, *directory, *generation, bytes.as_slice(), 0),
         _ => Ok(()),
     }
 }
@@ -114,14 +103,7 @@ fn note_names(out: &mut Vec<u8>, step: &Step) -> Result<(), AllocError> {
             inode,
             of,
         } => {
-            head(
-                out,
-                26usize.saturating_add(bytes.as_slice().len()),
-                3,
-                *directory,
-                *generation,
-            )?;
-            name(out, bytes.as_slice())?;
+            named(out, 3, *directory, *generation, bytes.as_slice(), 12)?;
             short(out, *inode)?;
             long(out, *of)
         }
