@@ -13,8 +13,8 @@ use Rattle.nofs_super.specs.Spelling.{super_of-payload}
 use Rattle.nofs_model.specs.Cells.{Cell, Pointer, Record, SuperBlock, fields_in, free_record, is_null, link_in, null, number_at, pointer_in, record_at, record_of}
 use Rattle.nofs_model.specs.Image.{Image, cell_at, inode, is_inode, record_pointer, super_at, super_in}
 use Rattle.nofs_model.proofs.Sound.{mountable-law}
+use Rattle.nofs_model.proofs.Spells.{spells}
 use Rattle.nofs_law_mounts.specs.Mounts.{IsBlank, LawFirstDisk}
-use Rattle.nofs_law_mounts.proofs.Raised.{spells}
 
 -- a record without pointers
 abbrev HasNone : Record → Type 0

@@ -1,9 +1,9 @@
 -- What a format leaves is sound.
-use Rattle.std.proofs.Common.{◌≡◌, ◌≢◌, ℕ, zero, suc, ◌+◌, ◌-◌, ◌*◌, ◌/◌, ◌%◌, ◌^◌, ◌<◌, Bool, true, false, cond, eqb, leb, List, [], ◌∷◌, length, get_or, Option, Some, None, IfSome, refl, sym, ap, ◌∙◌, subst, arith, eqb-true}
+use Rattle.std.proofs.Common.{◌≡◌, ◌≢◌, ℕ, zero, suc, ◌+◌, ◌-◌, ◌*◌, ◌/◌, ◌%◌, ◌^◌, ◌<◌, Bool, true, false, cond, eqb, leb, [], ◌∷◌, length, get_or, Option}
+use Rattle.std.proofs.Common.{Some, IfSome, refl, sym, ap, ◌∙◌, subst, arith, eqb-true}
 use Rattle.nofs_disk.specs.Number.{zeros, put_number}
 use Rattle.nofs_disk.specs.Tag.{tag_bytes, zero_cell}
 use Rattle.nofs_disk.specs.OneSpelling.{SpellsTag-tag_bytes, tag_of-spells}
-use Rattle.nofs_super.specs.Super.{super_of}
 use Rattle.nofs_super.specs.Spelling.{super_of-payload}
 use Rattle.nofs_super.specs.Format.{super_payload, super_cell, first_records, table_cell, fresh_super, formatted_cell}
 use Rattle.nofs_inode.specs.declared.inode.FileKind.TheVariants as file
@@ -12,6 +12,7 @@ use Rattle.nofs_model.specs.Image.{Image, cell_at, super_at, super_in, is_super,
 use Rattle.nofs_model.specs.Geometry.{IsGeometry}
 use Rattle.nofs_model.specs.Sound.{LawFormatted}
 use Rattle.nofs_model.proofs.Sound.{mountable-law}
+use Rattle.nofs_model.proofs.Spells.{spells}
 
 -- a tag without generation and stamp, of a kind that names nothing
 record IsPlain (t : Tag) : Type 0 where
@@ -146,22 +147,6 @@ cell-below bound blocks inodes b X big lt = go (eqb b 0) refl (leb b (inodes / 4
     go true e q = subst (λ (n : ℕ). CellBelow bound X n (super_cell (fresh_super blocks inodes))) (sym (eqb-true b 0 e)) (super-below bound X (fresh_super blocks inodes) big)
     go false e true = table-cell-below bound b X big lt
     go false e false = zero-below bound b X big
-
--- what spells a superblock has its numbers
-record Spells (payload : List ℕ) (it : SuperBlock) : Type 0 where
-  spelled : is_super payload ≡ true
-  numbers : super_in payload ≡ it
-
-spells : (payload : List ℕ) (it : SuperBlock) → super_of payload ≡ Some it → Spells payload it
-unfolding super_of
-spells payload it e = go (is_super payload) refl e
-  where
-    some-super : (a b : SuperBlock) → Some a ≡ Some b → a ≡ b
-    some-super a b h = cc h
-
-    go : (b : Bool) → is_super payload ≡ b → cond b (Some (super_in payload)) None ≡ Some it → Spells payload it
-    go true eb h = record { spelled = eb; numbers = some-super (super_in payload) it h }
-    go false eb h = cc h
 
 super-payload : (blocks inodes : ℕ) → (super_cell (fresh_super blocks inodes)).payload ≡ super_payload (fresh_super blocks inodes)
 unfolding super_cell

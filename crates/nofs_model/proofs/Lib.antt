@@ -9,4 +9,5 @@ pub mod Parents
 pub mod Meanings
 pub mod NameMeanings
 pub mod OwnerMeanings
+pub mod Spells
 pub mod Formatted

@@ -91,21 +91,9 @@ fn find_under_record(
     ensures found { result ≡ slots.find cells.now inode (slots.Under (slots.InRecord above) place) }
     ensures area { InArea at.now result }
 {
-    match find_in_record(cells, at, inode, it, above) {
-        PathAnswer::Hole => PathAnswer::Hole,
-        PathAnswer::Lost => PathAnswer::Lost,
-        PathAnswer::Holds(node) => {
-            let pointer = read_pointer(&cell_at(cells, node.block).payload, place as u32);
-            judge(
-                cells,
-                at,
-                inode,
-                it,
-                Place::UnderRecord { at: above, place },
-                pointer,
-            )
-        }
-    }
+    let node = find_in_record(cells, at, inode, it, above);
+    let here = Place::UnderRecord { at: above, place };
+    find_under(cells, at, inode, it, node, here, place)
 }
 
 fn find_under_child(
@@ -121,19 +109,35 @@ fn find_under_child(
     ensures found { result ≡ slots.find cells.now inode (slots.Under (slots.child child) place) }
     ensures area { InArea at.now result }
 {
-    match find_under_record(cells, at, inode, it, 9, child) {
+    let node = find_under_record(cells, at, inode, it, 9, child);
+    let here = Place::UnderChild { child, place };
+    find_under(cells, at, inode, it, node, here, place)
+}
+
+// What stands at a place of the block that stands in the slot above.
+fn find_under(
+    cells: &[Cell],
+    at: &SuperBlock,
+    inode: u32,
+    it: &Record,
+    above: PathAnswer,
+    here: Place,
+    place: u64,
+) -> PathAnswer
+    requires known { IsRecord cells.now at.now inode it.now }
+    requires here { IsPlace here }
+    requires place { place < 64 }
+    requires above { InArea at.now above }
+    ensures found { (path : slots.Path) → above ≡ slots.find cells.now inode path → place_path here ≡ slots.Under path place
+        → result ≡ slots.find cells.now inode (slots.Under path place) }
+    ensures area { InArea at.now result }
+{
+    match above {
         PathAnswer::Hole => PathAnswer::Hole,
         PathAnswer::Lost => PathAnswer::Lost,
         PathAnswer::Holds(node) => {
             let pointer = read_pointer(&cell_at(cells, node.block).payload, place as u32);
-            judge(
-                cells,
-                at,
-                inode,
-                it,
-                Place::UnderChild { child, place },
-                pointer,
-            )
+            judge(cells, at, inode, it, here, pointer)
         }
     }
 }

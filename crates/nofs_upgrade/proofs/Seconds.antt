@@ -1,36 +1,21 @@
 -- The superblock with version 2: what spells it, and how little of an image it changes.
-use Rattle.std.proofs.Common.{◌≡◌, ◌≢◌, ℕ, ◌^◌, ◌<◌, Bool, true, false, cond, ◌&&◌, List, length, Some, None, refl, sym, ap, ◌∙◌, arith}
+use Rattle.std.proofs.Common.{◌≡◌, ◌≢◌, ℕ, ◌^◌, ◌<◌, true, ◌&&◌, List, length, Some, refl, sym, ap, ◌∙◌, arith}
 use Rattle.std.specs.Prelude.{slice_range, is_none, nat_eq}
 use Rattle.std.proofs.lemmas.Bool.{and_parts}
 use lib.Pointwise.{pointwise}
 use Rattle.nofs_disk.specs.Number.{IsBytes, IsBytes-put_number, number_at, number_at-put_before, number_at-put_same, put_number}
-use Rattle.nofs_disk.specs.OneSpelling.{SpellsTag-tag_bytes, tag_of-spells}
 use Rattle.nofs_disk.specs.Parts.{range-put_behind, take-put_number}
 use Rattle.nofs_disk.specs.Tag.{tag_bytes}
 use Rattle.nofs_super.specs.Format.{super_cell, super_payload}
 use Rattle.nofs_super.specs.Spelling.{super_of-only, super_of-payload}
 use Rattle.nofs_super.specs.Super.{CanMount, has_magic, is_version, magic, rest_fault, super_of}
-use Rattle.nofs_model.specs.Cells.{Cell, Super, SuperBlock, Tag, tag_of}
+use Rattle.nofs_model.specs.Cells.{Cell, SuperBlock, tag_of}
 use Rattle.nofs_model.specs.Image.{Image, cell_at, is_super, super_at, super_in}
+use Rattle.nofs_model.proofs.Spells.{Spells, spells, super_tag, super-tag}
 use Rattle.nofs_law_lives.specs.Lives.{HasSuperCell}
 use Rattle.nofs_upgrade.specs.Upgrades.{IsSecond, second, second_cell}
 
 -- What a payload spells
-
-pub record Spells (payload : List ℕ) (it : SuperBlock) : Type 0 where
-  pub spelled : is_super payload ≡ true
-  pub numbers : super_in payload ≡ it
-
-pub spells : (payload : List ℕ) (it : SuperBlock) → super_of payload ≡ Some it → Spells payload it
-unfolding super_of
-spells payload it e = go (is_super payload) refl e
-  where
-    some-super : (a b : SuperBlock) → Some a ≡ Some b → a ≡ b
-    some-super a b h = cc h
-
-    go : (b : Bool) → is_super payload ≡ b → cond b (Some (super_in payload)) None ≡ Some it → Spells payload it
-    go true eb h = record { spelled = eb; numbers = some-super (super_in payload) it h }
-    go false eb h = cc h
 
 pub spelled-of : (payload : List ℕ) (it : SuperBlock) → Spells payload it → super_of payload ≡ Some it
 unfolding super_of
@@ -80,20 +65,8 @@ module _ (payload : List ℕ) (it : SuperBlock) (len : length payload ≡ 1024) 
 
 -- The cell that is written
 
-version-small : 2 < 2 ^ 32
-version-small = omega arith
-
-abbrev super_tag : Tag
-super_tag = record { kind = Super; inode = 0; generation = 0; slot = 0; stamp = 0 }
-
-tag-spelled : tag_of (tag_bytes super_tag) ≡ Some super_tag
-tag-spelled =
-    tag_of-spells (tag_bytes super_tag) super_tag
-    (SpellsTag-tag_bytes super_tag (record { inode = omega arith; generation = omega arith; slot = omega arith; stamp = omega arith }) tt)
-
-super-tag : (it : SuperBlock) → tag_of (super_cell it).tag ≡ Some super_tag
-unfolding super_cell
-super-tag it = tag-spelled
+two-small : 2 < 2 ^ 32
+two-small = omega arith
 
 module _ (blocks : ℕ) (it : SuperBlock) (can : CanMount blocks it) where
   pub second-spelled : super_of (super_cell (second it)).payload ≡ Some (second it)
@@ -102,7 +75,7 @@ module _ (blocks : ℕ) (it : SuperBlock) (can : CanMount blocks it) where
       let b = can.geometry.most_blocks in
       let i = can.geometry.most_inodes in
       let m = can.mount in
-      super_of-payload (second it) version-small (omega (arith, b)) (omega (arith, i)) (omega (arith, m)) refl
+      super_of-payload (second it) two-small (omega (arith, b)) (omega (arith, i)) (omega (arith, m)) refl
 
   second-spells : Spells (super_cell (second it)).payload (second it)
   second-spells = spells (super_cell (second it)).payload (second it) second-spelled
@@ -116,7 +89,7 @@ module _ (blocks : ℕ) (it : SuperBlock) (can : CanMount blocks it) where
       let m = can.mount in
       let new = changed-spells c.payload it is.len (spells c.payload it spelled) in
       let same : put_number 4 8 2 c.payload ≡ super_payload (second it) =
-      super_of-only (second it) version-small (omega (arith, b)) (omega (arith, i)) (omega (arith, m)) (put_number 4 8 2 c.payload)
+      super_of-only (second it) two-small (omega (arith, b)) (omega (arith, i)) (omega (arith, m)) (put_number 4 8 2 c.payload)
       (IsBytes-put_number 1024 4 8 2 c.payload (omega arith) is) (spelled-of (put_number 4 8 2 c.payload) (second it) new) in
       λ j. record { payload = sym same j; tag = tag_bytes super_tag }
 
