@@ -13,6 +13,7 @@ use Rattle.nofs_machine.specs.declared.history.Entry1.{Entry1}
 use Rattle.nofs_machine.specs.declared.steps.Step.{Step}
 use Rattle.nofs_machine.specs.declared.steps.Step.TheVariants as step
 use Rattle.nofs_machine.specs.declared.replies.Reply.TheVariants as reply
+use Rattle.nofs_law_runs.proofs.Rooted.{directory-of, name-of}
 use Rattle.nofs_law_runs.specs.Runs.{files_before}
 use Rattle.nofs_law_runs.proofs.Runs.{Moment, files-after, run-order, run-time, begun-before, begun-reaches, mark-behind, MarkAt, Unmoved, Behind, mark-is, run-faultless}
 use Rattle.nofs_law_runs.proofs.Links.{IsSane, Linked, linked-range, linked-paired, linked-filled}
@@ -103,15 +104,6 @@ no-rename s d of old new e plain = let z : is-plain s ≡ false = ap is-plain e 
 
 no-drop : (s : Step) (d of : ℕ) (name : List ℕ) → s ≡ step.Drop d of name → is-plain s ≡ true → ⊥
 no-drop s d of name e plain = let z : is-plain s ≡ false = ap is-plain e in cc (z, plain)
-
--- the directory and the name of a Drop
-abbrev directory-of : Step → ℕ
-directory-of (step.Drop d g name) = d
-directory-of _ = 0
-
-abbrev name-of : Step → List ℕ
-name-of (step.Drop d g name) = name
-name-of _ = []
 
 no-renaming : (s : Step) (d of : ℕ) (old new : List ℕ) (dir g : ℕ) (name : List ℕ) → s ≡ step.Rename d of old new → s ≡ step.Drop dir g name → ⊥
 no-renaming s d of old new dir g name a b = cc (a, b)

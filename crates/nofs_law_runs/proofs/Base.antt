@@ -1,5 +1,5 @@
 -- The machine's worlds are sane along a run over a base that a mount leaves.
-use Rattle.std.proofs.Common.{◌≡◌, ℕ, ◌+◌, ◌*◌, ◌^◌, ◌<◌, ◌≤◌, true, length, Option, Some, None, unwrap_or, refl, sym, ap, ◌∙◌, subst, arith}
+use Rattle.std.proofs.Common.{◌≡◌, ℕ, ◌+◌, ◌*◌, ◌^◌, ◌<◌, ◌≤◌, true, length, Option, Some, None, unwrap_or, refl, sym, ap, ◌∙◌, subst, subst₂, arith}
 use Rattle.std.proofs.lemmas.List.{length-replicate}
 use Rattle.nofs_model.specs.Image.{Image, Files, FileState, is_folder}
 use Rattle.nofs_model.specs.declared.value.Value.{Value}
@@ -20,7 +20,7 @@ use Rattle.nofs_law_runs.proofs.Slots.{Spelled}
 use Rattle.nofs_law_runs.proofs.Links.{IsSane}
 use Rattle.nofs_law_runs.proofs.Along.{SaneRun}
 use Rattle.nofs_law_runs.proofs.Start.{sane-start, files-start}
-use Rattle.nofs_law_runs.proofs.Sane.{After, Old, New, after, slot-whole, Made, made, make-new}
+use Rattle.nofs_law_runs.proofs.Sane.{After, Old, New, after, slot-whole, Made, made, make-new, new-spelled}
 use Rattle.nofs_law_runs.proofs.Rooted.{rooted-next}
 
 -- a world with the same files and numbers
@@ -57,14 +57,8 @@ module _ (W V : World) (e : Entry1) (sane : IsSane W) (next : Next W e V) (row :
       let same : W.mount * 2 ^ 40 ≡ V.mount * 2 ^ 40 = ap (λ (k : ℕ). k * 2 ^ 40) (sym mount) in
       let ei = m.inode in
       let eg = m.own in
-      let low = n.low in
-      let high = n.high in
       let gen = n.generation in
-      let few = n.serial in
-      let most = sane.inodes in
-      let fits = sane.mount in
-      let pos = sane.positive in
-      (record { some = omega (arith, low, ei); small = omega (arith, high, most, ei); from = omega (arith, pos, gen, eg); below = omega (arith, fits, few, gen, eg) }, omega (arith, serial, one, same, gen, eg))
+      (subst₂ Spelled (sym ei) (sym eg) (new-spelled W e.claims sane n), omega (arith, serial, one, same, gen, eg))
 
   done-sane : IsSane V
   done-sane = record {

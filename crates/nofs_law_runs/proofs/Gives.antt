@@ -5,6 +5,7 @@ use Rattle.std.specs.List.{list_any}
 use Rattle.nofs_dirent.specs.Entries.{entry_limit}
 use Rattle.nofs_model.specs.Cells.{FileKind, BackLink, Entry}
 use Rattle.nofs_model.specs.Image.{Files, FileState, is_folder, entry_at, is_pair, is_special}
+use Rattle.nofs_model.specs.declared.value.Value.{Value}
 use Rattle.nofs_machine.specs.Meta.{Meta, Gone, Is}
 use Rattle.nofs_machine.specs.Search.{least_from, first_of}
 use Rattle.nofs_machine.specs.Machine.{gives, at_place, found, place_for, link_place, make_given, link_given, drop_given, rename_given, meta_given, drop_meta, meta_with, link_to, set_link, without_link, is_paired, is_folder_at}
@@ -49,6 +50,29 @@ module _ (W V : World) where
 
 pub folder-at : (F : Files) (j : ℕ) (f : FileState) → F j ≡ Some f → is_folder_at F j ≡ is_folder f.kind
 folder-at F j f is = rw (is, is_folder_at) refl
+
+-- what a Put or a Resize gives is no slot of a directory
+module _ (W V : World) (c : Claims) (d : ℕ) (f : FileState) (is : W.files d ≡ Some f) (folder : is_folder f.kind ≡ true) (k : ℕ) where
+  not-file : (i : ℕ) → is_folder_at W.files i ≡ false → i ≢ d
+  not-file i file q = let y = folder-at W.files d f is in let z = folder in cc (file, y, q, z)
+
+  pub put-elsewhere : (i g l at : ℕ) (bytes : List ℕ) → first_of (rows W V (step.Put i g l at bytes)) ≡ None → (v : Value)
+      → (gives W.files (step.Put i g l at bytes) c).slots d f.generation k ≡ Some v → ⊥
+  unfolding gives
+  put-elsewhere i g l at bytes r v h = go _ (eqb i d) refl (eqb g f.generation) (eqb l k) h
+    where
+      go : (u : Value) (x : Bool) → eqb i d ≡ x → (y z : Bool) → cond ((x && y) && z) (Some u) None ≡ Some v → ⊥
+      go u true ex y z q = not-file i (put-file W V i g l at bytes r) (eqb-true i d ex)
+      go u false ex y z q = cc q
+
+  pub resize-elsewhere : (i g size : ℕ) → first_of (rows W V (step.Resize i g size)) ≡ None → (v : Value)
+      → (gives W.files (step.Resize i g size) c).slots d f.generation k ≡ Some v → ⊥
+  unfolding gives
+  resize-elsewhere i g size r v h = go _ (eqb i d) refl (eqb g f.generation) h
+    where
+      go : (u : Option Value) (x : Bool) → eqb i d ≡ x → (y : Bool) → cond (x && y) u None ≡ Some v → ⊥
+      go u true ex y q = not-file i (resize-file W V i g size r) (eqb-true i d ex)
+      go u false ex y q = cc q
 
 -- the inode that a Make claims has no file
 claimed-free : (W : World) (g : ℕ) (c : Claims) → IsInodeClaim W g c true → W.files c.inode ≡ None

@@ -24,11 +24,11 @@ use Rattle.nofs_law_runs.specs.Runs.{HasAt, Filled, is_drop, IsDirectory}
 use Rattle.nofs_law_runs.proofs.Places.{at-contains, contains-at}
 use Rattle.nofs_law_runs.proofs.Acts.{accepted-acts, files-next, Acts, Idle, Acting, acts}
 use Rattle.nofs_law_runs.proofs.Gives.{none-at, other-inode, folder-metas, not-born, given-kind}
-use Rattle.nofs_law_runs.proofs.Slots.{Kept, Same, Renamed, Dropped, Spelled, read-back, not-empty-link}
+use Rattle.nofs_law_runs.proofs.Slots.{Kept, Same, Renamed, Dropped, read-back, not-empty-link}
 use Rattle.nofs_law_runs.proofs.Links.{IsSane, Linked, linked-pair, pair-linked, linked-filled, directory-after, step-linked}
 use Rattle.nofs_law_runs.proofs.Along.{linked-kept, Names, names-only, chain-guard, root-folder}
 use Rattle.nofs_law_runs.proofs.Directories.{directory-row, place-range}
-use Rattle.nofs_law_runs.proofs.Sane.{After, Old, New, after, made, IsNew, make-new}
+use Rattle.nofs_law_runs.proofs.Sane.{After, Old, New, after, made, IsNew, make-new, new-spelled}
 
 root-is : (F : Files) → IsDirectory F 1 1 → is_root F 1 ≡ true
 root-is F d =
@@ -114,11 +114,11 @@ left-link p gone none (x ∷ ls) e = go (same_link x gone) refl (p x) refl (left
     go false es true et ih h = (0, x, refl, et, es)
     go false es false et ih h = let r = ih (sym (ap (λ (b : Bool). b || list_any p (without_link gone ls)) et) ∙ h) in (suc r.0, r.1, r.2, r.3, r.4)
 
-abbrev directory-of : Step → ℕ
+abbrev pub directory-of : Step → ℕ
 directory-of (step.Drop d g name) = d
 directory-of _ = 0
 
-abbrev name-of : Step → List ℕ
+abbrev pub name-of : Step → List ℕ
 name-of (step.Drop d g name) = name
 name-of _ = []
 
@@ -296,14 +296,7 @@ module _ (W V : World) (e : Entry1) (sane : IsSane W) (next : Next W e V) where
           inside dir n claim row =
               let lt = lt-ltb p entry_limit (place-range W.files d name p ep) in
               let k = dir.folder in
-              let low = n.low in
-              let high = n.high in
-              let most = sane.inodes in
-              let mount = sane.mount in
-              let pos = sane.positive in
-              let ngen = n.generation in
-              let serial = n.serial in
-              let numbers : Spelled e.claims.inode e.claims.generation = record { some = low; small = omega (arith, high, most); from = omega (arith, pos, ngen); below = omega (arith, mount, serial, ngen) } in
+              let numbers = new-spelled W e.claims sane n in
               let whole : length (bytes_in (value_of W.files d (p / 16))) ≡ 1024 = ap (λ (v : Value). length (bytes_in v)) (value-of W.files d dir.file dir.is (p / 16)) ∙ sane.whole d dir.file dir.is dir.folder (p / 16) in
               rw (k, lt) (ap (λ (o : Option Value). entry_held (unwrap_or o (dir.file.values (p / 16))) p) (slot dir claim)
               ∙ read-back (value_of W.files d (p / 16)) p e.claims.inode e.claims.generation name whole numbers (none-at (rows W V (step.Make d dg name kind)) row 0 (bad_name name) refl))

@@ -1,5 +1,6 @@
 -- Each entry of a run leaves a sane world.
-use Rattle.std.proofs.Common.{◌≡◌, ◌≢◌, ℕ, ◌+◌, ◌*◌, ◌/◌, ◌%◌, ◌^◌, ◌<◌, ◌≤◌, inl, inr, Bool, true, false, cond, eqb, ltb, ◌&&◌, List, length, Option, Some, None, unwrap_or, refl, sym, ap, ◌∙◌, subst, arith, eqb-true, ne_eqb, lt-ltb}
+use Rattle.std.proofs.Common.{◌≡◌, ℕ, ◌+◌, ◌*◌, ◌/◌, ◌%◌, ◌^◌, ◌<◌, ◌≤◌, inl, inr, Bool, true, false, cond, eqb, ltb, List, length, Option, Some, None}
+use Rattle.std.proofs.Common.{unwrap_or, refl, sym, ap, ◌∙◌, subst, arith, eqb-true, ne_eqb, lt-ltb}
 use Rattle.std.specs.Prelude.{nat_lt}
 use Rattle.std.proofs.lemmas.Bool.{cases_lt}
 use Rattle.std.proofs.lemmas.List.{length-replicate}
@@ -11,7 +12,8 @@ use Rattle.nofs_model.specs.declared.value.Value.{Value}
 use Rattle.nofs_model.specs.declared.value.Value.TheVariants.{Hole}
 use Rattle.nofs_machine.specs.Meta.{Meta, Gone, Is}
 use Rattle.nofs_machine.specs.Search.{first_of}
-use Rattle.nofs_machine.specs.Machine.{Given, gives, at_place, found, place_for, link_place, make_given, link_given, drop_given, rename_given, entry_given, no_meta, zeros, bytes_in, value_of, with_entry, is_folder_at, filled, new_file, after_meta, born_file, file_after, files_after}
+use Rattle.nofs_machine.specs.Machine.{Given, gives, at_place, found, place_for, link_place, make_given, link_given, drop_given, rename_given, entry_given}
+use Rattle.nofs_machine.specs.Machine.{no_meta, zeros, bytes_in, value_of, with_entry, filled, new_file, after_meta, born_file, file_after, files_after}
 use Rattle.nofs_machine.specs.World.{World, is_free_inode, inodes_needed, blocks_needed}
 use Rattle.nofs_machine.specs.Refusals.{bad_name, rows, serials_spent}
 use Rattle.nofs_machine.specs.Claims.{IsClaim, IsInodeClaim, ClaimedInode, next_stamp}
@@ -22,8 +24,8 @@ use Rattle.nofs_machine.specs.declared.replies.Refusal.TheVariants as refusal
 use Rattle.nofs_machine.proofs.Era.{IsBirth}
 use Rattle.nofs_machine.proofs.EntryPut.{with-entry-put}
 use Rattle.nofs_law_untouched.proofs.Given.{value-of}
-use Rattle.nofs_law_runs.proofs.Gives.{none-at, row-none, put-file, resize-file, folder-at, other-inode, OfKind}
-use Rattle.nofs_law_runs.proofs.Slots.{entry-slot, short-entry}
+use Rattle.nofs_law_runs.proofs.Gives.{none-at, row-none, put-elsewhere, resize-elsewhere, other-inode, OfKind}
+use Rattle.nofs_law_runs.proofs.Slots.{Spelled, entry-slot, short-entry}
 use Rattle.nofs_law_runs.proofs.Links.{IsSane}
 
 -- Cells of directories
@@ -32,9 +34,6 @@ entry-length : (old : Value) (e : ℕ) (bytes : List ℕ) → length (bytes_in o
 entry-length old e bytes whole short = ap (λ (v : Value). length (bytes_in v)) (with-entry-put old e bytes short) ∙ length-put_bytes (64 * (e % 16)) bytes (bytes_in old) (omega (arith, whole, short)) ∙ whole
 
 module _ (W V : World) (c : Claims) (sane : IsSane W) (j : ℕ) (f : FileState) (is : W.files j ≡ Some f) (folder : is_folder f.kind ≡ true) (k : ℕ) where
-  not-file : (i : ℕ) → is_folder_at W.files i ≡ false → i ≢ j
-  not-file i file q = let y = folder-at W.files j f is in let z = folder in cc (file, y, q, z)
-
   part : (dir g p : ℕ) (bytes : List ℕ) (v : Value) → length bytes ≡ 64 → (entry_given W.files dir g p bytes no_meta).slots j f.generation k ≡ Some v → length (bytes_in v) ≡ 1024
   part dir g p bytes v short given =
       let parts = entry-slot W.files dir g p bytes no_meta j f.generation k v given in
@@ -45,16 +44,8 @@ module _ (W V : World) (c : Claims) (sane : IsSane W) (j : ℕ) (f : FileState) 
   -- a cell that is given to a directory has 1,024 bytes
   pub slot-whole : (s : Step) → first_of (rows W V s) ≡ None → IsClaim W s c → (v : Value) → (gives W.files s c).slots j f.generation k ≡ Some v → length (bytes_in v) ≡ 1024
   unfolding gives
-  slot-whole (step.Put i g l a bytes) r claim v h = absurd (go _ (eqb i j) refl (eqb g f.generation) (eqb l k) h)
-    where
-      go : (u : Value) (x : Bool) → eqb i j ≡ x → (y z : Bool) → cond ((x && y) && z) (Some u) None ≡ Some v → ⊥
-      go u true ex y z q = not-file i (put-file W V i g l a bytes r) (eqb-true i j ex)
-      go u false ex y z q = cc q
-  slot-whole (step.Resize i g size) r claim v h = absurd (go _ (eqb i j) refl (eqb g f.generation) h)
-    where
-      go : (u : Option Value) (x : Bool) → eqb i j ≡ x → (y : Bool) → cond (x && y) u None ≡ Some v → ⊥
-      go u true ex y q = not-file i (resize-file W V i g size r) (eqb-true i j ex)
-      go u false ex y q = cc q
+  slot-whole (step.Put i g l a bytes) r claim v h = absurd (put-elsewhere W V c j f is folder k i g l a bytes r v h)
+  slot-whole (step.Resize i g size) r claim v h = absurd (resize-elsewhere W V c j f is folder k i g size r v h)
   slot-whole (step.Make dir g name kind) r claim v h = go (place_for W.files dir name) h
     where
       go : (o : Option ℕ) → (at_place o (λ p. make_given W.files dir g name kind c p)).slots j f.generation k ≡ Some v → length (bytes_in v) ≡ 1024
@@ -190,6 +181,23 @@ pub record IsNew (W : World) (c : Claims) : Type 0 where
   pub high : c.inode ≤ W.inodes
   pub generation : c.generation ≡ next_stamp W
   pub serial : W.serial < 2 ^ 40
+
+-- they are spelled, where the world is sane
+pub new-spelled : (W : World) (c : Claims) → IsSane W → IsNew W c → Spelled c.inode c.generation
+new-spelled W c sane n =
+    let low = n.low in
+    let high = n.high in
+    let generation = n.generation in
+    let serial = n.serial in
+    let most = sane.inodes in
+    let mount = sane.mount in
+    let positive = sane.positive in
+    record {
+      some = low;
+      small = omega (arith, high, most);
+      from = omega (arith, positive, generation);
+      below = omega (arith, mount, serial, generation);
+    }
 
 pub make-new : (W V : World) (c : Claims) (d g : ℕ) (name : List ℕ) (kind : FileKind) → first_of (rows W V (step.Make d g name kind)) ≡ None → IsClaim W (step.Make d g name kind) c → IsNew W c
 make-new W V c d g name kind r claim = go claim.inode

@@ -13,7 +13,9 @@ use Rattle.nofs_model.specs.declared.value.Value.TheVariants.{Lost}
 use Rattle.nofs_model.proofs.Chains.{pair-of, true-any}
 use Rattle.nofs_machine.specs.Meta.{Meta, Gone, Is}
 use Rattle.nofs_machine.specs.Search.{first_of}
-use Rattle.nofs_machine.specs.Machine.{gives, at_place, found, place_for, link_place, place_for_link, make_given, link_given, drop_given, rename_given, entry_given, meta_given, no_meta, meta_with, drop_meta, same_link, link_to, set_link, without_link, zeros, bytes_in, value_of, with_entry, is_folder_at, is_paired}
+use Rattle.nofs_machine.specs.Machine.{gives, at_place, found, place_for, link_place, place_for_link, make_given, link_given, drop_given, rename_given}
+use Rattle.nofs_machine.specs.Machine.{entry_given, meta_given, no_meta, meta_with, drop_meta, same_link, link_to, set_link, without_link, zeros, bytes_in}
+use Rattle.nofs_machine.specs.Machine.{value_of, with_entry, is_paired}
 use Rattle.nofs_machine.specs.World.{World}
 use Rattle.nofs_machine.specs.Refusals.{bad_name, rows}
 use Rattle.nofs_machine.specs.Claims.{IsClaim}
@@ -27,7 +29,7 @@ use Rattle.nofs_law_old_names.proofs.NameRename.{entry-parts}
 use Rattle.nofs_law_new_names.proofs.NameRows.{place-unpaired}
 use Rattle.nofs_law_runs.specs.Runs.{HasAt}
 use Rattle.nofs_law_runs.proofs.Places.{at-contains, set-beside, cleared-beside, place-passes}
-use Rattle.nofs_law_runs.proofs.Gives.{none-at, row-none, put-file, resize-file, folder-at, other-inode}
+use Rattle.nofs_law_runs.proofs.Gives.{none-at, row-none, put-elsewhere, resize-elsewhere, other-inode}
 
 -- Cells that a step gives
 
@@ -81,10 +83,6 @@ module _ (W V : World) (c : Claims) (d e : ℕ) (f : FileState) (entry : Entry)
   held : entry_held (f.values (e / 16)) e ≡ Some entry
   held = (entry-parts (W.files d) f e entry is at).2
 
-  not-file : (i : ℕ) → is_folder_at W.files i ≡ false → i ≢ d
-  not-file i file q = let y = folder-at W.files d f is in let k = folder in cc (file, y, q, k)
-
-  -- an entry elsewhere in the slot
   beside : (dir g p : ℕ) (bytes : List ℕ) (metas : ℕ → ℕ → Option Meta) (s : Step) (v : Value) → length bytes ≡ 64 → (entry_given W.files dir g p bytes metas).slots d f.generation (e / 16) ≡ Some v
       → (dir ≡ d → p ≡ e → with_entry (f.values (e / 16)) e bytes ≡ v → Kept W.files s d e entry v) → Kept W.files s d e entry v
   beside dir g p bytes metas s v short given here = go (eqb p e) refl
@@ -115,16 +113,8 @@ module _ (W V : World) (c : Claims) (d e : ℕ) (f : FileState) (entry : Entry)
   -- the slot of a pair's entry keeps it, but for a Rename or a Drop of that entry
   pub slot-kept : (s : Step) → first_of (rows W V s) ≡ None → IsClaim W s c → (v : Value) → (gives W.files s c).slots d f.generation (e / 16) ≡ Some v → Kept W.files s d e entry v
   unfolding gives
-  slot-kept (step.Put i g k a bytes) r claim v h = absurd (go _ (eqb i d) refl (eqb g f.generation) (eqb k (e / 16)) h)
-    where
-      go : (u : Value) (x : Bool) → eqb i d ≡ x → (y z : Bool) → cond ((x && y) && z) (Some u) None ≡ Some v → ⊥
-      go u true ex y z q = not-file i (put-file W V i g k a bytes r) (eqb-true i d ex)
-      go u false ex y z q = cc q
-  slot-kept (step.Resize i g size) r claim v h = absurd (go _ (eqb i d) refl (eqb g f.generation) h)
-    where
-      go : (u : Option Value) (x : Bool) → eqb i d ≡ x → (y : Bool) → cond (x && y) u None ≡ Some v → ⊥
-      go u true ex y q = not-file i (resize-file W V i g size r) (eqb-true i d ex)
-      go u false ex y q = cc q
+  slot-kept (step.Put i g k a bytes) r claim v h = absurd (put-elsewhere W V c d f is folder (e / 16) i g k a bytes r v h)
+  slot-kept (step.Resize i g size) r claim v h = absurd (resize-elsewhere W V c d f is folder (e / 16) i g size r v h)
   slot-kept (step.Make dir g name kind) r claim v h = go (place_for W.files dir name) refl h
     where
       name-ok : bad_name name ≡ None
