@@ -9,23 +9,9 @@ use Rattle.nofs_machine.specs.Machine.{put_given, put_content, meta_with, is_at,
 use Rattle.nofs_machine.specs.History.{FilesMatch, SameFile}
 use Rattle.nofs_law_untouched.specs.Frames.{SameNames}
 use Rattle.nofs_machine.specs.Gives.{GivesNothing}
-use Rattle.nofs_law_untouched.proofs.Matching.{matched-file}
-use Rattle.nofs_law_untouched.proofs.Framing.{some-is}
-use Rattle.nofs_law_untouched.proofs.Alike.{same-of}
+pub use Rattle.nofs_law_untouched.proofs.Alike.{file-in}
 use Rattle.nofs_law_untouched.proofs.Given.{at-itself, value-of, size-of}
 use Rattle.nofs_law_files.proofs.OneFile.{GivesFile}
-
--- the machine's file of an inode, in the image
-pub file-in : (F : Files) (X : Image) (i : ℕ) (f : FileState) → FilesMatch F X → F i ≡ Some f → ((inode X i).kind ≡ Some f.kind) × SameFile (Some f) (file_from X i (Some f.kind))
-file-in F X i f match is =
-    let own = matched-file F X i match (some-is (F i) f is) in
-    let same = subst (λ (o : Option FileState). SameFile o (files_in X i)) is (same-of F X i match own.agreed) in
-    let k = go (inode X i).kind refl same in
-    (k, subst (λ (q : Option FileKind). SameFile (Some f) (file_from X i q)) k same)
-  where
-    go : (o : Option FileKind) → (inode X i).kind ≡ o → SameFile (Some f) (file_from X i o) → (inode X i).kind ≡ Some f.kind
-    go None e h = absurd h
-    go (Some kind) e h = e ∙ ap Some (sym h.kind)
 
 module _ (F : Files) (i g k at : ℕ) (bytes : List ℕ) (f : FileState) (is : F i ≡ Some f) (gen : f.generation ≡ g) (file : is_folder f.kind ≡ false) where
   abbrev pub put-made : FileState

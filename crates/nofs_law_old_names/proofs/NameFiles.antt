@@ -1,14 +1,14 @@
 -- The files after a step on names: one cell of a directory changes, and the record of one inode.
-use Rattle.std.proofs.Common.{◌≡◌, ◌≢◌, ℕ, ◌<◌, inl, inr, Bool, true, false, cond, eqb, ◌||◌, List, Option, Some, None, unwrap_or, refl, sym, ap, ◌∙◌, subst, subst₂, eqb-true, eq-eqb}
+use Rattle.std.proofs.Common.{◌≡◌, ◌≢◌, ℕ, ◌<◌, inl, inr, Bool, true, false, cond, eqb, ◌||◌, List, Option, Some, None, unwrap_or, refl, sym, ap, ◌∙◌, subst₂}
+use Rattle.std.proofs.Common.{eqb-true, eq-eqb}
 use Rattle.nofs_ptrs.specs.Paths.{slot_limit}
 use Rattle.nofs_model.specs.declared.path.PathAnswer.{PathAnswer}
 use Rattle.nofs_law_untouched.specs.Frames.{SameIdentity, SamePointers, OldPointers, Touches}
 use Rattle.nofs_model.proofs.Find.{find-held}
 use Rattle.nofs_model.proofs.Paths.{path_of-slot}
-use Rattle.nofs_law_untouched.proofs.Matching.{matched-file}
-use Rattle.nofs_law_untouched.proofs.Framing.{frame, some-is}
+use Rattle.nofs_law_untouched.proofs.Framing.{frame}
 use Rattle.nofs_law_untouched.proofs.Touching.{one-owner, rewrites}
-use Rattle.nofs_law_untouched.proofs.Alike.{same-of}
+use Rattle.nofs_law_untouched.proofs.Alike.{file-in}
 use Rattle.nofs_model.specs.declared.path.PathAnswer.TheVariants as answer
 use Rattle.nofs_machine.specs.Meta.{Meta, Gone, Is}
 use Rattle.nofs_machine.specs.Machine.{Given, filled, after_meta, born_file, file_after, files_after, lies_above}
@@ -43,16 +43,9 @@ touches-of s d i X Y w = record {
     yes false b e = cc
 
 -- the record of an inode of the machine, in the image
-pub file-of : (F : Files) (X : Image) (j : ℕ) (f : FileState) → FilesMatch F X → F j ≡ Some f → ((inode X j).kind ≡ Some f.kind) × SameFile (Some f) (file_from X j (Some f.kind))
-file-of F X j f match is =
-    let own = matched-file F X j match (some-is (F j) f is) in
-    let same = subst (λ (o : Option FileState). SameFile o (files_in X j)) is (same-of F X j match own.agreed) in
-    let k = go (inode X j).kind refl same in
-    (k, subst (λ (q : Option FileKind). SameFile (Some f) (file_from X j q)) k same)
-  where
-    go : (o : Option FileKind) → (inode X j).kind ≡ o → SameFile (Some f) (file_from X j o) → (inode X j).kind ≡ Some f.kind
-    go None e h = absurd h
-    go (Some kind) e h = e ∙ ap Some (sym h.kind)
+pub file-of : (F : Files) (X : Image) (j : ℕ) (f : FileState) → FilesMatch F X → F j ≡ Some f
+    → ((inode X j).kind ≡ Some f.kind) × SameFile (Some f) (file_from X j (Some f.kind))
+file-of = file-in
 
 -- the directory after the step
 module _ (F : Files) (given : Given) (X Y : Image) (d k : ℕ) (f : FileState) (v : Value) (match : FilesMatch F X) (is : F d ≡ Some f)

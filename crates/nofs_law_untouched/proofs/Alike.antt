@@ -163,6 +163,19 @@ same-of F X i match a = subst (λ (o : Option FileState). SameFile (F i) o) (ope
     opened : (X : Image) (i : ℕ) → agreed_files X i ≡ cond (agreed (files_in X) i) (files_in X i) None
     opened X i = agreed-files-is X i
 
+-- the machine's file of an inode, in the image
+pub file-in : (F : Files) (X : Image) (i : ℕ) (f : FileState) → FilesMatch F X → F i ≡ Some f
+    → ((inode X i).kind ≡ Some f.kind) × SameFile (Some f) (file_from X i (Some f.kind))
+file-in F X i f match is =
+    let own = matched-file F X i match (some-is (F i) f is) in
+    let same = subst (λ (o : Option FileState). SameFile o (files_in X i)) is (same-of F X i match own.agreed) in
+    let k = go (inode X i).kind refl same in
+    (k, subst (λ (q : Option FileKind). SameFile (Some f) (file_from X i q)) k same)
+  where
+    go : (o : Option FileKind) → (inode X i).kind ≡ o → SameFile (Some f) (file_from X i o) → (inode X i).kind ≡ Some f.kind
+    go None e h = absurd h
+    go (Some kind) e h = e ∙ ap Some (sym h.kind)
+
 -- the machine's files are agreed among themselves
 pub agreed-machine : (F : Files) (X : Image) → FilesMatch F X → (i : ℕ) → Agreed (files_in X) i → Agreed F i
 agreed-machine F X match i (root r) = root (go (eqb i 1) refl (eqb i 2) refl r)
