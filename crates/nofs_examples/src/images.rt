@@ -2,7 +2,7 @@
 //!
 //! Promise: each image has as many cells as its contract says. Unless it says otherwise, an example
 //! is the empty image with what its comment tells, and `S` is the first stamp of the first mount.
-ghost use Rattle.std.specs.Prelude.{◌≡◌, IfOk, length};
+ghost use Rattle.std.specs.Prelude.{◌≡◌, ◌<◌, ◌^◌, IfOk, length};
 
 use crate::laying::{
     Laid, S, content, file, lay_bytes, lay_entry, lay_pointer, lay_record, lay_super, lay_tag,
@@ -61,16 +61,7 @@ pub fn stamp_that_differs(alloc: Global) -> Result<Vec<Cell>, AllocError>
 pub fn two_owners(alloc: Global) -> Result<Vec<Cell>, AllocError>
     ensures { IfOk result (λ cells. length cells.items ≡ 16) }
 {
-    let mut cells = empty(alloc)?;
-    lay_entry(&mut cells, 6, 0, b'a', 3, S + 1);
-    let a = Laid {
-        size: 1,
-        direct: to(7, S + 2),
-        ..file(0, S + 1)
-    };
-    lay_record(&mut cells, 3, a);
-    lay_tag(&mut cells, 7, content(4, S + 3, 0, S + 4));
-    Ok(cells)
+    with_file(alloc, &SIXTEEN, 3, b'a', S + 1, content(4, S + 3, 0, S + 4))
 }
 
 /// The other one's record reached the device: inode 4 is the file `b`, whose slot 0 points to block
@@ -79,16 +70,7 @@ pub fn two_owners(alloc: Global) -> Result<Vec<Cell>, AllocError>
 pub fn two_owners_the_other_way(alloc: Global) -> Result<Vec<Cell>, AllocError>
     ensures { IfOk result (λ cells. length cells.items ≡ 16) }
 {
-    let mut cells = empty(alloc)?;
-    lay_entry(&mut cells, 6, 0, b'b', 4, S + 3);
-    let b = Laid {
-        size: 1,
-        direct: to(7, S + 4),
-        ..file(0, S + 3)
-    };
-    lay_record(&mut cells, 4, b);
-    lay_tag(&mut cells, 7, content(3, S + 1, 0, S + 2));
-    Ok(cells)
+    with_file(alloc, &SIXTEEN, 4, b'b', S + 3, content(3, S + 1, 0, S + 2))
 }
 
 /// The second mount made inode 3 again, as the file `a` of generation 2S, and pointed its slot 0 to
@@ -101,15 +83,31 @@ pub fn inode_made_again(alloc: Global) -> Result<Vec<Cell>, AllocError>
         mount: 2,
         ..SIXTEEN
     };
-    let mut cells = roots(alloc, &at, 6)?;
-    lay_entry(&mut cells, 6, 0, b'a', 3, 2 * S);
-    let a = Laid {
+    with_file(alloc, &at, 3, b'a', 2 * S, content(3, S + 1, 0, S + 2))
+}
+
+// Entry 0 of the root names a file of one byte, whose slot 0 points to block 7 with the stamp behind
+// the file's generation. The block has this tag.
+fn with_file(
+    alloc: Global,
+    at: &SuperBlock,
+    inode: u32,
+    name: u8,
+    generation: u64,
+    tag: Tag,
+) -> Result<Vec<Cell>, AllocError>
+    requires { generation < 2 ^ 63 }
+    ensures { IfOk result (λ cells. length cells.items ≡ at.now.blocks) }
+{
+    let mut cells = roots(alloc, at, 6)?;
+    lay_entry(&mut cells, 6, 0, name, inode, generation);
+    let it = Laid {
         size: 1,
-        direct: to(7, 2 * S + 1),
-        ..file(0, 2 * S)
+        direct: to(7, generation + 1),
+        ..file(0, generation)
     };
-    lay_record(&mut cells, 3, a);
-    lay_tag(&mut cells, 7, content(3, S + 1, 0, S + 2));
+    lay_record(&mut cells, inode, it);
+    lay_tag(&mut cells, 7, tag);
     Ok(cells)
 }
 
