@@ -17,15 +17,21 @@ use Rattle.nofs_machine.specs.Search.{least_from}
 use Rattle.nofs_machine.specs.Machine.{found, is_folder_at, is_paired, entry_has_name, is_lost, value_of}
 use Rattle.nofs_machine.specs.World.{World}
 use Rattle.nofs_machine.specs.Answers.{kind_named, line_of, lines_from, lines_in_slot}
+use Rattle.nofs_machine.specs.Steps.{Made}
 use Rattle.nofs_machine.specs.declared.replies.NameLine.{NameLine}
+use Rattle.nofs_machine.specs.declared.replies.Refusal.{Refusal}
 use Rattle.nofs_salvage.specs.Report.{inode_in, inode_at, inode_found, is_doubled, lines_below}
-use Rattle.nofs_salvage.specs.Answered.{first_held}
+use Rattle.nofs_salvage.specs.Answered.{first_held, AreAnswered, IsInFolder, IsListedFrom}
 use Rattle.nofs_salvage.specs.declared.findings.Findings.{Findings}
 use Rattle.nofs_salvage.specs.declared.seen.SeenNames.{SeenNames}
+use Rattle.nofs_salvage.specs.declared.steps.Listed.{Listed}
+use Rattle.nofs_salvage.specs.declared.steps.Listed.TheVariants as list
 use Rattle.nofs_salvage.specs.Trees.{AreSeen, IsWalked}
-use Rattle.nofs_salvage.specs.Refusing.{LeadsTo}
-use Rattle.nofs_salvage.specs.Told.{IsTold, AreTold}
-use Rattle.nofs_salvage.proofs.Reading.{all-last}
+use Rattle.nofs_salvage.specs.Refusing.{LeadsTo, AreFair}
+use Rattle.nofs_salvage.specs.Reads.{Reads}
+use Rattle.nofs_salvage.specs.Told.{IsTold, AreTold, AreNames}
+use Rattle.nofs_salvage.proofs.Reading.{all-last, answered-both}
+use Rattle.nofs_salvage.proofs.Refusing.{right-on}
 use Rattle.nofs_salvage.proofs.Walking.{walked-seen}
 
 -- entry e is a pair of this name
@@ -260,3 +266,18 @@ listed-told W picks d start k l lines now seen low names is w = (
   walked-seen W picks d start k l now seen is.0 w,
   slot-told W.files d l lines low is.2 names,
 )
+
+-- The lines that a list names: each is told, and to go through them is to ask what may be asked
+module _ (W : World) (picks : List ℕ → Bool) (d : ℕ) (start : Findings) (k l : ℕ) (lines : List NameLine) (now : Findings) (seen : SeenNames)
+    (listed : Listed) (is : listed ≡ list.Names l lines) (low : IsInFolder listed) (names : AreNames listed) (walked : IsWalked W picks d k start now seen)
+  where
+    pub names-told : IsListedFrom W.files d k listed → AreSeen seen (lines_below W.files d l) × AreTold W.files d (lines_below W.files d l) lines
+    names-told from = listed-told W picks d start k l lines now seen (rw is at low) (rw is at names) (rw is at from) walked
+
+    pub names-right : (old mid new : List Made) (a b : Option Refusal) → Reads old mid a → Reads mid new b → AreAnswered W old new
+        → (AreAnswered W old mid → IsListedFrom W.files d k listed) → (AreAnswered W old mid → AreFair W.files old mid)
+        → (AreSeen seen (lines_below W.files d l) → AreTold W.files d (lines_below W.files d l) lines → AreAnswered W mid new → AreFair W.files mid new)
+        → AreFair W.files old new
+    names-right old mid new a b first last answered from list_right lines_right =
+        let told = names-told (from (answered-both W old mid new a b first last answered).0) in
+        right-on W old mid new a b first last answered list_right (lines_right told.0 told.1)

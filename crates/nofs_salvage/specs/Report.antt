@@ -8,6 +8,8 @@ use Rattle.nofs_machine.specs.Refusals.{slots}
 use Rattle.nofs_machine.specs.Answers.{lines_in_slot}
 use Rattle.nofs_machine.specs.World.{World}
 use Rattle.nofs_machine.specs.declared.replies.NameLine.{NameLine}
+use Rattle.nofs_salvage.specs.declared.findings.NameFlaw.{NameFlaw}
+use Rattle.nofs_salvage.specs.declared.findings.NameFlaw.TheVariants as flaw
 use Rattle.nofs_salvage.specs.declared.report.Loss.{Loss}
 use Rattle.nofs_salvage.specs.declared.report.Loss.TheVariants as loss
 
@@ -29,6 +31,11 @@ inode_found F d name = inode_at F d (found F d name)
 -- one loss, or none
 abbrev pub if_so : Bool → Loss → List Loss
 if_so test it = if test then it ∷ [] else []
+
+-- a name that leads to no file, or that an earlier one hides
+abbrev pub name_loss : NameFlaw → ℕ → List ℕ → Loss
+name_loss flaw.Dead d name = loss.Dead d name
+name_loss flaw.Twice d name = loss.Twice d name
 
 -- those of inode i that are lost, of its first n
 unfoldable pub lost_below : Files → ℕ → ℕ → List Loss

@@ -2,8 +2,7 @@
 //!
 //! Promise: losses are noted at the end, and directories once.
 ghost use Rattle.std.specs.Prelude.{◌≡◌, ◌++◌, [], ◌∷◌, IfOk, OnOk};
-ghost use Rattle.nofs_salvage.specs.Report.{if_so};
-ghost use Rattle.nofs_salvage.specs.declared.report.Loss.TheVariants.{Dead as dead_loss, Twice as twice_loss};
+ghost use Rattle.nofs_salvage.specs.Report.{if_so, name_loss};
 ghost use Rattle.nofs_salvage.specs.Trees.{inodes_in};
 ghost use Rattle.nofs_salvage.specs.Handles.{root_handle};
 ghost use Rattle.nofs_salvage.specs.Told.{handles_in};
@@ -39,36 +38,38 @@ impl Findings {
     }
 }
 
-/// Notes a name that leads to no file, where it is wanted.
-pub fn note_dead(
-    alloc: Global,
-    wanted: bool,
-    directory: u32,
-    name: &Name,
-    report: &mut Report,
-) -> Result<(), AllocError>
-    ensures { OnOk result (report.new ≡ report.old ++ if_so wanted (dead_loss directory name.now)) }
-{
-    if wanted {
-        let name = name.copy(alloc)?;
-        report.push(Loss::Dead { directory, name })?;
-    }
-    Ok(())
+/// Why a name is noted.
+#[derive(Clone, Copy)]
+pub enum NameFlaw {
+    /// It leads to no file.
+    Dead,
+    /// An earlier one hides it.
+    Twice,
 }
 
-/// Notes a name that an earlier one hides, where it is wanted.
-pub fn note_twice(
+fn loss_of(flaw: NameFlaw, directory: u32, name: Name) -> Loss
+    ensures { result ≡ name_loss flaw directory name }
+{
+    match flaw {
+        NameFlaw::Dead => Loss::Dead { directory, name },
+        NameFlaw::Twice => Loss::Twice { directory, name },
+    }
+}
+
+/// Notes a name with a flaw, where it is wanted.
+pub fn note_name(
     alloc: Global,
     wanted: bool,
+    flaw: NameFlaw,
     directory: u32,
     name: &Name,
     report: &mut Report,
 ) -> Result<(), AllocError>
-    ensures { OnOk result (report.new ≡ report.old ++ if_so wanted (twice_loss directory name.now)) }
+    ensures { OnOk result (report.new ≡ report.old ++ if_so wanted (name_loss flaw directory name.now)) }
 {
     if wanted {
         let name = name.copy(alloc)?;
-        report.push(Loss::Twice { directory, name })?;
+        report.push(loss_of(flaw, directory, name))?;
     }
     Ok(())
 }

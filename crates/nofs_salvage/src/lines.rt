@@ -17,7 +17,7 @@ ghost use Rattle.nofs_salvage.specs.Asks.{Asks, HasGiven, AreGiven, AreReached};
 
 use crate::fault::SalvageFault;
 use crate::filter::{NameFilter, NameRule};
-use crate::findings::{Findings, note_dead, note_twice};
+use crate::findings::{Findings, NameFlaw, note_name};
 use crate::seen::SeenNames;
 use crate::slots::note_file;
 use crate::steps::{Handle, look};
@@ -136,13 +136,27 @@ fn note_line<S: Steps, P: Fn(&[u8]) -> bool, R: NameRule>(
 {
     let wanted = filter.picks(line.name.as_slice());
     if line.dead {
-        note_dead(alloc, wanted, at.inode, &line.name, &mut findings.report)?;
+        note_name(
+            alloc,
+            wanted,
+            NameFlaw::Dead,
+            at.inode,
+            &line.name,
+            &mut findings.report,
+        )?;
         return Ok(());
     }
     if seen.meet(alloc, line.name.as_slice())? {
         return note_pair(alloc, steps, wanted, at, line, findings);
     }
-    note_twice(alloc, wanted, at.inode, &line.name, &mut findings.report)?;
+    note_name(
+        alloc,
+        wanted,
+        NameFlaw::Twice,
+        at.inode,
+        &line.name,
+        &mut findings.report,
+    )?;
     Ok(())
 }
 

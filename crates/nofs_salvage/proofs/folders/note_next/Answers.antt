@@ -3,8 +3,7 @@ use Rattle.nofs_salvage.specs.Reads.{Reads, refusal_by}
 use Rattle.nofs_salvage.proofs.Reading.{reads-on, answered-both}
 use Rattle.nofs_salvage.proofs.Walking.{walked-names, walked-lost, walked-end}
 use Rattle.nofs_salvage.specs.Report.{lines_below}
-use Rattle.nofs_salvage.proofs.Refusing.{right-on}
-use Rattle.nofs_salvage.proofs.Telling.{listed-told}
+use Rattle.nofs_salvage.proofs.Telling.{names-told, names-right}
 use Rattle.nofs_salvage.proofs.Asking.{all-met-on}
 use Rattle.nofs_salvage.proofs.folders.note_next.Goals as goal
 
@@ -39,21 +38,19 @@ returns-in-NoMore-clause-walked g c = λ W start w a.
 
 pub returns-in_err-note_lines-in-Names-clause-right : goal.returns-in_err-note_lines-in-Names-clause-right
 returns-in_err-note_lines-in-Names-clause-right g c = λ W start w a ask.
-    let both = answered-both W _ _ _ _ _ c.in_ok-listed.ensures.reads c.note_lines.ensures.reads a in
-    let told = listed-told W (g.R.NameRule.picks c.args.filter.now.rule) c.args.at.inode start c.args.slot c.in-Names.held c.in-Names.lines
-    c.args.findings.now c.args.seen.now (rw c.in-Names.is at c.in_ok-listed.ensures.below) (rw c.in-Names.is at c.in_ok-listed.ensures.names)
-    (rw c.in-Names.is at (c.in_ok-listed.ensures.listed W both.0)) w in
-    right-on W _ _ _ _ _ c.in_ok-listed.ensures.reads c.note_lines.ensures.reads a (λ b. c.in_ok-listed.ensures.right W b ask)
-    (λ b. c.note_lines.ensures.right W (lines_below W.files c.args.at.inode c.in-Names.held) told.0 b ask told.1)
+    names-right W (g.R.NameRule.picks c.args.filter.now.rule) c.args.at.inode start c.args.slot c.in-Names.held c.in-Names.lines c.args.findings.now
+    c.args.seen.now
+    _ c.in-Names.is c.in_ok-listed.ensures.below c.in_ok-listed.ensures.names w _ _ _ _ _ c.in_ok-listed.ensures.reads c.note_lines.ensures.reads a
+    (λ b. c.in_ok-listed.ensures.listed W b) (λ b. c.in_ok-listed.ensures.right W b ask)
+    (λ s t b. c.note_lines.ensures.right W (lines_below W.files c.args.at.inode c.in-Names.held) s b ask t)
 
 pub returns-in_ok-note_lines-in-Names-clause-right : goal.returns-in_ok-note_lines-in-Names-clause-right
 returns-in_ok-note_lines-in-Names-clause-right g c = λ W start w a ask.
-    let both = answered-both W _ _ _ _ _ c.in_ok-listed.ensures.reads c.note_lines.ensures.reads a in
-    let told = listed-told W (g.R.NameRule.picks c.args.filter.now.rule) c.args.at.inode start c.args.slot c.in-Names.held c.in-Names.lines
-    c.args.findings.now c.args.seen.now (rw c.in-Names.is at c.in_ok-listed.ensures.below) (rw c.in-Names.is at c.in_ok-listed.ensures.names)
-    (rw c.in-Names.is at (c.in_ok-listed.ensures.listed W both.0)) w in
-    right-on W _ _ _ _ _ c.in_ok-listed.ensures.reads c.note_lines.ensures.reads a (λ b. c.in_ok-listed.ensures.right W b ask)
-    (λ b. c.note_lines.ensures.right W (lines_below W.files c.args.at.inode c.in-Names.held) told.0 b ask told.1)
+    names-right W (g.R.NameRule.picks c.args.filter.now.rule) c.args.at.inode start c.args.slot c.in-Names.held c.in-Names.lines c.args.findings.now
+    c.args.seen.now
+    _ c.in-Names.is c.in_ok-listed.ensures.below c.in_ok-listed.ensures.names w _ _ _ _ _ c.in_ok-listed.ensures.reads c.note_lines.ensures.reads a
+    (λ b. c.in_ok-listed.ensures.listed W b) (λ b. c.in_ok-listed.ensures.right W b ask)
+    (λ s t b. c.note_lines.ensures.right W (lines_below W.files c.args.at.inode c.in-Names.held) s b ask t)
 
 pub returns-in_ok-note_lines-in-Names-clause-there : goal.returns-in_ok-note_lines-in-Names-clause-there
 returns-in_ok-note_lines-in-Names-clause-there g c = λ W a.
@@ -63,9 +60,8 @@ returns-in_ok-note_lines-in-Names-clause-there g c = λ W a.
 pub returns-in_ok-note_lines-in-Names-clause-folders : goal.returns-in_ok-note_lines-in-Names-clause-folders
 returns-in_ok-note_lines-in-Names-clause-folders g c = λ W start w a f.
     let both = answered-both W _ _ _ _ _ c.in_ok-listed.ensures.reads c.in_ok-note_lines-in-Names.ensures.reads a in
-    let told = listed-told W (g.R.NameRule.picks c.args.filter.now.rule) c.args.at.inode start c.args.slot c.in-Names.held c.in-Names.lines
-    c.args.findings.now c.args.seen.now (rw c.in-Names.is at c.in_ok-listed.ensures.below) (rw c.in-Names.is at c.in_ok-listed.ensures.names)
-    (rw c.in-Names.is at (c.in_ok-listed.ensures.listed W both.0)) w in
+    let told = names-told W (g.R.NameRule.picks c.args.filter.now.rule) c.args.at.inode start c.args.slot c.in-Names.held c.in-Names.lines
+    c.args.findings.now c.args.seen.now _ c.in-Names.is c.in_ok-listed.ensures.below c.in_ok-listed.ensures.names w (c.in_ok-listed.ensures.listed W both.0) in
     c.in_ok-note_lines-in-Names.ensures.folders W (lines_below W.files c.args.at.inode c.in-Names.held) told.0 both.1 told.1 f
 
 pub returns-in_err-note_lines-in-Names-clause-asks : goal.returns-in_err-note_lines-in-Names-clause-asks
