@@ -2,64 +2,40 @@
 
 ghost use Rattle.std.specs.Prelude.{◌≡◌, true};
 
-mod told;
+mod answer;
+mod asked;
 
-use crate::tests::told::{Past, Told};
-use crate::{All, Loss, NameFilter, Prefix, Report, SalvageFault, salvage};
+use crate::tests::answer::{Answer, Lost, loss, reply};
+use crate::tests::asked::AskedSteps;
+use crate::{All, NameFilter, Prefix, Report, SalvageFault, salvage};
 use nofs_lists::Name;
-use nofs_machine::{FileKind, Found, NameLine, NameList, Refusal, Reply, Stat};
+use nofs_machine::{FileKind, Refusal};
+use nofs_told::{InTurn, Notepad, Told};
 use std::alloc::{AllocError, Global};
+use std::process::Abort;
 use std::test::Fail;
 
-fn stat(size: u64) -> Reply {
-    Reply::Stat(Stat {
-        kind: FileKind::File,
-        size,
-        links: 1,
-    })
-}
+type StandIn = Told<InTurn<AskedSteps>>;
 
-fn found(inode: u32, kind: FileKind) -> Reply {
-    Reply::Found(Found {
-        inode,
-        generation: u64::from(inode),
-        kind,
-    })
-}
-
-fn line(alloc: Global, name: &[u8], kind: FileKind, dead: bool) -> Result<NameLine, AllocError> {
-    Ok(NameLine {
-        name: Name::from_slice(alloc, name)?,
-        kind,
-        dead,
-    })
-}
-
-fn names(alloc: Global, slot: u64, lines: [NameLine; 2]) -> Result<Reply, AllocError> {
-    let mut names = NameList::new(alloc);
-    for line in lines {
-        names.push(line)?;
+fn stand_in(alloc: Global, answers: &[Answer<'_>]) -> Result<StandIn, AllocError> {
+    let mut replies = Vec::new(alloc);
+    for answer in answers.iter().rev() {
+        replies.push(reply(alloc, *answer)?)?;
     }
-    Ok(Reply::Names(slot, names))
+    let pad = Notepad::new(alloc);
+    let asked = AskedSteps { pad };
+    Ok(Told::new(InTurn { replies, asked }))
 }
 
-fn name(alloc: Global, slot: u64, line: NameLine) -> Result<Reply, AllocError> {
-    let mut names = NameList::new(alloc);
-    names.push(line)?;
-    Ok(Reply::Names(slot, names))
-}
-
-// A stand-in that makes these replies, which are given last first.
-fn stand_in(alloc: Global, replies: Vec<Reply>) -> Told {
-    Told {
-        alloc,
-        replies,
-        asked: String::new(alloc),
-        past: Past::Start,
+fn report_of(alloc: Global, losses: &[Lost<'_>]) -> Result<Report, AllocError> {
+    let mut report = Report::new(alloc);
+    for lost in losses {
+        report.push(loss(alloc, *lost)?)?;
     }
+    Ok(report)
 }
 
-fn all_names(alloc: Global, told: &mut Told) -> Result<Report, SalvageFault> {
+fn all_names(alloc: Global, told: &mut StandIn) -> Result<Report, SalvageFault> {
     let filter = NameFilter::new(
         |_name: &[u8]| -> bool
             ensures { result ≡ true }
@@ -69,7 +45,7 @@ fn all_names(alloc: Global, told: &mut Told) -> Result<Report, SalvageFault> {
     salvage(alloc, told, &filter)
 }
 
-fn names_from_b(alloc: Global, told: &mut Told) -> Result<Report, SalvageFault> {
+fn names_from_b(alloc: Global, told: &mut StandIn) -> Result<Report, SalvageFault> {
     let bytes = Name::from_slice(alloc, b"b")?;
     let filter = NameFilter::new(
         |name: &[u8]| -> bool { name.starts_with(b"b") },
@@ -78,106 +54,97 @@ fn names_from_b(alloc: Global, told: &mut Told) -> Result<Report, SalvageFault> 
     salvage(alloc, told, &filter)
 }
 
-// The label file lost its slot, and the name `a` of the root is dead.
-fn lost_and_dead(alloc: Global) -> Result<Told, AllocError> {
-    let mut replies = Vec::new(alloc);
-    replies.push(Reply::NoMore)?;
-    replies.push(name(alloc, 0, line(alloc, b"a", FileKind::File, true)?)?)?;
-    replies.push(Reply::Lost)?;
-    replies.push(stat(5))?;
-    Ok(stand_in(alloc, replies))
+/// A walk over all names to whose steps these replies come reports these losses.
+fn check(
+    rt: &impl Abort,
+    alloc: Global,
+    answers: &[Answer<'_>],
+    losses: &[Lost<'_>],
+    steps: &str,
+) -> Result<(), Fail> {
+    let mut told = stand_in(alloc, answers)?;
+    let report = all_names(alloc, &mut told)?;
+    assert!(rt; report == report_of(alloc, losses)?);
+    assert_eq!(rt; told.answers.asked.pad.text.as_str(), steps);
+    Ok(())
 }
+
+// The label file lost its slot, and the name `a` of the root is dead.
+const LOST_AND_DEAD: [Answer<'static>; 4] = [
+    Answer::Sized(5),
+    Answer::Lost,
+    Answer::Names(0, &[("a", FileKind::File, true)]),
+    Answer::NoMore,
+];
 
 #[test]
 fn a_lost_slot_and_a_dead_name_are_reported(rt: HostRuntime) -> Result<(), Fail> {
-    let alloc = rt.alloc();
-    let mut told = lost_and_dead(alloc)?;
-    let report = all_names(alloc, &mut told)?;
-    let mut want = Report::new(alloc);
-    want.push(Loss::Slot { inode: 2, slot: 0 })?;
-    let name = Name::from_slice(alloc, b"a")?;
-    want.push(Loss::Dead { directory: 1, name })?;
-    assert!(rt; report == want);
-    assert_eq!(rt;
-        told.asked.as_str(),
-        "stat 2 0; get 2 0; list 1 0; list 1 1; "
-    );
-    Ok(())
+    check(
+        &rt,
+        rt.alloc(),
+        &LOST_AND_DEAD,
+        &[Lost::Slot(2, 0), Lost::Dead(1, "a")],
+        "stat 2 0; get 2 0; list 1 0; list 1 1; ",
+    )
 }
 
 #[test]
 fn a_dead_name_that_is_not_picked_is_left_out(rt: HostRuntime) -> Result<(), Fail> {
     let alloc = rt.alloc();
-    let mut told = lost_and_dead(alloc)?;
+    let mut told = stand_in(alloc, &LOST_AND_DEAD)?;
     let report = names_from_b(alloc, &mut told)?;
-    let mut want = Report::new(alloc);
-    want.push(Loss::Slot { inode: 2, slot: 0 })?;
-    assert!(rt; report == want);
+    assert!(rt; report == report_of(alloc, &[Lost::Slot(2, 0)])?);
     Ok(())
 }
 
 #[test]
 fn the_second_pair_of_a_name_is_reported(rt: HostRuntime) -> Result<(), Fail> {
-    let alloc = rt.alloc();
-    let mut replies = Vec::new(alloc);
-    replies.push(Reply::NoMore)?;
-    replies.push(stat(0))?;
-    replies.push(found(3, FileKind::File))?;
-    let first = line(alloc, b"a", FileKind::File, false)?;
-    let second = line(alloc, b"a", FileKind::File, false)?;
-    replies.push(names(alloc, 0, [first, second])?)?;
-    replies.push(stat(0))?;
-    let mut told = stand_in(alloc, replies);
-    let report = all_names(alloc, &mut told)?;
-    let mut want = Report::new(alloc);
-    let name = Name::from_slice(alloc, b"a")?;
-    want.push(Loss::Twice { directory: 1, name })?;
-    assert!(rt; report == want);
-    assert_eq!(rt;
-        told.asked.as_str(),
-        "stat 2 0; list 1 0; look 1 0; stat 3 0; list 1 1; "
-    );
-    Ok(())
+    let pair = ("a", FileKind::File, false);
+    check(
+        &rt,
+        rt.alloc(),
+        &[
+            Answer::Sized(0),
+            Answer::Names(0, &[pair, pair]),
+            Answer::Found(3, FileKind::File),
+            Answer::Sized(0),
+            Answer::NoMore,
+        ],
+        &[Lost::Twice(1, "a")],
+        "stat 2 0; list 1 0; look 1 0; stat 3 0; list 1 1; ",
+    )
 }
 
 #[test]
 fn directories_come_behind_the_one_that_names_them(rt: HostRuntime) -> Result<(), Fail> {
-    let alloc = rt.alloc();
-    let mut replies = Vec::new(alloc);
-    replies.push(Reply::NoMore)?;
-    replies.push(Reply::LostNames(3))?;
-    replies.push(Reply::NoMore)?;
-    replies.push(Reply::Refused(Refusal::TooLarge))?;
-    replies.push(Reply::Lost)?;
-    replies.push(Reply::Hole)?;
-    replies.push(stat(9000))?;
-    replies.push(found(5, FileKind::File))?;
-    replies.push(found(4, FileKind::Directory))?;
-    let directory = line(alloc, b"d", FileKind::Directory, false)?;
-    let file = line(alloc, b"f", FileKind::File, false)?;
-    replies.push(names(alloc, 2, [directory, file])?)?;
-    replies.push(stat(0))?;
-    let mut told = stand_in(alloc, replies);
-    let report = all_names(alloc, &mut told)?;
-    let mut want = Report::new(alloc);
-    want.push(Loss::Slot { inode: 5, slot: 1 })?;
-    want.push(Loss::Slot { inode: 4, slot: 3 })?;
-    assert!(rt; report == want);
-    assert_eq!(rt;
-        told.asked.as_str(),
-        "stat 2 0; list 1 0; look 1 0; look 1 0; stat 5 0; get 5 0; get 5 1; get 5 2; list 1 3; list 4 0; list 4 4; "
-    );
-    Ok(())
+    let directory = ("d", FileKind::Directory, false);
+    let file = ("f", FileKind::File, false);
+    check(
+        &rt,
+        rt.alloc(),
+        &[
+            Answer::Sized(0),
+            Answer::Names(2, &[directory, file]),
+            Answer::Found(4, FileKind::Directory),
+            Answer::Found(5, FileKind::File),
+            Answer::Sized(9000),
+            Answer::Hole,
+            Answer::Lost,
+            Answer::No(Refusal::TooLarge),
+            Answer::NoMore,
+            Answer::LostNames(3),
+            Answer::NoMore,
+        ],
+        &[Lost::Slot(5, 1), Lost::Slot(4, 3)],
+        "stat 2 0; list 1 0; look 1 0; look 1 0; stat 5 0; get 5 0; get 5 1; get 5 2; list 1 3; list 4 0; list 4 4; ",
+    )
 }
 
 #[test]
 fn a_refused_step_ends_the_walk(rt: HostRuntime) -> Result<(), Fail> {
-    let alloc = rt.alloc();
-    let mut replies = Vec::new(alloc);
-    replies.push(Reply::Refused(Refusal::Stale))?;
-    replies.push(stat(0))?;
-    let mut told = stand_in(alloc, replies);
-    match all_names(alloc, &mut told) {
+    let answers = [Answer::Sized(0), Answer::No(Refusal::Stale)];
+    let mut told = stand_in(rt.alloc(), &answers)?;
+    match all_names(rt.alloc(), &mut told) {
         Ok(_) => assert!(rt; false),
         Err(fault) => assert!(rt; fault == SalvageFault::Refused(Refusal::Stale)),
     }

@@ -1,0 +1,23 @@
+//! The steps of a walk as a short text.
+
+use nofs_machine::Step;
+use nofs_told::{Notepad, Notes, inode_of, number_of, word_of};
+use std::alloc::AllocError;
+
+/// The steps that were asked for, each with its inode and its slot, or 0, and ended by a semicolon.
+#[derive(Drop)]
+pub struct AskedSteps {
+    pub pad: Notepad,
+}
+
+impl Notes for AskedSteps {
+    fn note(&mut self, step: &Step) -> Result<(), AllocError> {
+        match step {
+            Step::Look { .. } | Step::List { .. } | Step::Get { .. } | Step::Stat { .. } => {
+                let numbers = [u64::from(inode_of(step)), number_of(step)];
+                self.pad.step(word_of(step), &numbers, &[])
+            }
+            _ => self.pad.word("other; "),
+        }
+    }
+}
