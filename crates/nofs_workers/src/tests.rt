@@ -11,6 +11,7 @@ use crate::{
     BlockSweeper, Downwards, Flusher, InodeSweeper, OpenGate, Upwards, UserEnd, UserWorker,
 };
 use nofs_client::{Command, CommandList, Path};
+use nofs_told::Told;
 use std::alloc::{AllocError, Global};
 use std::sync::atomic::Ordering;
 use std::test::Fail;
@@ -26,10 +27,14 @@ fn two_stats(alloc: Global) -> Result<CommandList, AllocError>
 
 #[test]
 fn a_sweep_of_130_inodes_asks_for_64_and_64_and_2(rt: HostRuntime) -> Result<(), Fail> {
-    let mut sweeper = InodeSweeper::new(Fake::new(rt.alloc()), Upwards { count: 130 }, OpenGate);
+    let mut sweeper = InodeSweeper::new(
+        Told::new(Fake::new(rt.alloc())),
+        Upwards { count: 130 },
+        OpenGate,
+    );
     sweeper.work();
     assert!(rt; !sweeper.out_of_memory);
-    let fake = sweeper.into_inner();
+    let fake = sweeper.into_inner().answers;
     assert_eq!(rt; fake.asked.as_slice(), [64, 64, 2].as_slice());
     assert_eq!(rt; (fake.seen.len(), fake.committed), (130, 130));
     assert!(rt; fake.seen.first() == Some(&1) && fake.seen.last() == Some(&130));
@@ -40,9 +45,9 @@ fn a_sweep_of_130_inodes_asks_for_64_and_64_and_2(rt: HostRuntime) -> Result<(),
 fn a_sweep_whose_looks_are_refused_sees_one_by_one(rt: HostRuntime) -> Result<(), Fail> {
     let mut fake = Fake::new(rt.alloc());
     fake.refuses = true;
-    let mut sweeper = BlockSweeper::new(fake, Downwards { count: 66 }, OpenGate);
+    let mut sweeper = BlockSweeper::new(Told::new(fake), Downwards { count: 66 }, OpenGate);
     sweeper.work();
-    let fake = sweeper.into_inner();
+    let fake = sweeper.into_inner().answers;
     assert_eq!(rt; fake.asked.as_slice(), [64, 2].as_slice());
     assert_eq!(rt; (fake.seen.len(), fake.committed), (66, 0));
     assert!(rt; fake.seen.first() == Some(&65) && fake.seen.last() == Some(&0));
@@ -53,38 +58,34 @@ fn a_sweep_whose_looks_are_refused_sees_one_by_one(rt: HostRuntime) -> Result<()
 fn a_sweep_ends_where_memory_is_wanting(rt: HostRuntime) -> Result<(), Fail> {
     let mut fake = Fake::new(rt.alloc());
     fake.room = 70;
-    let mut sweeper = BlockSweeper::new(fake, Upwards { count: 130 }, OpenGate);
+    let mut sweeper = BlockSweeper::new(Told::new(fake), Upwards { count: 130 }, OpenGate);
     sweeper.work();
     assert!(rt; sweeper.out_of_memory);
-    let fake = sweeper.into_inner();
+    let fake = sweeper.into_inner().answers;
     assert_eq!(rt; fake.asked.as_slice(), [64, 64].as_slice());
     assert_eq!(rt; fake.seen.len(), 70);
     Ok(())
 }
 
-#[test]
-fn a_flusher_with_four_turns_over_three_dirty_blocks_makes_four_calls(
-    rt: HostRuntime,
-) -> Result<(), Fail> {
-    let mut fake = Fake::new(rt.alloc());
+/// The calls of a flusher with four turns over three dirty blocks, and the blocks that stay dirty.
+fn flush_three(alloc: Global, fails_at: u64) -> (u64, u64) {
+    let mut fake = Fake::new(alloc);
     fake.dirty = 3;
-    let mut flusher = Flusher::new(fake, OpenGate, 4);
+    fake.fails_at = fails_at;
+    let mut flusher = Flusher::new(Told::new(fake), OpenGate, 4);
     flusher.work();
-    let fake = flusher.into_inner();
-    assert_eq!(rt; (fake.outs, fake.dirty), (4, 0));
-    Ok(())
+    let fake = flusher.into_inner().answers;
+    (fake.outs, fake.dirty)
 }
 
 #[test]
-fn a_flusher_ends_at_the_first_fault(rt: HostRuntime) -> Result<(), Fail> {
-    let mut fake = Fake::new(rt.alloc());
-    fake.dirty = 3;
-    fake.fails_at = 2;
-    let mut flusher = Flusher::new(fake, OpenGate, 4);
-    flusher.work();
-    let fake = flusher.into_inner();
-    assert_eq!(rt; (fake.outs, fake.dirty), (2, 2));
-    Ok(())
+fn a_flusher_with_four_turns_over_three_dirty_blocks_makes_four_calls(rt: HostRuntime) {
+    assert_eq!(rt; flush_three(rt.alloc(), 0), (4, 0));
+}
+
+#[test]
+fn a_flusher_ends_at_the_first_fault(rt: HostRuntime) {
+    assert_eq!(rt; flush_three(rt.alloc(), 2), (2, 2));
 }
 
 #[test]
@@ -93,7 +94,7 @@ fn a_user_passes_its_gate_at_each_step(rt: HostRuntime) -> Result<(), Fail> {
     let commands = two_stats(rt.alloc())?;
     let mut user = UserWorker::new(
         rt.alloc(),
-        Fake::new(rt.alloc()),
+        Told::new(Fake::new(rt.alloc())),
         commands,
         CountGate { calls: &calls },
     );
@@ -104,7 +105,7 @@ fn a_user_passes_its_gate_at_each_step(rt: HostRuntime) -> Result<(), Fail> {
         out_of_memory,
     } = user.into_inner();
     assert!(rt; !out_of_memory);
-    assert_eq!(rt; (lines.len(), steps.others), (2, 2));
+    assert_eq!(rt; (lines.len(), steps.answers.others), (2, 2));
     assert_eq!(rt; calls.before.load(Ordering::SeqCst), 2);
     assert_eq!(rt; calls.after.load(Ordering::SeqCst), 2);
     Ok(())
@@ -115,7 +116,7 @@ fn a_user_ends_where_memory_is_wanting(rt: HostRuntime) -> Result<(), Fail> {
     let mut fake = Fake::new(rt.alloc());
     fake.room = 1;
     let commands = two_stats(rt.alloc())?;
-    let mut user = UserWorker::new(rt.alloc(), fake, commands, OpenGate);
+    let mut user = UserWorker::new(rt.alloc(), Told::new(fake), commands, OpenGate);
     user.work();
     let UserEnd {
         steps,
@@ -123,6 +124,6 @@ fn a_user_ends_where_memory_is_wanting(rt: HostRuntime) -> Result<(), Fail> {
         out_of_memory,
     } = user.into_inner();
     assert!(rt; out_of_memory);
-    assert_eq!(rt; (lines.len(), steps.others), (1, 1));
+    assert_eq!(rt; (lines.len(), steps.answers.others), (1, 1));
     Ok(())
 }

@@ -1,28 +1,18 @@
-//! A stand-in for a mount, which notes the elements that it is asked for.
-ghost use Rattle.std.specs.Prelude.{◌≡◌, ◌^◌, ◌<◌, All, not, false};
-ghost use Rattle.nofs_machine.specs.Steps.{Fits, is_out_of_memory};
+//! What a stand-in for a mount replies; it notes the elements that it is asked for.
+ghost use Rattle.std.specs.Prelude.{◌≡◌, ◌^◌, ◌<◌, All};
 ghost use Rattle.nofs_workers.specs.Sweeps.{AreInRange, see_of as step_to_see};
 ghost use Rattle.nofs_machine.specs.declared.steps.ElementKind.TheVariants.{Inode};
 
 use crate::{Batches, WritesOut};
 use nofs_disk::OutFault;
 use nofs_machine::{ElementKind, FileKind, Refusal, Reply, Stat, Step, Steps};
+use nofs_told::{Answers, Told};
 use std::alloc::Global;
-use std::mem;
-use std::snapshot::Snapshot;
 
-/// The steps that were made, the last one first. It takes no memory.
-#[derive(Drop)]
-pub enum Past {
-    Start,
-    Made(Snapshot<Step>, Snapshot<Reply>, Snapshot<Past>),
-}
-
-/// The stand-in.
+/// What it was told, and what it notes.
 #[derive(Drop)]
 pub struct Fake {
     alloc: Global,
-    past: Past,
     /// How many further steps find memory.
     pub room: u64,
     /// The counts of the batches that were asked for.
@@ -62,10 +52,7 @@ fn see_of(kind: ElementKind, item: u64) -> Step
 }
 
 /// What a step is answered.
-fn reply_to(step: &Step) -> Reply
-    ensures fits { Fits step.now result }
-    ensures room { is_out_of_memory result ≡ false }
-{
+fn reply_to(step: &Step) -> Reply {
     match step {
         Step::SeeInode { .. } => Reply::Seen { used: false },
         Step::SeeBlock { .. } => Reply::Seen { used: false },
@@ -83,7 +70,6 @@ impl Fake {
     pub fn new(alloc: Global) -> Self {
         Fake {
             alloc,
-            past: Past::Start,
             room: 1000,
             asked: Vec::new(alloc),
             refuses: false,
@@ -97,9 +83,7 @@ impl Fake {
     }
 
     /// Notes a step, where there is memory for it.
-    fn note(&mut self, step: &Step) -> bool
-        ensures { self.new.past ≡ self.old.past }
-    {
+    fn note(&mut self, step: &Step) -> bool {
         if self.room == 0 {
             return false;
         }
@@ -115,36 +99,17 @@ impl Fake {
     }
 }
 
-impl Steps for Fake {
-    ghost use Rattle.std.specs.Prelude.{List, [], ◌∷◌, ◌++◌};
-    ghost use Rattle.nofs_machine.specs.Steps.{Made};
-    ghost use Rattle.nofs_workers.specs.declared.tests.fake.Past.TheOpen.{Past-F};
-    ghost use Rattle.nofs_workers.specs.declared.tests.fake.Past.TheFolds.{fold-Past};
-
-    ghost made = { λ fake. fold-Past (List Made) (λ past. elim past [ Past-F.Start ↦ [] | Past-F.Made step reply earlier ↦ earlier.value ++ (step.value, reply.value) ∷ [] ]) fake.past };
-
-    ghost goes = { λ old new. Unit {0} };
-
-    fn step(&mut self, step: Step) -> Reply {
-        if !self.note(&step) {
-            return Reply::Refused(Refusal::OutOfMemory);
+impl Answers for Fake {
+    fn answer(&mut self, step: &Step) -> Reply {
+        if self.note(step) {
+            reply_to(step)
+        } else {
+            Reply::Refused(Refusal::OutOfMemory)
         }
-        let reply = reply_to(&step);
-        let earlier = mem::replace(&mut self.past, Past::Start);
-        self.past = Past::Made(
-            Snapshot::of(&step),
-            Snapshot::of(&reply),
-            Snapshot::of(&earlier),
-        );
-        reply
     }
-
-    ghost goes_none = { λ steps. tt };
-
-    ghost goes_on = { λ a b c first second. tt };
 }
 
-impl Batches for Fake {
+impl Batches for Told<Fake> {
     ghost use Rattle.std.specs.Prelude.{◌%◌, nat_eq, get_or};
 
     type Evidence = Odds;
@@ -154,14 +119,14 @@ impl Batches for Fake {
     ghost owns = { λ fake odds. Unit {0} };
 
     fn look_batch(&mut self, kind: ElementKind, items: &[u64]) -> Result<Odds, Refusal> {
-        match self.asked.push(items.len() as u64) {
+        match self.answers.asked.push(items.len() as u64) {
             Ok(()) => {}
             Err(_) => return Err(Refusal::OutOfMemory),
         }
-        if self.refuses {
+        if self.answers.refuses {
             return Err(Refusal::BadRange);
         }
-        match Vec::from_slice(self.alloc, items) {
+        match Vec::from_slice(self.answers.alloc, items) {
             Ok(items) => Ok(Odds { kind, items }),
             Err(_) => Err(Refusal::OutOfMemory),
         }
@@ -172,23 +137,24 @@ impl Batches for Fake {
     }
 
     fn commit(&mut self, evidence: &Odds, at: u32, _used: bool) -> Reply {
-        self.committed = self.committed.wrapping_add(1);
+        self.answers.committed = self.answers.committed.wrapping_add(1);
         self.step(see_of(evidence.kind, evidence.items[at as usize]))
     }
 }
 
-impl WritesOut for Fake {
+impl WritesOut for Told<Fake> {
     ghost wrote = { λ old out new. Unit {0} };
 
     fn write_out(&mut self) -> Result<Option<u64>, OutFault> {
-        self.outs = self.outs.wrapping_add(1);
-        if self.outs == self.fails_at {
+        let fake = &mut self.answers;
+        fake.outs = fake.outs.wrapping_add(1);
+        if fake.outs == fake.fails_at {
             return Err(OutFault::Failed);
         }
-        if self.dirty == 0 {
+        if fake.dirty == 0 {
             return Ok(None);
         }
-        self.dirty -= 1;
-        Ok(Some(self.dirty))
+        fake.dirty -= 1;
+        Ok(Some(fake.dirty))
     }
 }
