@@ -1,13 +1,14 @@
 //! Moves over a stand-in for a mount, with the steps and the line of each.
 
-mod told;
+mod asked;
 
 use crate::move_file;
-use crate::tests::told::{Past, Told};
-use nofs_client::{Client, Line, Path, PathNames};
-use nofs_lists::Name;
+use crate::tests::asked::AskedSteps;
+use nofs_client::{Client, Line, Path};
 use nofs_machine::{FileKind, Found, Refusal, Reply};
+use nofs_told::{InTurn, Notepad, Told, path_names};
 use std::alloc::{AllocError, Global};
+use std::process::Abort;
 use std::test::Fail;
 
 /// A reply of a table.
@@ -52,27 +53,20 @@ fn reply(answer: Answer) -> Reply {
     }
 }
 
-fn stand_in(alloc: Global, answers: &[Answer]) -> Result<Told, AllocError> {
+type StandIn = Told<InTurn<AskedSteps>>;
+
+fn stand_in(alloc: Global, answers: &[Answer]) -> Result<StandIn, AllocError> {
     let mut replies = Vec::new(alloc);
     for answer in answers.iter().rev() {
         replies.push(reply(*answer))?;
     }
-    Ok(Told {
-        alloc,
-        replies,
-        asked: String::new(alloc),
-        past: Past::Start,
-    })
+    let pad = Notepad::new(alloc);
+    let asked = AskedSteps { pad };
+    Ok(Told::new(InTurn { replies, asked }))
 }
 
 fn path(alloc: Global, text: &str) -> Result<Path, AllocError> {
-    let mut names = PathNames::new(alloc);
-    for name in text.as_bytes().split(|byte| *byte == b'/') {
-        if !name.is_empty() {
-            names.push(Name::from_slice(alloc, name)?)?;
-        }
-    }
-    Ok(Path::Names(names))
+    Ok(Path::Names(path_names(alloc, text)?))
 }
 
 fn line_text(line: &Line) -> &'static str {
@@ -86,6 +80,11 @@ fn line_text(line: &Line) -> &'static str {
     }
 }
 
+/// The notes of the steps that a client made.
+fn asked_of(client: Client<StandIn>) -> Notepad {
+    client.into_inner().answers.asked.pad
+}
+
 /// The steps and the line of a move to which these replies come.
 fn run(alloc: Global, from: &str, to: &str, answers: &[Answer]) -> Result<String, AllocError> {
     let (from, to) = (path(alloc, from)?, path(alloc, to)?);
@@ -94,106 +93,112 @@ fn run(alloc: Global, from: &str, to: &str, answers: &[Answer]) -> Result<String
     }
     let mut client = Client::new(stand_in(alloc, answers)?);
     let ended = move_file(alloc, &mut client, &from, &to);
-    let mut text = client.into_inner().asked;
-    text.push_str(match &ended {
+    let mut pad = asked_of(client);
+    pad.word(match &ended {
         Ok(line) => line_text(line),
         Err(_) => "no memory",
     })?;
-    Ok(text)
+    Ok(pad.text)
 }
 
+/// The paths of a move, the replies that come to its steps, and these steps with the line.
 type Row<'a> = (&'a str, &'a str, &'a [Answer], &'a str);
+
+fn check(rt: &impl Abort, alloc: Global, table: &[Row<'_>]) -> Result<(), Fail> {
+    for (from, to, answers, want) in table {
+        assert_eq!(rt; run(alloc, from, to, answers)?.as_str(), *want);
+    }
+    Ok(())
+}
+
+/// Moves that are made, and one that is none.
+const MOVES: [Row<'static>; 3] = [
+    (
+        "/a",
+        "/d/b",
+        &[
+            Answer::File,
+            Answer::Folder,
+            Answer::Flushed,
+            Answer::Linked,
+            Answer::Flushed,
+            Answer::Dropped,
+        ],
+        "look 1 1 a; look 1 1 d; flush 3 7; link 4 9 b; flush 3 7; drop 1 1 a; moved",
+    ),
+    (
+        "/d/a",
+        "/b",
+        &[
+            Answer::Folder,
+            Answer::File,
+            Answer::Flushed,
+            Answer::Full(2),
+            Answer::Seen,
+            Answer::Linked,
+            Answer::Flushed,
+            Answer::Dropped,
+        ],
+        "look 1 1 d; look 4 9 a; flush 3 7; link 1 1 b; block 0 24; link 1 1 b; flush 3 7; drop 4 9 a; moved",
+    ),
+    ("/", "/b", &[], "no name"),
+];
 
 #[test]
 fn a_move_makes_its_steps_and_says_moved(rt: HostRuntime) -> Result<(), Fail> {
-    let table: [Row<'_>; 3] = [
-        (
-            "/a",
-            "/d/b",
-            &[
-                Answer::File,
-                Answer::Folder,
-                Answer::Flushed,
-                Answer::Linked,
-                Answer::Flushed,
-                Answer::Dropped,
-            ],
-            "look 1 1 a; look 1 1 d; flush 3 7; link 4 9 b; flush 3 7; drop 1 1 a; moved",
-        ),
-        (
-            "/d/a",
-            "/b",
-            &[
-                Answer::Folder,
-                Answer::File,
-                Answer::Flushed,
-                Answer::Full(2),
-                Answer::Seen,
-                Answer::Linked,
-                Answer::Flushed,
-                Answer::Dropped,
-            ],
-            "look 1 1 d; look 4 9 a; flush 3 7; link 1 1 b; block 0 24; link 1 1 b; flush 3 7; drop 4 9 a; moved",
-        ),
-        ("/", "/b", &[], "no name"),
-    ];
-    for (from, to, answers, want) in table {
-        assert_eq!(rt; run(rt.alloc(), from, to, answers)?.as_str(), want);
-    }
-    Ok(())
+    check(&rt, rt.alloc(), &MOVES)
 }
+
+/// Moves of which a step is refused.
+const REFUSED: [Row<'static>; 5] = [
+    (
+        "/a",
+        "/b",
+        &[Answer::No(Refusal::Missing)],
+        "look 1 1 a; missing",
+    ),
+    (
+        "/d",
+        "/e",
+        &[
+            Answer::Folder,
+            Answer::Flushed,
+            Answer::No(Refusal::IsDirectory),
+        ],
+        "look 1 1 d; flush 4 9; link 1 1 e; is directory",
+    ),
+    (
+        "/a",
+        "/a",
+        &[Answer::File, Answer::Flushed, Answer::No(Refusal::Exists)],
+        "look 1 1 a; flush 3 7; link 1 1 a; exists",
+    ),
+    (
+        "/a",
+        "/b",
+        &[
+            Answer::File,
+            Answer::Flushed,
+            Answer::Linked,
+            Answer::No(Refusal::WriteFault),
+        ],
+        "look 1 1 a; flush 3 7; link 1 1 b; flush 3 7; write fault",
+    ),
+    (
+        "/a",
+        "/b",
+        &[
+            Answer::File,
+            Answer::Flushed,
+            Answer::Linked,
+            Answer::No(Refusal::OutOfMemory),
+            Answer::Dropped,
+        ],
+        "look 1 1 a; flush 3 7; link 1 1 b; flush 3 7; no memory",
+    ),
+];
 
 #[test]
 fn a_refused_step_ends_a_move_with_its_line(rt: HostRuntime) -> Result<(), Fail> {
-    let table: [Row<'_>; 5] = [
-        (
-            "/a",
-            "/b",
-            &[Answer::No(Refusal::Missing)],
-            "look 1 1 a; missing",
-        ),
-        (
-            "/d",
-            "/e",
-            &[
-                Answer::Folder,
-                Answer::Flushed,
-                Answer::No(Refusal::IsDirectory),
-            ],
-            "look 1 1 d; flush 4 9; link 1 1 e; is directory",
-        ),
-        (
-            "/a",
-            "/a",
-            &[Answer::File, Answer::Flushed, Answer::No(Refusal::Exists)],
-            "look 1 1 a; flush 3 7; link 1 1 a; exists",
-        ),
-        (
-            "/a",
-            "/b",
-            &[
-                Answer::File,
-                Answer::Flushed,
-                Answer::Linked,
-                Answer::No(Refusal::WriteFault),
-            ],
-            "look 1 1 a; flush 3 7; link 1 1 b; flush 3 7; write fault",
-        ),
-        (
-            "/a",
-            "/b",
-            &[
-                Answer::File,
-                Answer::Flushed,
-                Answer::Linked,
-                Answer::No(Refusal::OutOfMemory),
-                Answer::Dropped,
-            ],
-            "look 1 1 a; flush 3 7; link 1 1 b; flush 3 7; no memory",
-        ),
-    ];
-    for (from, to, answers, want) in table {
-        assert_eq!(rt; run(rt.alloc(), from, to, answers)?.as_str(), want);
-    }
-    Ok(())
+    check(&rt, rt.alloc(), &REFUSED)
 }

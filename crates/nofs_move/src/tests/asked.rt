@@ -1,0 +1,24 @@
+//! The steps of a move as a short text.
+
+use nofs_machine::Step;
+use nofs_told::{Notepad, Notes, generation_of, inode_of, name_of, word_of};
+use std::alloc::AllocError;
+
+/// The steps that were asked for, each ended by a semicolon.
+#[derive(Drop)]
+pub struct AskedSteps {
+    pub pad: Notepad,
+}
+
+impl Notes for AskedSteps {
+    fn note(&mut self, step: &Step) -> Result<(), AllocError> {
+        match step {
+            Step::Look { .. } | Step::Link { .. } | Step::Drop { .. } | Step::Flush { .. } => {
+                let numbers = [u64::from(inode_of(step)), generation_of(step)];
+                self.pad.step(word_of(step), &numbers, name_of(step))
+            }
+            Step::SeeBlock { block } => self.pad.step("block", &[0, *block], &[]),
+            _ => self.pad.word("another step; "),
+        }
+    }
+}
