@@ -1,7 +1,8 @@
 //! The commands of the tables.
 
-use crate::{Command, Path, PathNames};
+use crate::{Command, Path};
 use nofs_lists::{Content, Name};
+use nofs_told::path_names;
 use std::alloc::{AllocError, Global};
 
 /// A command of a table.
@@ -21,65 +22,64 @@ pub enum Asked<'a> {
     Move(&'a str, &'a str),
 }
 
-fn path(alloc: Global, text: &str) -> Result<Path, AllocError> {
-    if text == "@" {
-        return Ok(Path::Label);
+/// The text of the first path.
+fn place_of(asked: Asked<'_>) -> &str {
+    match asked {
+        Asked::Make(at)
+        | Asked::MakeDirectory(at)
+        | Asked::Put(at, ..)
+        | Asked::Get(at, ..)
+        | Asked::Size(at, _)
+        | Asked::Stat(at)
+        | Asked::List(at)
+        | Asked::Link(at, _)
+        | Asked::Drop(at)
+        | Asked::Rename(at, _)
+        | Asked::Fsync(at)
+        | Asked::Move(at, _) => at,
     }
-    let mut names = PathNames::new(alloc);
-    for name in text.as_bytes().split(|byte| *byte == b'/') {
-        if !name.is_empty() {
-            names.push(Name::from_slice(alloc, name)?)?;
-        }
+}
+
+/// The path of a text, which is `@` for the label file.
+fn path_of(alloc: Global, text: &str) -> Result<Path, AllocError> {
+    match text.as_bytes().first() {
+        Some(b'@') => Ok(Path::Label),
+        _ => Ok(Path::Names(path_names(alloc, text)?)),
     }
-    Ok(Path::Names(names))
 }
 
 /// The command, its texts copied.
 pub fn command(alloc: Global, asked: Asked<'_>) -> Result<Command, AllocError> {
+    let path = path_of(alloc, place_of(asked))?;
     Ok(match asked {
-        Asked::Make(at) => Command::Make {
-            path: path(alloc, at)?,
-        },
-        Asked::MakeDirectory(at) => Command::MakeDirectory {
-            path: path(alloc, at)?,
-        },
-        Asked::Put(at, offset, bytes) => Command::Put {
-            path: path(alloc, at)?,
+        Asked::Make(_) => Command::Make { path },
+        Asked::MakeDirectory(_) => Command::MakeDirectory { path },
+        Asked::Put(_, offset, bytes) => Command::Put {
+            path,
             offset,
             bytes: Content::from_slice(alloc, bytes)?,
         },
-        Asked::Get(at, offset, length) => Command::Get {
-            path: path(alloc, at)?,
+        Asked::Get(_, offset, length) => Command::Get {
+            path,
             offset,
             length,
         },
-        Asked::Size(at, size) => Command::Size {
-            path: path(alloc, at)?,
-            size,
+        Asked::Size(_, size) => Command::Size { path, size },
+        Asked::Stat(_) => Command::Stat { path },
+        Asked::List(_) => Command::List { path },
+        Asked::Link(_, to) => Command::Link {
+            path,
+            new_path: path_of(alloc, to)?,
         },
-        Asked::Stat(at) => Command::Stat {
-            path: path(alloc, at)?,
-        },
-        Asked::List(at) => Command::List {
-            path: path(alloc, at)?,
-        },
-        Asked::Link(at, to) => Command::Link {
-            path: path(alloc, at)?,
-            new_path: path(alloc, to)?,
-        },
-        Asked::Drop(at) => Command::Drop {
-            path: path(alloc, at)?,
-        },
-        Asked::Rename(at, name) => Command::Rename {
-            path: path(alloc, at)?,
+        Asked::Drop(_) => Command::Drop { path },
+        Asked::Rename(_, name) => Command::Rename {
+            path,
             name: Name::from_slice(alloc, name.as_bytes())?,
         },
-        Asked::Fsync(at) => Command::Fsync {
-            path: path(alloc, at)?,
-        },
-        Asked::Move(at, to) => Command::Move {
-            from: path(alloc, at)?,
-            to: path(alloc, to)?,
+        Asked::Fsync(_) => Command::Fsync { path },
+        Asked::Move(_, to) => Command::Move {
+            from: path,
+            to: path_of(alloc, to)?,
         },
     })
 }

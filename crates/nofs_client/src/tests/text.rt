@@ -2,246 +2,105 @@
 
 use crate::{GotPart, Line, ListPart};
 use nofs_machine::{FileKind, NameLine, Step};
-use std::alloc::{AllocError, Global};
+use nofs_told::{Notepad, Notes, generation_of, inode_of, name_of, number_of, word_of};
+use std::alloc::AllocError;
 
-fn number(alloc: Global, text: &mut String, number: u64) -> Result<(), AllocError> {
-    text.push_str(&format!(in alloc; " {number}")?)
+/// The steps that were asked for, each ended by a semicolon.
+#[derive(Drop)]
+pub struct AskedSteps {
+    pub pad: Notepad,
 }
 
-fn numbers(alloc: Global, text: &mut String, numbers: &[u64]) -> Result<(), AllocError> {
-    for item in numbers {
-        number(alloc, text, *item)?;
-    }
-    Ok(())
-}
-
-fn hexadecimal(alloc: Global, text: &mut String, bytes: &[u8]) -> Result<(), AllocError> {
-    for byte in bytes {
-        text.push_str(&format!(in alloc; "{byte:02x}")?)?;
-    }
-    Ok(())
-}
-
-fn letters(text: &mut String, name: &[u8]) -> Result<(), AllocError> {
-    for byte in name {
-        text.push(char::from(*byte))?;
-    }
-    Ok(())
-}
-
-fn step(
-    alloc: Global,
-    text: &mut String,
-    word: &str,
-    values: &[u64],
-    name: &[u8],
-) -> Result<(), AllocError> {
-    text.push_str(word)?;
-    numbers(alloc, text, values)?;
-    if !name.is_empty() {
-        text.push_str(" ")?;
-        letters(text, name)?;
-    }
-    text.push_str("; ")
-}
-
-/// Appends a step.
-pub fn note_step(alloc: Global, text: &mut String, asked: &Step) -> Result<(), AllocError> {
-    match asked {
-        Step::Look {
-            directory,
-            generation,
-            name,
-        } => step(
-            alloc,
-            text,
-            "look",
-            &[u64::from(*directory), *generation],
-            name.as_slice(),
-        ),
-        Step::Make {
-            directory,
-            generation,
-            name,
-            kind,
-        } => {
-            let word = match kind {
-                FileKind::File => "make",
-                FileKind::Directory => "mkdir",
-            };
-            step(
-                alloc,
-                text,
-                word,
-                &[u64::from(*directory), *generation],
-                name.as_slice(),
-            )
+impl Notes for AskedSteps {
+    fn note(&mut self, step: &Step) -> Result<(), AllocError> {
+        let pad = &mut self.pad;
+        let (word, name) = (word_of(step), name_of(step));
+        let (inode, generation) = (u64::from(inode_of(step)), generation_of(step));
+        let number = number_of(step);
+        match step {
+            Step::Look { .. }
+            | Step::Make { .. }
+            | Step::Drop { .. }
+            | Step::Stat { .. }
+            | Step::Flush { .. } => pad.step(word, &[inode, generation], name),
+            Step::Link { inode: to, of, .. } => {
+                pad.step(word, &[inode, generation, u64::from(*to), *of], name)
+            }
+            Step::Rename { new, .. } => {
+                pad.step(word, &[inode, generation], name)?;
+                pad.step("as", &[], new.as_slice())
+            }
+            Step::List { .. } | Step::Get { .. } | Step::Resize { .. } => {
+                pad.step(word, &[inode, generation, number], name)
+            }
+            Step::Put { at, bytes, .. } => {
+                pad.step(word, &[inode, generation, number, u64::from(*at)], name)?;
+                pad.digits(bytes.as_slice())?;
+                pad.word("; ")
+            }
+            Step::SeeInode { .. } => pad.step(word, &[inode], name),
+            Step::SeeBlock { .. } => pad.step(word, &[number], name),
         }
-        Step::Link {
-            directory,
-            generation,
-            name,
-            inode,
-            of,
-        } => {
-            let values = [u64::from(*directory), *generation, u64::from(*inode), *of];
-            step(alloc, text, "link", &values, name.as_slice())
-        }
-        Step::Drop {
-            directory,
-            generation,
-            name,
-        } => step(
-            alloc,
-            text,
-            "drop",
-            &[u64::from(*directory), *generation],
-            name.as_slice(),
-        ),
-        Step::Rename {
-            directory,
-            generation,
-            old,
-            new,
-        } => {
-            step(
-                alloc,
-                text,
-                "rename",
-                &[u64::from(*directory), *generation],
-                old.as_slice(),
-            )?;
-            step(alloc, text, "as", &[], new.as_slice())
-        }
-        Step::List {
-            directory,
-            generation,
-            slot,
-        } => step(
-            alloc,
-            text,
-            "list",
-            &[u64::from(*directory), *generation, *slot],
-            &[],
-        ),
-        Step::Get {
-            inode,
-            generation,
-            slot,
-        } => step(
-            alloc,
-            text,
-            "get",
-            &[u64::from(*inode), *generation, *slot],
-            &[],
-        ),
-        Step::Put {
-            inode,
-            generation,
-            slot,
-            at,
-            bytes,
-        } => {
-            let values = [u64::from(*inode), *generation, *slot, u64::from(*at)];
-            step(alloc, text, "put", &values, &[])?;
-            hexadecimal(alloc, text, bytes.as_slice())?;
-            text.push_str("; ")
-        }
-        Step::Resize {
-            inode,
-            generation,
-            size,
-        } => step(
-            alloc,
-            text,
-            "size",
-            &[u64::from(*inode), *generation, *size],
-            &[],
-        ),
-        Step::Stat { inode, generation } => {
-            step(alloc, text, "stat", &[u64::from(*inode), *generation], &[])
-        }
-        Step::Flush { inode, generation } => {
-            step(alloc, text, "flush", &[u64::from(*inode), *generation], &[])
-        }
-        Step::SeeInode { inode } => step(alloc, text, "inode", &[u64::from(*inode)], &[]),
-        Step::SeeBlock { block } => step(alloc, text, "block", &[*block], &[]),
     }
 }
 
-fn note_got(alloc: Global, text: &mut String, part: &GotPart) -> Result<(), AllocError> {
+fn note_got(pad: &mut Notepad, part: &GotPart) -> Result<(), AllocError> {
     match part {
         GotPart::Bytes(bytes) => {
-            text.push_str(" ")?;
-            hexadecimal(alloc, text, bytes.as_slice())
+            pad.word(" ")?;
+            pad.digits(bytes.as_slice())
         }
-        GotPart::Hole(count) => {
-            text.push_str(" hole")?;
-            number(alloc, text, *count)
-        }
-        GotPart::Lost(count) => {
-            text.push_str(" lost")?;
-            number(alloc, text, *count)
-        }
+        GotPart::Hole(count) => pad.counted(" hole", *count),
+        GotPart::Lost(count) => pad.counted(" lost", *count),
     }
 }
 
-fn note_name(text: &mut String, line: &NameLine) -> Result<(), AllocError> {
-    text.push_str(if line.dead { " dead " } else { " " })?;
-    letters(text, line.name.as_slice())?;
-    text.push_str(match line.kind {
+fn note_name(pad: &mut Notepad, line: &NameLine) -> Result<(), AllocError> {
+    pad.word(if line.dead { " dead " } else { " " })?;
+    pad.letters(line.name.as_slice())?;
+    pad.word(match line.kind {
         FileKind::File => "",
         FileKind::Directory => "/",
     })
 }
 
-fn note_listed(alloc: Global, text: &mut String, part: &ListPart) -> Result<(), AllocError> {
+fn note_listed(pad: &mut Notepad, part: &ListPart) -> Result<(), AllocError> {
     match part {
-        ListPart::Name(line) => note_name(text, line),
-        ListPart::Lost(slot) => {
-            text.push_str(" lost")?;
-            number(alloc, text, *slot)
-        }
+        ListPart::Name(line) => note_name(pad, line),
+        ListPart::Lost(slot) => pad.counted(" lost", *slot),
     }
 }
 
 /// Appends a line.
-pub fn note_line(alloc: Global, text: &mut String, line: &Line) -> Result<(), AllocError> {
+pub fn note_line(pad: &mut Notepad, line: &Line) -> Result<(), AllocError> {
     match line {
-        Line::Made => text.push_str("made"),
-        Line::Put(count) => {
-            text.push_str("put")?;
-            number(alloc, text, *count)
-        }
+        Line::Made => pad.word("made"),
+        Line::Put(count) => pad.counted("put", *count),
         Line::Got(parts) => {
-            text.push_str("got")?;
+            pad.word("got")?;
             for part in parts.as_slice() {
-                note_got(alloc, text, part)?;
+                note_got(pad, part)?;
             }
             Ok(())
         }
-        Line::Sized(size) => {
-            text.push_str("sized")?;
-            number(alloc, text, *size)
-        }
-        Line::Stat(stat) => text.push_str(&format!(in alloc; "{stat:?}")?),
+        Line::Sized(size) => pad.counted("sized", *size),
+        Line::Stat(stat) => pad.debug(stat),
         Line::Names(parts) => {
-            text.push_str("names")?;
+            pad.word("names")?;
             for part in parts.as_slice() {
-                note_listed(alloc, text, part)?;
+                note_listed(pad, part)?;
             }
             Ok(())
         }
-        Line::Linked => text.push_str("linked"),
-        Line::Dropped => text.push_str("dropped"),
-        Line::Renamed => text.push_str("renamed"),
-        Line::Synced => text.push_str("synced"),
-        Line::Moved => text.push_str("moved"),
-        Line::Refused(refusal) => text.push_str(&format!(in alloc; "{refusal:?}")?),
+        Line::Linked => pad.word("linked"),
+        Line::Dropped => pad.word("dropped"),
+        Line::Renamed => pad.word("renamed"),
+        Line::Synced => pad.word("synced"),
+        Line::Moved => pad.word("moved"),
+        Line::Refused(refusal) => pad.debug(refusal),
         Line::RefusedPut { refusal, stored } => {
-            text.push_str(&format!(in alloc; "{refusal:?}")?)?;
-            text.push_str(" stored")?;
-            number(alloc, text, *stored)
+            pad.debug(refusal)?;
+            pad.counted(" stored", *stored)
         }
     }
 }
