@@ -1,6 +1,7 @@
 //! Worked bytes of records, and which bytes are none.
 use super::*;
 use nofs_disk::{Pointer, write_u32_at, write_u64_at};
+use std::process::Abort;
 
 /// The first stamp of the first mount.
 const S: u64 = 1_099_511_627_776;
@@ -109,135 +110,133 @@ fn cell_of(numbers: Numbers) -> [u8; 1024] {
     payload
 }
 
+/// The numbers with another size.
+fn with_size(numbers: Numbers, size: u64) -> Numbers {
+    Numbers { size, ..numbers }
+}
+
+/// The numbers with a count of links, and the first and the last place of one.
+fn with_links(numbers: Numbers, count: u32, first: BackLink, last: BackLink) -> Numbers {
+    Numbers {
+        count,
+        first,
+        last,
+        ..numbers
+    }
+}
+
+/// Numbers, whether their bytes are a record, and what the case is about.
+type Case = (Numbers, bool, &'static str);
+
+fn check(rt: &impl Abort, cases: &[Case]) {
+    for (numbers, spelled, what) in cases {
+        assert_eq!(rt;
+            read_record(&cell_of(*numbers), 0).is_some(),
+            *spelled,
+            "{what}"
+        );
+    }
+}
+
 #[test]
-fn the_rules_decide_which_bytes_are_a_record(rt: HostRuntime) {
-    let entry = BackLink {
-        entry: 1,
-        ..BackLink::EMPTY
-    };
-    let generation = BackLink {
-        generation: 1,
-        ..BackLink::EMPTY
-    };
-    for (numbers, spelled, what) in [
+fn a_free_record_is_all_zero(rt: HostRuntime) {
+    let cases = [
         (FREE, true, "all zero"),
-        (Numbers { size: 1, ..FREE }, false, "free with a size"),
+        (with_size(FREE, 1), false, "free with a size"),
         (Numbers { top: 1, ..FREE }, false, "free with a top"),
         (Numbers { kind: 0, ..FILE }, false, "free with a generation"),
+    ];
+    check(&rt, &cases);
+}
+
+#[test]
+fn a_used_record_has_a_kind_and_a_generation(rt: HostRuntime) {
+    let no_generation = Numbers {
+        generation: 0,
+        ..FILE
+    };
+    let cases = [
         (FILE, true, "an empty file"),
         (DIRECTORY, true, "an empty directory"),
         (Numbers { kind: 3, ..FILE }, false, "kind 3"),
-        (
-            Numbers {
-                generation: 0,
-                ..FILE
-            },
-            false,
-            "generation 0",
-        ),
-        (
-            Numbers {
-                size: 4_268_032,
-                ..FILE
-            },
-            true,
-            "the largest size",
-        ),
-        (
-            Numbers {
-                size: 4_268_033,
-                ..FILE
-            },
-            false,
-            "a size too large",
-        ),
-        (
-            Numbers {
-                size: 1,
-                ..DIRECTORY
-            },
-            false,
-            "a directory with size 1",
-        ),
+        (no_generation, false, "generation 0"),
         (
             Numbers { zero: 1, ..FILE },
             false,
             "a number where zero stands",
         ),
+    ];
+    check(&rt, &cases);
+}
+
+#[test]
+fn only_a_file_has_a_size_and_a_top(rt: HostRuntime) {
+    let directory_with_top = Numbers {
+        top: 1,
+        ..DIRECTORY
+    };
+    let cases = [
+        (with_size(FILE, 4_268_032), true, "the largest size"),
+        (with_size(FILE, 4_268_033), false, "a size too large"),
+        (with_size(DIRECTORY, 1), false, "a directory with size 1"),
         (Numbers { top: 1, ..FILE }, true, "a file with a top"),
+        (directory_with_top, false, "a directory with a top"),
+    ];
+    check(&rt, &cases);
+}
+
+#[test]
+fn the_links_of_a_record_are_counted(rt: HostRuntime) {
+    let none = BackLink::EMPTY;
+    let cases = [
         (
-            Numbers {
-                top: 1,
-                ..DIRECTORY
-            },
-            false,
-            "a directory with a top",
-        ),
-        (
-            Numbers {
-                count: 1,
-                first: LINK,
-                ..DIRECTORY
-            },
+            with_links(DIRECTORY, 1, LINK, none),
             true,
             "a directory with one link",
         ),
         (
-            Numbers {
-                count: 2,
-                first: LINK,
-                last: LINK,
-                ..FILE
-            },
+            with_links(FILE, 2, LINK, LINK),
             true,
             "a file with two links",
         ),
         (
-            Numbers {
-                count: 2,
-                first: LINK,
-                last: LINK,
-                ..DIRECTORY
-            },
+            with_links(DIRECTORY, 2, LINK, LINK),
             false,
             "a directory with two links",
         ),
         (
-            Numbers { count: 1, ..FILE },
+            with_links(FILE, 1, none, none),
             false,
             "one link too many counted",
         ),
         (
-            Numbers {
-                count: 1,
-                first: LINK,
-                last: LINK,
-                ..FILE
-            },
+            with_links(FILE, 1, LINK, LINK),
             false,
             "one link too few counted",
         ),
+    ];
+    check(&rt, &cases);
+}
+
+#[test]
+fn an_empty_place_of_a_link_is_all_zero(rt: HostRuntime) {
+    let none = BackLink::EMPTY;
+    let entry = BackLink { entry: 1, ..none };
+    let generation = BackLink {
+        generation: 1,
+        ..none
+    };
+    let cases = [
         (
-            Numbers {
-                first: entry,
-                ..FILE
-            },
+            with_links(FILE, 0, entry, none),
             false,
             "an empty place with an entry",
         ),
         (
-            Numbers {
-                last: generation,
-                ..FILE
-            },
+            with_links(FILE, 0, none, generation),
             false,
             "an empty place with a generation",
         ),
-    ] {
-        assert_eq!(rt;
-            read_record(&cell_of(numbers), 0).is_some(),
-            spelled,
-            "{what}"
-        );
-    }
+    ];
+    check(&rt, &cases);
 }
