@@ -3,15 +3,16 @@ ghost use Rattle.std.specs.Prelude.{◌<◌};
 
 mod answer;
 mod spelled;
-mod told;
 
 use crate::serving::serve_up_to;
 use crate::tests::answer::{Answer, reply};
-use crate::tests::told::{Past, Told};
+use crate::tests::spelled::AskedFrames;
 use crate::{WireEnd, serve};
 use nofs_io::{MemSink, MemSource, read_all};
 use nofs_machine::Refusal;
+use nofs_told::{InTurn, Told};
 use std::alloc::{AllocError, Global};
+use std::process::Abort;
 use std::test::Fail;
 
 // The frames of worked steps, and of the replies to them.
@@ -29,27 +30,71 @@ const TOO_LARGE_REPLY: &[u8] = b"\x01\0\0\0\x0c";
 
 const STOPPED_REPLY: &[u8] = b"\x01\0\0\0\x14";
 
-fn stand_in(alloc: Global, answers: &[Answer]) -> Result<Told, AllocError> {
+type StandIn = Told<InTurn<AskedFrames>>;
+
+fn stand_in(alloc: Global, answers: &[Answer]) -> Result<StandIn, AllocError> {
     let mut replies = Vec::new(alloc);
     for answer in answers.iter().rev() {
         replies.push(reply(alloc, *answer)?)?;
     }
-    Ok(Told {
-        replies,
-        asked: Vec::new(alloc),
-        past: Past::Start,
-    })
+    let frames = Vec::new(alloc);
+    let asked = AskedFrames { alloc, frames };
+    Ok(Told::new(InTurn { replies, asked }))
 }
 
-/// What became of a stream: its end, what was asked, and what was given.
+/// The frames of the steps that a stand-in was asked for.
+fn frames_of(told: StandIn) -> Vec<u8> {
+    told.answers.asked.frames
+}
+
+/// What became of a stream: its end, what was asked, and what was given. The source is left.
 #[derive(Drop)]
 struct Served {
     end: WireEnd,
     asked: Vec<u8>,
     given: Vec<u8>,
+    source: MemSource,
 }
 
-/// Serves a stream that comes in pieces of at most so many bytes.
+/// The calls that fail, counted from 1, and how many bytes the sink takes.
+#[derive(Clone, Copy)]
+struct Faults<'a> {
+    reads: &'a [u64],
+    writes: &'a [u64],
+    room: u64,
+}
+
+const NO_FAULTS: Faults<'static> = Faults {
+    reads: &[],
+    writes: &[],
+    room: 100_000,
+};
+
+/// Serves a stream that comes in pieces of at most so many bytes, while calls fail.
+fn serve_faulty(
+    alloc: Global,
+    stream: &[u8],
+    piece: u64,
+    faults: Faults<'_>,
+    answers: &[Answer],
+) -> Result<Served, AllocError>
+    requires { 0 < piece }
+{
+    let mut told = stand_in(alloc, answers)?;
+    let mut source = MemSource::new(alloc, stream, piece, faults.reads)?;
+    let mut sink = MemSink::new(alloc, faults.room, faults.writes)?;
+    let end = serve(alloc, &mut told, &mut source, &mut sink);
+    let given = sink.bytes().to_vec(alloc)?;
+    let asked = frames_of(told);
+    Ok(Served {
+        end,
+        asked,
+        given,
+        source,
+    })
+}
+
+/// Serves a stream while no call fails.
 fn serve_stream(
     alloc: Global,
     stream: &[u8],
@@ -58,15 +103,15 @@ fn serve_stream(
 ) -> Result<Served, AllocError>
     requires { 0 < piece }
 {
-    let mut told = stand_in(alloc, answers)?;
-    let mut source = MemSource::new(alloc, stream, piece, &[])?;
-    let mut sink = MemSink::new(alloc, 100_000, &[])?;
-    let end = serve(alloc, &mut told, &mut source, &mut sink);
-    Ok(Served {
-        end,
-        asked: told.asked,
-        given: sink.bytes().to_vec(alloc)?,
-    })
+    serve_faulty(alloc, stream, piece, NO_FAULTS, answers)
+}
+
+/// A stream, which the number tells from others, ended so; these frames were asked for, and these
+/// were given.
+fn expect(rt: &impl Abort, served: &Served, end: WireEnd, asked: &[u8], given: &[u8], number: u64) {
+    assert_eq!(rt; served.end, end, "{number}");
+    assert_eq!(rt; served.asked.as_slice(), asked, "{number}");
+    assert_eq!(rt; served.given.as_slice(), given, "{number}");
 }
 
 fn joined(alloc: Global, parts: &[&[u8]]) -> Result<Vec<u8>, AllocError> {
@@ -77,131 +122,147 @@ fn joined(alloc: Global, parts: &[&[u8]]) -> Result<Vec<u8>, AllocError> {
     Ok(all)
 }
 
-#[test]
-fn each_step_has_its_frame_and_its_reply(rt: HostRuntime) -> Result<(), Fail> {
-    let alloc = rt.alloc();
-    let table: [(&[u8], Answer, &[u8]); 16] = [
-        (
-            b"\x10\0\0\0\x01\x01\0\0\0\x03\0\0\0\0\0\0\0\x02ab",
-            Answer::Found,
-            b"\x0e\0\0\0\0\x05\0\0\0\x07\0\0\0\0\0\0\0\x02",
-        ),
-        (
-            b"\x10\0\0\0\x02\x01\0\0\0\x03\0\0\0\0\0\0\0\x01a\x02",
-            Answer::Made,
-            b"\x0d\0\0\0\0\x06\0\0\0\x09\0\0\0\0\0\0\x01",
-        ),
-        (
-            b"\x1b\0\0\0\x03\x01\0\0\0\x03\0\0\0\0\0\0\0\x01c\x04\0\0\0\x05\0\0\0\0\0\0\0",
-            Answer::Linked,
-            b"\x01\0\0\0\0",
-        ),
-        (
-            b"\x0f\0\0\0\x04\x01\0\0\0\x03\0\0\0\0\0\0\0\x01d",
-            Answer::Dropped(true),
-            b"\x02\0\0\0\0\x01",
-        ),
-        (
-            b"\x12\0\0\0\x05\x01\0\0\0\x03\0\0\0\0\0\0\0\x02ef\x01g",
-            Answer::Renamed,
-            b"\x01\0\0\0\0",
-        ),
-        (
-            b"\x15\0\0\0\x06\x01\0\0\0\x03\0\0\0\0\0\0\0\x01\0\0\0\0\0\0\0",
-            Answer::Names(1),
-            b"\x14\0\0\0\0\x01\x01\0\0\0\0\0\0\0\x02\x02\0\x02de\x01\x01\x01x",
-        ),
-        (
-            b"\x15\0\0\0\x06\x01\0\0\0\x03\0\0\0\0\0\0\0\x02\0\0\0\0\0\0\0",
-            Answer::LostNames(5),
-            b"\x0a\0\0\0\0\x02\x05\0\0\0\0\0\0\0",
-        ),
-        (
-            b"\x15\0\0\0\x06\x01\0\0\0\x03\0\0\0\0\0\0\0\x06\0\0\0\0\0\0\0",
-            Answer::NoMore,
-            b"\x02\0\0\0\0\x03",
-        ),
-        (GET_72, Answer::Lost, b"\x02\0\0\0\0\x03"),
-        (
-            b"\x1c\0\0\0\x08\x02\0\0\0\x02\0\0\0\0\0\0\0\x01\0\0\0\0\0\0\0\x0a\0\0\0xyz",
-            Answer::Stored,
-            b"\x01\0\0\0\0",
-        ),
-        (
-            b"\x15\0\0\0\x09\x02\0\0\0\x02\0\0\0\0\0\0\0\x88\x13\0\0\0\0\0\0",
-            Answer::Resized,
-            b"\x01\0\0\0\0",
-        ),
-        (
-            STAT,
-            Answer::Stat(5000, 1),
-            b"\x0e\0\0\0\0\x01\x88\x13\0\0\0\0\0\0\x01\0\0\0",
-        ),
-        (
-            b"\x0d\0\0\0\x0b\0\0\0\0\0\0\0\0\0\0\0\0",
-            Answer::Flushed,
-            b"\x01\0\0\0\0",
-        ),
-        (
-            b"\x05\0\0\0\x0c\x03\0\0\0",
-            Answer::Seen(true),
-            b"\x02\0\0\0\0\x01",
-        ),
-        (
-            b"\x09\0\0\0\x0d\x18\0\0\0\0\0\0\0",
-            Answer::Seen(false),
-            b"\x02\0\0\0\0\0",
-        ),
-        (
-            b"\x09\0\0\0\x0d\xff\xff\xff\xff\xff\xff\xff\xff",
-            Answer::No(Refusal::BadRange),
-            b"\x01\0\0\0\x09",
-        ),
-    ];
+/// The frame of a step, the reply that comes to it, and the frame of that.
+type Row<'a> = (&'a [u8], Answer, &'a [u8]);
+
+fn check(rt: &impl Abort, alloc: Global, table: &[Row<'_>]) -> Result<(), Fail> {
     for (frame, answer, want) in table {
-        let served = serve_stream(alloc, frame, 4096, &[answer])?;
-        assert_eq!(rt; served.end, WireEnd::End);
-        assert_eq!(rt; served.asked.as_slice(), frame);
-        assert_eq!(rt; served.given.as_slice(), want);
+        let served = serve_stream(alloc, frame, 4096, &[*answer])?;
+        expect(rt, &served, WireEnd::End, frame, want, 0);
     }
     Ok(())
 }
 
+/// Steps on names.
+const ON_NAMES: [Row<'static>; 8] = [
+    (
+        b"\x10\0\0\0\x01\x01\0\0\0\x03\0\0\0\0\0\0\0\x02ab",
+        Answer::Found,
+        b"\x0e\0\0\0\0\x05\0\0\0\x07\0\0\0\0\0\0\0\x02",
+    ),
+    (
+        b"\x10\0\0\0\x02\x01\0\0\0\x03\0\0\0\0\0\0\0\x01a\x02",
+        Answer::Made,
+        b"\x0d\0\0\0\0\x06\0\0\0\x09\0\0\0\0\0\0\x01",
+    ),
+    (
+        b"\x1b\0\0\0\x03\x01\0\0\0\x03\0\0\0\0\0\0\0\x01c\x04\0\0\0\x05\0\0\0\0\0\0\0",
+        Answer::Linked,
+        b"\x01\0\0\0\0",
+    ),
+    (
+        b"\x0f\0\0\0\x04\x01\0\0\0\x03\0\0\0\0\0\0\0\x01d",
+        Answer::Dropped(true),
+        b"\x02\0\0\0\0\x01",
+    ),
+    (
+        b"\x12\0\0\0\x05\x01\0\0\0\x03\0\0\0\0\0\0\0\x02ef\x01g",
+        Answer::Renamed,
+        b"\x01\0\0\0\0",
+    ),
+    (
+        b"\x15\0\0\0\x06\x01\0\0\0\x03\0\0\0\0\0\0\0\x01\0\0\0\0\0\0\0",
+        Answer::Names(1),
+        b"\x14\0\0\0\0\x01\x01\0\0\0\0\0\0\0\x02\x02\0\x02de\x01\x01\x01x",
+    ),
+    (
+        b"\x15\0\0\0\x06\x01\0\0\0\x03\0\0\0\0\0\0\0\x02\0\0\0\0\0\0\0",
+        Answer::LostNames(5),
+        b"\x0a\0\0\0\0\x02\x05\0\0\0\0\0\0\0",
+    ),
+    (
+        b"\x15\0\0\0\x06\x01\0\0\0\x03\0\0\0\0\0\0\0\x06\0\0\0\0\0\0\0",
+        Answer::NoMore,
+        b"\x02\0\0\0\0\x03",
+    ),
+];
+
+#[test]
+fn each_step_on_names_has_its_frame_and_its_reply(rt: HostRuntime) -> Result<(), Fail> {
+    check(&rt, rt.alloc(), &ON_NAMES)
+}
+
+/// Steps on slots, files and elements.
+const OTHERS: [Row<'static>; 8] = [
+    (GET_72, Answer::Lost, b"\x02\0\0\0\0\x03"),
+    (
+        b"\x1c\0\0\0\x08\x02\0\0\0\x02\0\0\0\0\0\0\0\x01\0\0\0\0\0\0\0\x0a\0\0\0xyz",
+        Answer::Stored,
+        b"\x01\0\0\0\0",
+    ),
+    (
+        b"\x15\0\0\0\x09\x02\0\0\0\x02\0\0\0\0\0\0\0\x88\x13\0\0\0\0\0\0",
+        Answer::Resized,
+        b"\x01\0\0\0\0",
+    ),
+    (
+        STAT,
+        Answer::Stat(5000, 1),
+        b"\x0e\0\0\0\0\x01\x88\x13\0\0\0\0\0\0\x01\0\0\0",
+    ),
+    (
+        b"\x0d\0\0\0\x0b\0\0\0\0\0\0\0\0\0\0\0\0",
+        Answer::Flushed,
+        b"\x01\0\0\0\0",
+    ),
+    (
+        b"\x05\0\0\0\x0c\x03\0\0\0",
+        Answer::Seen(true),
+        b"\x02\0\0\0\0\x01",
+    ),
+    (
+        b"\x09\0\0\0\x0d\x18\0\0\0\0\0\0\0",
+        Answer::Seen(false),
+        b"\x02\0\0\0\0\0",
+    ),
+    (
+        b"\x09\0\0\0\x0d\xff\xff\xff\xff\xff\xff\xff\xff",
+        Answer::No(Refusal::BadRange),
+        b"\x01\0\0\0\x09",
+    ),
+];
+
+#[test]
+fn each_other_step_has_its_frame_and_its_reply(rt: HostRuntime) -> Result<(), Fail> {
+    check(&rt, rt.alloc(), &OTHERS)
+}
+
+/// Refusals, with and without what they keep.
+const REFUSALS: [Row<'static>; 5] = [
+    (STAT, Answer::No(Refusal::Missing), b"\x01\0\0\0\x01"),
+    (
+        STAT,
+        Answer::No(Refusal::LostEntry { entry: 258 }),
+        b"\x05\0\0\0\x02\x02\x01\0\0",
+    ),
+    (
+        STAT,
+        Answer::No(Refusal::LostSlot { slot: 8 }),
+        b"\x09\0\0\0\x03\x08\0\0\0\0\0\0\0",
+    ),
+    (
+        STAT,
+        Answer::No(Refusal::Full {
+            needed: 1,
+            free: 2,
+            unverified: 3,
+            next: 4,
+        }),
+        b"\x21\0\0\0\x0f\x01\0\0\0\0\0\0\0\x02\0\0\0\0\0\0\0\x03\0\0\0\0\0\0\0\x04\0\0\0\0\0\0\0",
+    ),
+    (
+        STAT,
+        Answer::No(Refusal::InodesFull {
+            unverified: 5,
+            next: 6,
+        }),
+        b"\x11\0\0\0\x10\x05\0\0\0\0\0\0\0\x06\0\0\0\0\0\0\0",
+    ),
+];
+
 #[test]
 fn a_refusal_tells_its_number_and_what_it_keeps(rt: HostRuntime) -> Result<(), Fail> {
-    let alloc = rt.alloc();
-    let table: [(Refusal, &[u8]); 5] = [
-        (Refusal::Missing, b"\x01\0\0\0\x01"),
-        (
-            Refusal::LostEntry { entry: 258 },
-            b"\x05\0\0\0\x02\x02\x01\0\0",
-        ),
-        (
-            Refusal::LostSlot { slot: 8 },
-            b"\x09\0\0\0\x03\x08\0\0\0\0\0\0\0",
-        ),
-        (
-            Refusal::Full {
-                needed: 1,
-                free: 2,
-                unverified: 3,
-                next: 4,
-            },
-            b"\x21\0\0\0\x0f\x01\0\0\0\0\0\0\0\x02\0\0\0\0\0\0\0\x03\0\0\0\0\0\0\0\x04\0\0\0\0\0\0\0",
-        ),
-        (
-            Refusal::InodesFull {
-                unverified: 5,
-                next: 6,
-            },
-            b"\x11\0\0\0\x10\x05\0\0\0\0\0\0\0\x06\0\0\0\0\0\0\0",
-        ),
-    ];
-    for (refusal, want) in table {
-        let served = serve_stream(alloc, STAT, 4096, &[Answer::No(refusal)])?;
-        assert_eq!(rt; served.given.as_slice(), want);
-    }
-    Ok(())
+    check(&rt, rt.alloc(), &REFUSALS)
 }
 
 #[test]
@@ -225,9 +286,7 @@ fn frames_are_the_same_in_pieces_of_every_size(rt: HostRuntime) -> Result<(), Fa
     ];
     for piece in [1, 3, 4, 5, 8, 21, 4096] {
         let served = serve_stream(alloc, &stream, piece, &answers)?;
-        assert_eq!(rt; served.end, WireEnd::End, "{piece}");
-        assert_eq!(rt; served.asked, stream, "{piece}");
-        assert_eq!(rt; served.given, replies, "{piece}");
+        expect(&rt, &served, WireEnd::End, &stream, &replies, piece);
     }
     Ok(())
 }
@@ -244,36 +303,34 @@ fn a_stream_that_ends_inside_a_frame_is_cut(rt: HostRuntime) -> Result<(), Fail>
             17 => (WireEnd::End, STAT, STOPPED_REPLY),
             _ => (WireEnd::Cut { at: 17 }, STAT, STOPPED_REPLY),
         };
-        assert_eq!(rt; served.end, want, "{length}");
-        assert_eq!(rt; served.asked.as_slice(), asked, "{length}");
-        assert_eq!(rt; served.given.as_slice(), given, "{length}");
+        expect(&rt, &served, want, asked, given, length as u64);
     }
     Ok(())
 }
 
+/// Frames that spell no step.
+const NO_STEPS: [&[u8]; 12] = [
+    b"\x01\0\0\0\x0e",
+    b"\0\0\0\0",
+    b"\x4d\x04\0\0",
+    b"\xff\xff\xff\xff",
+    b"\x01\0\0\0\0",
+    b"\x0c\0\0\0\x0a\x02\0\0\0\x02\0\0\0\0\0\0",
+    b"\x0e\0\0\0\x0a\x02\0\0\0\x02\0\0\0\0\0\0\0\0",
+    b"\x0f\0\0\0\x01\x01\0\0\0\x03\0\0\0\0\0\0\0\x02a",
+    b"\x10\0\0\0\x02\x01\0\0\0\x03\0\0\0\0\0\0\0\x01a\x03",
+    b"\x11\0\0\0\x05\x01\0\0\0\x03\0\0\0\0\0\0\0\x02ef\x01",
+    b"\x18\0\0\0\x08\x02\0\0\0\x02\0\0\0\0\0\0\0\x01\0\0\0\0\0\0\0\x0a\0\0",
+    b"\x06\0\0\0\x0c\x03\0\0\0\0",
+];
+
 #[test]
 fn a_frame_that_spells_no_step_is_bad(rt: HostRuntime) -> Result<(), Fail> {
-    let alloc = rt.alloc();
-    let table: [&[u8]; 12] = [
-        b"\x01\0\0\0\x0e",
-        b"\0\0\0\0",
-        b"\x4d\x04\0\0",
-        b"\xff\xff\xff\xff",
-        b"\x01\0\0\0\0",
-        b"\x0c\0\0\0\x0a\x02\0\0\0\x02\0\0\0\0\0\0",
-        b"\x0e\0\0\0\x0a\x02\0\0\0\x02\0\0\0\0\0\0\0\0",
-        b"\x0f\0\0\0\x01\x01\0\0\0\x03\0\0\0\0\0\0\0\x02a",
-        b"\x10\0\0\0\x02\x01\0\0\0\x03\0\0\0\0\0\0\0\x01a\x03",
-        b"\x11\0\0\0\x05\x01\0\0\0\x03\0\0\0\0\0\0\0\x02ef\x01",
-        b"\x18\0\0\0\x08\x02\0\0\0\x02\0\0\0\0\0\0\0\x01\0\0\0\0\0\0\0\x0a\0\0",
-        b"\x06\0\0\0\x0c\x03\0\0\0\0",
-    ];
-    for frame in table {
-        let stream = joined(alloc, &[STAT, frame, STAT])?;
-        let served = serve_stream(alloc, &stream, 7, &[])?;
-        assert_eq!(rt; served.end, WireEnd::Bad { at: 17 });
-        assert_eq!(rt; served.asked.as_slice(), STAT);
-        assert_eq!(rt; served.given.as_slice(), STOPPED_REPLY);
+    for frame in &NO_STEPS {
+        let stream = joined(rt.alloc(), &[STAT, frame, STAT])?;
+        let served = serve_stream(rt.alloc(), &stream, 7, &[])?;
+        let bad = WireEnd::Bad { at: 17 };
+        expect(&rt, &served, bad, STAT, STOPPED_REPLY, 0);
     }
     Ok(())
 }
@@ -290,15 +347,17 @@ fn put_of(alloc: Global, length: &[u8], count: u64) -> Result<Vec<u8>, AllocErro
 
 #[test]
 fn a_body_has_at_most_1100_bytes(rt: HostRuntime) -> Result<(), Fail> {
-    let alloc = rt.alloc();
-    let most = put_of(alloc, b"\x4c\x04\0\0", 1075)?;
-    let served = serve_stream(alloc, &most, 4096, &[Answer::Stored])?;
-    assert_eq!(rt; served.end, WireEnd::End);
-    assert_eq!(rt; served.asked, most);
-    let more = put_of(alloc, b"\x4d\x04\0\0", 1076)?;
-    let served = serve_stream(alloc, &more, 4096, &[Answer::Stored])?;
-    assert_eq!(rt; served.end, WireEnd::Bad { at: 0 });
-    assert!(rt; served.asked.is_empty() && served.given.is_empty());
+    let most = put_of(rt.alloc(), b"\x4c\x04\0\0", 1075)?;
+    let served = serve_stream(rt.alloc(), &most, 4096, &[Answer::Stored])?;
+    expect(&rt, &served, WireEnd::End, &most, b"\x01\0\0\0\0", 1075);
+    Ok(())
+}
+
+#[test]
+fn a_body_of_1101_bytes_is_bad(rt: HostRuntime) -> Result<(), Fail> {
+    let more = put_of(rt.alloc(), b"\x4d\x04\0\0", 1076)?;
+    let served = serve_stream(rt.alloc(), &more, 4096, &[Answer::Stored])?;
+    expect(&rt, &served, WireEnd::Bad { at: 0 }, b"", b"", 1076);
     Ok(())
 }
 
@@ -306,69 +365,85 @@ fn a_body_has_at_most_1100_bytes(rt: HostRuntime) -> Result<(), Fail> {
 fn a_reply_is_given_before_the_next_body_is_taken(rt: HostRuntime) -> Result<(), Fail> {
     let alloc = rt.alloc();
     let stream = joined(alloc, &[STAT, GET_0])?;
-    let mut told = stand_in(alloc, &[])?;
-    let mut source = MemSource::new(alloc, &stream, 4096, &[3])?;
-    let mut sink = MemSink::new(alloc, 100, &[])?;
-    let end = serve(alloc, &mut told, &mut source, &mut sink);
-    assert_eq!(rt; end, WireEnd::SourceFault);
-    assert_eq!(rt; told.asked.as_slice(), STAT);
-    assert_eq!(rt; sink.bytes(), STOPPED_REPLY);
-    match read_all(alloc, &mut source, 100) {
+    let third = Faults {
+        reads: &[3],
+        ..NO_FAULTS
+    };
+    let mut served = serve_faulty(alloc, &stream, 4096, third, &[])?;
+    let fault = WireEnd::SourceFault;
+    expect(&rt, &served, fault, STAT, STOPPED_REPLY, 3);
+    match read_all(alloc, &mut served.source, 100) {
         Ok(left) => assert_eq!(rt; left.as_slice(), &GET_0[4..]),
         Err(_) => assert!(rt; false),
     }
     Ok(())
 }
 
+/// How many stats were asked for, and how many replies were given.
+fn counts(served: &Served) -> (u64, u64) {
+    let asked = served.asked.len() / STAT.len();
+    let given = served.given.len() / STOPPED_REPLY.len();
+    (asked as u64, given as u64)
+}
+
+/// Whether as many replies were given as stats were asked for.
+fn each_is_answered(served: &Served) -> bool {
+    let whole = served.asked.len() / STAT.len();
+    served.given.len() == whole.saturating_mul(STOPPED_REPLY.len())
+}
+
 #[test]
-fn each_call_of_source_and_sink_fails_once(rt: HostRuntime) -> Result<(), Fail> {
+fn each_call_of_a_source_fails_once(rt: HostRuntime) -> Result<(), Fail> {
     let alloc = rt.alloc();
     let stream = joined(alloc, &[STAT, STAT, STAT])?;
     for number in 1..12u64 {
-        let mut told = stand_in(alloc, &[])?;
-        let mut source = MemSource::new(alloc, &stream, 7, &[number])?;
-        let mut sink = MemSink::new(alloc, 100, &[])?;
-        let end = serve(alloc, &mut told, &mut source, &mut sink);
-        let whole = told.asked.len() / STAT.len();
-        if number < 10 {
-            assert_eq!(rt; end, WireEnd::SourceFault, "{number}");
+        let fault = Faults {
+            reads: &[number],
+            ..NO_FAULTS
+        };
+        let served = serve_faulty(alloc, &stream, 7, fault, &[])?;
+        let want = if number < 10 {
+            WireEnd::SourceFault
         } else {
-            assert_eq!(rt; end, WireEnd::End, "{number}");
-        }
-        assert_eq!(rt;
-            sink.bytes().len(),
-            whole.saturating_mul(STOPPED_REPLY.len()),
-            "{number}"
-        );
+            WireEnd::End
+        };
+        assert_eq!(rt; served.end, want, "{number}");
+        assert!(rt; each_is_answered(&served), "{number}");
     }
+    Ok(())
+}
+
+#[test]
+fn each_call_of_a_sink_fails_once(rt: HostRuntime) -> Result<(), Fail> {
+    let alloc = rt.alloc();
+    let stream = joined(alloc, &[STAT, STAT, STAT])?;
     for number in 1..5u64 {
-        let mut told = stand_in(alloc, &[])?;
-        let mut source = MemSource::new(alloc, &stream, 4096, &[])?;
-        let mut sink = MemSink::new(alloc, 100, &[number])?;
-        let end = serve(alloc, &mut told, &mut source, &mut sink);
+        let fault = Faults {
+            writes: &[number],
+            ..NO_FAULTS
+        };
+        let served = serve_faulty(alloc, &stream, 4096, fault, &[])?;
         let want = if number < 4 {
             WireEnd::SinkFault
         } else {
             WireEnd::End
         };
-        assert_eq!(rt; end, want, "{number}");
-        let asked = told.asked.len() / STAT.len();
-        assert_eq!(rt; asked as u64, number.min(3), "{number}");
-        let given = sink.bytes().len() / STOPPED_REPLY.len();
-        assert_eq!(rt; given as u64, number.saturating_sub(1).min(3), "{number}");
+        assert_eq!(rt; served.end, want, "{number}");
+        let given = number.saturating_sub(1).min(3);
+        assert_eq!(rt; counts(&served), (number.min(3), given), "{number}");
     }
     Ok(())
 }
 
 #[test]
 fn a_sink_without_room_has_the_first_bytes_of_a_reply(rt: HostRuntime) -> Result<(), Fail> {
-    let alloc = rt.alloc();
-    let mut told = stand_in(alloc, &[Answer::Stat(0, 0)])?;
-    let mut source = MemSource::new(alloc, STAT, 4096, &[])?;
-    let mut sink = MemSink::new(alloc, 10, &[])?;
-    let end = serve(alloc, &mut told, &mut source, &mut sink);
-    assert_eq!(rt; end, WireEnd::SinkFault);
-    assert_eq!(rt; sink.bytes(), &STAT_REPLY[..10]);
+    let small = Faults {
+        room: 10,
+        ..NO_FAULTS
+    };
+    let served = serve_faulty(rt.alloc(), STAT, 4096, small, &[Answer::Stat(0, 0)])?;
+    let given = &STAT_REPLY[..10];
+    expect(&rt, &served, WireEnd::SinkFault, STAT, given, 10);
     Ok(())
 }
 
@@ -378,8 +453,8 @@ fn a_step_without_memory_ends_the_stream_unanswered(rt: HostRuntime) -> Result<(
     let stream = joined(alloc, &[GET_0, GET_0, GET_0])?;
     let answers = [Answer::Hole, Answer::No(Refusal::OutOfMemory), Answer::Hole];
     let served = serve_stream(alloc, &stream, 4096, &answers)?;
-    assert_eq!(rt; served.end, WireEnd::OutOfMemory);
-    assert_eq!(rt; served.given.as_slice(), HOLE_REPLY);
+    let asked = joined(alloc, &[GET_0, GET_0])?;
+    expect(&rt, &served, WireEnd::OutOfMemory, &asked, HOLE_REPLY, 2);
     Ok(())
 }
 
@@ -394,16 +469,25 @@ fn ten_thousand_frames_in_one_stream(rt: HostRuntime) -> Result<(), Fail> {
     }
     for piece in [4096, 3] {
         let served = serve_stream(alloc, &stream, piece, &[])?;
-        assert_eq!(rt; served.end, WireEnd::End);
-        assert!(rt; served.asked == stream && served.given == replies);
+        expect(&rt, &served, WireEnd::End, &stream, &replies, piece);
     }
     Ok(())
 }
 
+/// The end of a stream of at most so many bytes, and how many replies were given.
+fn serve_limited(alloc: Global, stream: &[u8], limit: u32) -> Result<(WireEnd, u64), AllocError> {
+    let mut told = stand_in(alloc, &[])?;
+    let mut source = MemSource::new(alloc, stream, 4096, &[])?;
+    let mut sink = MemSink::new(alloc, 100, &[])?;
+    let limit = u64::from(limit);
+    let end = serve_up_to(alloc, limit, &mut told, &mut source, &mut sink);
+    let given = sink.bytes().len() / STOPPED_REPLY.len();
+    Ok((end, given as u64))
+}
+
 #[test]
 fn a_stream_has_at_most_so_many_bytes(rt: HostRuntime) -> Result<(), Fail> {
-    let alloc = rt.alloc();
-    let stream = joined(alloc, &[STAT, STAT])?;
+    let stream = joined(rt.alloc(), &[STAT, STAT])?;
     for (limit, want, whole) in [
         (34, WireEnd::End, 2u64),
         (33, WireEnd::TooLong, 1),
@@ -412,13 +496,8 @@ fn a_stream_has_at_most_so_many_bytes(rt: HostRuntime) -> Result<(), Fail> {
         (16, WireEnd::TooLong, 0),
         (0, WireEnd::TooLong, 0),
     ] {
-        let mut told = stand_in(alloc, &[])?;
-        let mut source = MemSource::new(alloc, &stream, 4096, &[])?;
-        let mut sink = MemSink::new(alloc, 100, &[])?;
-        let end = serve_up_to(alloc, limit, &mut told, &mut source, &mut sink);
-        assert_eq!(rt; end, want, "{limit}");
-        let given = sink.bytes().len() / STOPPED_REPLY.len();
-        assert_eq!(rt; given as u64, whole, "{limit}");
+        let ended = serve_limited(rt.alloc(), &stream, limit)?;
+        assert_eq!(rt; ended, (want, whole), "{limit}");
     }
     Ok(())
 }
