@@ -1,17 +1,15 @@
 //! What the checks say of each example image: what the definitions say, and what was derived of the
 //! image by hand. Each read that fails fails the check.
-ghost use Rattle.std.specs.Prelude.{◌≡◌, IfSome, IfOk, length};
-ghost use Rattle.nofs_memdisk.specs.Parts.{memory_state};
+ghost use Rattle.std.specs.Prelude.{◌≡◌, IfOk, length};
 ghost use Rattle.nofs_model.specs.Slots.{is_slot};
-ghost use Rattle.nofs_agree.specs.Reading.{IsAt};
 
-use crate::tests::disks::{disk_of, fail_read};
+use crate::tests::disks::fail_read;
 use nofs_agree::{Known, PathAnswer, check_chain, check_path, learn_chain};
 use nofs_disk::{Cell, Failed, Pointer};
 use nofs_examples::*;
 use nofs_memdisk::MemDisk;
 use nofs_model::{Value, agreed, is_mountable, value_of};
-use nofs_super::{SuperBlock, read_super};
+use nofs_testdisks::{disk_of, read_numbers};
 use std::alloc::{AllocError, Global};
 use std::process::Abort;
 use std::test::Fail;
@@ -46,16 +44,6 @@ const SLOTS: [u64; 19] = [
     LEAF + 65,
 ];
 
-/// The superblock of a disk.
-fn numbers(disk: &mut MemDisk) -> Option<SuperBlock>
-    ensures { IfSome result (IsAt (memory_state disk.new)) }
-{
-    match read_super(disk) {
-        Ok(at) => Some(at),
-        Err(_) => None,
-    }
-}
-
 // Checks. Each reads the superblock first
 
 fn is_slot(number: u64) -> bool
@@ -69,7 +57,7 @@ fn path(disk: &mut MemDisk, inode: u32, slot: u64) -> Option<Result<PathAnswer, 
     if !is_slot(slot) {
         return None;
     }
-    let at = numbers(disk)?;
+    let at = read_numbers(disk)?;
     Some(check_path(disk, &at, inode, slot))
 }
 
@@ -80,7 +68,7 @@ fn chain(
     known: &[u32],
     inode: u32,
 ) -> Result<Option<Result<bool, Failed>>, AllocError> {
-    match numbers(disk) {
+    match read_numbers(disk) {
         None => Ok(None),
         Some(at) => {
             let known = known_of(alloc, at.inodes, known)?;
@@ -111,7 +99,7 @@ fn set_known(known: &mut Known, inodes: u64, inode: u32)
 
 /// Whether the check that keeps what it finds answers for each inode whether it is among these, and what it finds is told from then on.
 fn learns(alloc: Global, disk: &mut MemDisk, names: &[u32]) -> Result<bool, AllocError> {
-    let Some(at) = numbers(disk) else {
+    let Some(at) = read_numbers(disk) else {
         return Ok(false);
     };
     let mut known = Known::nothing(alloc, at.inodes)?;

@@ -1,6 +1,4 @@
 //! Disks in memory that tests begin with, and calls on any disk with cells of one byte.
-ghost use Rattle.nofs_disk.specs.Disk.{IsSettled};
-ghost use Rattle.nofs_memdisk.specs.Parts.{memory_state};
 
 use nofs_disk::{Cell, Disk, Failed};
 use nofs_memdisk::{CallKind, FaultAt, MemDisk};
@@ -30,24 +28,6 @@ pub fn fail_read(disk: &mut MemDisk, number: u64) -> Result<(), AllocError> {
         taken: false,
     };
     disk.fail_at(&[call])
-}
-
-/// A disk that holds these cells.
-pub fn disk_of(alloc: Global, cells: &[Cell]) -> Result<MemDisk, AllocError> {
-    let mut disk = MemDisk::new(alloc, cells.len() as u64)?;
-    for (block, cell) in cells.iter().enumerate() {
-        lay(&mut disk, block as u64, cell);
-    }
-    Ok(disk)
-}
-
-fn lay(disk: &mut MemDisk, block: u64, cell: &Cell)
-    requires { IsSettled (memory_state disk.old) }
-    ensures { IsSettled (memory_state disk.new) }
-{
-    if block < disk.blocks() {
-        disk.put_cell(block, cell);
-    }
 }
 
 /// A disk of 16 blocks, of which block 0 has this payload and the others are zeros.

@@ -3,11 +3,12 @@ ghost use Rattle.nofs_memdisk.specs.Memory.{PicksVersions};
 ghost use Rattle.nofs_memdisk.specs.Parts.{memory_state};
 ghost use Rattle.std.specs.Prelude.{IsTrue, ◌↔◌};
 
-use crate::tests::disks::{disk_of, disk_with};
+use crate::tests::disks::disk_with;
 use nofs_disk::{Cell, Disk};
 use nofs_examples::empty;
 use nofs_memdisk::{CallKind, FaultAt, MemDisk, Pick};
 use nofs_super::{MountFault, SuperBlock, write_super};
+use nofs_testdisks::disk_of;
 use nofs_upgrade::{UpgradeFault, upgrade};
 use std::alloc::{AllocError, Global};
 use std::test::Fail;
