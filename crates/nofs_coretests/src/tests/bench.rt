@@ -17,6 +17,7 @@ use nofs_inode::FileKind;
 use nofs_memdisk::MemDisk;
 use nofs_state::{Core, Room};
 use nofs_super::{SuperBlock, raise_mount, read_super};
+use nofs_testdisks::read_numbers;
 use std::alloc::Global;
 use std::test::Fail;
 
@@ -39,17 +40,9 @@ fn raised(disk: &mut MemDisk) -> Result<SuperBlock, Fail>
         Ok(_) => {}
         Err(_) => return Err("no mount".into()),
     }
-    read_again(disk)
-}
-
-fn read_again(disk: &mut MemDisk) -> Result<SuperBlock, Fail>
-    ensures at { IfOk result (IsAt (memory_state disk.new)) }
-    ensures mount { IfOk result (λ at. at.mount < 2 ^ 24) }
-    ensures geometry { IfOk result (λ at. IsGeometry at.blocks at.blocks at.inodes) }
-{
-    match read_super(disk) {
-        Ok(at) => Ok(at),
-        Err(_) => Err("no superblock".into()),
+    match read_numbers(disk) {
+        Some(at) => Ok(at),
+        None => Err("no superblock".into()),
     }
 }
 

@@ -1,8 +1,6 @@
 //! Disks in memory that tests mount.
-ghost use Rattle.nofs_disk.specs.Disk.{IsSettled};
-ghost use Rattle.nofs_memdisk.specs.Parts.{memory_state};
 
-use nofs_disk::{Cell, Disk};
+use nofs_disk::Cell;
 use nofs_memdisk::{CallKind, FaultAt, MemDisk};
 use nofs_super::{SuperBlock, format, write_super};
 use std::alloc::Global;
@@ -14,24 +12,6 @@ pub fn formatted(alloc: Global, blocks: u64, inodes: u64) -> Result<MemDisk, Fai
     match format(&mut disk, blocks, inodes) {
         Ok(()) => Ok(disk),
         Err(_) => Err("not formatted".into()),
-    }
-}
-
-/// A disk that holds these cells.
-pub fn disk_of(alloc: Global, cells: &[Cell]) -> Result<MemDisk, Fail> {
-    let mut disk = MemDisk::new(alloc, cells.len() as u64)?;
-    for (block, cell) in cells.iter().enumerate() {
-        lay(&mut disk, block as u64, cell);
-    }
-    Ok(disk)
-}
-
-fn lay(disk: &mut MemDisk, block: u64, cell: &Cell)
-    requires { IsSettled (memory_state disk.old) }
-    ensures { IsSettled (memory_state disk.new) }
-{
-    if block < disk.blocks() {
-        disk.put_cell(block, cell);
     }
 }
 

@@ -1,11 +1,12 @@
 //! Steps on files: what a slot says afterwards, what was claimed, and what is free then.
 use crate::tests::bench::Bench;
-use crate::tests::disks::{disk_of, failing, formatted, raise_version};
+use crate::tests::disks::{failing, formatted, raise_version};
 use crate::tests::steps::{Ask, LABEL, ROOT, S, Said, T};
 use nofs_examples::{blocks_under_the_top, empty, residue_past_the_size};
 use nofs_inode::FileKind;
 use nofs_machine::Refusal;
 use nofs_memdisk::CallKind;
+use nofs_testdisks::disk_of;
 use std::alloc::Global;
 use std::test::Fail;
 

@@ -1,6 +1,6 @@
 //! Steps on names: which file a name leads to, over disks that a crash or damage left too.
 use crate::tests::bench::Bench;
-use crate::tests::disks::{disk_of, formatted};
+use crate::tests::disks::formatted;
 use crate::tests::steps::{Ask, Handle, LABEL, ROOT, S, Said, T};
 use nofs_disk::Cell;
 use nofs_examples::{
@@ -10,6 +10,7 @@ use nofs_examples::{
 };
 use nofs_inode::FileKind;
 use nofs_machine::Refusal;
+use nofs_testdisks::disk_of;
 use std::alloc::Global;
 use std::test::Fail;
 
