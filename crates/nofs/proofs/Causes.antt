@@ -116,7 +116,8 @@ refused-later blocks inodes old mid new cause f adds cells u = record {
         let fits = numbers.fits in
         let refused = refusal (omega (arith, size, some, fits)) (subst IsTrue (sym adds.disk.tells) tells) in
         let first = cells tells 0 (omega (arith, some)) in
-        let fine : check_super mid.blocks (cell_at mid.now 0).payload ≡ Ok (fresh_super blocks inodes) = ap (λ (x : Cell). check_super mid.blocks x.payload) first
+        let fine : check_super mid.blocks (cell_at mid.now 0).payload ≡ Ok (fresh_super blocks inodes) =
+        ap (λ (x : Cell). check_super mid.blocks x.payload) first
         ∙ formatted-check mid.blocks blocks inodes (subst (λ (n : ℕ). IsGeometry n blocks inodes) (sym size) numbers) in
         let bad : Ok (fresh_super blocks inodes) ≡ Err why = sym fine ∙ refused in
         cc bad

@@ -1,5 +1,6 @@
 -- A run on a ready device, in which no count of faults rose, ends with status 0 or for want of memory.
-use Rattle.std.proofs.Common.{◌≡◌, ◌≢◌, ◌⊎◌, inl, inr, ℕ, ◌+◌, ◌-◌, ◌^◌, ◌<◌, ◌≤◌, Bool, true, false, not, ◌&&◌, if◌then◌else◌, List, [], ◌++◌, length, length-append, append-nil, take, Option, Some, None, Ok, Err, IsTrue, refl, sym, ap, ◌∙◌, subst, arith}
+use Rattle.std.proofs.Common.{◌≡◌, ◌≢◌, ◌⊎◌, inl, inr, ℕ, ◌+◌, ◌-◌, ◌^◌, ◌<◌, ◌≤◌, Bool, true, false, not, ◌&&◌, if◌then◌else◌, List, [], ◌++◌, length}
+use Rattle.std.proofs.Common.{length-append, append-nil, take, Option, Some, None, Ok, Err, IsTrue, refl, sym, ap, ◌∙◌, subst, arith}
 use Rattle.std.specs.Prelude.{◌==◌, is_none, unwrap_or}
 use Rattle.std.specs.Io.KnownBytes.{Consumes, IsAtEnd}
 use Rattle.std.proofs.lemmas.Bool.{and_parts, le-ltb, lt-leb}
@@ -92,7 +93,8 @@ pub can-check : (d : DiskState) → CanBeMounted d → (0 < d.blocks) × (check_
 unfolding super_at
 can-check d c =
     let parts = and_parts (is_super (cell_at d.now 0).payload) (is_geometry (length d.now) (super_at d.now).blocks (super_at d.now).inodes) c.mountable in
-    let g : IsGeometry (length d.now) (super_at d.now).blocks (super_at d.now).inodes = is_geometry-parts (length d.now) (super_at d.now).blocks (super_at d.now).inodes parts.1 in
+    let g : IsGeometry (length d.now) (super_at d.now).blocks (super_at d.now).inodes =
+    is_geometry-parts (length d.now) (super_at d.now).blocks (super_at d.now).inodes parts.1 in
     let size = c.size in
     let some = g.some_blocks in
     let fits = g.fits in (

@@ -1,5 +1,6 @@
 -- Where all is known, the counts of the machine are those of the full scan of the disk.
-use Rattle.std.proofs.Common.{◌≡◌, ◌≢◌, Option, Some, None, Result, Ok, Err, ℕ, zero, suc, ◌+◌, ◌<◌, Bool, true, false, ◌&&◌, cond, not, List, [], map, refl, sym, ap, ◌∙◌, subst, arith}
+use Rattle.std.proofs.Common.{◌≡◌, ◌≢◌, Option, Some, None, Result, Ok, Err, ℕ, zero, suc, ◌+◌, ◌<◌, Bool, true, false, ◌&&◌, cond, not, List, [], map, refl}
+use Rattle.std.proofs.Common.{sym, ap, ◌∙◌, subst, arith}
 use Rattle.std.specs.Prelude.{IfOk, IfSome}
 use Rattle.std.specs.Result.{result_ok}
 use Rattle.std.proofs.Math.Logic.{∥∥₁_elim, ∥∥₁_prop}
@@ -37,7 +38,8 @@ known-is : (a b c : Bool) → a ≡ true → b ≡ c → (a && b) ≡ c
 known-is true b c e f = f
 known-is false b c e f = absurd (cc e)
 
-pub world-counted : (at : SuperBlock) (W : World) (X : Image) (c : Counts) → CountsInodes W c → CountsBlocks W c → ShowsDisk at W X → IsWholeScan W X → CountsDisk X c
+pub world-counted : (at : SuperBlock) (W : World) (X : Image) (c : Counts) → CountsInodes W c → CountsBlocks W c → ShowsDisk at W X → IsWholeScan W X
+    → CountsDisk X c
 world-counted at W X c i b shows whole =
     let inodes : W.inodes ≡ (super_at X).inodes = shows.inodes ∙ sym (ap (λ (s : SuperBlock). s.inodes) shows.numbers) in
     let blocks : W.blocks ≡ (super_at X).blocks = shows.blocks ∙ sym (ap (λ (s : SuperBlock). s.blocks) shows.numbers) in
@@ -71,7 +73,8 @@ scan-counted found before d first first_before k_before k lines c stood stands r
     let shows = shows-past found d first k m q ok in
     let same : k_before.at ≡ raised (super_at found.now) = (b.stands q).raised in
     let run_at = subst (λ (a : SuperBlock). IsSessionRun [] a.inodes a.blocks false lines k.history.entries) same run in
-    let whole = whole-scan [] (raised (super_at found.now)) lines k.history.entries k.history.start s.past.first s.past.base s.past.world d.now run_at o.run.run ok shows in
+    let whole = whole-scan [] (raised (super_at found.now))
+    lines k.history.entries k.history.start s.past.first s.past.base s.past.world d.now run_at o.run.run ok shows in
     let n = counts s.past.world o.says in
     world-counted (raised (super_at found.now)) s.past.world d.now c n.0 n.1 shows whole) ∣₁))
 

@@ -1,5 +1,6 @@
 -- What a drill leaves, put together.
-use Rattle.std.proofs.Common.{◌≡◌, ◌≢◌, ℕ, ◌≤◌, Bool, true, false, not, List, [], ◌∷◌, ◌++◌, length, map, drop, Result, Ok, Err, None, Some, refl, sym, ap, ◌∙◌, subst, arith}
+use Rattle.std.proofs.Common.{◌≡◌, ◌≢◌, ℕ, ◌≤◌, Bool, true, false, not, List, [], ◌∷◌, ◌++◌, length, map, drop, Result, Ok, Err, None, Some, refl, sym, ap}
+use Rattle.std.proofs.Common.{◌∙◌, subst, arith}
 use Rattle.std.specs.Prelude.{IfOk, IfSome, count_by, sum_by}
 use Rattle.std.specs.Result.{result_ok}
 use Rattle.std.specs.declared.option.Option.{Option}
@@ -33,14 +34,17 @@ pub read-out : {E : Type 0} (start steps refused told_refused : ℕ) (served see
     (out closed : Bool) (line : Result (List ℕ) E) (text : Option (List ℕ)) → entries ≡ H → text ≡ result_ok line → out ≡ false → closed ≡ true
     → told_refused ≡ refused → told_reads ≡ reads → told ≡ H → ((made : List Made) × AddsOwn made served seen × AreRead 1 reads made)
     → ((flush : Reply) × AddsStep 0 (step.Flush 0 0) flush seen H × (closed ≡ not (is_out_of_memory flush)))
-    → IfOk line (λ text. text ≡ drill_line start steps told_refused (sum_by size_told told_reads) (sum_by sum_told told_reads) (sum_by (wrong_told told) told_reads))
+    → IfOk line (λ text. text ≡ drill_line start steps told_refused (sum_by size_told told_reads) (sum_by sum_told told_reads)
+    (sum_by (wrong_told told) told_reads))
     → IfSome text (λ t. (out ≡ false) × IsReadOut start steps refused served entries t)
-read-out {E} start steps refused told_refused served seen H told entries reads told_reads out closed line text ends is whole done lines_are reads_are told_is read close tells =
+read-out {E} start steps refused told_refused served seen H told entries reads told_reads out closed line text ends is whole done lines_are reads_are told_is
+    read close tells =
     subst (λ (o : Option (List ℕ)). IfSome o (λ t. (out ≡ false) × IsReadOut start steps refused served entries t)) (sym is)
     (subst (λ (h : List Entry1). IfSome (result_ok line) (λ t. (out ≡ false) × IsReadOut start steps refused served h t)) (sym ends) (go line tells))
   where
     go : (l : Result (List ℕ) E)
-        → IfOk l (λ text. text ≡ drill_line start steps told_refused (sum_by size_told told_reads) (sum_by sum_told told_reads) (sum_by (wrong_told told) told_reads))
+        → IfOk l (λ text. text ≡ drill_line start steps told_refused (sum_by size_told told_reads) (sum_by sum_told told_reads)
+        (sum_by (wrong_told told) told_reads))
         → IfSome (result_ok l) (λ t. (out ≡ false) × IsReadOut start steps refused served H t)
     go (Ok text) tells =
         let (made, adds, are) = read in
@@ -55,13 +59,15 @@ read-out {E} start steps refused told_refused served seen H told entries reads t
             adds = adds;
             closes = closes;
             closed = twice (is_out_of_memory flush) (ap not (sym is ∙ done));
-            tells = tells ∙ (λ i. drill_line start steps (lines_are i) (sum_by size_told (reads_are i)) (sum_by sum_told (reads_are i)) (sum_by (wrong_told (told_is i)) (reads_are i)));
+            tells = tells ∙ (λ i. drill_line start steps (lines_are i) (sum_by size_told (reads_are i)) (sum_by sum_told (reads_are i))
+                (sum_by (wrong_told (told_is i)) (reads_are i)));
           },
         )
     go (Err e) tells = tt
 
 -- and a team was at work before
-pub drilled : (start steps inodes blocks : ℕ) (out : Bool) (lines : List (List Line)) (scripts : List (List Command)) (before served H : List Entry1) (text : List ℕ)
+pub drilled : (start steps inodes blocks : ℕ) (out : Bool) (lines : List (List Line)) (scripts : List (List Command)) (before served H : List Entry1)
+    (text : List ℕ)
     → LinesFollow → scripts ≡ drill_session start steps → before ≡ [] → out ≡ false → TeamServed scripts inodes blocks out lines before served
     → IsReadOut start steps (sum_by (count_by is_refused_line) lines) served H text → IsDrilled start steps H text
 drilled start steps inodes blocks out lines scripts before served H text follow same empty whole t read =
@@ -84,7 +90,8 @@ drilled start steps inodes blocks out lines scripts before served H text follow 
     }
 
 -- where there is a text
-pub drill-ends : (start steps inodes blocks : ℕ) (out : Bool) (lines : List (List Line)) (scripts : List (List Command)) (before served H : List Entry1) (text : Option (List ℕ))
+pub drill-ends : (start steps inodes blocks : ℕ) (out : Bool) (lines : List (List Line)) (scripts : List (List Command)) (before served H : List Entry1)
+    (text : Option (List ℕ))
     → LinesFollow → scripts ≡ drill_session start steps → before ≡ [] → TeamServed scripts inodes blocks out lines before served
     → IfSome text (λ t. (out ≡ false) × IsReadOut start steps (sum_by (count_by is_refused_line) lines) served H t) → IfSome text (IsDrilled start steps H)
 drill-ends start steps inodes blocks out lines scripts before served H None follow same empty t read = tt
@@ -110,5 +117,11 @@ pub drill-session : (start steps : ℕ) → IsSession (drill_session start steps
 drill-session start steps = record {
   some = omega arith;
   few = omega arith;
-  formed = (script-formed start steps 1 _ refl, (script-formed start steps 2 _ refl, (script-formed start steps 3 _ refl, (script-formed start steps 4 _ refl, tt))));
+  formed = (
+    script-formed start steps 1 _ refl,
+    (
+      script-formed start steps 2 _ refl,
+      (script-formed start steps 3 _ refl, (script-formed start steps 4 _ refl, tt)),
+    ),
+  );
 }

@@ -1,5 +1,6 @@
 -- The steps of caller 0, the files that it reads, and the line of a drill.
-use Rattle.std.proofs.Common.{◌≡◌, ℕ, ◌+◌, ◌==◌, Bool, true, false, not, List, [], ◌∷◌, ◌++◌, length, map, drop, cond, Result, Ok, Err, Some, None, refl, sym, ap, ◌∙◌, subst, arith, append_assoc, append-nil, length-append}
+use Rattle.std.proofs.Common.{◌≡◌, ℕ, ◌+◌, ◌==◌, Bool, true, false, not, List, [], ◌∷◌, ◌++◌, length, map, drop, cond, Result, Ok, Err, Some, None, refl, sym}
+use Rattle.std.proofs.Common.{ap, ◌∙◌, subst, arith, append_assoc, append-nil, length-append}
 use Rattle.std.specs.Prelude.{filter, IfOk, IsErrAnd}
 use Rattle.std.specs.declared.option.Option.{Option}
 use Rattle.nofs_model.specs.Cells.{SuperBlock}
@@ -18,7 +19,8 @@ use Rattle.nofs_shared.specs.Owned.{done_of, is_by, steps_by}
 use Rattle.nofs_serve.specs.Served.{TeamMade, TeamServed}
 use Rattle.nofs_serve.proofs.Teaming.{team-unserved}
 use Rattle.nofs.specs.declared.reads.FileRead.{FileRead}
-use Rattle.nofs.specs.Drill.{AddsOwn, AreRead, AreReadings, GoesOn, IsDrillFollowed, IsFileRead, IsOneStep, IsReadFollowed, ReadsBy, drill_session, gets_from, is_reading}
+use Rattle.nofs.specs.Drill.{AddsOwn, AreRead, AreReadings, GoesOn, IsDrillFollowed, IsFileRead, IsOneStep, IsReadFollowed, ReadsBy, drill_session, gets_from}
+use Rattle.nofs.specs.Drill.{is_reading}
 use Rattle.nofs.proofs.Sessions.{adds-others, sweeps-shorter}
 
 -- an entry of caller 0 is its last step
@@ -91,7 +93,8 @@ one-asked s r H K reading a given = record { made = (s, r) ∷ []; adds = adds-o
 
 pub none-asked : {E : Type 0} (s : Step) (r : Reply) (e : E) (H K : List Entry1) → AddsStep 0 s r H K → is_out_of_memory r ≡ true
     → ReadsBy {T = Reply} {E = E} (IsOneStep s) (Err e) H K
-none-asked s r e H K a wanting = let (made, adds, readings) = only-same H K (a.none wanting) in record { made = made; adds = adds; readings = readings; read = tt }
+none-asked s r e H K a wanting = let (made, adds, readings) =
+    only-same H K (a.none wanting) in record { made = made; adds = adds; readings = readings; read = tt }
 
 one-added : {E : Type 0} (s : Step) (r : Reply) (H K : List Entry1) → ReadsBy {T = Reply} {E = E} (IsOneStep s) (Ok r) H K → AddsOwn ((s, r) ∷ []) H K
 one-added s r H K one = subst (λ (m : List Made). AddsOwn m H K) one.read one.adds
@@ -100,7 +103,8 @@ one-reading : {E : Type 0} (s : Step) (r : Reply) (H K : List Entry1) → ReadsB
 one-reading s r H K one = let all : AreReadings ((s, r) ∷ []) = subst (λ (m : List Made). AreReadings m) one.read one.readings in all.0
 
 -- one more slot was read
-gets-snoc : (f : Found) (k : ℕ) (rs : List Reply) (r : Reply) → gets_from f k (rs ++ r ∷ []) ≡ gets_from f k rs ++ (step.Get f.inode f.generation (k + length rs), r) ∷ []
+gets-snoc : (f : Found) (k : ℕ) (rs : List Reply) (r : Reply)
+    → gets_from f k (rs ++ r ∷ []) ≡ gets_from f k rs ++ (step.Get f.inode f.generation (k + length rs), r) ∷ []
 gets-snoc f k [] r = let e : k ≡ k + 0 = omega arith in ap (λ (n : ℕ). (step.Get f.inode f.generation n, r) ∷ []) e
 gets-snoc f k (x ∷ rs) r =
     let e : k + 1 + length rs ≡ k + length (x ∷ rs) = omega arith in
@@ -171,7 +175,8 @@ abbrev pub Pushed : {T E : Type 0} → ℕ → Result T E → List Entry1 → Li
 Pushed user result H K old new = ReadsBy (λ _ made. (read : Option FileRead) × (new ≡ old ++ read ∷ []) × IsFileRead user read made) result H K
 
 pub four-read : {T E : Type 0} (a b c d : T) (H H1 H2 H3 H4 : List Entry1) (l l1 l2 l3 l4 : List (Option FileRead))
-    → Pushed {T = T} {E = E} 1 (Ok a) H H1 l l1 → Pushed {T = T} {E = E} 2 (Ok b) H1 H2 l1 l2 → Pushed {T = T} {E = E} 3 (Ok c) H2 H3 l2 l3 → Pushed {T = T} {E = E} 4 (Ok d) H3 H4 l3 l4
+    → Pushed {T = T} {E = E} 1 (Ok a) H H1 l l1 → Pushed {T = T} {E = E} 2 (Ok b) H1 H2 l1 l2 → Pushed {T = T} {E = E} 3 (Ok c) H2 H3 l2 l3
+    → Pushed {T = T} {E = E} 4 (Ok d) H3 H4 l3 l4
     → l ≡ [] → (made : List Made) × AddsOwn made H H4 × AreReadings made × AreRead 1 l4 made
 four-read a b c d H H1 H2 H3 H4 l l1 l2 l3 l4 one two three four empty =
     let (x1, e1, r1) = one.read in
@@ -182,7 +187,8 @@ four-read a b c d H H1 H2 H3 H4 l l1 l2 l3 l4 one two three four empty =
     let m2 = two.made in
     let m3 = three.made in
     let m4 = four.made in
-    let whole : l4 ≡ x1 ∷ x2 ∷ x3 ∷ x4 ∷ [] = e4 ∙ ap (λ t. t ++ x4 ∷ []) (e3 ∙ ap (λ t. t ++ x3 ∷ []) (e2 ∙ ap (λ t. t ++ x2 ∷ []) (e1 ∙ ap (λ t. t ++ x1 ∷ []) empty))) in
+    let whole : l4 ≡ x1 ∷ x2 ∷ x3 ∷ x4 ∷ [] = e4 ∙ ap (λ t. t ++ x4 ∷ [])
+    (e3 ∙ ap (λ t. t ++ x3 ∷ []) (e2 ∙ ap (λ t. t ++ x2 ∷ []) (e1 ∙ ap (λ t. t ++ x1 ∷ []) empty))) in
     let last = adds-both m4 [] H3 H4 H4 four.adds (adds-none H4) in
     let later = adds-both m3 (m4 ++ []) H2 H3 H4 three.adds last in
     let rest = adds-both m2 (m3 ++ (m4 ++ [])) H1 H2 H4 two.adds later in
@@ -203,7 +209,8 @@ flush-told true e = e
 flush-told false e = refl
 
 -- memory was wanting on the way, and nothing said
-pub read-short : {T E : Type 0} (Is : T → List Made → Type 0) (reads : Result T E) (out closed : Bool) (served seen H entries : List Entry1) (text : Option (List ℕ))
+pub read-short : {T E : Type 0} (Is : T → List Made → Type 0) (reads : Result T E) (out closed : Bool) (served seen H entries : List Entry1)
+    (text : Option (List ℕ))
     → entries ≡ H → text ≡ None → ReadsBy Is reads served seen → Flushes closed seen H → IsReadFollowed out served text entries
 read-short Is reads out closed served seen H entries text ends said read close =
     let (flush, closes, is) = close in

@@ -1,5 +1,6 @@
 -- Frames: what serving them leaves, put together.
-use Rattle.std.proofs.Common.{◌≡◌, ◌≢◌, ◌⊎◌, inl, inr, ℕ, zero, suc, ◌∷◌, ◌+◌, ◌≤◌, Bool, true, false, if◌then◌else◌, List, [], ◌++◌, length, length-append, append-nil, take, drop, map, Option, Some, None, refl, sym, ap, ◌∙◌, subst, arith}
+use Rattle.std.proofs.Common.{◌≡◌, ◌≢◌, ◌⊎◌, inl, inr, ℕ, zero, suc, ◌∷◌, ◌+◌, ◌≤◌, Bool, true, false, if◌then◌else◌, List, [], ◌++◌, length, length-append}
+use Rattle.std.proofs.Common.{append-nil, take, drop, map, Option, Some, None, refl, sym, ap, ◌∙◌, subst, arith}
 use Rattle.std.specs.Prelude.{IfSome}
 use Rattle.std.specs.Io.KnownBytes.{Consumes, IsAtEnd}
 use Rattle.nofs_disk.specs.Disk.{DiskState, Rose}
@@ -160,7 +161,8 @@ too-long e old new given new_given made s is =
     (s.taken, s.takes, ends.1)
 
 -- what comes of frames at a mount
-pub wire-ends : (found last : DiskState) (source_old source_new : SourceState) (sink_old sink_new : SinkState) (first status : ℕ) (short : Bool) (e : WireEnd) (ran : HistoryState)
+pub wire-ends : (found last : DiskState) (source_old source_new : SourceState) (sink_old sink_new : SinkState) (first status : ℕ) (short : Bool)
+    (e : WireEnd) (ran : HistoryState)
     → status ≡ wire_status short e (has_fault ran.entries)
     → Serves 16777216 e source_old.left source_new.left sink_old.given sink_new.given [] (steps_by 1 ran.entries)
     → (e ≡ ended.SourceFault → Rose source_old.faults source_new.faults) → (e ≡ ended.SinkFault → Rose sink_old.faults sink_new.faults)

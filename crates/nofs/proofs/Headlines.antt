@@ -72,7 +72,8 @@ pub served-follows : (session scripts : List (List Command)) (at : SuperBlock) (
     (text : Option (List ℕ)) → scripts ≡ session → H ≡ all → (out ≡ true → text ≡ None) → IsSessionRun scripts at.inodes at.blocks out lines all
     → IsFollowed session at text H
 served-follows session scripts at out lines all H text same is said run =
-    let named : IsSessionRun session at.inodes at.blocks out lines all = subst (λ (s : List (List Command)). IsSessionRun s at.inodes at.blocks out lines all) same run in
+    let named : IsSessionRun session at.inodes at.blocks out lines all =
+    subst (λ (s : List (List Command)). IsSessionRun s at.inodes at.blocks out lines all) same run in
     record {
       short = out;
       early = said;
@@ -80,7 +81,8 @@ served-follows session scripts at out lines all H text same is said run =
     }
 
 -- the headline of a mount, from its state before it served and what it gave at its end
-headline-any : (Follows : SuperBlock → Bool → List Entry1 → Type 0) (found before last : DiskState) (first status : ℕ) (k : Books) (text : Option (List ℕ)) (ran : HistoryState)
+headline-any : (Follows : SuperBlock → Bool → List Entry1 → Type 0) (found before last : DiskState) (first status : ℕ) (k : Books) (text : Option (List ℕ))
+    (ran : HistoryState)
     (h : Option HistoryState) → first ≡ 0 → h ≡ Some ran → ∥ IsMount found before first k ∥₁ → ∥ Finished found last first ran ∥₁
     → (short : Bool) → (short ≡ true → text ≡ None) → Follows k.at short ran.entries → IfSome text (λ _. IsClosed last ran.entries) → (text ≡ None → status ≡ 7)
     → (status ≡ 0 → has_fault ran.entries ≡ false)

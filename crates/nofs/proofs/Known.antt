@@ -1,5 +1,6 @@
 -- Each element that the sweeps of a session have examined is known to the machine at its end.
-use Rattle.std.proofs.Common.{◌≡◌, ◌⊎◌, inl, inr, ℕ, zero, suc, ◌-◌, ◌<◌, ◌≤◌, Bool, true, false, ◌||◌, List, [], ◌∷◌, ◌++◌, length, get_or, map, Some, None, if◌then◌else◌, cond, ne_eqb, refl, sym, ap, ◌∙◌, subst, arith}
+use Rattle.std.proofs.Common.{◌≡◌, ◌⊎◌, inl, inr, ℕ, zero, suc, ◌-◌, ◌<◌, ◌≤◌, Bool, true, false, ◌||◌, List, [], ◌∷◌, ◌++◌, length, get_or, map, Some, None}
+use Rattle.std.proofs.Common.{if◌then◌else◌, cond, ne_eqb, refl, sym, ap, ◌∙◌, subst, arith}
 use Rattle.std.specs.Prelude.{filter, nat_lt, nat_le, ◌==◌}
 use Rattle.std.proofs.lemmas.Bool.{eq-eqb, le-ltb, lt-leb}
 use Rattle.nofs_machine.specs.Search.{first_of}
@@ -109,7 +110,8 @@ run-goes (e ∷ es) start W V r going ok =
     }
 
 -- the flush of the whole disk has no row: it was made, where no call failed
-flushed-next : (W : World) (e : Entry1) (V : World) → Next W e V → W.stopped ≡ false → is_fault e.reply ≡ false → e.step ≡ step.Flush 0 0 → e.reply ≡ reply.Flushed
+flushed-next : (W : World) (e : Entry1) (V : World) → Next W e V → W.stopped ≡ false → is_fault e.reply ≡ false → e.step ≡ step.Flush 0 0
+    → e.reply ≡ reply.Flushed
 flushed-next W e V (AfterFault s r c same) going ok is = absurd (cc (s, going))
 flushed-next W e V (ByRow why s f r c k st l) going ok is = absurd
     (let n : None ≡ Some why = subst (λ (s : Step). first_of (rows W V s) ≡ Some why) is f in cc n)
@@ -118,7 +120,8 @@ flushed-next W e V (ByRead s f r c k st l) going ok is = absurd (let x = ap is_f
 flushed-next W e V (ByWrite s f m r c k st l) going ok is = absurd (let x = ap is_fault r in cc (x, ok))
 
 -- so was one that ended a run
-pub flushed-last : (es : List Entry1) (start : ℕ) (W V : World) (e : Entry1) → Run start W (es ++ e ∷ []) V → W.stopped ≡ false → has_fault (es ++ e ∷ []) ≡ false
+pub flushed-last : (es : List Entry1) (start : ℕ) (W V : World) (e : Entry1) → Run start W (es ++ e ∷ []) V → W.stopped ≡ false
+    → has_fault (es ++ e ∷ []) ≡ false
     → e.step ≡ step.Flush 0 0 → e.reply ≡ reply.Flushed
 flushed-last [] start W V e r going ok is = flushed-next W e r.0 r.4 going (no-fault (is_fault e.reply) false ok).0 is
 flushed-last (x ∷ es) start W V e r going ok is =

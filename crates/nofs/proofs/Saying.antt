@@ -6,7 +6,8 @@ use Rattle.nofs_machine.specs.HistoryState.{HistoryState}
 use Rattle.nofs.specs.Said.{Says}
 
 -- a text was told at status 3 and 5, and it is this one of the history
-pub told-text : (old new : SinkState) (P : List ℕ → Type 0) (T : HistoryState → Type 0) (text : Option (List ℕ)) (ran : HistoryState) (h : Option HistoryState) (s : ℕ)
+pub told-text : (old new : SinkState) (P : List ℕ → Type 0) (T : HistoryState → Type 0) (text : Option (List ℕ)) (ran : HistoryState)
+    (h : Option HistoryState) (s : ℕ)
     → h ≡ Some ran → (text ≡ None → s ≡ 7) → IfSome text (Says old new) → IfSome text P → ((t : List ℕ) → P t → Says old new t → T ran)
     → (s ≡ 3) ⊎ (s ≡ 5) → IfSome h T
 told-text old new P T text ran h s some unsaid says has told ended = subst (λ (o : Option HistoryState). IfSome o T) (sym some) (go text unsaid says has)

@@ -1,5 +1,6 @@
 -- Plans of a session, what its run leaves, and its text by the lines that its users came to.
-use Rattle.std.proofs.Common.{◌≡◌, ◌≢◌, ℕ, ◌+◌, ◌<◌, ◌≤◌, Bool, true, false, ◌||◌, not, List, [], ◌∷◌, ◌++◌, length, drop, get_or, map, flat_map, Result, Ok, Err, cond, ne_eqb, refl, sym, ap, ◌∙◌, subst, arith, append_assoc}
+use Rattle.std.proofs.Common.{◌≡◌, ◌≢◌, ℕ, ◌+◌, ◌<◌, ◌≤◌, Bool, true, false, ◌||◌, not, List, [], ◌∷◌, ◌++◌, length, drop, get_or, map, flat_map, Result, Ok}
+use Rattle.std.proofs.Common.{Err, cond, ne_eqb, refl, sym, ap, ◌∙◌, subst, arith, append_assoc}
 use Rattle.std.specs.Prelude.{filter, All, IfOk, IfSome}
 use Rattle.std.specs.Result.{result_ok}
 use Rattle.std.specs.declared.option.Option.{Option}
@@ -149,11 +150,15 @@ pub session-ends : {E : Type 0} (session scripts : List (List Command)) (inodes 
     → text ≡ result_ok made → LinesFollow → IsSessionRun scripts inodes blocks out lines all → IfOk made (λ t. t ≡ flat_map (λ l. flat_map text_of l) users)
     → IfSome text (λ t. (x : List (List Line)) × IsSessionRun session inodes blocks false x entries × (t ≡ session_text session entries))
 session-ends session scripts inodes blocks out lines users all entries made text same whole said ends is follow run told =
-    let run_session : IsSessionRun session inodes blocks out lines all = subst (λ (s : List (List Command)). IsSessionRun s inodes blocks out lines all) same run in
-    let run_whole : IsSessionRun session inodes blocks false lines all = subst (λ (o : Bool). IsSessionRun session inodes blocks o lines all) whole run_session in
-    let run_ends : IsSessionRun session inodes blocks false lines entries = subst (λ (h : List Entry1). IsSessionRun session inodes blocks false lines h) (sym ends)
+    let run_session : IsSessionRun session inodes blocks out lines all =
+    subst (λ (s : List (List Command)). IsSessionRun s inodes blocks out lines all) same run in
+    let run_whole : IsSessionRun session inodes blocks false lines all =
+    subst (λ (o : Bool). IsSessionRun session inodes blocks o lines all) whole run_session in
+    let run_ends : IsSessionRun session inodes blocks false lines entries =
+    subst (λ (h : List Entry1). IsSessionRun session inodes blocks false lines h) (sym ends)
     run_whole in
     let told_lines : IfOk made (λ t. t ≡ flat_map (λ l. flat_map text_of l) lines) = subst
     (λ (u : List (List Line)). IfOk made (λ t. t ≡ flat_map (λ l. flat_map text_of l) u)) said told in
-    subst (λ (o : Option (List ℕ)). IfSome o (λ t. (x : List (List Line)) × IsSessionRun session inodes blocks false x entries × (t ≡ session_text session entries)))
+    subst (λ (o : Option (List ℕ)). IfSome o (λ t. (x : List (List Line)) × IsSessionRun session inodes blocks false x entries ×
+    (t ≡ session_text session entries)))
     (sym is) (text-told session inodes blocks lines entries made follow run_ends told_lines)

@@ -25,7 +25,8 @@ next-slot rs k r low is =
 pub sum-next : (size k total new whole : ℕ) (rs : List Reply) (r : Reply) → k < length rs → r ≡ get_or rs k r → new ≡ total + slot_sum (cut_of size k) r
     → total + slots_sum size k (drop k rs) ≡ whole → new + slots_sum size (k + 1) (drop (k + 1) rs) ≡ whole
 sum-next size k total new whole rs r low is new_is e =
-    let here : slots_sum size k (drop k rs) ≡ slot_sum (cut_of size k) r + slots_sum size (k + 1) (drop (k + 1) rs) = ap (slots_sum size k) (next-slot rs k r low is) in
+    let here : slots_sum size k (drop k rs) ≡ slot_sum (cut_of size k) r + slots_sum size (k + 1) (drop (k + 1) rs) =
+    ap (slots_sum size k) (next-slot rs k r low is) in
     omega (arith, new_is, e, here)
 
 pub sum-end : (size k total whole : ℕ) (rs : List Reply) → length rs ≤ k → total + slots_sum size k (drop k rs) ≡ whole → total ≡ whole

@@ -1,5 +1,6 @@
 -- Visits: what they leave, put together.
-use Rattle.std.proofs.Common.{◌≡◌, ◌≢◌, ◌⊎◌, inl, inr, ℕ, zero, suc, ◌<◌, Bool, true, false, ◌||◌, not, List, [], length, drop, refl, sym, ap, ◌∙◌, subst, arith}
+use Rattle.std.proofs.Common.{◌≡◌, ◌≢◌, ◌⊎◌, inl, inr, ℕ, zero, suc, ◌<◌, Bool, true, false, ◌||◌, not, List, [], length, drop, refl, sym, ap, ◌∙◌, subst}
+use Rattle.std.proofs.Common.{arith}
 use Rattle.nofs_model.specs.Cells.{SuperBlock}
 use Rattle.nofs_model.specs.Image.{Image}
 use Rattle.nofs_machine.specs.Next.{Run}
@@ -44,7 +45,8 @@ module _ (P : List Made → Type 0) (inodes blocks : ℕ) where
   pub visit-none : (short : Bool) (H K : List Entry1) → K ≡ H → short ≡ true → P [] → VisitServed P inodes blocks short H K
   visit-none short H K is wants p =
       let t = team-unserved [] inodes blocks short [] H K is wants in
-      let nobody : steps_by 1 (drop (length H) K) ≡ [] = t.made.others 1 ((λ e. absurd (omega (arith, e))), (λ e. absurd (omega (arith, e))), inr (omega arith)) in
+      let nobody : steps_by 1 (drop (length H) K) ≡ [] = t.made.others 1
+      ((λ e. absurd (omega (arith, e))), (λ e. absurd (omega (arith, e))), inr (omega arith)) in
       record {
         grown = t.grown;
         made = record {

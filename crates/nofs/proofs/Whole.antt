@@ -1,5 +1,6 @@
 -- At the end of a session in which no call of the device failed the machine's verdicts are those of the disk.
-use Rattle.std.proofs.Common.{◌≡◌, ℕ, ◌-◌, ◌/◌, ◌<◌, Bool, true, false, ◌||◌, not, leb, List, [], ◌∷◌, ◌++◌, is_some, ◌⊎◌, inl, inr, refl, sym, ap, ◌∙◌, subst, arith}
+use Rattle.std.proofs.Common.{◌≡◌, ℕ, ◌-◌, ◌/◌, ◌<◌, Bool, true, false, ◌||◌, not, leb, List, [], ◌∷◌, ◌++◌, is_some, ◌⊎◌, inl, inr, refl, sym, ap, ◌∙◌}
+use Rattle.std.proofs.Common.{subst, arith}
 use Rattle.nofs_disk.specs.Disk.{DiskState, IsSettled}
 use Rattle.nofs_super.specs.Raise.{raised}
 use Rattle.nofs_model.specs.Cells.{SuperBlock}
@@ -69,11 +70,13 @@ module _ (found d : DiskState) (first : ℕ) (k : Books) (m : IsMount found d fi
   pub open-still : (p : Past) → has_fault k.history.entries ≡ false → IsOpen d k k.history.entries p ⊎ IsStopped d k k.history.entries p
       → IsOpen d k k.history.entries p
   open-still p ok (inl o) = o
-  open-still p ok (inr s) = absurd (let going = still-going k.history.entries k.history.start d.moment false k.stopped m.forms ok in let stopped = s.stopped in cc (going, stopped))
+  open-still p ok (inr s) = absurd (let going = still-going k.history.entries k.history.start d.moment false k.stopped m.forms ok in let stopped =
+      s.stopped in cc (going, stopped))
 
   -- so does a world in which all is known say what the disk says
   good : (p : Past) → IsOpen d k k.history.entries p
-      → IsGood (record p.world { known_inodes = λ i. true; known_blocks = λ p. true }) (λ i. true) (λ i. not (is_special i || is_some (p.world.files i))) (λ p. true)
+      → IsGood (record p.world { known_inodes = λ i. true; known_blocks = λ p. true }) (λ i. true) (λ i. not (is_special i || is_some (p.world.files i)))
+      (λ p. true)
       (λ b. not (leb b (p.world.inodes / 4) || is_some (p.world.homes b))) d.now
   good p o = law-good (record p.world { known_inodes = λ i. true; known_blocks = λ p. true }) d.now (record {
     version = o.says.version ∙ sym (ap (λ (s : SuperBlock). s.version) o.at);
@@ -125,7 +128,8 @@ world-going B first = refl
 module _ (at : SuperBlock) (served H : List Entry1) (flush : Reply) (closes : AddsStep 0 (step.Flush 0 0) flush served H)
     (inodes_seen : Sweeps (λ place item. item ≡ place) Inode 0 at.inodes false [] (steps_by 9 served))
     (blocks_seen : Sweeps (λ place item. item ≡ at.blocks - 1 - place) Block 0 at.blocks false [] (steps_by 10 served)) where
-  pub whole-by : (start first : ℕ) (B : Image) (V : World) (X : Image) → Run start (world_of B first) H V → has_fault H ≡ false → ShowsDisk at V X → IsWholeScan V X
+  pub whole-by : (start first : ℕ) (B : Image) (V : World) (X : Image) → Run start (world_of B first) H V → has_fault H ≡ false → ShowsDisk at V X
+      → IsWholeScan V X
   whole-by start first B V X r ok shows =
       let g = run-goes H start (world_of B first) V r (world-going B first) ok in
       let inodes : (super_at X).inodes ≡ at.inodes = ap (λ (s : SuperBlock). s.inodes) shows.numbers in
@@ -136,7 +140,8 @@ module _ (at : SuperBlock) (served H : List Entry1) (flush : Reply) (closes : Ad
       let at_blocks = shows.blocks in
       record {
         known_inodes = λ i low high. g.sees_inodes i
-            (has-added 0 (step.Flush 0 0) (step.SeeInode i) flush served H closes (inodes-seen served at.inodes i inodes_seen low (omega (arith, high, inodes))))
+            (has-added 0 (step.Flush 0 0) (step.SeeInode i) flush served H closes
+            (inodes-seen served at.inodes i inodes_seen low (omega (arith, high, inodes))))
             low (omega (arith, high, inodes, same_inodes, at_inodes));
         known_blocks = λ p low. g.sees_blocks p
             (has-added 0 (step.Flush 0 0) (step.SeeBlock p) flush served H closes (blocks-seen served at.blocks p blocks_seen (omega (arith, low, blocks))))
@@ -145,7 +150,8 @@ module _ (at : SuperBlock) (served H : List Entry1) (flush : Reply) (closes : Ad
         used_blocks = λ p low. shows.used_blocks p (omega (arith, low, blocks));
       }
 
-pub whole-scan : (scripts : List (List Command)) (at : SuperBlock) (lines : List (List Line)) (H : List Entry1) (start first : ℕ) (B : Image) (V : World) (X : Image)
+pub whole-scan : (scripts : List (List Command)) (at : SuperBlock) (lines : List (List Line)) (H : List Entry1) (start first : ℕ) (B : Image) (V : World)
+    (X : Image)
     → IsSessionRun scripts at.inodes at.blocks false lines H → Run start (world_of B first) H V → has_fault H ≡ false → ShowsDisk at V X → IsWholeScan V X
 whole-scan scripts at lines H start first B V X run = whole-by at run.served H run.flush run.closes run.team.inodes_seen run.team.blocks_seen start first B V X
 
@@ -154,7 +160,8 @@ pub whole-drill : (start steps : ℕ) (at : SuperBlock) (H : List Entry1) (begun
     → IsDrillRun start steps at.inodes at.blocks false H → Run begun (world_of B first) H V → has_fault H ≡ false → ShowsDisk at V X → IsWholeScan V X
 whole-drill start steps at H begun first B V X run = whole-by at run.seen H run.flush run.closes
     (subst (λ (m : List Made). Sweeps (λ place item. item ≡ place) Inode 0 at.inodes false [] m) (sym (run.adds.others 9 (omega arith))) run.team.inodes_seen)
-    (subst (λ (m : List Made). Sweeps (λ place item. item ≡ at.blocks - 1 - place) Block 0 at.blocks false [] m) (sym (run.adds.others 10 (omega arith))) run.team.blocks_seen)
+    (subst (λ (m : List Made). Sweeps (λ place item. item ≡ at.blocks - 1 - place) Block 0 at.blocks false [] m) (sym (run.adds.others 10 (omega arith)))
+    run.team.blocks_seen)
     begun first B V X
 
 -- the device is settled where the last flush was made, which is so where no call failed

@@ -1,5 +1,6 @@
 -- The drill: the session of its users, what caller 0 then reads of their files, and the line that tells of it.
-use Rattle.std.specs.Prelude.{◌≡◌, ℕ, ◌+◌, ◌*◌, Bool, true, false, List, [], ◌∷◌, ◌++◌, length, take, map, codes, sum, sum_by, count_by, bytes_eq, ◌≤◌, if◌then◌else◌, Some, None, Result, IfOk, ⊤}
+use Rattle.std.specs.Prelude.{◌≡◌, ℕ, ◌+◌, ◌*◌, Bool, true, false, List, [], ◌∷◌, ◌++◌, length, take, map, codes, sum, sum_by, count_by, bytes_eq, ◌≤◌}
+use Rattle.std.specs.Prelude.{if◌then◌else◌, Some, None, Result, IfOk, ⊤}
 use Rattle.std.specs.Fmt.{decimal}
 use Rattle.std.specs.declared.option.Option.{Option}
 use Rattle.nofs_model.specs.Cells.{SuperBlock}
@@ -78,7 +79,8 @@ IsFileRead user read made =
 -- the files of the users from one on were read, one after the other
 abbrev pub AreRead : ℕ → List (Option FileRead) → List Made → Type 0
 AreRead user [] made = made ≡ []
-AreRead user (read ∷ reads) made = (front : List Made) × (back : List Made) × (made ≡ front ++ back) × IsFileRead user read front × AreRead (user + 1) reads back
+AreRead user (read ∷ reads) made = (front : List Made) × (back : List Made) × (made ≡ front ++ back) × IsFileRead user read front × AreRead (user + 1)
+    reads back
 
 -- caller 0 added these steps with their replies, and no other caller anything
 pub record AddsOwn (made : List Made) (H K : List Entry1) : Type 0 where

@@ -117,7 +117,8 @@ IsRefusedTask (Some (Drill start steps)) old new = IsRefusedBy (Some (record { b
 -- those of the full scan of the disk handed back
 abbrev pub IsScanned : DiskState → DiskState → Option HistoryState → SinkState → SinkState → Type 0
 IsScanned found last None old new = ⊥
-IsScanned found last (Some h) old new = (has_fault h.entries ≡ false) × ((c : Counts) × AppendsAll old new (counts_line c) × ∥ (IsMet found → CountsDisk last.now c) ∥₁)
+IsScanned found last (Some h) old new = (has_fault h.entries ≡ false) ×
+    ((c : Counts) × AppendsAll old new (counts_line c) × ∥ (IsMet found → CountsDisk last.now c) ∥₁)
 
 -- a session was read and served, or the device was scanned, or upgraded; what is said of a salvage and of frames has clauses of its own
 abbrev pub IsDone : Option Request → SourceState → SourceState → ℕ → SinkState → SinkState → DiskState → DiskState → Option HistoryState → Type 0

@@ -24,7 +24,8 @@ IsWired left new_left made =
     (front : List ℕ) × (back : List ℕ) × (steps : List Step) × Consumes left new_left (front ++ back) × (frames_of front ≡ map made_step made ++ steps)
 
 -- what a server has done by these steps: source and sink are those that were lent to it, and their faults explain its end
-pub record HasServed {Q K : Type 0} (source : Q → SourceState) (sink : K → SinkState) (e : WireEnd) (from to : Q) (into done : K) (made new_made : List Made) : Type 0 where
+pub record HasServed {Q K : Type 0} (source : Q → SourceState) (sink : K → SinkState) (e : WireEnd) (from to : Q) (into done : K) (made new_made : List Made)
+    : Type 0 where
   pub serves : Serves 16777216 e (source from).left (source to).left (sink into).given (sink done).given made new_made
   pub source_fault : e ≡ ended.SourceFault → Rose (source from).faults (source to).faults
   pub sink_fault : e ≡ ended.SinkFault → Rose (sink into).faults (sink done).faults
@@ -60,7 +61,8 @@ pub record IsWireRun (source_old source_new : SourceState) (sink_old sink_new : 
   pub status_is : status ≡ wire_status short end (has_fault h.entries)
 
 -- what comes of frames
-pub record WireEnds (old new : DiskState) (source_old source_new : SourceState) (sink_old sink_new : SinkState) (status : ℕ) (h : Option HistoryState) : Type 0 where
+pub record WireEnds (old new : DiskState) (source_old source_new : SourceState) (sink_old sink_new : SinkState) (status : ℕ) (h : Option HistoryState)
+    : Type 0 where
   pub named : IsStatus status × (status ≢ 1)
   pub run : IfSome h (IsWireRun source_old source_new sink_old sink_new status)
   pub stood : (status ≡ 0) ⊎ (status ≡ 2) ⊎ (status ≡ 5) ⊎ (status ≡ 6) ⊎ (status ≡ 8) → h ≢ None

@@ -1,5 +1,6 @@
 -- The way up from a directory, and the back links of an inode, one after another.
-use Rattle.std.proofs.Common.{◌≡◌, ℕ, ◌<◌, ◌+◌, ◌≤◌, inl, inr, Bool, true, false, ◌&&◌, IsTrue, List, length, get_or, Option, Some, None, Result, Ok, Err, IfOk, refl, sym, ap, ◌∙◌, subst, arith}
+use Rattle.std.proofs.Common.{◌≡◌, ℕ, ◌<◌, ◌+◌, ◌≤◌, inl, inr, Bool, true, false, ◌&&◌, IsTrue, List, length, get_or, Option, Some, None, Result, Ok, Err}
+use Rattle.std.proofs.Common.{IfOk, refl, sym, ap, ◌∙◌, subst, arith}
 use Rattle.std.specs.List.{list_any}
 use Rattle.std.proofs.lemmas.Bool.{cases_lt}
 use Rattle.std.proofs.lemmas.List.{get_or_default}
@@ -56,14 +57,16 @@ decided : (old : DiskState) (at : SuperBlock) (it : Directory) (link : BackLink)
     → link ≡ first_link it.record.links → IsTrue old.tells
     → has_agreed_link (files_in old.now) it.inode ≡ (is_pair (files_in old.now) it.inode link && agreed (files_in old.now) link.directory)
 decided old at it link known e t =
-    subst (λ (l : BackLink). has_agreed_link (files_in old.now) it.inode ≡ (is_pair (files_in old.now) it.inode l && agreed (files_in old.now) l.directory)) (sym e)
+    subst (λ (l : BackLink). has_agreed_link (files_in old.now) it.inode ≡ (is_pair (files_in old.now) it.inode l && agreed (files_in old.now) l.directory))
+    (sym e)
     (first-decides old.now it.inode it.record (known.known.same t) known.kind known.known.spelled)
 
 pub parent-none : (old new : DiskState) (at : SuperBlock) (it : Directory) (link : BackLink) (last : LastRead) (res : Result (Option Record) Failed)
     → KnowsDirectory old at it.inode it.record.generation it.record → link ≡ first_link it.record.links
     → ReadsPair old new at it.inode it.record link last res → res ≡ Ok None → ReadsParent old new at it last (Ok None)
 parent-none old new at it link last res known e reads is =
-    let p : ReadsPair old new at it.inode it.record link last (Ok None) = subst (λ (q : Result (Option Record) Failed). ReadsPair old new at it.inode it.record link last q) is reads in
+    let p : ReadsPair old new at it.inode it.record link last (Ok None) =
+    subst (λ (q : Result (Option Record) Failed). ReadsPair old new at it.inode it.record link last q) is reads in
     record {
       stays = p.stays;
       parent = tt;
@@ -72,12 +75,14 @@ parent-none old new at it link last res known e reads is =
       cause = tt;
     }
 
-pub parent-some : (old new : DiskState) (at : SuperBlock) (it : Directory) (link : BackLink) (last : LastRead) (res : Result (Option Record) Failed) (r : Record)
+pub parent-some : (old new : DiskState) (at : SuperBlock) (it : Directory) (link : BackLink) (last : LastRead) (res : Result (Option Record) Failed)
+    (r : Record)
     → KnowsDirectory old at it.inode it.record.generation it.record → link ≡ first_link it.record.links
     → ReadsPair old new at it.inode it.record link last res → res ≡ Ok (Some r)
     → ReadsParent old new at it last (Ok (Some (record { inode = link.directory; «record» = r })))
 parent-some old new at it link last res r known e reads is =
-    let p : ReadsPair old new at it.inode it.record link last (Ok (Some r)) = subst (λ (q : Result (Option Record) Failed). ReadsPair old new at it.inode it.record link last q) is reads in
+    let p : ReadsPair old new at it.inode it.record link last (Ok (Some r)) =
+    subst (λ (q : Result (Option Record) Failed). ReadsPair old new at it.inode it.record link last q) is reads in
     let partner : IsPartner new at it.record link r = p.directory in
     let older = partner.older known.kind in
     let same = partner.directory.generation in
@@ -99,7 +104,8 @@ pub climb-goes : (old now new : DiskState) (at : SuperBlock) (first here parent 
     → ((X : Image) → inode X here.inode ≡ here.record → false ≡ is_root (files_in X) here.inode) → false ≡ is_special here.inode
     → ReadsParent now new at here next res → res ≡ Ok (Some parent) → Climbed old new at first parent next
 climb-goes old now new at first here parent last next res c root special reads is =
-    let p : ReadsParent now new at here next (Ok (Some parent)) = subst (λ (q : Result (Option Directory) Failed). ReadsParent now new at here next q) is reads in
+    let p : ReadsParent now new at here next (Ok (Some parent)) =
+    subst (λ (q : Result (Option Directory) Failed). ReadsParent now new at here next q) is reads in
     let above : IsDirectoryAbove now new at here parent = p.parent in
     record {
       stays = StaysButFaults-trans old now new c.stays p.stays;
@@ -107,7 +113,8 @@ climb-goes old now new at first here parent last next res c root special reads i
       kept = p.kept;
       same = λ t.
           let up : has_agreed_link (files_in old.now) here.inode ≡ agreed (files_in old.now) parent.inode =
-          subst (λ (X : Image). has_agreed_link (files_in X) here.inode ≡ agreed (files_in X) parent.inode) c.stays.cells.now (above.same (told-on old now c.stays t)) in
+          subst (λ (X : Image). has_agreed_link (files_in X) here.inode ≡ agreed (files_in X) parent.inode) c.stays.cells.now
+          (above.same (told-on old now c.stays t)) in
           let r = record-of old now at here.inode here.record c.stays c.known.known t in
           c.same t ∙ linked-is (files_in old.now) here.inode (sym (root old.now r)) (sym special) ∙ up;
     }
@@ -119,7 +126,8 @@ pub climb-root : (old now : DiskState) (at : SuperBlock) (known : List (Option B
     → TellsAgreed old now known (λ X. agreed (files_in X) first.inode) last (Ok true)
 climb-root old now at known first here last c root = record {
   stays = c.stays;
-  found = λ t a. sym (c.same t ∙ root-is (files_in old.now) here.inode (sym (root old.now (record-of old now at here.inode here.record c.stays c.known.known t))));
+  found = λ t a. sym (c.same t ∙ root-is (files_in old.now) here.inode
+      (sym (root old.now (record-of old now at here.inode here.record c.stays c.known.known t))));
   kept = c.kept;
   cause = tt;
 }
@@ -130,13 +138,15 @@ pub climb-special : (old now : DiskState) (at : SuperBlock) (known : List (Optio
     → TellsAgreed old now known (λ X. agreed (files_in X) first.inode) last (Ok false)
 climb-special old now at known first here last c root special = record {
   stays = c.stays;
-  found = λ t a. sym (c.same t ∙ special-is (files_in old.now) here.inode (sym (root old.now (record-of old now at here.inode here.record c.stays c.known.known t))) (sym special));
+  found = λ t a. sym (c.same t ∙ special-is (files_in old.now) here.inode
+      (sym (root old.now (record-of old now at here.inode here.record c.stays c.known.known t))) (sym special));
   kept = c.kept;
   cause = tt;
 }
 
 -- so it does where no directory is above
-pub climb-none : (old now new : DiskState) (at : SuperBlock) (known : List (Option Bool)) (first here : Directory) (last next : LastRead) (res : Result (Option Directory) Failed) → Climbed old now at first here last
+pub climb-none : (old now new : DiskState) (at : SuperBlock) (known : List (Option Bool)) (first here : Directory) (last next : LastRead)
+    (res : Result (Option Directory) Failed) → Climbed old now at first here last
     → ((X : Image) → inode X here.inode ≡ here.record → false ≡ is_root (files_in X) here.inode) → false ≡ is_special here.inode
     → ReadsParent now new at here next res → res ≡ Ok None → TellsAgreed old new known (λ X. agreed (files_in X) first.inode) next (Ok false)
 climb-none old now new at known first here last next res c root special reads is =
@@ -180,7 +190,8 @@ passed-goes old now new known i r last next place res p reads is =
     }
 
 -- the next one is
-pub passed-found : (old now new : DiskState) (at : SuperBlock) (known : List (Option Bool)) (i : ℕ) (r : Record) (last next : LastRead) (place : ℕ) (res : Result Bool Failed) → KnowsInode old at i r
+pub passed-found : (old now new : DiskState) (at : SuperBlock) (known : List (Option Bool)) (i : ℕ) (r : Record) (last next : LastRead) (place : ℕ)
+    (res : Result Bool Failed) → KnowsInode old at i r
     → Passed old now known i r last place → place < 4
     → TellsAgreed now new known (λ X. is_agreed_link (files_in X) i (get_or r.links place no_link)) next res → res ≡ Ok true
     → TellsAgreed old new known (λ X. list_any (is_agreed_link (files_in X) i) r.links) next (Ok true)

@@ -1,5 +1,6 @@
 -- What is known of inodes, and how more becomes known on the way up from one.
-use Rattle.std.proofs.Common.{◌≡◌, ℕ, ◌-◌, ◌<◌, ◌≤◌, ◌≢◌, inl, inr, Bool, true, false, IsTrue, List, length, get_or, Option, Some, None, IfSome, Result, Ok, Err, IsErr, OnErr, slice_set, replicate, refl, sym, ap, ◌∙◌, subst, arith, leb}
+use Rattle.std.proofs.Common.{◌≡◌, ℕ, ◌-◌, ◌<◌, ◌≤◌, ◌≢◌, inl, inr, Bool, true, false, IsTrue, List, length, get_or, Option, Some, None, IfSome, Result, Ok}
+use Rattle.std.proofs.Common.{Err, IsErr, OnErr, slice_set, replicate, refl, sym, ap, ◌∙◌, subst, arith, leb}
 use Rattle.std.proofs.lemmas.Bool.{cases_lt}
 use Rattle.std.proofs.lemmas.Bool.Decides.{nat_tests}
 use Rattle.std.proofs.lemmas.List.{get_or_past, get_or-replicate, get_or-set_other, get_or-set_same, length-replicate, length-set}
@@ -51,7 +52,8 @@ pub told-set : (known : List (Option Bool)) (i : ℕ) (v : Option Bool) (a : Boo
 told-set known i v a low t = elim (cases_lt (length known) i) [
   | inl past ↦
       let len = length-set known (i - 1) v in
-      let none : told (slice_set known (i - 1) v) i ≡ None = rw (leb-le 1 i low) (get_or_past (slice_set known (i - 1) v) (i - 1) None (omega (arith, past, len, low))) in
+      let none : told (slice_set known (i - 1) v) i ≡ None =
+      rw (leb-le 1 i low) (get_or_past (slice_set known (i - 1) v) (i - 1) None (omega (arith, past, len, low))) in
       absurd (cc (none, t))
   | inr high ↦ sym (told-here known i v low high) ∙ t
 ]
@@ -74,7 +76,8 @@ pub learns-more : (old now : DiskState) (one two three : List (Option Bool)) →
 learns-more old now one two three s a b = record {
   len = b.len ∙ a.len;
   still = λ t true-first.
-      subst (λ (X : Image). AreTrue X three) s.cells.now (b.still (told-on old now s t) (subst (λ (X : Image). AreTrue X two) (sym s.cells.now) (a.still t true-first)));
+      subst (λ (X : Image). AreTrue X three) s.cells.now (b.still (told-on old now s t)
+      (subst (λ (X : Image). AreTrue X two) (sym s.cells.now) (a.still t true-first)));
 }
 
 -- of an inode what is true of it
@@ -92,7 +95,8 @@ learns-one d one two three i b a more is = record {
 pub agreed-at-first : (old now : DiskState) (known more : List (Option Bool)) (i : ℕ) (b : Bool) → StaysButFaults old now → Learns old known more
     → (IsTrue now.tells → AreTrue now.now more → b ≡ agreed (files_in now.now) i) → IsTrue old.tells → AreTrue old.now known → b ≡ agreed (files_in old.now) i
 agreed-at-first old now known more i b s a is t first =
-    subst (λ (X : Image). b ≡ agreed (files_in X) i) s.cells.now (is (told-on old now s t) (subst (λ (X : Image). AreTrue X more) (sym s.cells.now) (a.still t first)))
+    subst (λ (X : Image). b ≡ agreed (files_in X) i) s.cells.now
+    (is (told-on old now s t) (subst (λ (X : Image). AreTrue X more) (sym s.cells.now) (a.still t first)))
 
 -- On the way up from the first directory to this one all is known to be what the first one is
 pub record Keeps (old now : DiskState) (at : SuperBlock) (known more : List (Option Bool)) (first here : Directory) (last : LastRead) : Type 0 where
@@ -107,7 +111,8 @@ keeps-here old now at known more most first here last b is k one =
     learns-one old known more most here.inode b k.learns one (λ t a. is t a ∙ k.climbed.same t)
 
 -- and the way goes on to the directory above it, or ends
-pub keeps-goes : (old now new : DiskState) (at : SuperBlock) (known more most : List (Option Bool)) (first here parent : Directory) (last next : LastRead) (b : Bool) (res : Result (Option Directory) Failed)
+pub keeps-goes : (old now new : DiskState) (at : SuperBlock) (known more most : List (Option Bool)) (first here parent : Directory) (last next : LastRead)
+    (b : Bool) (res : Result (Option Directory) Failed)
     → (IsTrue old.tells → AreTrue old.now known → b ≡ agreed (files_in old.now) first.inode)
     → Keeps old now at known more first here last → LearnsOne more most here.inode b
     → ((X : Image) → inode X here.inode ≡ here.record → false ≡ is_root (files_in X) here.inode) → false ≡ is_special here.inode
@@ -128,7 +133,8 @@ keeps-ends old now at known more most first here last b is k one = record {
 }
 
 -- or no directory is above it
-pub keeps-none : (old now new : DiskState) (at : SuperBlock) (known more most : List (Option Bool)) (first here : Directory) (last next : LastRead) (b : Bool) (res : Result (Option Directory) Failed)
+pub keeps-none : (old now new : DiskState) (at : SuperBlock) (known more most : List (Option Bool)) (first here : Directory) (last next : LastRead)
+    (b : Bool) (res : Result (Option Directory) Failed)
     → (IsTrue old.tells → AreTrue old.now known → b ≡ agreed (files_in old.now) first.inode)
     → Keeps old now at known more first here last → LearnsOne more most here.inode b
     → ReadsParent now new at here next res → res ≡ Ok None → LearnsChain old new known most next (Ok tt)
@@ -142,7 +148,8 @@ keeps-none old now new at known more most first here last next b res is k one re
     }
 
 -- or it could not be read
-pub keeps-fails : (old now new : DiskState) (at : SuperBlock) (known more most : List (Option Bool)) (first here : Directory) (last next : LastRead) (b : Bool) (res : Result (Option Directory) Failed)
+pub keeps-fails : (old now new : DiskState) (at : SuperBlock) (known more most : List (Option Bool)) (first here : Directory) (last next : LastRead)
+    (b : Bool) (res : Result (Option Directory) Failed)
     (whole : Result (Unit {0}) Failed) (x : Failed) → (IsTrue old.tells → AreTrue old.now known → b ≡ agreed (files_in old.now) first.inode)
     → Keeps old now at known more first here last → LearnsOne more most here.inode b
     → ReadsParent now new at here next res → res ≡ Err x → IsErr whole → LearnsChain old new known most next whole
@@ -163,7 +170,8 @@ pub record Above (old now : DiskState) (at : SuperBlock) (known more : List (Opt
   pub kept : IsLast now last
   pub learns : Learns old known more
 
-pub above-goes : (old now new : DiskState) (at : SuperBlock) (known more most : List (Option Bool)) (i : ℕ) (r : Record) (last next : LastRead) (res : Result (Unit {0}) Failed)
+pub above-goes : (old now new : DiskState) (at : SuperBlock) (known more most : List (Option Bool)) (i : ℕ) (r : Record) (last next : LastRead)
+    (res : Result (Unit {0}) Failed)
     → Above old now at known more i r last → LearnsChain now new more most next res → res ≡ Ok tt → Above old new at known most i r next
 above-goes old now new at known more most i r last next res a reads e =
     let q : LearnsChain now new more most next (Ok tt) = subst (λ (w : Result (Unit {0}) Failed). LearnsChain now new more most next w) e reads in
@@ -179,7 +187,8 @@ on-err (Ok u) P p = tt
 on-err (Err e) P p = p
 
 -- one of them could not be read to its end
-pub above-fails : (old now new : DiskState) (at : SuperBlock) (known more most : List (Option Bool)) (i : ℕ) (r : Record) (last next : LastRead) (res whole : Result (Unit {0}) Failed) (e : Failed)
+pub above-fails : (old now new : DiskState) (at : SuperBlock) (known more most : List (Option Bool)) (i : ℕ) (r : Record) (last next : LastRead)
+    (res whole : Result (Unit {0}) Failed) (e : Failed)
     → Above old now at known more i r last → LearnsChain now new more most next res → res ≡ Err e → LearnsAbove old new known most whole
 above-fails old now new at known more most i r last next res whole x a reads e =
     let q : LearnsChain now new more most next (Err x) = subst (λ (w : Result (Unit {0}) Failed). LearnsChain now new more most next w) e reads in

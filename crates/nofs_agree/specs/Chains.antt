@@ -1,5 +1,6 @@
 -- What the check of a chain answers, over any disk.
-use Rattle.std.specs.Prelude.{◌≡◌, ◌⊎◌, ℕ, ◌-◌, ◌<◌, ◌≤◌, Bool, false, ◌&&◌, not, IsTrue, List, length, get_or, nat_le, Option, Some, None, is_some, if◌then◌else◌, Result, IfOk, IfSome, IsNone, OnOk, OnErr}
+use Rattle.std.specs.Prelude.{◌≡◌, ◌⊎◌, ℕ, ◌-◌, ◌<◌, ◌≤◌, Bool, false, ◌&&◌, not, IsTrue, List, length, get_or, nat_le, Option, Some, None, is_some}
+use Rattle.std.specs.Prelude.{if◌then◌else◌, Result, IfOk, IfSome, IsNone, OnOk, OnErr}
 use Rattle.std.specs.List.{position_or_len}
 use Rattle.nofs_disk.specs.declared.Failed.{Failed}
 use Rattle.nofs_disk.specs.Disk.{DiskState, StaysButFaults, Rose}
@@ -52,7 +53,8 @@ pub record IsPartner (d : DiskState) (at : SuperBlock) (it : Record) (link : Bac
   pub older : it.kind ≡ Some kind.Directory → link.generation < it.generation
 
 -- the record of the directory to which a back link leads, where the link is a pair
-pub record ReadsPair (old new : DiskState) (at : SuperBlock) (i : ℕ) (it : Record) (link : BackLink) (last : LastRead) (result : Result (Option Record) Failed) : Type 0 where
+pub record ReadsPair (old new : DiskState) (at : SuperBlock) (i : ℕ) (it : Record) (link : BackLink) (last : LastRead)
+    (result : Result (Option Record) Failed) : Type 0 where
   pub stays : StaysButFaults old new
   pub pair : IfOk result (λ found. IsTrue old.tells → is_some found ≡ is_pair (files_in old.now) i link)
   pub directory : IfOk result (λ found. IfSome found (IsPartner new at it link))

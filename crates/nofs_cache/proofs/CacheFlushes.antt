@@ -1,5 +1,6 @@
 -- Flushes and write-outs of a cached disk.
-use Rattle.std.proofs.Common.{◌≡◌, ◌↔◌, ℕ, zero, suc, ◌+◌, ◌*◌, ◌<◌, Bool, true, false, List, [], ◌∷◌, length, map, arith, refl, sym, ap, subst, ◌∙◌, Option, None, Some, Result, Ok, Err}
+use Rattle.std.proofs.Common.{◌≡◌, ◌↔◌, ℕ, zero, suc, ◌+◌, ◌*◌, ◌<◌, Bool, true, false, List, [], ◌∷◌, length, map, arith, refl, sym, ap, subst, ◌∙◌, Option}
+use Rattle.std.proofs.Common.{None, Some, Result, Ok, Err}
 use Rattle.std.specs.Prelude.{Contains, IfOk, IfSome, IsPermutation, OnErr, OnOk, is_ok}
 use Rattle.std.proofs.Math.Logic.{∥∥₁_elim, ∥∥₁_prop}
 use Rattle.std.proofs.lemmas.List.{length-map}
@@ -11,7 +12,8 @@ use Rattle.nofs_disk.specs.Moments.{AtEach}
 use Rattle.nofs_cache.specs.declared.dirty.DirtyEntry.{DirtyEntry}
 use Rattle.nofs_cache.specs.declared.past.CacheCall.{CacheCall}
 use Rattle.nofs_cache.specs.declared.past.CacheCall.TheVariants.{Flush}
-use Rattle.nofs_cache.specs.Cache.{Agrees, Covers, Held, IsMarked, IsWithin, Left, WrittenBack, SettlesDirty, TakesOut, after_flush, cache_state, held, last_end, only}
+use Rattle.nofs_cache.specs.Cache.{Agrees, Covers, Held, IsMarked, IsWithin, Left, WrittenBack, SettlesDirty, TakesOut, after_flush, cache_state, held}
+use Rattle.nofs_cache.specs.Cache.{last_end, only}
 use Rattle.nofs_cache.specs.Laws.{CacheKeeps, first_held, only_has}
 use Rattle.nofs_cache.proofs.CacheCalls.{agrees_of, cache_disk, cache_past_more, left_before, left_during, left_keeps, left_more, was_keeps, was_now}
 use Rattle.nofs_cache.proofs.CacheWrites.{rest_at}
@@ -25,12 +27,14 @@ only_in cells c x = go (has_cell cells c) refl
     go true e (suc k, low, is) = absurd (omega arith)
     go false e (k, low, is) = absurd (omega arith)
 
-same_blocks : (may : ℕ → List Cell) (old new : DiskState) (before after : List DirtyEntry) → WrittenBack old new before after → Covers may old.blocks old.may before → Covers may new.blocks new.may after
+same_blocks : (may : ℕ → List Cell) (old new : DiskState) (before after : List DirtyEntry) → WrittenBack old new before after
+    → Covers may old.blocks old.may before → Covers may new.blocks new.may after
 same_blocks may old new before after p cov =
     let F : ℕ → Type 0 = λ n. Covers may n new.may after in
     subst F (sym p.disk.blocks) (p.covers may old.blocks refl cov)
 
-same_picks : (may : ℕ → List Cell) (from : ℕ) (old new : DiskState) (before after : List DirtyEntry) → WrittenBack old new before after → Covers may old.blocks old.may before
+same_picks : (may : ℕ → List Cell) (from : ℕ) (old new : DiskState) (before after : List DirtyEntry) → WrittenBack old new before after
+    → Covers may old.blocks old.may before
     → AtEach (λ m image. Picks may old.blocks image) from old → AtEach (λ m image. Picks may new.blocks image) from new
 same_picks may from old new before after p cov at =
     let F : ℕ → Type 0 = λ n. AtEach (λ m image. Picks may n image) from new in
@@ -50,7 +54,8 @@ flush_within h n w = record { beyond = λ b c low has. w.beyond b c low (back b 
         subst F (sym one.0) one.1
 
 -- dirty cells are written out
-pub kept_writes_back : (under new first : DiskState) (past : List CacheCall) (before after : List DirtyEntry) → WrittenBack under new before after → ∥ CacheKeeps under first past before ∥₁ → ∥ CacheKeeps new first past after ∥₁
+pub kept_writes_back : (under new first : DiskState) (past : List CacheCall) (before after : List DirtyEntry) → WrittenBack under new before after
+    → ∥ CacheKeeps under first past before ∥₁ → ∥ CacheKeeps new first past after ∥₁
 kept_writes_back under new first past before after p kept = ∥∥₁_elim kept ∥∥₁_prop (λ k. ∣ goes k ∣₁)
   where
     goes : CacheKeeps under first past before → CacheKeeps new first past after
@@ -63,7 +68,8 @@ kept_writes_back under new first past before after p kept = ∥∥₁_elim kept 
           within = same_within h.may under new p.disk.blocks k.within;
         }
 
-flush_covers : (h : Held) (new : DiskState) (after : List DirtyEntry) → IsSettled new → after ≡ [] → Agrees h.now new.now after → Covers h.may new.blocks new.may after → Covers (after_flush true h).may new.blocks new.may after
+flush_covers : (h : Held) (new : DiskState) (after : List DirtyEntry) → IsSettled new → after ≡ [] → Agrees h.now new.now after
+    → Covers h.may new.blocks new.may after → Covers (after_flush true h).may new.blocks new.may after
 flush_covers h new after settled none ag cov =
     let len : length after ≡ 0 = ap length none in
     record {
@@ -75,7 +81,8 @@ flush_covers h new after settled none ag cov =
       kept = λ i low. absurd (omega arith);
     }
 
-pub kept_flush : (under new first : DiskState) (past : List CacheCall) (before after : List DirtyEntry) (from to : ℕ) (result : Result (Unit {0}) Failed) → IsDisk new → to ≡ new.moment → SettlesDirty under new before after result
+pub kept_flush : (under new first : DiskState) (past : List CacheCall) (before after : List DirtyEntry) (from to : ℕ) (result : Result (Unit {0}) Failed)
+    → IsDisk new → to ≡ new.moment → SettlesDirty under new before after result
     → ∥ CacheKeeps under first past before ∥₁ → ∥ CacheKeeps new first (Flush (is_ok result) from to ∷ past) after ∥₁
 kept_flush under new first past before after from to (Ok u) is ends s kept = ∥∥₁_elim kept ∥∥₁_prop (λ k. ∣ goes k ∣₁)
   where
@@ -85,7 +92,13 @@ kept_flush under new first past before after from to (Ok u) is ends s kept = ∥
         let ag = s.writes_back.agrees h.now k.agrees in
         let cov = flush_covers h new after s.settled s.clean ag (same_blocks h.may under new before after s.writes_back k.covers) in
         let F : ℕ → Type 0 = λ m. AtEach (λ j image. Picks (after_flush true h).may new.blocks image) m new in
-        record { covers = cov; picks = subst F (sym ends) (rest_at (after_flush true h).may new after is cov); agrees = ag; within = same_within (after_flush true h).may under new s.writes_back.disk.blocks (flush_within h under.blocks k.within) }
+        record {
+          covers = cov;
+          picks = subst F (sym ends) (rest_at (after_flush true h).may new after is cov);
+          agrees = ag;
+          within =
+              same_within (after_flush true h).may under new s.writes_back.disk.blocks (flush_within h under.blocks k.within);
+        }
 kept_flush under new first past before after from to (Err failed) is ends s kept = ∥∥₁_elim kept ∥∥₁_prop (λ k. ∣ goes k ∣₁)
   where
     goes : CacheKeeps under first past before → CacheKeeps new first (Flush false from to ∷ past) after
@@ -93,12 +106,20 @@ kept_flush under new first past before after from to (Err failed) is ends s kept
         let h = held (first_held first) past in
         let cov = same_blocks h.may under new before after s.writes_back k.covers in
         let F : ℕ → Type 0 = λ m. AtEach (λ j image. Picks h.may new.blocks image) m new in
-        record { covers = cov; picks = subst F (sym ends) (rest_at h.may new after is cov); agrees = s.writes_back.agrees h.now k.agrees; within = same_within h.may under new s.writes_back.disk.blocks k.within }
+        record {
+          covers = cov;
+          picks = subst F (sym ends) (rest_at h.may new after is cov);
+          agrees = s.writes_back.agrees h.now k.agrees;
+          within =
+              same_within h.may under new s.writes_back.disk.blocks k.within;
+        }
 
 -- what the disk below may leave during a flush
-flush_during : (under new first : DiskState) (past : List CacheCall) (before after : List DirtyEntry) (call : CacheCall) (image : List Cell) → WrittenBack under new before after → ∥ CacheKeeps under first past before ∥₁
+flush_during : (under new first : DiskState) (past : List CacheCall) (before after : List DirtyEntry) (call : CacheCall) (image : List Cell)
+    → WrittenBack under new before after → ∥ CacheKeeps under first past before ∥₁
     → (from to : ℕ) → from ≡ under.moment → to ≡ new.moment
-    → Left new.left first.moment (Flush true from to ∷ past) new.moment (2 * length past + 1) image → Picks (held (first_held first) past).may under.blocks image
+    → Left new.left first.moment (Flush true from to ∷ past) new.moment (2 * length past + 1) image
+    → Picks (held (first_held first) past).may under.blocks image
 flush_during under new first past before after call image p kept from to begins ends left =
     let h = held (first_held first) past in
     let w = left_during new.left first.moment past (Flush true from to) new.moment image left in
@@ -109,7 +130,8 @@ flush_during under new first past before after call image p kept from to begins 
     let high = w.high in
     ∣ at.each w.at image (omega arith) (omega arith) w.left ∣₁))
 
-pub cache_flushes : (under new first : DiskState) (past : List CacheCall) (before after : List DirtyEntry) (s t from to : ℕ) (result : Result (Unit {0}) Failed) → from ≡ under.moment → to ≡ new.moment → SettlesDirty under new before after result
+pub cache_flushes : (under new first : DiskState) (past : List CacheCall) (before after : List DirtyEntry) (s t from to : ℕ)
+    (result : Result (Unit {0}) Failed) → from ≡ under.moment → to ≡ new.moment → SettlesDirty under new before after result
     → ∥ CacheKeeps under first past before ∥₁ → IsMarked first.moment past under.moment → t + 1 ≡ s
     → Flushes (cache_state under first past before s) (cache_state new first (Flush (is_ok result) from to ∷ past) after t) result
 cache_flushes under new first past before after s t from to (Ok u) begins ends f kept marked room =
@@ -151,7 +173,8 @@ cache_flushes under new first past before after s t from to (Err failed) begins 
 }
 
 -- one dirty cell is written out
-pub cache_writes_out : (under new first : DiskState) (past : List CacheCall) (before after : List DirtyEntry) (s t : ℕ) (result : Result (Option ℕ) Failed) → WrittenBack under new before after → TakesOut before after result
+pub cache_writes_out : (under new first : DiskState) (past : List CacheCall) (before after : List DirtyEntry) (s t : ℕ) (result : Result (Option ℕ) Failed)
+    → WrittenBack under new before after → TakesOut before after result
     → OnErr result (Rose under.faults new.faults) → OnOk result (new.faults ≡ under.faults) → IsMarked first.moment past under.moment → t + 1 ≡ s
     → WritesOut (cache_state under first past before s) (cache_state new first past after t) result
 cache_writes_out under new first past before after s t result p out cause no_fault marked room = record {
@@ -181,7 +204,8 @@ cache_writes_out under new first past before after s t result p out cause no_fau
     none (Ok (Some b)) out = (λ e. cc, λ e. some_not before _ out.0 e)
     none (Err failed) out = (λ e. cc, λ e. some_not before _ out.0 e)
 
-    some : (result : Result (Option ℕ) Failed) → TakesOut before after result → IfOk result (λ o. IfSome o (λ block. IsPermutation (block ∷ map (λ e. e.block) after) (map (λ e. e.block) before)))
+    some : (result : Result (Option ℕ) Failed) → TakesOut before after result
+        → IfOk result (λ o. IfSome o (λ block. IsPermutation (block ∷ map (λ e. e.block) after) (map (λ e. e.block) before)))
     some (Ok None) out = tt
     some (Ok (Some b)) out = out.1
     some (Err failed) out = tt

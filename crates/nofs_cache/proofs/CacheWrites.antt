@@ -4,7 +4,8 @@ use Rattle.std.specs.Prelude.{Contains, slice_index}
 use Rattle.std.proofs.Math.Logic.{∥∥₁_elim, ∥∥₁_prop}
 use Rattle.std.proofs.Math.Seq.{map-set_same}
 use Rattle.std.proofs.lemmas.Bool.{cases_eq, cases_lt}
-use Rattle.std.proofs.lemmas.List.{length-set, length_push, get_or-set_same, get_or-set_other, get_or_append_left, get_or-map, get_or_push, length-map, map-append}
+use Rattle.std.proofs.lemmas.List.{length-set, length_push, get_or-set_same, get_or-set_other, get_or_append_left, get_or-map, get_or_push, length-map}
+use Rattle.std.proofs.lemmas.List.{map-append}
 use Rattle.std.proofs.lemmas.List.Elements.{Contains-push, Contains-push_cases, Contains-append_left}
 use Rattle.std.specs.declared.snapshot.Snapshot.{Snapshot}
 use Rattle.nofs_disk.specs.declared.tag.Cell.{Cell}
@@ -30,7 +31,8 @@ placed_distinct slots entries placed i j low_i low_j same = sym (placed.at i low
 
 -- each entry is the one that was put, or one that was there of another block
 put_at : (entries after : List DirtyEntry) (b : ℕ) (c : Cell) → IsDistinct entries → PutsDirtyEntry entries after b c → (j : ℕ) → j < length after
-    → (dirty_entry_at after j ≡ dirty_entry b c) ⊎ ((j < length entries) × ((dirty_entry_at after j ≡ dirty_entry_at entries j) × ((dirty_entry_at entries j).block ≢ b)))
+    → (dirty_entry_at after j ≡ dirty_entry b c) ⊎ ((j < length entries) ×
+    ((dirty_entry_at after j ≡ dirty_entry_at entries j) × ((dirty_entry_at entries j).block ≢ b)))
 put_at entries after b c distinct (inl r) j low =
     let len : length after ≡ length entries = ap length r.set ∙ length-set entries r.at (dirty_entry b c) in
     let at : dirty_entry_at after j ≡ dirty_entry_at (set entries r.at (dirty_entry b c)) j = ap (λ l. dirty_entry_at l j) r.set in
@@ -38,7 +40,13 @@ put_at entries after b c distinct (inl r) j low =
       | inl same ↦
           let F : ℕ → Type 0 = λ k. dirty_entry_at (set entries r.at (dirty_entry b c)) k ≡ dirty_entry b c in
           inl (at ∙ subst F (sym same) (get_or-set_same entries r.at (dirty_entry b c) no_dirty_entry r.is.low))
-      | inr other ↦ inr (omega arith, (at ∙ get_or-set_other entries r.at j (dirty_entry b c) no_dirty_entry other, λ e. other (distinct j r.at (omega arith) r.is.low (e ∙ sym r.is.block))))
+      | inr other ↦ inr (
+        omega arith,
+        (
+          at ∙ get_or-set_other entries r.at j (dirty_entry b c) no_dirty_entry other,
+          λ e. other (distinct j r.at (omega arith) r.is.low (e ∙ sym r.is.block)),
+        ),
+      )
     ]
 put_at entries after b c distinct (inr a) j low =
     let len : length after ≡ length entries + 1 = ap length a.push ∙ length_push entries (dirty_entry b c) in
@@ -52,20 +60,26 @@ put_at entries after b c distinct (inr a) j low =
 put_clean : (entries after : List DirtyEntry) (b : ℕ) (c : Cell) → PutsDirtyEntry entries after b c → (k : ℕ) → IsClean after k → (k ≢ b) × IsClean entries k
 put_clean entries after b c (inl r) k clean =
     let len : length after ≡ length entries = ap length r.set ∙ length-set entries r.at (dirty_entry b c) in
-    let put : dirty_entry_at after r.at ≡ dirty_entry b c = ap (λ l. dirty_entry_at l r.at) r.set ∙ get_or-set_same entries r.at (dirty_entry b c) no_dirty_entry r.is.low in
+    let put : dirty_entry_at after r.at ≡ dirty_entry b c =
+    ap (λ l. dirty_entry_at l r.at) r.set ∙ get_or-set_same entries r.at (dirty_entry b c) no_dirty_entry r.is.low in
     let other : k ≢ b = λ e. clean.none r.at (let l = r.is.low in omega arith) (ap (λ x. x.block) put ∙ sym e) in (
       other,
       record {
         none = λ j low e. elim (cases_eq j r.at) [
           | inl same ↦ let F : ℕ → Type 0 = λ x. (dirty_entry_at entries x).block ≡ k in other (sym (subst F same e) ∙ r.is.block)
-          | inr apart ↦ clean.none j (omega arith) (ap (λ x. x.block) (ap (λ l. dirty_entry_at l j) r.set ∙ get_or-set_other entries r.at j (dirty_entry b c) no_dirty_entry apart) ∙ e)
+          | inr apart ↦ clean.none j (omega arith) (ap (λ x. x.block)
+              (ap (λ l. dirty_entry_at l j) r.set ∙ get_or-set_other entries r.at j (dirty_entry b c) no_dirty_entry apart) ∙ e)
         ];
       },
     )
 put_clean entries after b c (inr a) k clean =
     let len : length after ≡ length entries + 1 = ap length a.push ∙ length_push entries (dirty_entry b c) in (
-      λ e. clean.none (length entries) (omega arith) (ap (λ x. x.block) (ap (λ l. dirty_entry_at l (length entries)) a.push ∙ get_or_push entries (dirty_entry b c) no_dirty_entry (length entries) refl) ∙ sym e),
-      record { none = λ j low e. clean.none j (omega arith) (ap (λ x. x.block) (ap (λ l. dirty_entry_at l j) a.push ∙ get_or_append_left entries (dirty_entry b c ∷ []) no_dirty_entry j low) ∙ e) },
+      λ e. clean.none (length entries) (omega arith) (ap (λ x. x.block)
+          (ap (λ l. dirty_entry_at l (length entries)) a.push ∙ get_or_push entries (dirty_entry b c) no_dirty_entry (length entries) refl) ∙ sym e),
+      record {
+        none = λ j low e. clean.none j (omega arith)
+            (ap (λ x. x.block) (ap (λ l. dirty_entry_at l j) a.push ∙ get_or_append_left entries (dirty_entry b c ∷ []) no_dirty_entry j low) ∙ e);
+      },
     )
 
 may_here : (h : Held) (b : ℕ) (c : Cell) → Contains ((written h b c).may b) c
@@ -80,7 +94,8 @@ may_grows h b k c x has = elim (cases_eq k b) [
   | inr other ↦ let G : List Cell → Type 0 = λ l. Contains l x in subst G (sym (written_other h b k c other)) has
 ]
 
-put_covers : (h : Held) (n : ℕ) (under : ℕ → List Cell) (entries after : List DirtyEntry) (b : ℕ) (c : Cell) → IsDistinct entries → PutsDirtyEntry entries after b c → Covers h.may n under entries → Covers (written h b c).may n under after
+put_covers : (h : Held) (n : ℕ) (under : ℕ → List Cell) (entries after : List DirtyEntry) (b : ℕ) (c : Cell) → IsDistinct entries
+    → PutsDirtyEntry entries after b c → Covers h.may n under entries → Covers (written h b c).may n under after
 put_covers h n under entries after b c distinct put cov = record {
   below = λ k x low has. may_grows h b k c x (cov.below k x low has);
   kept = λ j low.
@@ -91,7 +106,8 @@ put_covers h n under entries after b c distinct put cov = record {
       ];
 }
 
-put_agrees : (h : Held) (below : List Cell) (entries after : List DirtyEntry) (b : ℕ) (c : Cell) → IsDistinct entries → PutsDirtyEntry entries after b c → Agrees h.now below entries → Agrees (written h b c).now below after
+put_agrees : (h : Held) (below : List Cell) (entries after : List DirtyEntry) (b : ℕ) (c : Cell) → IsDistinct entries → PutsDirtyEntry entries after b c
+    → Agrees h.now below entries → Agrees (written h b c).now below after
 put_agrees h below entries after b c distinct put ag =
     let len : length (set h.now b c) ≡ length h.now = length-set h.now b c in
     record {
@@ -100,7 +116,8 @@ put_agrees h below entries after b c distinct put ag =
           let F : DirtyEntry → Type 0 = λ e. e.block < length (set h.now b c) → e.cell ≡ cell_at (set h.now b c) e.block in
           elim (put_at entries after b c distinct put j low) [
             | inl is ↦ subst F (sym is) (λ b_low. sym (get_or-set_same h.now b c no_cell (omega arith)))
-            | inr (before, (is, other)) ↦ subst F (sym is) (λ b_low. ag.kept j before (omega arith) ∙ sym (get_or-set_other h.now b (dirty_entry_at entries j).block c no_cell other))
+            | inr (before, (is, other)) ↦ subst F (sym is) (λ b_low. ag.kept j before (omega arith)
+                ∙ sym (get_or-set_other h.now b (dirty_entry_at entries j).block c no_cell other))
           ];
       clean = λ k clean.
           let was = put_clean entries after b c put k clean in
@@ -108,7 +125,8 @@ put_agrees h below entries after b c distinct put ag =
     }
 
 -- what the disk below may leave at its present moment
-pub rest_at : (may : ℕ → List Cell) (under : DiskState) (entries : List DirtyEntry) → IsDisk under → Covers may under.blocks under.may entries → AtEach (λ m image. Picks may under.blocks image) under.moment under
+pub rest_at : (may : ℕ → List Cell) (under : DiskState) (entries : List DirtyEntry) → IsDisk under → Covers may under.blocks under.may entries
+    → AtEach (λ m image. Picks may under.blocks image) under.moment under
 rest_at may under entries is cov = record {
   begun = omega arith;
   each = λ m image low high left.
@@ -136,7 +154,8 @@ write_within h n b c low size w = record {
       ];
 }
 
-pub write_kept : (under first : DiskState) (past : List CacheCall) (entries after : List DirtyEntry) (b at : ℕ) (snap : Snapshot Cell) → IsDisk under → b < under.blocks → IsSizedCell snap.value → at ≡ under.moment → IsDistinct entries → PutsDirtyEntry entries after b snap.value
+pub write_kept : (under first : DiskState) (past : List CacheCall) (entries after : List DirtyEntry) (b at : ℕ) (snap : Snapshot Cell) → IsDisk under
+    → b < under.blocks → IsSizedCell snap.value → at ≡ under.moment → IsDistinct entries → PutsDirtyEntry entries after b snap.value
     → ∥ CacheKeeps under first past entries ∥₁ → ∥ CacheKeeps under first (Write b snap at ∷ past) after ∥₁
 write_kept under first past entries after b at snap is low size begins distinct put kept = ∥∥₁_elim kept ∥∥₁_prop (λ k. ∣ goes k ∣₁)
   where
@@ -169,11 +188,15 @@ put_dirty entries after b c (inr a) =
     let same : map f after ≡ map f entries ++ b ∷ [] = ap (map f) a.push ∙ map-append f entries (dirty_entry b c ∷ []) in
     let F : List ℕ → Type 0 = λ l. (k : ℕ) → k ≢ b → Contains l k ↔ Contains (map f entries) k in
     let G : List ℕ → Type 0 = λ l. Contains l b in (
-      subst F (sym same) (λ k other. (λ has. elim (Contains-push_cases (map f entries) b k has) [ inl before ↦ before | inr is ↦ absurd (other (sym is)) ], λ has. Contains-append_left (map f entries) (b ∷ []) k has)),
+      subst F (sym same) (λ k other. (
+        λ has. elim (Contains-push_cases (map f entries) b k has) [ inl before ↦ before | inr is ↦ absurd (other (sym is)) ],
+        λ has. Contains-append_left (map f entries) (b ∷ []) k has,
+      )),
       subst G (sym same) (Contains-push (map f entries) b),
     )
 
-pub cache_writes : (under first : DiskState) (past : List CacheCall) (entries after : List DirtyEntry) (s t b at : ℕ) (snap : Snapshot Cell) → IsDisk under → b < under.blocks → IsSizedCell snap.value → at ≡ under.moment → IsDistinct entries → PutsDirtyEntry entries after b snap.value
+pub cache_writes : (under first : DiskState) (past : List CacheCall) (entries after : List DirtyEntry) (s t b at : ℕ) (snap : Snapshot Cell) → IsDisk under
+    → b < under.blocks → IsSizedCell snap.value → at ≡ under.moment → IsDistinct entries → PutsDirtyEntry entries after b snap.value
     → ∥ CacheKeeps under first past entries ∥₁ → IsMarked first.moment past under.moment → t + 1 ≡ s
     → Writes (cache_state under first past entries s) (cache_state under first (Write b snap at ∷ past) after t) b snap.value (Ok tt)
 cache_writes under first past entries after s t b at snap is low size begins distinct put kept marked room =

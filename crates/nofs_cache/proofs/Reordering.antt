@@ -1,5 +1,6 @@
 -- Entries of dirty blocks in another order.
-use Rattle.std.proofs.Common.{◌≡◌, ◌≢◌, ◌⊎◌, ℕ, ◌<◌, ◌≤◌, Bool, false, true≢false, List, length, map, take, get_or, arith, inl, inr, refl, sym, ap, subst, ◌∙◌, Err}
+use Rattle.std.proofs.Common.{◌≡◌, ◌≢◌, ◌⊎◌, ℕ, ◌<◌, ◌≤◌, Bool, false, true≢false, List, length, map, take, get_or, arith, inl, inr, refl, sym, ap, subst}
+use Rattle.std.proofs.Common.{◌∙◌, Err}
 use Rattle.std.specs.Prelude.{Contains, IsPermutation}
 use Rattle.std.specs.List.{swap}
 use Rattle.std.specs.List.Sorted.{IsSortedBy}
@@ -12,7 +13,8 @@ use Rattle.std.proofs.lemmas.Cmp.{nat_cmp_total}
 use Rattle.std.proofs.lemmas.List.{get_or_default, get_or-map, get_or-take, length-map, take-take}
 use Rattle.std.proofs.lemmas.List.Edits.{length-swap, swapped_from_swap}
 use Rattle.std.proofs.lemmas.List.Elements.{Contains-get_or}
-use Rattle.std.proofs.lemmas.List.Sorted.{Contains-permutation, IsPermutation-keeps, IsPermutation-map, IsPermutation-sym, IsStrictWeakOrder-flip, ranks_by, sorted_far}
+use Rattle.std.proofs.lemmas.List.Sorted.{Contains-permutation, IsPermutation-keeps, IsPermutation-map, IsPermutation-sym, IsStrictWeakOrder-flip, ranks_by}
+use Rattle.std.proofs.lemmas.List.Sorted.{sorted_far}
 use Rattle.nofs_disk.specs.declared.Failed.{Failed}
 use Rattle.nofs_disk.specs.Disk.{DiskState, Rose, cell_at}
 use Rattle.nofs_disk.specs.Chains.{IsSameDisk-refl, KeepsPast-refl}

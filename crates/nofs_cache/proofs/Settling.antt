@@ -20,10 +20,12 @@ pub no_entries : (entries : List DirtyEntry) → map (λ e. e.block) entries ≡
 no_entries [] none = refl
 no_entries (e ∷ entries) none = cc
 
-flush_covers : (may : ℕ → List Cell) (n : ℕ) (old new : DiskState) (entries : List DirtyEntry) {result : Result (Unit {0}) Failed} → Flushes old new result → n ≡ old.blocks → Covers may n old.may entries → Covers may n new.may entries
+flush_covers : (may : ℕ → List Cell) (n : ℕ) (old new : DiskState) (entries : List DirtyEntry) {result : Result (Unit {0}) Failed} → Flushes old new result
+    → n ≡ old.blocks → Covers may n old.may entries → Covers may n new.may entries
 flush_covers may n old new entries f same cov = record { below = λ b c low has. cov.below b c low (f.may b c (omega arith) has); kept = cov.kept }
 
-pub flush_writes_back : (old new : DiskState) (entries : List DirtyEntry) {result : Result (Unit {0}) Failed} → Flushes old new result → IsDisk new → WrittenBack old new entries entries
+pub flush_writes_back : (old new : DiskState) (entries : List DirtyEntry) {result : Result (Unit {0}) Failed} → Flushes old new result → IsDisk new
+    → WrittenBack old new entries entries
 flush_writes_back old new entries f is = record {
   disk = f.disk;
   past = f.past;
@@ -40,7 +42,8 @@ flush_writes_back old new entries f is = record {
   fewer = λ b has. has;
 }
 
-pub settles_flush : (old mid new : DiskState) (before after : List DirtyEntry) (result : Result (Unit {0}) Failed) → WrittenBack old mid before after → after ≡ [] → mid.faults ≡ old.faults → IsDisk new → Flushes mid new result → SettlesDirty old new before after result
+pub settles_flush : (old mid new : DiskState) (before after : List DirtyEntry) (result : Result (Unit {0}) Failed) → WrittenBack old mid before after
+    → after ≡ [] → mid.faults ≡ old.faults → IsDisk new → Flushes mid new result → SettlesDirty old new before after result
 settles_flush old mid new before after (Ok u) writes_back none no_fault is f = record {
   writes_back = WrittenBack-trans old mid new before after after writes_back (flush_writes_back mid new after f is);
   clean = none;

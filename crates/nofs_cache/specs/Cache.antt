@@ -1,5 +1,6 @@
 -- What a cached disk holds, and what a crash may leave of it.
-use Rattle.std.specs.Prelude.{◌≡◌, ◌⊎◌, ℕ, ◌+◌, ◌*◌, ◌<◌, ◌≤◌, ◌==◌, if◌then◌else◌, Bool, true, false, List, [], ◌∷◌, ◌++◌, length, map, slice_set, slice_index_or, Contains, Option, None, Some, Result, Ok, Err, IsPermutation, OnOk, OnErr}
+use Rattle.std.specs.Prelude.{◌≡◌, ◌⊎◌, ℕ, ◌+◌, ◌*◌, ◌<◌, ◌≤◌, ◌==◌, if◌then◌else◌, Bool, true, false, List, [], ◌∷◌, ◌++◌, length, map, slice_set}
+use Rattle.std.specs.Prelude.{slice_index_or, Contains, Option, None, Some, Result, Ok, Err, IsPermutation, OnOk, OnErr}
 use Rattle.nofs_disk.specs.declared.Failed.{Failed}
 use Rattle.nofs_disk.specs.declared.tag.Cell.{Cell}
 use Rattle.nofs_disk.specs.Disk.{DiskState, IsSameDisk, IsSettled, IsSizedCell, KeepsPast, Picks, Rose, cell_at}
@@ -98,7 +99,8 @@ pub record Covers (may : ℕ → List Cell) (blocks : ℕ) (under : ℕ → List
 -- the cells below with those that are kept in their place are these
 pub record Agrees (now below : List Cell) (entries : List DirtyEntry) : Type 0 where
   pub len : length below ≡ length now
-  pub kept : (i : ℕ) → i < length entries → (dirty_entry_at entries i).block < length now → (dirty_entry_at entries i).cell ≡ cell_at now (dirty_entry_at entries i).block
+  pub kept : (i : ℕ) → i < length entries → (dirty_entry_at entries i).block < length now
+      → (dirty_entry_at entries i).cell ≡ cell_at now (dirty_entry_at entries i).block
   pub clean : (b : ℕ) → IsClean entries b → cell_at below b ≡ cell_at now b
 
 -- each cell that may be held is that of a block that is there, and has the bytes of a cell
@@ -125,7 +127,8 @@ pub record WrittenBack (old new : DiskState) (before after : List DirtyEntry) : 
   pub past : KeepsPast old new
   pub later : old.moment ≤ new.moment
   pub covers : (may : ℕ → List Cell) (n : ℕ) → n ≡ old.blocks → Covers may n old.may before → Covers may n new.may after
-  pub picks : (may : ℕ → List Cell) (n from : ℕ) → n ≡ old.blocks → Covers may n old.may before → AtEach (λ m image. Picks may n image) from old → AtEach (λ m image. Picks may n image) from new
+  pub picks : (may : ℕ → List Cell) (n from : ℕ) → n ≡ old.blocks → Covers may n old.may before → AtEach (λ m image. Picks may n image) from old
+      → AtEach (λ m image. Picks may n image) from new
   pub agrees : (now : List Cell) → Agrees now old.now before → Agrees now new.now after
   pub fewer : (b : ℕ) → Contains (map (λ e. e.block) after) b → Contains (map (λ e. e.block) before) b
 

@@ -58,7 +58,8 @@ abbrev pub first_held : DiskState → Held
 first_held first = record { now = first.now; may = first.may }
 
 -- what may be left at a moment that is not there yet
-pub Left-later : (leaves : ℕ → List Cell → Type 0) (first : ℕ) (past : List CacheCall) (to m : ℕ) (image : List Cell) → 2 * length past < m → Left leaves first past to m image → ⊥
+pub Left-later : (leaves : ℕ → List Cell → Type 0) (first : ℕ) (past : List CacheCall) (to m : ℕ) (image : List Cell) → 2 * length past < m
+    → Left leaves first past to m image → ⊥
 Left-later leaves first [] to m image later (at, left) = omega arith
 Left-later leaves first (call ∷ past) to m image later (inl (at, left)) = omega arith
 Left-later leaves first (call ∷ past) to m image later (inr (inl (at, left))) = omega arith
@@ -84,15 +85,18 @@ rest_picks under first past entries kept image left =
     Picks-known _ _ image (∥∥₁_elim kept ∥∥₁_prop (λ k. ∣ k.picks.each within.at image within.low within.high within.left ∣₁))
 
 -- each cell that may be held is that of a block that is there, and has the bytes of a cell
-pub within_of : (under first : DiskState) (past : List CacheCall) (entries : List DirtyEntry) → ∥ CacheKeeps under first past entries ∥₁ → IsWithin (held (first_held first) past).may under.blocks
+pub within_of : (under first : DiskState) (past : List CacheCall) (entries : List DirtyEntry) → ∥ CacheKeeps under first past entries ∥₁
+    → IsWithin (held (first_held first) past).may under.blocks
 within_of under first past entries kept = record {
   beyond = λ b c low has. ∥∥₁_elim kept (λ x y. absurd x) (λ k. k.within.beyond b c low has);
   sized = λ b c has. IsSizedCell-known c (∥∥₁_elim kept ∥∥₁_prop (λ k. ∣ k.within.sized b c has ∣₁));
 }
 
 -- a cached disk keeps every law of a disk
-pub cache_is : (under first : DiskState) (past : List CacheCall) (entries : List DirtyEntry) (spare : ℕ) → IsDisk under → IsDisk first → first.blocks ≡ under.blocks → first.tells ≡ under.tells
-    → {moment : ℕ} → moment ≡ 2 * length past → 2 * spare + moment < 2 ^ 64 → ∥ CacheKeeps under first past entries ∥₁ → IsDisk (cache_state under first past entries spare)
+pub cache_is : (under first : DiskState) (past : List CacheCall) (entries : List DirtyEntry) (spare : ℕ) → IsDisk under → IsDisk first
+    → first.blocks ≡ under.blocks → first.tells ≡ under.tells
+    → {moment : ℕ} → moment ≡ 2 * length past → 2 * spare + moment < 2 ^ 64 → ∥ CacheKeeps under first past entries ∥₁
+    → IsDisk (cache_state under first past entries spare)
 cache_is under first past entries spare below is blocks tells {moment} made room kept =
     let begins : IsTrue under.tells → IsHeld under.blocks (first_held first) = λ t.
     let F : Bool → Type 0 = λ x. IsTrue x in

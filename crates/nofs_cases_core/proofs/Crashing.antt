@@ -25,13 +25,15 @@ now-left : (d : MemDisk) (X : Image) → X ≡ (memory_state d).now → (memory_
 now-left d X e =
     let is = memory-is d in
     let F : Image → Type 0 = λ Y. (memory_state d).left (memory_state d).moment Y in
-    subst F (sym e) (leaves_rest d.start d.base.items d.calls.items (memory_state d).now (record { len = is.whole refl; each = λ b low. is.has_now b refl low }))
+    subst F (sym e) (leaves_rest d.start d.base.items d.calls.items (memory_state d).now
+    (record { len = is.whole refl; each = λ b low. is.has_now b refl low }))
 
 fresh-now : (d : MemDisk) (X : Image) → parts_of d ≡ fresh_parts X → (memory_state d).now ≡ X
 fresh-now d X e = after_none d.base.items d.calls.items (ap (λ (p : Parts). p.calls) e) ∙ ap (λ (p : Parts). p.base) e
 
 module _ (found last left : MemDisk) (first : ℕ) (h : HistoryState) (q : IsSoundDisk (memory_state found)) (blank : IsBlankDisk (memory_state found)) (steps : SeesAndPuts 5 (codes "ab") h.entries) where
-  after-put : LawSettledAfter memory_state → IsSettled (memory_state left) → parts_of left ≡ fresh_parts (memory_state last).now → Ends (memory_state found) (memory_state last) first h → Crashed left
+  after-put : LawSettledAfter memory_state → IsSettled (memory_state left) → parts_of left ≡ fresh_parts (memory_state last).now
+      → Ends (memory_state found) (memory_state last) first h → Crashed left
   after-put law settled parts e = (k, record { steps = steps; first = blank }, law k left (memory_state left).now refl settled leaves (inl refl))
     where
       k : Mount memory_state
@@ -49,9 +51,11 @@ module _ (found last left : MemDisk) (first : ℕ) (h : HistoryState) (q : IsSou
             flushed = inl later;
           }
 
-  pub crashed : LawSettledAfter memory_state → IsSettled (memory_state left) → parts_of left ≡ fresh_parts (memory_state last).now → ∥ Ends (memory_state found) (memory_state last) first h ∥₁ → ∥ Crashed left ∥₁
+  pub crashed : LawSettledAfter memory_state → IsSettled (memory_state left) → parts_of left ≡ fresh_parts (memory_state last).now
+      → ∥ Ends (memory_state found) (memory_state last) first h ∥₁ → ∥ Crashed left ∥₁
   crashed law settled parts ends = ∥∥₁_map ends (λ e. after-put law settled parts e)
 
-pub both-mounts : LawFoundSound memory_state → (found last : MemDisk) (h : HistoryState) (first : ℕ) → ∥ Crashed found ∥₁ → ∥ Ends (memory_state found) (memory_state last) first h ∥₁ → ∥ TwoMounts last h ∥₁
+pub both-mounts : LawFoundSound memory_state → (found last : MemDisk) (h : HistoryState) (first : ℕ) → ∥ Crashed found ∥₁
+    → ∥ Ends (memory_state found) (memory_state last) first h ∥₁ → ∥ TwoMounts last h ∥₁
 both-mounts law found last h first before ends = ∥∥₁_map before (λ c.
     (record { found = found; last = last; first = first; history = h; sound = law c.0 found refl c.2; ends = ends }, c.0, refl, refl, c.1, (c.2, c.1.first)))

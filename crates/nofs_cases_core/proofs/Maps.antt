@@ -45,9 +45,11 @@ module _ (d : DiskState) (k : Books) (H : List Entry1) (p : Past) (o : IsOpen d 
             let parts = and_parts (nat_le 1 i) (nat_le i k.at.inodes && not (is_set k.unknown_inodes (i - 1))) e in
             let low = leb-true 1 i parts.0 in
             let high = leb-true i k.at.inodes (and_parts (nat_le i k.at.inodes) (not (is_set k.unknown_inodes (i - 1))) parts.1).0 in
-            free-known (is_set k.free_inodes (i - 1)) (p.world.known_inodes i) (uses_inode p.world i) (is_used_inode d.now i) (o.says.free_inodes i low high) known (g.inode_verdicts i known);
+            free-known (is_set k.free_inodes (i - 1)) (p.world.known_inodes i) (uses_inode p.world i) (is_used_inode d.now i) (o.says.free_inodes i low high)
+            known (g.inode_verdicts i known);
         block_verdicts = λ b low e.
             let known : p.world.known_blocks b ≡ true = o.says.known_blocks b ∙ e in
             let n = o.says.blocks in
-            free-known (is_set k.free_blocks b) (p.world.known_blocks b) (uses_block p.world b) (is_used_block d.now b) (o.says.free_blocks b (omega (arith, low, n))) known (g.block_verdicts b low known);
+            free-known (is_set k.free_blocks b) (p.world.known_blocks b) (uses_block p.world b) (is_used_block d.now b)
+            (o.says.free_blocks b (omega (arith, low, n))) known (g.block_verdicts b low known);
       }

@@ -19,13 +19,15 @@ use Rattle.nofs_cases_core.specs.Replies.{AddsOne, SeesAndPuts, tells_free, is_s
 use Rattle.nofs_cases_core.proofs.Maps.{maps-good}
 
 -- both steps were done, so that no write has failed
-pub going-on : (m n : ℕ) (c : Bool) (seen put : Entry1) → Forms m false (seen ∷ put ∷ []) n c → seen.reply ≡ reply.Seen false → put.reply ≡ reply.Stored → c ≡ false
+pub going-on : (m n : ℕ) (c : Bool) (seen put : Entry1) → Forms m false (seen ∷ put ∷ []) n c → seen.reply ≡ reply.Seen false → put.reply ≡ reply.Stored
+    → c ≡ false
 going-on m n c seen put f es ep =
     let a : is_write_fault seen.reply ≡ false = ap is_write_fault es in
     let b : is_write_fault put.reply ≡ false = ap is_write_fault ep in
     f.1.1.1 ∙ (rw (a, b) refl)
 
-pub stands-open : LawGood → (found d : DiskState) (first : ℕ) (k : Books) → IsMount found d first k → IsSoundDisk found → k.stopped ≡ false → StandsOpen found d first k
+pub stands-open : LawGood → (found d : DiskState) (first : ℕ) (k : Books) → IsMount found d first k → IsSoundDisk found → k.stopped ≡ false
+    → StandsOpen found d first k
 stands-open law found d first k m q going = go (m.stands q).now
   where
     st : MountStands found d first k
@@ -44,15 +46,18 @@ stands-open law found d first k m q going = go (m.stands q).now
     go (inr s) = absurd (let e = s.stopped in cc (e, going))
 
 -- before the first step
-pub begun-open : LawGood → (found d : DiskState) (first : ℕ) (k : Books) → IsMount found d first k → IsSoundDisk found → k.history.entries ≡ [] → StandsOpen found d first k
+pub begun-open : LawGood → (found d : DiskState) (first : ℕ) (k : Books) → IsMount found d first k → IsSoundDisk found → k.history.entries ≡ []
+    → StandsOpen found d first k
 begun-open law found d first k m q none =
     stands-open law found d first k m q ((subst (λ (H : List Entry1). Forms k.history.start false H d.moment k.stopped) none m.forms).1)
 
 -- and after both steps
-pub put-open : LawGood → (found d : DiskState) (first : ℕ) (k : Books) (block : ℕ) (bytes : List ℕ) → IsMount found d first k → IsSoundDisk found → SeesAndPuts block bytes k.history.entries → StandsOpen found d first k
+pub put-open : LawGood → (found d : DiskState) (first : ℕ) (k : Books) (block : ℕ) (bytes : List ℕ) → IsMount found d first k → IsSoundDisk found
+    → SeesAndPuts block bytes k.history.entries → StandsOpen found d first k
 put-open law found d first k block bytes m q h =
     stands-open law found d first k m q
-    (going-on k.history.start d.moment k.stopped h.seen h.put (subst (λ (H : List Entry1). Forms k.history.start false H d.moment k.stopped) h.is m.forms) h.seen_free h.put_stored)
+    (going-on k.history.start d.moment k.stopped h.seen h.put (subst (λ (H : List Entry1). Forms k.history.start false H d.moment k.stopped) h.is m.forms)
+    h.seen_free h.put_stored)
 
 -- Entries
 
@@ -76,7 +81,8 @@ adds-seen caller s r H K a e = adds-one caller s r (reply.Seen false) H K a (fre
 pub adds-stored : (caller : ℕ) (s : Step) (r : Reply) (H K : List Entry1) → AddsStep caller s r H K → is_stored r ≡ true → AddsOne s reply.Stored H K
 adds-stored caller s r H K a e = adds-one caller s r reply.Stored H K a (stored-is r e) refl
 
-pub both-steps : (block : ℕ) (bytes : List ℕ) (H K L : List Entry1) → H ≡ [] → AddsOne (step.SeeBlock block) (reply.Seen false) H K → AddsOne (step.Put 2 2 0 0 bytes) reply.Stored K L → SeesAndPuts block bytes L
+pub both-steps : (block : ℕ) (bytes : List ℕ) (H K L : List Entry1) → H ≡ [] → AddsOne (step.SeeBlock block) (reply.Seen false) H K
+    → AddsOne (step.Put 2 2 0 0 bytes) reply.Stored K L → SeesAndPuts block bytes L
 both-steps block bytes H K L none a b = record {
   seen = a.e;
   put = b.e;

@@ -68,7 +68,8 @@ entry-in-hole-case = (
 )
 
 link-tag : tag_of (root_block (short_entry_bytes 97 ++ short_entry_bytes 98 ++ z 896)).tag ≡ Some (tag_for name_image 1 (InRecord 0) (2 ^ 40 + 1))
-link-tag = root-tag (short_entry_bytes 97 ++ short_entry_bytes 98 ++ z 896) ∙ sym (ap Some (first-tag name_image 1 (root_record (block_two 1)) (2 ^ 40 + 1) (name-inode 1)))
+link-tag = root-tag (short_entry_bytes 97 ++ short_entry_bytes 98 ++ z 896)
+    ∙ sym (ap Some (first-tag name_image 1 (root_record (block_two 1)) (2 ^ 40 + 1) (name-inode 1)))
 
 name-pointer : pointer name_image 1 (InRecord 0) ≡ block_two 1
 name-pointer = ap (λ (r : Record). record_pointer r 0) (name-inode 1)

@@ -1,5 +1,6 @@
 -- The formatted disk as a mark, and a Put of one byte after it.
-use Rattle.std.proofs.Common.{max, ◌≡◌, ℕ, zero, suc, ◌+◌, ◌*◌, ◌-◌, ◌%◌, ◌^◌, ◌<◌, ◌≤◌, ◌⊎◌, inl, inr, Bool, true, false, cond, eqb, ltb, List, [], ◌∷◌, length, Option, Some, None, is_some, refl, sym, ap, ap₂, ◌∙◌, subst, arith, eqb-true, lt-ltb, le-ltb, ltb-true, Contains}
+use Rattle.std.proofs.Common.{max, ◌≡◌, ℕ, zero, suc, ◌+◌, ◌*◌, ◌-◌, ◌%◌, ◌^◌, ◌<◌, ◌≤◌, ◌⊎◌, inl, inr, Bool, true, false, cond, eqb, ltb, List, [], ◌∷◌}
+use Rattle.std.proofs.Common.{length, Option, Some, None, is_some, refl, sym, ap, ap₂, ◌∙◌, subst, arith, eqb-true, lt-ltb, le-ltb, ltb-true, Contains}
 use Rattle.std.specs.List.{list_all}
 use Rattle.std.specs.Prelude.{slice_index}
 use Rattle.std.proofs.lemmas.Bool.{cases_lt}
@@ -8,7 +9,8 @@ use Rattle.nofs_disk.specs.Disk.{IsDisk, IsSettled, IsSizedCell, Picks}
 use Rattle.nofs_disk.specs.Adds.{WasOr}
 use Rattle.nofs_inode.specs.declared.inode.FileKind.TheVariants.{File}
 use Rattle.nofs_model.specs.Cells.{Cell, Pointer, Record, record_at, is_live, is_null, null, free_record}
-use Rattle.nofs_model.specs.Image.{Image, cell_at, inode, Path, InRecord, path_of, find, leaf, IsSlot, node_in, record_pointer, file_from, value, FileState, Files, CellBelow}
+use Rattle.nofs_model.specs.Image.{Image, cell_at, inode, Path, InRecord, path_of, find, leaf, IsSlot, node_in, record_pointer, file_from, value, FileState}
+use Rattle.nofs_model.specs.Image.{Files, CellBelow}
 use Rattle.nofs_model.specs.declared.path.PathAnswer.TheVariants as answer
 use Rattle.nofs_model.specs.declared.value.Value.TheVariants.{Hole, Bytes}
 use Rattle.nofs_model.proofs.Find.{and-both}
@@ -39,10 +41,13 @@ use Rattle.nofs_cases_steps.proofs.Images.{root_record, label_record, mountable,
 use Rattle.nofs_cases_steps.proofs.Slots.{empty-value}
 use Rattle.nofs_cases_steps.proofs.Matches.{agreed-file, same-none}
 use Rattle.nofs_cases_steps.proofs.Below.{tag-low, record-low, no-links-low, free-low, table-cell, blank-low, cells-low, range-is}
-use Rattle.nofs_cases_steps.proofs.FileCases.{first-inode, first-plain, first-empty, first-free, first-old, first-label, put-inode, put-slot, put-touches, put-content, put-lies-of, put-match}
+use Rattle.nofs_cases_steps.proofs.FileCases.{first-inode, first-plain, first-empty, first-free, first-old, first-label, put-inode, put-slot, put-touches}
+use Rattle.nofs_cases_steps.proofs.FileCases.{put-content, put-lies-of, put-match}
 use Rattle.nofs_cases_steps.proofs.StateCases.{first-low, first-is-below, one-of}
 use Rattle.nofs_cases_steps.proofs.LeafCase.{leaf-inode, leaf-grows, deep-empty}
-use Rattle.nofs_cases_laws.specs.CrashCases.{SameDisk, first_mark, put_gives, torn_image, ImagesCase, MomentCase, FlushCase, WritesCase, PointersCase, StepCase, LaterCase, NamesCase, UnflushedCase, RestCase, still, may_after_put, left_after, put_state, FirstStageCase, StageCase, IdleStageCase, SteadyCase, FlushStageCase}
+use Rattle.nofs_cases_laws.specs.CrashCases.{SameDisk, first_mark, put_gives, torn_image, ImagesCase, MomentCase, FlushCase, WritesCase, PointersCase}
+use Rattle.nofs_cases_laws.specs.CrashCases.{StepCase, LaterCase, NamesCase, UnflushedCase, RestCase, still, may_after_put, left_after, put_state}
+use Rattle.nofs_cases_laws.specs.CrashCases.{FirstStageCase, StageCase, IdleStageCase, SteadyCase, FlushStageCase}
 
 pub same-disk : SameDisk
 same-disk = refl
@@ -110,10 +115,12 @@ still-disk moment spare room = record {
   whole = λ t. refl;
   has_now = λ b t lt. within (alone first_image) b (cell_at first_image b) lt (here (cell_at first_image b));
   beyond = λ b c le has. let i = inside (alone first_image) b c has in absurd (omega (arith, le, i.0));
-  sized = λ b c has. let i = inside (alone first_image) b c has in subst IsSizedCell (sole-is (cell_at first_image b) c i.1) (sized-image first_table blank sized-first sized-blank b i.0);
+  sized = λ b c has. let i = inside (alone first_image) b c has in subst IsSizedCell (sole-is (cell_at first_image b) c i.1)
+      (sized-image first_table blank sized-first sized-blank b i.0);
   at_rest = λ X e. record {
     len = ap length e;
-    each = λ b lt. subst (λ (Y : Image). Contains (cond (ltb b 16) (alone first_image b) []) (cell_at Y b)) (sym e) (within (alone first_image) b (cell_at first_image b) lt (here (cell_at first_image b)));
+    each = λ b lt. subst (λ (Y : Image). Contains (cond (ltb b 16) (alone first_image b) []) (cell_at Y b)) (sym e)
+        (within (alone first_image) b (cell_at first_image b) lt (here (cell_at first_image b)));
   };
 }
 
@@ -182,7 +189,8 @@ label-now = label-is
 given-content : put_content (value_of (agreed_files first_image) 2 0) (size_of (agreed_files first_image) 2) 0 0 (7 ∷ []) ≡ 7 ∷ z 1023
 unfolding label_now
 given-content =
-    ap₂ (λ v n. put_content v n 0 0 (7 ∷ [])) (value-of (agreed_files first_image) 2 label_now label-now 0 ∙ no-value) (size-of (agreed_files first_image) 2 label_now label-now ∙ size-is) ∙ put-content
+    ap₂ (λ v n. put_content v n 0 0 (7 ∷ [])) (value-of (agreed_files first_image) 2 label_now label-now 0 ∙ no-value)
+    (size-of (agreed_files first_image) 2 label_now label-now ∙ size-is) ∙ put-content
 
 given-slot : put_gives.slots 2 2 0 ≡ Some (Bytes (7 ∷ z 1023))
 unfolding gives
@@ -194,7 +202,8 @@ meta-is F i f change e = rw (e, meta_with) refl
 given-meta : put_gives.metas 2 2 ≡ Some (Is File 1 no_links)
 unfolding gives label_now
 given-meta =
-    ap Some (meta-is (agreed_files first_image) 2 label_now (λ f. Is f.kind (max f.size 1) f.links) label-now ∙ ap (λ (r : Record). Is File (max r.size 1) r.links) (first-inode 2))
+    ap Some (meta-is (agreed_files first_image) 2 label_now (λ f. Is f.kind (max f.size 1) f.links) label-now
+    ∙ ap (λ (r : Record). Is File (max r.size 1) r.links) (first-inode 2))
 
 -- Its writes
 
@@ -225,8 +234,12 @@ record-lies = record {
     pointers : (n : ℕ) → n < 10 → (record_pointer (inode put_image 2) n ≡ record_pointer (inode first_image 2) n)
         ⊎ (((2 ^ 40 ≤ (record_pointer (inode put_image 2) n).stamp) × ((z : Pointer) → find first_image 2 (InRecord n) ≡ answer.Holds z → ⊥))
         ⊎ ((is_null (record_pointer (inode put_image 2) n) ≡ true) × Holes (during first_mark put_gives) 2 (inode put_image 2).generation (InRecord n)))
-    pointers zero lt = inr (inl (subst (λ (r : Record). 2 ^ 40 ≤ (record_pointer r 0).stamp) (sym (put-inode 7 2)) (omega arith), λ y h. no-holds (InRecord 0) y (omega arith) h))
-    pointers (suc m) lt = inl (ap (λ (r : Record). record_pointer r (suc m)) (put-inode 7 2) ∙ sym (ap (λ (r : Record). record_pointer r (suc m)) (first-inode 2)))
+    pointers zero lt = inr (inl (
+      subst (λ (r : Record). 2 ^ 40 ≤ (record_pointer r 0).stamp) (sym (put-inode 7 2)) (omega arith),
+      λ y h. no-holds (InRecord 0) y (omega arith) h,
+    ))
+    pointers (suc m) lt = inl (ap (λ (r : Record). record_pointer r (suc m)) (put-inode 7 2)
+        ∙ sym (ap (λ (r : Record). record_pointer r (suc m)) (first-inode 2)))
 
 pub writes-case : WritesCase
 writes-case = (content-lies, record-lies)
@@ -254,12 +267,18 @@ abbrev IsProperWrite : ℕ → Cell → Type 0
 IsProperWrite b c = Proper (during first_mark put_gives) first_image b c
 
 table-proper : IsProperWrite 1 put_table
-table-proper = OfTable (record { not_super = omega arith; area = not-data-one first_table blank blank; records = λ i r e. each i (range-is first_table blank blank i r) })
+table-proper = OfTable (record {
+  not_super = omega arith;
+  area = not-data-one first_table blank blank;
+  records =
+      λ i r e. each i (range-is first_table blank blank i r);
+})
   where
     each : (i : ℕ) → (1 ≤ i) × (i ≤ 4) → RecordProper (during first_mark put_gives) first_image i (record_at put_table.payload ((i - 1) % 4))
     each zero n = absurd (omega (arith, n))
     each (suc zero) n = Unchanged (put-records.one ∙ sym (first-inode 1))
-    each (suc (suc zero)) n = subst (RecordProper (during first_mark put_gives) first_image 2) (put-inode 7 2 ∙ sym put-records.two) (law-record first_mark put_gives first_image 2 (inode put_image 2) record-lies)
+    each (suc (suc zero)) n = subst (RecordProper (during first_mark put_gives) first_image 2) (put-inode 7 2 ∙ sym put-records.two)
+        (law-record first_mark put_gives first_image 2 (inode put_image 2) record-lies)
     each (suc (suc (suc zero))) n = Unchanged (put-records.three ∙ sym (first-inode 3))
     each (suc (suc (suc (suc zero)))) n = Unchanged (put-records.four ∙ sym (first-inode 4))
     each (suc (suc (suc (suc (suc m))))) n = absurd (omega (arith, n))
@@ -398,7 +417,8 @@ put-adds = record {
 -- each number on the disk after the Put
 put-low : (b : ℕ) → b < 16 → CellBelow (2 ^ 40 + 1) put_image b (cell_at put_image b)
 put-low = cells-low (2 ^ 40 + 1) put_table (put_block 7) blank put_table (put_block 7) blank (omega arith)
-    (table-cell (2 ^ 40 + 1) put_table (put_block 7) blank put_table (root_record null) (label_record 1 (block_two 0)) free_record (omega arith) refl put-records (record {
+    (table-cell (2 ^ 40 + 1) put_table (put_block 7) blank put_table (root_record null) (label_record 1 (block_two 0)) free_record (omega arith)
+    refl put-records (record {
       one = record-low (2 ^ 40 + 1) (root_record null) null refl (omega arith) (no-links-low (2 ^ 40 + 1) (omega arith)) (omega arith);
       two = record-low (2 ^ 40 + 1) (label_record 1 (block_two 0)) (block_two 0) refl (omega arith) (no-links-low (2 ^ 40 + 1) (omega arith)) (omega arith);
       three = free-low (2 ^ 40 + 1) (omega arith);
@@ -409,19 +429,21 @@ put-low = cells-low (2 ^ 40 + 1) put_table (put_block 7) blank put_table (put_bl
 -- and on the one before it
 before-low : (b : ℕ) → b < 16 → CellBelow (2 ^ 40 + 1) put_image b (cell_at first_image b)
 before-low = cells-low (2 ^ 40 + 1) put_table (put_block 7) blank first_table blank blank (omega arith)
-    (table-cell (2 ^ 40 + 1) put_table (put_block 7) blank first_table (root_record null) (label_record 0 null) free_record (omega arith) refl first-records (first-low (2 ^ 40 + 1) (omega arith)))
+    (table-cell (2 ^ 40 + 1) put_table (put_block 7) blank first_table (root_record null) (label_record 0 null) free_record (omega arith) refl first-records
+    (first-low (2 ^ 40 + 1) (omega arith)))
     (blank-low (2 ^ 40 + 1) (omega arith)) (blank-low (2 ^ 40 + 1) (omega arith))
 
 pub put-files : HasFiles put_state (files_by (agreed_files first_image) put_entry) (2 ^ 40 + 1)
 unfolding gives label_now
 put-files = record {
-  files = law-put-files (agreed_files first_image) first_image put_image 2 2 0 0 (7 ∷ []) label_now (2 ^ 40) put_places (put-lies-of (agreed_files first_image) label_now (self-match first_image) (record {
-    is = label-now;
-    generation = ap (λ (r : Record). r.generation) (first-inode 2);
-    kind = refl;
-    size = size-is;
-    value = no-value;
-  }));
+  files = law-put-files (agreed_files first_image) first_image put_image 2 2 0 0 (7 ∷ []) label_now (2 ^ 40) put_places
+      (put-lies-of (agreed_files first_image) label_now (self-match first_image) (record {
+        is = label-now;
+        generation = ap (λ (r : Record). r.generation) (first-inode 2);
+        kind = refl;
+        size = size-is;
+        value = no-value;
+      }));
   positive = omega arith;
   fresh = λ b c lt has.
       let i = inside put_may b c has in

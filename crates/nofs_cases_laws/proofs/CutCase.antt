@@ -21,7 +21,8 @@ put-low s lt = record {
 
 put-cells : (b : ℕ) → b < 16 → CellBelow (2 ^ 40 + 1) put_image b (cell_at put_image b)
 put-cells = cells-low (2 ^ 40 + 1) put_table (put_block 7) blank put_table (put_block 7) blank (omega arith)
-    (table-cell (2 ^ 40 + 1) put_table (put_block 7) blank put_table (root_record null) (label_record 1 (block_two 0)) free_record (omega arith) refl put-records (put-low (2 ^ 40 + 1) (omega arith)))
+    (table-cell (2 ^ 40 + 1) put_table (put_block 7) blank put_table (root_record null) (label_record 1 (block_two 0)) free_record (omega arith)
+    refl put-records (put-low (2 ^ 40 + 1) (omega arith)))
     (tag-low (2 ^ 40 + 1) (put_block 7) _ (put-tag 7) (omega arith) (omega arith) (λ e. cc e) (λ e. cc e)) (blank-low (2 ^ 40 + 1) (omega arith))
 
 put-below : IsBelow (2 ^ 40 + 1) put_image

@@ -96,5 +96,10 @@ unfolding path_of
 deep-make-case = (
   make-lies first_files first_image deep_image Hole 128 (2 ^ 40) first-ready (2 ^ 40) (block_two 1) leaf_pointer refl (omega arith) refl (omega arith) spells-a
       (deep-inode 3),
-  record { empty = first-empty 1 (Under leaf 0) (refl, omega arith, omega arith); claimed = WithLeaf (omega arith) (omega arith) with-leaf; content = sym written-a },
+  record {
+    empty = first-empty 1 (Under leaf 0) (refl, omega arith, omega arith);
+    claimed = WithLeaf (omega arith) (omega arith) with-leaf;
+    content =
+        sym written-a;
+  },
 )

@@ -21,7 +21,8 @@ use Rattle.nofs_cases_names.specs.NameCases.{a, b, make_claims}
 use Rattle.nofs_cases_names.proofs.Roots.{file_record, name-records, root-tag}
 use Rattle.nofs_cases_names.proofs.Entries.{is_low, entries-low}
 use Rattle.nofs_cases_names.proofs.NameCases.{make-case, rename-case, link-case, drop-name-case, drop-file-case}
-use Rattle.nofs_cases_laws.specs.HomesCases.{MakeHomesCase, LinkHomesCase, RenameHomesCase, DropNameHomesCase, DropFileHomesCase, MakeNumbersCase, LinkNumbersCase, RenameNumbersCase, DropNumbersCase, PutNumbersCase}
+use Rattle.nofs_cases_laws.specs.HomesCases.{MakeHomesCase, LinkHomesCase, RenameHomesCase, DropNameHomesCase, DropFileHomesCase, MakeNumbersCase}
+use Rattle.nofs_cases_laws.specs.HomesCases.{LinkNumbersCase, RenameNumbersCase, DropNumbersCase, PutNumbersCase}
 
 -- Places
 

@@ -1,9 +1,11 @@
 -- A Put, a crash, and the next mount.
-use Rattle.std.proofs.Common.{◌≡◌, ◌≢◌, ℕ, zero, suc, ◌+◌, ◌/◌, ◌^◌, ◌<◌, inl, inr, Bool, true, false, cond, eqb, leb, ◌&&◌, ◌||◌, [], ◌∷◌, Option, Some, None, is_some, refl, sym, ap, ◌∙◌, subst, arith}
+use Rattle.std.proofs.Common.{◌≡◌, ◌≢◌, ℕ, zero, suc, ◌+◌, ◌/◌, ◌^◌, ◌<◌, inl, inr, Bool, true, false, cond, eqb, leb, ◌&&◌, ◌||◌, [], ◌∷◌, Option, Some}
+use Rattle.std.proofs.Common.{None, is_some, refl, sym, ap, ◌∙◌, subst, arith}
 use Rattle.nofs_disk.specs.Adds.{Adds}
 use Rattle.nofs_inode.specs.declared.inode.FileKind.TheVariants.{File, Directory}
 use Rattle.nofs_model.specs.Cells.{Record, SuperBlock, number_at, is_null, is_live}
-use Rattle.nofs_model.specs.Image.{cell_at, super_at, super_in, inode, Path, InRecord, Under, path_of, record_pointer, find, value, value_in, node_in, Absent, is_special, Files, FileState, owner}
+use Rattle.nofs_model.specs.Image.{cell_at, super_at, super_in, inode, Path, InRecord, Under, path_of, record_pointer, find, value, value_in, node_in, Absent}
+use Rattle.nofs_model.specs.Image.{is_special, Files, FileState, owner}
 use Rattle.nofs_model.specs.declared.path.PathAnswer.{PathAnswer}
 use Rattle.nofs_model.specs.declared.path.PathAnswer.TheVariants as answer
 use Rattle.nofs_model.specs.declared.value.Value.{Value}
@@ -31,7 +33,8 @@ use Rattle.nofs_cases_steps.specs.StateCases.{put_entry, put_may}
 use Rattle.nofs_cases_steps.proofs.Images.{numbers-are}
 use Rattle.nofs_cases_steps.proofs.Slots.{others-null, unowned}
 use Rattle.nofs_cases_steps.proofs.Matches.{agreed-file, none-is, first-value}
-use Rattle.nofs_cases_steps.proofs.FileCases.{first-inode, first-plain, first-free, first-root, first-label, put-inode, put-plain, put-holds, put-claim, no-pointer}
+use Rattle.nofs_cases_steps.proofs.FileCases.{first-inode, first-plain, first-free, first-root, first-label, put-inode, put-plain, put-holds, put-claim}
+use Rattle.nofs_cases_steps.proofs.FileCases.{no-pointer}
 use Rattle.nofs_cases_laws.specs.CrashCases.{see_block_entry, still, put_state}
 use Rattle.nofs_cases_laws.specs.RaceCases.{mounted}
 use Rattle.nofs_cases_laws.specs.LivesCase.{seen_block, put_seen, next_base, BytesCase}
@@ -43,8 +46,10 @@ use Rattle.nofs_cases_laws.proofs.RaceCases.{or-left, or-right, or-split}
 
 -- nothing stands on any path
 find-any : (i : ℕ) (p : Path) → find first_image i p ≡ answer.Hole
-find-any i (InRecord zero) = judged-built-null first_image i (InRecord 0) (record_pointer (inode first_image i) 0) (ap (λ (r : Record). is_null (record_pointer r 0)) (first-plain i) ∙ ap is_null (no-pointer i))
-find-any i (InRecord (suc m)) = judged-built-null first_image i (InRecord (suc m)) (record_pointer (inode first_image i) (suc m)) (others-null (inode first_image i) _ (first-plain i) m)
+find-any i (InRecord zero) = judged-built-null first_image i (InRecord 0) (record_pointer (inode first_image i) 0)
+    (ap (λ (r : Record). is_null (record_pointer r 0)) (first-plain i) ∙ ap is_null (no-pointer i))
+find-any i (InRecord (suc m)) = judged-built-null first_image i (InRecord (suc m)) (record_pointer (inode first_image i) (suc m))
+    (others-null (inode first_image i) _ (first-plain i) m)
 find-any i (Under p n) = rw (find-any i p, find) refl
 
 any-value : (i k : ℕ) → value first_image i k ≡ first_slot Hole k
@@ -60,9 +65,25 @@ any-node i p = ap node_in (find-any i p)
 each-file : (i : ℕ) → agreed_files first_image i ≡ first_files i
 each-file zero = none-is first_image 0 (ap (λ (r : Record). r.kind) (first-inode 0))
 each-file (suc zero) = agreed-file first_image 1 Directory (ap (λ (r : Record). r.kind) (first-inode 1)) first-root
-    ∙ (λ j. Some (record { generation = (first-inode 1 j).generation; kind = Directory; size = (first-inode 1 j).size; links = (first-inode 1 j).links; values = λ k. any-value 1 k j; nodes = λ p. any-node 1 p j }))
+    ∙ (λ j. Some (record {
+      generation = (first-inode 1 j).generation;
+      kind =
+          Directory;
+      size = (first-inode 1 j).size;
+      links = (first-inode 1 j).links;
+      values = λ k. any-value 1 k j;
+      nodes = λ p. any-node 1 p j;
+    }))
 each-file (suc (suc zero)) = agreed-file first_image 2 File (ap (λ (r : Record). r.kind) (first-inode 2)) first-label
-    ∙ (λ j. Some (record { generation = (first-inode 2 j).generation; kind = File; size = (first-inode 2 j).size; links = (first-inode 2 j).links; values = λ k. any-value 2 k j; nodes = λ p. any-node 2 p j }))
+    ∙ (λ j. Some (record {
+      generation = (first-inode 2 j).generation;
+      kind = File;
+      size = (first-inode 2 j).size;
+      links = (first-inode 2 j).links;
+      values =
+          λ k. any-value 2 k j;
+      nodes = λ p. any-node 2 p j;
+    }))
 each-file (suc (suc (suc n))) = none-is first_image (suc (suc (suc n))) (free n) ∙ sym (beyond n)
   where
     free : (n : ℕ) → (inode first_image (suc (suc (suc n)))).kind ≡ None
@@ -104,23 +125,25 @@ world-is = λ j. record {
 
 see-next : Next mounted see_block_entry seen_block
 unfolding gives
-see-next = Done refl refl refl (record { inode = NoInode refl refl; cell = Unclaimed refl; leaf = Unclaimed refl; top = Unclaimed refl; apart = tt }) (sym (files-stay first_files)) refl refl (refl, refl, refl, refl, refl) (record {
-  inodes_stay = λ i k. k;
-  blocks_stay = λ p k. or-left (leb p 1) (eqb p 2) k;
-  inodes_change = λ i ne. absurd (ne refl);
-  blocks_change = λ p ne. absurd (ne refl);
-  inode_seen = λ t i s. cc s;
-  block_seen = λ t p s. or-right (leb p 1) (eqb p 2) s;
-  inodes_why = λ i k. inl k;
-  blocks_why = λ p k. elim (or-split (leb p 1) (eqb p 2) k) [ inl a ↦ inl a | inr b ↦ inr (inr (inr (refl, b))) ];
-})
+see-next = Done refl refl refl (record { inode = NoInode refl refl; cell = Unclaimed refl; leaf = Unclaimed refl; top = Unclaimed refl; apart = tt })
+    (sym (files-stay first_files)) refl refl (refl, refl, refl, refl, refl) (record {
+      inodes_stay = λ i k. k;
+      blocks_stay = λ p k. or-left (leb p 1) (eqb p 2) k;
+      inodes_change = λ i ne. absurd (ne refl);
+      blocks_change = λ p ne. absurd (ne refl);
+      inode_seen = λ t i s. cc s;
+      block_seen = λ t p s. or-right (leb p 1) (eqb p 2) s;
+      inodes_why = λ i k. inl k;
+      blocks_why = λ p k. elim (or-split (leb p 1) (eqb p 2) k) [ inl a ↦ inl a | inr b ↦ inr (inr (inr (refl, b))) ];
+    })
 
 -- a Put makes no file, and removes none
 kept : (i : ℕ) (o : Option FileState) → is_some (file_after (put_given first_files 2 2 0 0 (7 ∷ [])) i o) ≡ is_some o
 kept i None = refl
 kept i (Some f) = go (is_at 2 2 i f.generation)
   where
-    go : (b : Bool) → is_some (after_meta (cond b (Some (meta_with first_files 2 (λ f. Is f.kind 1 f.links))) None) (filled (put_given first_files 2 2 0 0 (7 ∷ [])) i f)) ≡ true
+    go : (b : Bool) → is_some (after_meta (cond b (Some (meta_with first_files 2 (λ f. Is f.kind 1 f.links))) None)
+        (filled (put_given first_files 2 2 0 0 (7 ∷ [])) i f)) ≡ true
     go true = refl
     go false = refl
 
@@ -133,7 +156,14 @@ other-blocks p e = rw (e, homes_after, claimed_home, first_of) refl
 
 put-next : Next seen_block put_entry put_seen
 unfolding path_of count_below
-put-next = Done refl refl refl (record { inode = NoInode refl refl; cell = Claimed refl (omega arith) refl; leaf = Unclaimed refl; top = Unclaimed refl; apart = put-claim.apart }) refl refl refl (refl, refl, refl, refl, refl) (record {
+put-next = Done refl refl refl (record {
+  inode = NoInode refl refl;
+  cell = Claimed refl (omega arith) refl;
+  leaf = Unclaimed refl;
+  top =
+      Unclaimed refl;
+  apart = put-claim.apart;
+}) refl refl refl (refl, refl, refl, refl, refl) (record {
   inodes_stay = λ i k. k;
   blocks_stay = λ p k. k;
   inodes_change = λ i ne. absurd (ne (same-inodes i));
@@ -149,7 +179,14 @@ put-next = Done refl refl refl (record { inode = NoInode refl refl; cell = Claim
     changed p false e ne = absurd (ne (other-blocks p e))
 
 first-life : Run 0 (world_of first_image 0) (see_block_entry ∷ put_entry ∷ []) put_seen
-first-life = (seen_block, refl, omega arith, (λ t. cc t), subst (λ (W : World). Next W see_block_entry seen_block) (sym world-is) see-next, (put_seen, refl, omega arith, (λ t. cc t), put-next, refl))
+first-life = (
+  seen_block,
+  refl,
+  omega arith,
+  (λ t. cc t),
+  subst (λ (W : World). Next W see_block_entry seen_block) (sym world-is) see-next,
+  (put_seen, refl, omega arith, (λ t. cc t), put-next, refl),
+)
 
 -- The crash
 
@@ -163,13 +200,15 @@ same-files = idle-stage-case.2
 
 adds-after : AddsProper first_image (see_block_entry ∷ []) put_entry first_image (2 ^ 40) (still 0 8) put_state
 adds-after =
-    subst (λ (F : Files). Adds (Proper (during (mark_at first_image (see_block_entry ∷ []) 1 first_image (2 ^ 40)) (given_by F put_entry)) first_image) (still 0 8) put_state) (sym same-files)
+    subst (λ (F : Files). Adds (Proper (during (mark_at first_image (see_block_entry ∷ []) 1 first_image (2 ^ 40)) (given_by F put_entry)) first_image)
+    (still 0 8) put_state) (sym same-files)
     (subst (λ (m : Mark). Adds (Proper (during m (given_by (agreed_files first_image) put_entry)) first_image) (still 0 8) put_state) (sym same-mark) put-adds)
 
 lasts : Lasts first_image (see_block_entry ∷ put_entry ∷ []) first_image (2 ^ 40) 0 put_state
 lasts = law-lasts (still 0 8) put_state first_image (see_block_entry ∷ []) put_entry first_image (2 ^ 40) 0 (2 ^ 40)
     (record {
-      stage = law-idle-stage (still 0 8) (still 0 8) first_image [] see_block_entry first_image (2 ^ 40) 0 (2 ^ 40) idle-stage-case.0 idle-stage-case.1 idle-stage-case.2;
+      stage = law-idle-stage (still 0 8) (still 0 8) first_image [] see_block_entry first_image (2 ^ 40) 0 (2 ^ 40)
+          idle-stage-case.0 idle-stage-case.1 idle-stage-case.2;
       disk = still-disk 0 8 (omega arith);
       tells = refl;
       from = refl;
@@ -178,7 +217,8 @@ lasts = law-lasts (still 0 8) put_state first_image (see_block_entry ∷ []) put
     }) adds-after
 
 put-allowed : IsAllowed first_image (see_block_entry ∷ put_entry ∷ []) 4 put_image
-put-allowed = lasts.images.each 4 put_image (omega arith) (omega arith) (record { len = refl; each = λ b lt. within put_may b (cell_at put_image b) lt (1, omega arith, refl) })
+put-allowed = lasts.images.each 4 put_image (omega arith) (omega arith)
+    (record { len = refl; each = λ b lt. within put_may b (cell_at put_image b) lt (1, omega arith, refl) })
 
 -- The next base
 

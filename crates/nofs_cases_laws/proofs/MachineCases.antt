@@ -50,5 +50,6 @@ there (Some f) p g s e = (f, refl)
 
 pub accepted-case : AcceptedCase
 accepted-case =
-    let t = there (files_by (agreed_files first_image) put_entry 2) (agreed_files put_image 2) _ (put-files.files 2) (agreed-file put_image 2 File (ap (λ (r : Record). r.kind) (put-inode 7 2)) put-label) in
+    let t = there (files_by (agreed_files first_image) put_entry 2) (agreed_files put_image 2) _ (put-files.files 2)
+    (agreed-file put_image 2 File (ap (λ (r : Record). r.kind) (put-inode 7 2)) put-label) in
     ((refl, tt), t.0, t.1)

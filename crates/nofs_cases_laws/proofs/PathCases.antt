@@ -45,8 +45,10 @@ pub root-case : RootCase
 root-case = (
   law-unflushed first_image [] 0 refl,
   SureRoot
-      (base-stands first_image 1 1 _ (agreed-file first_image 1 Directory (ap (λ (r : Record). r.kind) (first-inode 1)) first-root) (ap (λ (r : Record). r.generation) (first-inode 1)))
-      (λ meta has. subst IsFolderMeta (sole-is (Is Directory 0 no_links) meta (subst (λ (ms : List Meta). Contains ms meta) (base-meta first_image 1 1 _ (first-inode 1) refl refl) has)) refl),
+      (base-stands first_image 1 1 _ (agreed-file first_image 1 Directory (ap (λ (r : Record). r.kind) (first-inode 1)) first-root)
+      (ap (λ (r : Record). r.generation) (first-inode 1)))
+      (λ meta has. subst IsFolderMeta (sole-is (Is Directory 0 no_links) meta
+      (subst (λ (ms : List Meta). Contains ms meta) (base-meta first_image 1 1 _ (first-inode 1) refl refl) has)) refl),
 )
 
 -- so is its value
@@ -75,16 +77,20 @@ name-value = sym (first-value name_image 1 (block_two 1) (root-plain name_table 
     (root-holds name_table (short_entry_bytes 97 ++ z 960) (file_record one_link) name-records refl) 0 (omega arith))
 
 root-stands : stands name_image [] 0 1 1 ≡ true
-root-stands = base-stands name_image 1 1 _ (agreed-file name_image 1 Directory (ap (λ (r : Record). r.kind) (name-inode 1)) name-root) (ap (λ (r : Record). r.generation) (name-inode 1))
+root-stands = base-stands name_image 1 1 _ (agreed-file name_image 1 Directory (ap (λ (r : Record). r.kind) (name-inode 1)) name-root)
+    (ap (λ (r : Record). r.generation) (name-inode 1))
 
 file-stands : stands name_image [] 0 3 (2 ^ 40) ≡ true
-file-stands = base-stands name_image 3 (2 ^ 40) _ (agreed-file name_image 3 File (ap (λ (r : Record). r.kind) (name-inode 3)) name-file) (ap (λ (r : Record). r.generation) (name-inode 3))
+file-stands = base-stands name_image 3 (2 ^ 40) _ (agreed-file name_image 3 File (ap (λ (r : Record). r.kind) (name-inode 3)) name-file)
+    (ap (λ (r : Record). r.generation) (name-inode 3))
 
 root-metas : (meta : Meta) → Contains (since_meta name_image [] 0 1 1) meta → IsFolderMeta meta
-root-metas meta has = subst IsFolderMeta (sole-is (Is Directory 0 no_links) meta (subst (λ (ms : List Meta). Contains ms meta) (base-meta name_image 1 1 _ (name-inode 1) refl refl) has)) refl
+root-metas meta has = subst IsFolderMeta (sole-is (Is Directory 0 no_links) meta
+    (subst (λ (ms : List Meta). Contains ms meta) (base-meta name_image 1 1 _ (name-inode 1) refl refl) has)) refl
 
 file-metas : (meta : Meta) → Contains (since_meta name_image [] 0 3 (2 ^ 40)) meta → Is File 0 one_link ≡ meta
-file-metas meta has = sole-is (Is File 0 one_link) meta (subst (λ (ms : List Meta). Contains ms meta) (base-meta name_image 3 (2 ^ 40) _ (name-inode 3) refl refl) has)
+file-metas meta has = sole-is (Is File 0 one_link) meta (subst (λ (ms : List Meta). Contains ms meta)
+    (base-meta name_image 3 (2 ^ 40) _ (name-inode 3) refl refl) has)
 
 not-folder : (meta : Meta) → Is File 0 one_link ≡ meta → IsFolderMeta meta → ⊥
 not-folder meta e f =
@@ -100,7 +106,8 @@ sure = record {
   linked = λ meta has none. subst (λ (q : Meta). meta_link q 0 none ≡ link_to 1 0 1) (file-metas meta has) refl;
   range = omega arith;
   cell = λ v has.
-      let e : value name_image 1 0 ≡ v = sole-is (value name_image 1 0) v (subst (λ (vs : List Value). Contains vs v) (base-since name_image 1 1 0 _ (name-inode 1) refl refl) has) in
+      let e : value name_image 1 0 ≡ v = sole-is (value name_image 1 0) v
+      (subst (λ (vs : List Value). Contains vs v) (base-since name_image 1 1 0 _ (name-inode 1) refl refl) has) in
       (short_entry_bytes 97 ++ z 960, sym e ∙ name-value, first-entry);
 }
 
@@ -112,4 +119,10 @@ first-allowed : IsAllowed name_image [] 0 name_image
 first-allowed = law-unflushed name_image [] 0 refl
 
 pub name-path-case : NamePathCase
-name-path-case = (first-allowed, root-chain, sure, SureEntry (2 ^ 40) 0 (link_to 1 0 1) refl (as-link name_image [] 0 name_image first-allowed 3 (2 ^ 40) 0 (link_to 1 0 1) a sure) root-chain)
+name-path-case = (
+  first-allowed,
+  root-chain,
+  sure,
+  SureEntry (2 ^ 40) 0 (link_to 1 0 1) refl
+      (as-link name_image [] 0 name_image first-allowed 3 (2 ^ 40) 0 (link_to 1 0 1) a sure) root-chain,
+)

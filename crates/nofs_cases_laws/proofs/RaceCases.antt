@@ -37,16 +37,17 @@ same-uses : (i : ℕ) → uses_inode seen i ≡ uses_inode mounted i
 same-uses i = ap (λ (F : Files). is_special i || is_some (F i)) seen-files
 
 next : Next mounted see_entry seen
-next = Done refl refl refl (record { inode = NoInode refl refl; cell = Unclaimed refl; leaf = Unclaimed refl; top = Unclaimed refl; apart = tt }) refl refl refl (refl, refl, refl, refl, refl) (record {
-  inodes_stay = λ i k. or-left (is_special i) (eqb i 3) k;
-  blocks_stay = λ p k. k;
-  inodes_change = λ i ne. absurd (ne (same-uses i));
-  blocks_change = λ p ne. absurd (ne refl);
-  inode_seen = λ t i s. or-right (is_special i) (eqb i 3) s;
-  block_seen = λ t p s. cc s;
-  inodes_why = λ i k. elim (or-split (is_special i) (eqb i 3) k) [ inl a ↦ inl a | inr b ↦ inr (inr (inr b)) ];
-  blocks_why = λ p k. inl k;
-})
+next = Done refl refl refl (record { inode = NoInode refl refl; cell = Unclaimed refl; leaf = Unclaimed refl; top = Unclaimed refl; apart = tt })
+    refl refl refl (refl, refl, refl, refl, refl) (record {
+      inodes_stay = λ i k. or-left (is_special i) (eqb i 3) k;
+      blocks_stay = λ p k. k;
+      inodes_change = λ i ne. absurd (ne (same-uses i));
+      blocks_change = λ p ne. absurd (ne refl);
+      inode_seen = λ t i s. or-right (is_special i) (eqb i 3) s;
+      block_seen = λ t p s. cc s;
+      inodes_why = λ i k. elim (or-split (is_special i) (eqb i 3) k) [ inl a ↦ inl a | inr b ↦ inr (inr (inr b)) ];
+      blocks_why = λ p k. inl k;
+    })
 
 run : Run 0 mounted (see_entry ∷ []) seen
 run = (seen, refl, omega arith, (λ t. cc t), next, refl)
@@ -73,4 +74,9 @@ shows W numbers match homes = record {
 }
 
 pub stale-case : StaleCase
-stale-case = (run, refl, shows mounted mounted-numbers first-match first-homes, shows seen seen-numbers (subst (λ (F : Files). FilesMatch F first_image) (sym seen-files) first-match) first-homes)
+stale-case = (
+  run,
+  refl,
+  shows mounted mounted-numbers first-match first-homes,
+  shows seen seen-numbers (subst (λ (F : Files). FilesMatch F first_image) (sym seen-files) first-match) first-homes,
+)

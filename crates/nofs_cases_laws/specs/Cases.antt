@@ -33,9 +33,23 @@ NewDisk = (is_mountable disk ≡ true) × IsNew disk
 abbrev pub TwoLives : Type 0
 TwoLives = (B found Y : Image) (s : Step) → IsNew B → Upgraded B found → Raised found Y
     → (e : Entry1) × (V : World) × (e.step ≡ s)
-    × Lives (record { base = Y; first = 0; start = 4; history = []; end = world_of Y 0 } ∷ record { base = B; first = 0; start = 4; history = e ∷ []; end = V } ∷ [])
+    × Lives (record { base = Y; first = 0; start = 4; history = []; end = world_of Y 0 } ∷ record {
+      base = B;
+      first = 0;
+      start = 4;
+      history = e ∷ [];
+      end =
+          V;
+    } ∷ [])
 
 -- A mount that ended inside its raise is a life with an empty history, and the next one begins at its base.
 abbrev pub EarlyLife : Type 0
 EarlyLife = (B Y : Image) → IsNew B → Raised B Y
-    → Lives (record { base = Y; first = 0; start = 4; history = []; end = world_of Y 0 } ∷ record { base = B; first = 0; start = 4; history = []; end = world_of B 0 } ∷ [])
+    → Lives (record { base = Y; first = 0; start = 4; history = []; end = world_of Y 0 } ∷ record {
+      base = B;
+      first = 0;
+      start = 4;
+      history = [];
+      end =
+          world_of B 0;
+    } ∷ [])

@@ -27,7 +27,8 @@ abbrev pub EntryInPlaceCase : Type 0
 EntryInPlaceCase = OldNumbers name_world name_image
     × CellFor no_claims name_image 1 (InRecord 0) (block_two 1) (root_block (short_entry_bytes 97 ++ short_entry_bytes 98 ++ z 896))
     × (kind_in (inode name_image 1) (InRecord 0) ≡ Directory)
-    × EntryWritten name_world no_claims name_image 1 (InRecord 0) (root_block (short_entry_bytes 97 ++ short_entry_bytes 98 ++ z 896)) (Bytes (short_entry_bytes 97 ++ z 960)) 1
+    × EntryWritten name_world no_claims name_image 1 (InRecord 0) (root_block (short_entry_bytes 97 ++ short_entry_bytes 98 ++ z 896))
+    (Bytes (short_entry_bytes 97 ++ z 960)) 1
     (spelled_entry 3 (2 ^ 40) b)
 
 -- The table of a Put: the record of inode 2 is changed, and the others are as before.

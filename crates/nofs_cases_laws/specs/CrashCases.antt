@@ -46,7 +46,8 @@ ImagesCase = IsMark (during first_mark put_gives) × AllExplained (during first_
 
 -- What holds before the Put, and its proper writes.
 abbrev pub MomentCase : Type 0
-MomentCase = IsMark first_mark × Picks (alone first_image) (length first_image) first_image × IsTracked first_mark first_image × AllExplained first_mark (alone first_image)
+MomentCase = IsMark first_mark × Picks (alone first_image) (length first_image) first_image × IsTracked first_mark first_image × AllExplained first_mark
+    (alone first_image)
     × OnlyProper (during first_mark put_gives) first_image (alone first_image) put_may
 
 -- A settled disk.
@@ -55,7 +56,8 @@ FlushCase = IsMark first_mark × ((b : ℕ) (c : Cell) → Contains (alone first
 
 -- The two writes of the Put.
 abbrev pub WritesCase : Type 0
-WritesCase = ContentLies first_mark put_gives first_image put_image 2 2 0 (block_two 0) (put_block 7) × RecordLies first_mark put_gives first_image 2 (inode put_image 2)
+WritesCase = ContentLies first_mark put_gives first_image put_image 2 2 0 (block_two 0) (put_block 7) × RecordLies first_mark put_gives first_image 2
+    (inode put_image 2)
 
 -- The leaf of a Put to slot 8, on the way to its block.
 abbrev pub PointersCase : Type 0

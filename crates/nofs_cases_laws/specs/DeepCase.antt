@@ -13,7 +13,8 @@ use Rattle.nofs_cases_names.specs.NameCases.{a}
 
 -- the leaf of the root is block 3, and inode 3 has its name in entry 128
 abbrev pub deep_table : Cell
-deep_table = table_of (1 ∷ z 7 ++ 2 ∷ z 3 ++ z 84 ++ z 128 ++ pointer_bytes 3 2 ++ z 16) (label_bytes (z 8) (z 16)) (file_bytes 1 (link_bytes 128) (z 16)) (z 256)
+deep_table = table_of (1 ∷ z 7 ++ 2 ∷ z 3 ++ z 84 ++ z 128 ++ pointer_bytes 3 2 ++ z 16) (label_bytes (z 8) (z 16)) (file_bytes 1 (link_bytes 128) (z 16))
+    (z 256)
 
 -- the block of slot 8, in which the name a stands first
 abbrev pub deep_entries : Cell

@@ -15,7 +15,8 @@ use Rattle.nofs_law_homes.specs.Homes.{EntryClaims}
 use Rattle.nofs_law_numbers.specs.Cells.{OldNumbers}
 use Rattle.nofs_cases_steps.specs.Images.{z, blank, image_of, label_bytes, pointer_bytes, stamp_bytes, table_of}
 use Rattle.nofs_cases_steps.specs.Worlds.{root_file, label_file, three_files, world, block_two, cell_claim}
-use Rattle.nofs_cases_names.specs.Names.{short_entry_bytes, link_bytes, file_bytes, root_table, root_block, name_table, drop_image, third_file, one_link, files_with}
+use Rattle.nofs_cases_names.specs.Names.{short_entry_bytes, link_bytes, file_bytes, root_table, root_block, name_table, drop_image, third_file, one_link}
+use Rattle.nofs_cases_names.specs.Names.{files_with}
 use Rattle.nofs_cases_names.specs.NameCases.{a, b}
 
 -- Make in place

@@ -17,13 +17,16 @@ use Rattle.nofs_law_old_names.proofs.NameLaws.{law-rename}
 use Rattle.nofs_law_new_names.specs.Holes.{HoleInRecord, Direct}
 use Rattle.nofs_cases_steps.specs.Images.{z, blank, first_table, first_image}
 use Rattle.nofs_cases_steps.specs.Worlds.{root_file, first_files, first_world, block_two}
-use Rattle.nofs_cases_names.specs.Names.{short_entry_bytes, root_block, name_table, name_image, rename_image, link_table, link_image, drop_table, drop_image, one_link, two_links, name_files, link_files}
-use Rattle.nofs_cases_names.specs.NameCases.{entry_named, a, b, make_claims, MakeCase, BareCase, RenameCase, EntriesCase, NameHomesCase, LinkCase, DropNameCase, DropFileCase}
+use Rattle.nofs_cases_names.specs.Names.{short_entry_bytes, root_block, name_table, name_image, rename_image, link_table, link_image, drop_table, drop_image}
+use Rattle.nofs_cases_names.specs.Names.{one_link, two_links, name_files, link_files}
+use Rattle.nofs_cases_names.specs.NameCases.{entry_named, a, b, make_claims, MakeCase, BareCase, RenameCase, EntriesCase, NameHomesCase, LinkCase}
+use Rattle.nofs_cases_names.specs.NameCases.{DropNameCase, DropFileCase}
 use Rattle.nofs_cases_steps.proofs.Images.{nth, root_record, label_record, first-records, data-two}
 use Rattle.nofs_cases_steps.proofs.Slots.{empty, held-is}
 use Rattle.nofs_cases_steps.proofs.Steps.{each-block}
 use Rattle.nofs_cases_steps.proofs.FileCases.{first-empty, first-free, first-match, first-old}
-use Rattle.nofs_cases_names.proofs.Roots.{file_record, name-records, link-records, drop-records, root-inode, root-plain, root-slot, root-holds, one-agreed, root-old, root-match, first-entry, first-of-two}
+use Rattle.nofs_cases_names.proofs.Roots.{file_record, name-records, link-records, drop-records, root-inode, root-plain, root-slot, root-holds, one-agreed}
+use Rattle.nofs_cases_names.proofs.Roots.{root-old, root-match, first-entry, first-of-two}
 use Rattle.nofs_cases_names.proofs.Entries.{no-entries}
 use Rattle.nofs_cases_names.proofs.RootSteps.{IsReady, root-writes, in-place, hole-in-record, relinked, make-lies, link-lies, drop-lies}
 
@@ -142,8 +145,10 @@ rename-case = record {
 -- what holds after the Rename held before
 rename-held : HeldMove no_claims name_image rename_image 1
 rename-held p y slot agreed h =
-    let d = held-is rename_image 1 (block_two 1) (root-plain name_table (short_entry_bytes 98 ++ z 960) (file_record one_link) name-records refl 1) p y slot h in
-    let first : find name_image 1 p ≡ answer.Holds (block_two 1) = subst (λ (q : Path). find name_image 1 q ≡ answer.Holds (block_two 1)) (sym d.0) name-holds in
+    let d = held-is rename_image 1 (block_two 1) (root-plain name_table (short_entry_bytes 98 ++ z 960) (file_record one_link) name-records refl 1)
+    p y slot h in
+    let first : find name_image 1 p ≡ answer.Holds (block_two 1) =
+    subst (λ (q : Path). find name_image 1 q ≡ answer.Holds (block_two 1)) (sym d.0) name-holds in
     inl (one-agreed name_table (short_entry_bytes 97 ++ z 960) (file_record one_link) name-records refl, first ∙ ap answer.Holds d.1)
 
 -- a block as the Rename may leave it
@@ -167,7 +172,8 @@ name-homes-case = record {
   claim = record { inode = NoInode refl refl; cell = Unclaimed refl; leaf = Unclaimed refl; top = Unclaimed refl; apart = tt };
   writes = rename-writes;
   before = name-match;
-  after = (law-rename name_files name_image rename_image 1 1 0 (2 ^ 40 + 2) b (root_file (Bytes (short_entry_bytes 97 ++ z 960))) (block_two 1) (entry_named a) rename-case).1;
+  after = (law-rename name_files name_image rename_image 1 1 0 (2 ^ 40 + 2) b (root_file (Bytes (short_entry_bytes 97 ++ z 960))) (block_two 1)
+      (entry_named a) rename-case).1;
   old = λ j some. name-ready.old j;
   born = λ j n1 n2. refl;
   stand = λ at e. cc e;

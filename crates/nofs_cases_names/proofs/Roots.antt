@@ -1,7 +1,8 @@
 -- Disks on which the root has one block of entries.
 use Rattle.std.proofs.Common.{◌≡◌, ℕ, suc, ◌+◌, ◌^◌, ◌<◌, true, List, ◌++◌, Some, refl, sym, ap, ◌∙◌, subst, arith, Contains}
 use Rattle.nofs_inode.specs.declared.inode.FileKind.TheVariants.{File, Directory as Folder}
-use Rattle.nofs_model.specs.Cells.{Cell, Directory, BackLink, Record, tag_of, number_at, null, is_live, free_record, record_of, record_at, fields_in, link_in, pointer_in, entry_in, entry_of, entry_fields}
+use Rattle.nofs_model.specs.Cells.{Cell, Directory, BackLink, Record, tag_of, number_at, null, is_live, free_record, record_of, record_at, fields_in, link_in}
+use Rattle.nofs_model.specs.Cells.{pointer_in, entry_in, entry_of, entry_fields}
 use Rattle.nofs_model.specs.Image.{inode, InRecord, path_of, tag_for, find, files_in, agreed}
 use Rattle.nofs_model.specs.declared.path.PathAnswer.TheVariants as answer
 use Rattle.nofs_model.specs.declared.value.Value.TheVariants.{Hole, Bytes}
@@ -55,13 +56,15 @@ module _ (t : Cell) (bytes : List ℕ) (c : Record) (h : HasRecords t (root_reco
   root-slot = root-tag bytes ∙ sym (ap Some (first-tag (image_of t (root_block bytes) blank) 1 (root_record (block_two 1)) (2 ^ 40 + 1) (root-inode 1)))
 
   pub root-holds : find (image_of t (root_block bytes) blank) 1 (InRecord 0) ≡ answer.Holds (block_two 1)
-  root-holds = first-holds (image_of t (root_block bytes) blank) 1 (block_two 1) (root-plain 1) (ap is_live (root-inode 1)) (data-two t (root_block bytes) blank) root-slot refl
+  root-holds = first-holds (image_of t (root_block bytes) blank) 1 (block_two 1) (root-plain 1) (ap is_live (root-inode 1))
+      (data-two t (root_block bytes) blank) root-slot refl
 
   pub one-agreed : agreed (files_in (image_of t (root_block bytes) blank)) 1 ≡ true
   one-agreed = root-agreed (image_of t (root_block bytes) blank) (ap (λ (r : Record). r.kind) (root-inode 1)) (ap (λ (r : Record). r.generation) (root-inode 1))
 
   pub two-agreed : agreed (files_in (image_of t (root_block bytes) blank)) 2 ≡ true
-  two-agreed = label-agreed (image_of t (root_block bytes) blank) (ap (λ (r : Record). r.kind) (root-inode 2)) (ap (λ (r : Record). r.generation) (root-inode 2))
+  two-agreed = label-agreed (image_of t (root_block bytes) blank) (ap (λ (r : Record). r.kind) (root-inode 2))
+      (ap (λ (r : Record). r.generation) (root-inode 2))
 
   pub root-old : (i : ℕ) → OldPointers (2 ^ 40 + 2) (image_of t (root_block bytes) blank) i
   root-old i = old-pointers (image_of t (root_block bytes) blank) i (pick (block_two 1) null null i) (root-plain i) (2 ^ 40 + 2)
@@ -98,14 +101,19 @@ module _ (t : Cell) (bytes : List ℕ) (links : List BackLink) (h : HasRecords t
   pub three-agreed : agreed (files_in (image_of t (root_block bytes) blank)) 3 ≡ true
   three-agreed = fact-agreed (image_of t (root_block bytes) blank) 3 (named (link_to 1 0 1) (λ e. omega (arith, e)) (λ e. omega (arith, e))
       (subst (λ (r : Record). Contains r.links (link_to 1 0 1)) (sym (root-inode t bytes (file_record links) h refl 3)) linked) pair
-      (the_root (ap (λ (r : Record). r.kind) (root-inode t bytes (file_record links) h refl 1)) (ap (λ (r : Record). r.generation) (root-inode t bytes (file_record links) h refl 1))))
+      (the_root (ap (λ (r : Record). r.kind) (root-inode t bytes (file_record links) h refl 1))
+      (ap (λ (r : Record). r.generation) (root-inode t bytes (file_record links) h refl 1))))
 
   pub root-match : FilesMatch (files_with bytes links) (image_of t (root_block bytes) blank)
-  root-match = files-match (image_of t (root_block bytes) blank) (root_file (Bytes bytes)) (label_file 0 Hole) (Some (third_file links)) (ap (λ (r : Record). r.kind) (root-inode t bytes (file_record links) h refl 0))
-      (same-first (image_of t (root_block bytes) blank) 1 (root_record (block_two 1)) Folder (block_two 1) (root-inode t bytes (file_record links) h refl 1) refl (root-plain t bytes (file_record links) h refl 1)
+  root-match = files-match (image_of t (root_block bytes) blank) (root_file (Bytes bytes)) (label_file 0 Hole) (Some (third_file links))
+      (ap (λ (r : Record). r.kind) (root-inode t bytes (file_record links) h refl 0))
+      (same-first (image_of t (root_block bytes) blank) 1 (root_record (block_two 1)) Folder (block_two 1) (root-inode t bytes (file_record links) h refl 1)
+      refl (root-plain t bytes (file_record links) h refl 1)
       (one-agreed t bytes (file_record links) h refl) (root-holds t bytes (file_record links) h refl))
-      (same-empty (image_of t (root_block bytes) blank) 2 (label_record 0 null) File (root-inode t bytes (file_record links) h refl 2) refl (root-plain t bytes (file_record links) h refl 2) (two-agreed t bytes (file_record links) h refl))
-      (same-empty (image_of t (root_block bytes) blank) 3 (file_record links) File (root-inode t bytes (file_record links) h refl 3) refl (root-plain t bytes (file_record links) h refl 3) three-agreed)
+      (same-empty (image_of t (root_block bytes) blank) 2 (label_record 0 null) File (root-inode t bytes (file_record links) h refl 2) refl
+      (root-plain t bytes (file_record links) h refl 2) (two-agreed t bytes (file_record links) h refl))
+      (same-empty (image_of t (root_block bytes) blank) 3 (file_record links) File (root-inode t bytes (file_record links) h refl 3) refl
+      (root-plain t bytes (file_record links) h refl 3) three-agreed)
       (λ n. ap (λ (r : Record). r.kind) (root-inode t bytes (file_record links) h refl (suc (suc (suc (suc n))))))
 
 -- the entry a stands first

@@ -16,7 +16,8 @@ use Rattle.nofs_law_new_names.specs.Holes.{LinkLies, MakeLies, EntryInPlace, Ent
 use Rattle.nofs_law_new_names.specs.Moves.{NameMoves}
 use Rattle.nofs_cases_steps.specs.Images.{z, first_image}
 use Rattle.nofs_cases_steps.specs.Worlds.{root_file, first_files, first_world, block_two}
-use Rattle.nofs_cases_names.specs.Names.{short_entry_bytes, name_image, rename_image, link_image, drop_image, third_file, one_link, two_links, name_files, link_files, name_world}
+use Rattle.nofs_cases_names.specs.Names.{short_entry_bytes, name_image, rename_image, link_image, drop_image, third_file, one_link, two_links, name_files}
+use Rattle.nofs_cases_names.specs.Names.{link_files, name_world}
 
 -- the entry of inode 3 with this name
 abbrev pub entry_named : List ℕ → Entry
@@ -44,7 +45,8 @@ BareCase = (p : Path) → IsSlot p → find name_image 3 p ≡ answer.Hole
 
 -- Rename of a to b.
 abbrev pub RenameCase : Type 0
-RenameCase = RenameLies name_files name_image rename_image 1 1 0 (2 ^ 40 + 2) b (root_file (Bytes (short_entry_bytes 97 ++ z 960))) (block_two 1) (entry_named a)
+RenameCase = RenameLies name_files name_image rename_image 1 1 0 (2 ^ 40 + 2) b (root_file (Bytes (short_entry_bytes 97 ++ z 960))) (block_two 1)
+    (entry_named a)
 
 -- and where its blocks have their homes
 abbrev pub NameHomesCase : Type 0
@@ -57,16 +59,20 @@ LinkCase = LinkLies name_files name_image link_image 1 1 1 3 (2 ^ 40) 1 (2 ^ 40 
 
 -- Drop of b, where the file has another name.
 abbrev pub DropNameCase : Type 0
-DropNameCase = DropLies link_files link_image name_image 1 1 1 (2 ^ 40 + 2) (root_file (Bytes (short_entry_bytes 97 ++ short_entry_bytes 98 ++ z 896))) (third_file two_links) (block_two 1) (entry_named b)
-    × (drop_meta link_files 3 (link_to 1 1 1) ≡ Is File 0 (without_link (link_to 1 1 1) two_links)) × Relinked link_image name_image 3 (without_link (link_to 1 1 1) two_links)
+DropNameCase = DropLies link_files link_image name_image 1 1 1 (2 ^ 40 + 2) (root_file (Bytes (short_entry_bytes 97 ++ short_entry_bytes 98 ++ z 896)))
+    (third_file two_links) (block_two 1) (entry_named b)
+    × (drop_meta link_files 3 (link_to 1 1 1) ≡ Is File 0 (without_link (link_to 1 1 1) two_links)) × Relinked link_image name_image 3
+    (without_link (link_to 1 1 1) two_links)
 
 -- Drop of a, where it has none.
 abbrev pub DropFileCase : Type 0
-DropFileCase = DropLies name_files name_image drop_image 1 1 0 (2 ^ 40 + 2) (root_file (Bytes (short_entry_bytes 97 ++ z 960))) (third_file one_link) (block_two 1) (entry_named a)
+DropFileCase = DropLies name_files name_image drop_image 1 1 0 (2 ^ 40 + 2) (root_file (Bytes (short_entry_bytes 97 ++ z 960))) (third_file one_link)
+    (block_two 1) (entry_named a)
     × (drop_meta name_files 3 (link_to 1 0 1) ≡ Gone) × ((inode drop_image 3).kind ≡ None)
 
 -- The first entry of a directory's cell, and the number in it.
 abbrev pub EntriesCase : Type 0
-EntriesCase = (length (bytes_in Hole) ≡ 1024) × (length (spelled_entry 3 (2 ^ 40) a) ≡ 64) × (with_entry Hole 0 (spelled_entry 3 (2 ^ 40) a) ≡ Bytes (short_entry_bytes 97 ++ z 960))
+EntriesCase = (length (bytes_in Hole) ≡ 1024) × (length (spelled_entry 3 (2 ^ 40) a) ≡ 64) ×
+    (with_entry Hole 0 (spelled_entry 3 (2 ^ 40) a) ≡ Bytes (short_entry_bytes 97 ++ z 960))
     × IfSome (entry_of (spelled_entry 3 (2 ^ 40) a)) (λ n. Numbered first_world make_claims n.generation)
     × ((j : ℕ) → j < 16 → IfSome (entry_in (bytes_in Hole) j) (λ n. Numbered first_world make_claims n.generation))

@@ -13,7 +13,8 @@ use Rattle.nofs_cases_steps.proofs.Slots.{IsPlain, others-stamp}
 pub tag-low : (s : ℕ) (c : Cell) (t : Tag) → tag_of c.tag ≡ Some t → t.generation < s → t.stamp < s → t.kind ≢ Directory → t.kind ≢ Leaf → TagBelow s c
 tag-low s c t e g m nd nl = record {
   own = subst (λ (o : Option Tag). IfSome o (λ t. (t.generation < s) × (t.stamp < s))) (sym e) (g, m);
-  entries = subst (λ (o : Option Tag). IfSome o (λ t. t.kind ≡ Directory → (j : ℕ) → j < 16 → IfSome (entry_in c.payload j) (λ e. e.generation < s))) (sym e) (λ k. absurd (nd k));
+  entries = subst (λ (o : Option Tag). IfSome o (λ t. t.kind ≡ Directory → (j : ℕ) → j < 16 → IfSome (entry_in c.payload j) (λ e. e.generation < s))) (sym e)
+      (λ k. absurd (nd k));
   pointers = subst (λ (o : Option Tag). IfSome o (λ t. t.kind ≡ Leaf → (j : ℕ) → j < 64 → (pointer_at c.payload j).stamp < s)) (sym e) (λ k. absurd (nl k));
 }
 
@@ -56,7 +57,8 @@ pub record RecordsLow (s : ℕ) (a b c : Record) : Type 0 where
   pub three : RecordBelow s c
 
 -- the records of a table
-pub records-low : (s : ℕ) (t x y u : Cell) (a b c : Record) → 0 < s → HasRecords u a b c → RecordsLow s a b c → (i : ℕ) → is_inode (image_of t x y) i ≡ true → RecordBelow s (record_at u.payload ((i - 1) % 4))
+pub records-low : (s : ℕ) (t x y u : Cell) (a b c : Record) → 0 < s → HasRecords u a b c → RecordsLow s a b c → (i : ℕ) → is_inode (image_of t x y) i ≡ true
+    → RecordBelow s (record_at u.payload ((i - 1) % 4))
 records-low s t x y u a b c some h l i r = go i (range-is t x y i r)
   where
     go : (i : ℕ) → (1 ≤ i) × (i ≤ 4) → RecordBelow s (record_at u.payload ((i - 1) % 4))
@@ -67,7 +69,8 @@ records-low s t x y u a b c some h l i r = go i (range-is t x y i r)
     go (suc (suc (suc (suc zero)))) n = subst (RecordBelow s) (sym h.four) (free-low s some)
     go (suc (suc (suc (suc (suc m))))) n = absurd (omega (arith, n))
 
-pub table-cell : (s : ℕ) (t x y u : Cell) (a b c : Record) → 0 < s → u.tag ≡ first_table.tag → HasRecords u a b c → RecordsLow s a b c → CellBelow s (image_of t x y) 1 u
+pub table-cell : (s : ℕ) (t x y u : Cell) (a b c : Record) → 0 < s → u.tag ≡ first_table.tag → HasRecords u a b c → RecordsLow s a b c
+    → CellBelow s (image_of t x y) 1 u
 table-cell s t x y u a b c some tag h l = record {
   tag = tag-low s u _ (ap tag_of tag ∙ table-tag) some some (λ e. cc e) (λ e. cc e);
   records = λ i r e live. records-low s t x y u a b c some h l i r;
@@ -77,8 +80,10 @@ pub blank-low : (s : ℕ) → 0 < s → TagBelow s blank
 blank-low s some = tag-low s blank _ blank-tag some some (λ e. cc e) (λ e. cc e)
 
 -- each cell of an image
-pub cells-low : (s : ℕ) (t x y u v w : Cell) → 0 < s → CellBelow s (image_of t x y) 1 u → TagBelow s v → TagBelow s w → (b : ℕ) → b < 16 → CellBelow s (image_of t x y) b (cell_at (image_of u v w) b)
-cells-low s t x y u v w some table two three zero lt = plain-cell s t x y 0 super_block (λ e. absurd (omega (arith, e))) (tag-low s super_block _ super-tag some some (λ e. cc e) (λ e. cc e))
+pub cells-low : (s : ℕ) (t x y u v w : Cell) → 0 < s → CellBelow s (image_of t x y) 1 u → TagBelow s v → TagBelow s w → (b : ℕ) → b < 16
+    → CellBelow s (image_of t x y) b (cell_at (image_of u v w) b)
+cells-low s t x y u v w some table two three zero lt = plain-cell s t x y 0 super_block (λ e. absurd (omega (arith, e)))
+    (tag-low s super_block _ super-tag some some (λ e. cc e) (λ e. cc e))
 cells-low s t x y u v w some table two three (suc zero) lt = table
 cells-low s t x y u v w some table two three (suc (suc zero)) lt = plain-cell s t x y 2 v (λ e. absurd (omega (arith, e))) two
 cells-low s t x y u v w some table two three (suc (suc (suc zero))) lt = plain-cell s t x y 3 w (λ e. absurd (omega (arith, e))) three

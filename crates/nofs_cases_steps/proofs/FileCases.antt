@@ -42,13 +42,15 @@ pub first-plain : ArePlain first_image (pick null null null)
 first-plain = plain-image first_table blank blank (root_record null) (label_record 0 null) free_record null null null first-records refl refl refl
 
 pub put-plain : (byte : ℕ) → ArePlain (image_of put_table (put_block byte) blank) (pick null (block_two 0) null)
-put-plain byte = plain-image put_table (put_block byte) blank (root_record null) (label_record 1 (block_two 0)) free_record null (block_two 0) null put-records refl refl refl
+put-plain byte = plain-image put_table (put_block byte) blank (root_record null) (label_record 1 (block_two 0)) free_record null (block_two 0)
+    null put-records refl refl refl
 
 pub no-pointer : (i : ℕ) → pick null null null i ≡ null
 no-pointer = each-number (λ i. pick null null null i ≡ null) refl refl refl refl (λ n. refl)
 
 pub first-empty : (i : ℕ) (path : Path) → IsSlot path → find first_image i path ≡ answer.Hole
-first-empty i = empty first_image i (subst (λ (x : Pointer). inode first_image i ≡ plain (inode first_image i).generation (inode first_image i).kind (inode first_image i).links (inode first_image i).size x) (no-pointer i) (first-plain i))
+first-empty i = empty first_image i (subst (λ (x : Pointer). inode first_image i ≡ plain (inode first_image i).generation (inode first_image i).kind
+    (inode first_image i).links (inode first_image i).size x) (no-pointer i) (first-plain i))
 
 pub no-holds : (i : ℕ) (path : Path) (y : Pointer) → IsSlot path → find first_image i path ≡ answer.Holds y → ⊥
 no-holds i path y slot h = let e = first-empty i path slot in cc (e, h)
@@ -57,7 +59,8 @@ pub first-free : (b : ℕ) → IsFree first_image b
 first-free b i path y slot agreed h = absurd (no-holds i path y slot h)
 
 pub first-old : (s : ℕ) → 0 < s → (i : ℕ) → OldPointers s first_image i
-first-old s lt i = old-pointers first_image i (pick null null null i) (first-plain i) s (let e = ap (λ (x : Pointer). x.stamp) (no-pointer i) in omega (arith, e, lt))
+first-old s lt i = old-pointers first_image i (pick null null null i) (first-plain i) s (let e =
+    ap (λ (x : Pointer). x.stamp) (no-pointer i) in omega (arith, e, lt))
 
 pub first-root : agreed (files_in first_image) 1 ≡ true
 first-root = root-agreed first_image (ap (λ (r : Record). r.kind) (first-inode 1)) (ap (λ (r : Record). r.generation) (first-inode 1))
@@ -75,7 +78,8 @@ first-match = files-match first_image (root_file Hole) (label_file 0 Hole) None 
 -- A Put with a claimed block
 
 pub put-slot : (byte : ℕ) → tag_of (put_block byte).tag ≡ Some (tag_for (image_of put_table (put_block byte) blank) 2 (InRecord 0) (2 ^ 40))
-put-slot byte = put-tag byte ∙ sym (ap Some (first-tag (image_of put_table (put_block byte) blank) 2 (label_record 1 (block_two 0)) (2 ^ 40) (put-inode byte 2)))
+put-slot byte = put-tag byte ∙ sym (ap Some (first-tag (image_of put_table (put_block byte) blank) 2 (label_record 1 (block_two 0)) (2 ^ 40)
+    (put-inode byte 2)))
 
 pub put-touches : Touches (2 ^ 40) (λ j. eqb j 2) first_image put_image
 put-touches = label-touches (2 ^ 40) first_table blank blank put_table (put_block 7) blank (label_record 0 null) (label_record 1 (block_two 0)) first-records
@@ -171,7 +175,8 @@ grown-case = (
 -- A Put in place
 
 pub put-holds : (byte : ℕ) → find (image_of put_table (put_block byte) blank) 2 (InRecord 0) ≡ answer.Holds (block_two 0)
-put-holds byte = first-holds (image_of put_table (put_block byte) blank) 2 (block_two 0) (put-plain byte 2) (ap is_live (put-inode byte 2)) (data-two put_table (put_block byte) blank) (put-slot byte) refl
+put-holds byte = first-holds (image_of put_table (put_block byte) blank) 2 (block_two 0) (put-plain byte 2) (ap is_live (put-inode byte 2))
+    (data-two put_table (put_block byte) blank) (put-slot byte) refl
 
 pub put-root : agreed (files_in put_image) 1 ≡ true
 put-root = root-agreed put_image (ap (λ (r : Record). r.kind) (put-inode 7 1)) (ap (λ (r : Record). r.generation) (put-inode 7 1))

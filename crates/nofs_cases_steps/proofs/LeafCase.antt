@@ -84,13 +84,15 @@ unfolding path_of
 leaf-grows = record {
   placed = by-path (λ a. IsPlaced leaf_image 2 leaf_places a) first-pointer (ap (λ (r : Record). record_pointer r 8) (leaf-inode 2));
   not_null = by-path (λ a. is_null (leaf_places a) ≡ false) refl refl;
-  area = by-path (λ a. is_data_block leaf_image (leaf_places a).block ≡ true) (data-two leaf_table deep_block leaf_block) (data-three leaf_table deep_block leaf_block);
+  area = by-path (λ a. is_data_block leaf_image (leaf_places a).block ≡ true) (data-two leaf_table deep_block leaf_block)
+      (data-three leaf_table deep_block leaf_block);
   tag = by-path (λ a. tag_of (cell_at leaf_image (leaf_places a).block).tag ≡ Some (tag_for leaf_image 2 a (leaf_places a).stamp)) deep-slot leaf-slot;
   record_stays = λ n off. ap (λ (r : Record). record_pointer r n) (leaf-inode 2) ∙ but-leaf (label_record 0 null) block_three n (λ e. off (inr (ap InRecord e)))
       ∙ sym (ap (λ (r : Record). record_pointer r n) (first-inode 2));
   beside = λ b n slot on off. by-path
       (λ b. IsSlot (Under b n) → (OnPath (Under b n) → ⊥)
-      → ((find first_image 2 b ≡ answer.Holds (leaf_places b)) × (pointer_at (cell_at leaf_image (leaf_places b).block).payload n ≡ pointer_at (cell_at first_image (leaf_places b).block).payload n))
+      → ((find first_image 2 b ≡ answer.Holds (leaf_places b)) ×
+      (pointer_at (cell_at leaf_image (leaf_places b).block).payload n ≡ pointer_at (cell_at first_image (leaf_places b).block).payload n))
       ⊎ ((find first_image 2 b ≡ answer.Hole) × (is_null (pointer_at (cell_at leaf_image (leaf_places b).block).payload n) ≡ true)))
       (λ slot off. absurd (not-pointers slot.0))
       (λ slot off. inr (first-empty 2 leaf (omega arith), other-pointer 0 n (λ e. off (inl (ap (Under leaf) e)))))
@@ -133,7 +135,8 @@ leaf-placed = record {
   cell = λ e. refl;
   leaf = λ e. (inr refl, refl);
   top = λ e. cc e;
-  each = by-path (λ a. (find first_image 2 a ≡ answer.Holds (leaf_places a)) ⊎ (IsClaimed leaf_claims (leaf_places a) × ((x : Pointer) → find first_image 2 a ≡ answer.Holds x → ⊥)))
+  each = by-path (λ a. (find first_image 2 a ≡ answer.Holds (leaf_places a)) ⊎
+      (IsClaimed leaf_claims (leaf_places a) × ((x : Pointer) → find first_image 2 a ≡ answer.Holds x → ⊥)))
       (inr ((refl, inl refl), deep-empty)) (inr ((refl, inr (inl refl)), λ x h. no-holds 2 leaf x (omega arith) h));
 }
 

@@ -26,7 +26,8 @@ pick p q r = one_of null p q r
 abbrev pub ArePlain : Image → (ℕ → Pointer) → Type 0
 ArePlain X at = (i : ℕ) → IsPlain (inode X i) (at i)
 
-pub plain-image : (t x y : Cell) (a b c : Record) (p q r : Pointer) → HasRecords t a b c → IsPlain a p → IsPlain b q → IsPlain c r → ArePlain (image_of t x y) (pick p q r)
+pub plain-image : (t x y : Cell) (a b c : Record) (p q r : Pointer) → HasRecords t a b c → IsPlain a p → IsPlain b q → IsPlain c r
+    → ArePlain (image_of t x y) (pick p q r)
 plain-image t x y a b c p q r h pa pb pc i = subst (λ (s : Record). IsPlain s (pick p q r i)) (sym (inode-is t x y a b c h i))
     (each-number (λ n. IsPlain (nth a b c n) (pick p q r n)) refl pa pb pc (λ n. refl) i)
 
@@ -90,7 +91,8 @@ module _ (X : Image) (i : ℕ) (x : Pointer) (is : IsPlain (inode X i) x) where
   ]
 
   pub old-pointers : (s : ℕ) → x.stamp < s → OldPointers s X i
-  old-pointers s lt (InRecord zero) slot = let e : (record_pointer (inode X i) 0).stamp ≡ x.stamp = ap (λ (r : Record). (record_pointer r 0).stamp) is in omega (arith, e, lt)
+  old-pointers s lt (InRecord zero) slot = let e : (record_pointer (inode X i) 0).stamp ≡ x.stamp =
+      ap (λ (r : Record). (record_pointer r 0).stamp) is in omega (arith, e, lt)
   old-pointers s lt (InRecord (suc m)) slot = let e = others-stamp (inode X i) x is m in omega (arith, e, lt)
   old-pointers s lt (Under a n) slot = elim (slot-is a slot.2) [
     | inl e ↦ absurd (not-under a slot.0 e)

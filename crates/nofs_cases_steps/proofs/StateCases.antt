@@ -1,11 +1,13 @@
 -- The maps and the stamps over a Put of one byte.
-use Rattle.std.proofs.Common.{◌≡◌, ℕ, zero, suc, ◌-◌, ◌%◌, ◌^◌, ◌<◌, ◌≤◌, ◌⊎◌, inl, inr, true, false, eqb, [], ◌∷◌, Option, Some, None, refl, sym, ap, ◌∙◌, subst, arith, eqb-true, is_some, All, Contains}
+use Rattle.std.proofs.Common.{◌≡◌, ℕ, zero, suc, ◌-◌, ◌%◌, ◌^◌, ◌<◌, ◌≤◌, ◌⊎◌, inl, inr, true, false, eqb, [], ◌∷◌, Option, Some, None, refl, sym, ap, ◌∙◌}
+use Rattle.std.proofs.Common.{subst, arith, eqb-true, is_some, All, Contains}
 use Rattle.nofs_model.specs.Cells.{Content, Table, Pointer, Record, SuperBlock, record_at, is_live, free_record, null, FileKind}
 use Rattle.nofs_model.proofs.Chains.{agreed-holds}
 use Rattle.nofs_law_untouched.proofs.Alike.{agreed-some}
 use Rattle.nofs_law_maps.proofs.Fresh.{sole-is}
 use Rattle.nofs_machine.specs.Good.{MatchesSuper, IsFresh}
-use Rattle.nofs_model.specs.Image.{file_from, Image, cell_at, inode, Path, InRecord, path_of, IsSlot, find, files_in, agreed, Home, home_at, CellBelow, IsBelow, record_pointer}
+use Rattle.nofs_model.specs.Image.{file_from, Image, cell_at, inode, Path, InRecord, path_of, IsSlot, find, files_in, agreed, Home, home_at, CellBelow}
+use Rattle.nofs_model.specs.Image.{IsBelow, record_pointer}
 use Rattle.nofs_model.specs.declared.path.PathAnswer.TheVariants as answer
 use Rattle.nofs_model.specs.declared.value.Value.TheVariants.{Hole}
 use Rattle.nofs_machine.specs.Machine.{gives}
@@ -25,13 +27,20 @@ use Rattle.nofs_cases_steps.specs.StateCases.{alone, put_may, HomesCase, GoodCas
 use Rattle.nofs_cases_steps.proofs.Images.{root_record, label_record, numbers-are, mountable, first-records, put-records, data-two, put-tag, table-tag}
 use Rattle.nofs_cases_steps.proofs.Slots.{IsPlain, slot-is, others-stamp, held-is, unowned}
 use Rattle.nofs_cases_steps.proofs.Below.{record-low, no-links-low, free-low, RecordsLow, table-cell, blank-low, cells-low, range-is}
-use Rattle.nofs_cases_steps.proofs.FileCases.{first-inode, first-empty, first-free, first-match, first-old, first-root, first-label, put-inode, put-plain, put-lies, put-placed, put-claim, put-touches, put-holds, put-label, uncut}
+use Rattle.nofs_cases_steps.proofs.FileCases.{first-inode, first-empty, first-free, first-match, first-old, first-root, first-label, put-inode, put-plain}
+use Rattle.nofs_cases_steps.proofs.FileCases.{put-lies, put-placed, put-claim, put-touches, put-holds, put-label, uncut}
 
 -- the numbers of the disk
 pub first-numbers : MatchesSuper first_world first_image
 first-numbers =
     let e = sym (numbers-are first_table blank blank) in
-    record { version = ap (λ (n : SuperBlock). n.version) e; blocks = ap (λ (n : SuperBlock). n.blocks) e; inodes = ap (λ (n : SuperBlock). n.inodes) e; mount = ap (λ (n : SuperBlock). n.mount) e }
+    record {
+      version = ap (λ (n : SuperBlock). n.version) e;
+      blocks = ap (λ (n : SuperBlock). n.blocks) e;
+      inodes =
+          ap (λ (n : SuperBlock). n.inodes) e;
+      mount = ap (λ (n : SuperBlock). n.mount) e;
+    }
 
 pub first-homes : HomesMatch first_world first_image
 first-homes p lt = sym (unowned first_image p (first-free p))
@@ -80,7 +89,8 @@ agreed-are zero ne a = absurd (dead put_image 0 (ap (λ (r : Record). r.kind) (p
 agreed-are (suc zero) ne a = first-root
 agreed-are (suc (suc zero)) ne a = first-label
 agreed-are (suc (suc (suc zero))) ne a = absurd (dead put_image 3 (ap (λ (r : Record). r.kind) (put-inode 7 3)) a)
-agreed-are (suc (suc (suc (suc n)))) ne a = absurd (dead put_image (suc (suc (suc (suc n)))) (ap (λ (r : Record). r.kind) (put-inode 7 (suc (suc (suc (suc n)))))) a)
+agreed-are (suc (suc (suc (suc n)))) ne a = absurd (dead put_image (suc (suc (suc (suc n))))
+    (ap (λ (r : Record). r.kind) (put-inode 7 (suc (suc (suc (suc n)))))) a)
 
 -- what holds after the Put is the claimed block
 held : (j : ℕ) → eqb j 2 ≡ true → HeldMove put_claims first_image put_image j
@@ -113,7 +123,8 @@ first-low s lt = record {
 -- each cell of the formatted disk
 pub first-below : (s : ℕ) → 2 < s → (b : ℕ) → b < 16 → CellBelow s first_image b (cell_at first_image b)
 first-below s lt = cells-low s first_table blank blank first_table blank blank (omega (arith, lt))
-    (table-cell s first_table blank blank first_table (root_record null) (label_record 0 null) free_record (omega (arith, lt)) refl first-records (first-low s lt))
+    (table-cell s first_table blank blank first_table (root_record null) (label_record 0 null) free_record (omega (arith, lt)) refl first-records
+    (first-low s lt))
     (blank-low s (omega (arith, lt))) (blank-low s (omega (arith, lt)))
 
 pub first-is-below : (s : ℕ) → 2 < s → IsBelow s first_image
@@ -138,7 +149,8 @@ IsPutNumber n = Numbered first_world put_claims n
 put-stamp : IsPutNumber (2 ^ 40)
 put-stamp = Stamp (block_two 0) (0, omega arith, refl) refl
 
-plain-numbers : (r : Record) (x : Pointer) → IsPlain r x → r.generation < 2 ^ 40 → All (λ l. IsPutNumber l.generation) r.links → IsPutNumber x.stamp → RecordNumbers IsPutNumber r
+plain-numbers : (r : Record) (x : Pointer) → IsPlain r x → r.generation < 2 ^ 40 → All (λ l. IsPutNumber l.generation) r.links → IsPutNumber x.stamp
+    → RecordNumbers IsPutNumber r
 plain-numbers r x is g links stamp = record { generation = old r.generation g; links = links; pointers = each }
   where
     each : (n : ℕ) → n < 10 → IsPutNumber (record_pointer r n).stamp
@@ -154,16 +166,22 @@ links-old (suc (suc (suc (suc k)))) d lt = absurd (omega (arith, lt))
 
 table-numbers : (i : ℕ) → (1 ≤ i) × (i ≤ 4) → RecordNumbers IsPutNumber (record_at put_table.payload ((i - 1) % 4))
 table-numbers zero n = absurd (omega (arith, n))
-table-numbers (suc zero) n = subst (RecordNumbers IsPutNumber) (sym put-records.one) (plain-numbers (root_record null) null refl (omega arith) links-old (old 0 (omega arith)))
-table-numbers (suc (suc zero)) n = subst (RecordNumbers IsPutNumber) (sym put-records.two) (plain-numbers (label_record 1 (block_two 0)) (block_two 0) refl (omega arith) links-old put-stamp)
-table-numbers (suc (suc (suc zero))) n = subst (RecordNumbers IsPutNumber) (sym put-records.three) (plain-numbers free_record null refl (omega arith) links-old (old 0 (omega arith)))
-table-numbers (suc (suc (suc (suc zero)))) n = subst (RecordNumbers IsPutNumber) (sym put-records.four) (plain-numbers free_record null refl (omega arith) links-old (old 0 (omega arith)))
+table-numbers (suc zero) n = subst (RecordNumbers IsPutNumber) (sym put-records.one)
+    (plain-numbers (root_record null) null refl (omega arith) links-old (old 0 (omega arith)))
+table-numbers (suc (suc zero)) n = subst (RecordNumbers IsPutNumber) (sym put-records.two)
+    (plain-numbers (label_record 1 (block_two 0)) (block_two 0) refl (omega arith) links-old put-stamp)
+table-numbers (suc (suc (suc zero))) n = subst (RecordNumbers IsPutNumber) (sym put-records.three)
+    (plain-numbers free_record null refl (omega arith) links-old (old 0 (omega arith)))
+table-numbers (suc (suc (suc (suc zero)))) n = subst (RecordNumbers IsPutNumber) (sym put-records.four)
+    (plain-numbers free_record null refl (omega arith) links-old (old 0 (omega arith)))
 table-numbers (suc (suc (suc (suc (suc m))))) n = absurd (omega (arith, n))
 
 put-numbers : (b : ℕ) → (cell_at first_image b ≡ cell_at put_image b) ⊎ CellNumbers IsPutNumber first_image b (cell_at put_image b)
 put-numbers zero = inl refl
-put-numbers (suc zero) = inr (InTable (record { kind = Table; inode = 0; generation = 0; slot = 1; stamp = 0 }) table-tag refl (old 0 (omega arith)) (old 0 (omega arith)) (λ i r e live. table-numbers i (range-is first_table blank blank i r)))
-put-numbers (suc (suc zero)) = inr (InContent (data-two first_table blank blank) (record { kind = Content; inode = 2; generation = 2; slot = 0; stamp = 2 ^ 40 }) (put-tag 7) refl (old 2 (omega arith)) put-stamp)
+put-numbers (suc zero) = inr (InTable (record { kind = Table; inode = 0; generation = 0; slot = 1; stamp = 0 }) table-tag refl (old 0 (omega arith))
+    (old 0 (omega arith)) (λ i r e live. table-numbers i (range-is first_table blank blank i r)))
+put-numbers (suc (suc zero)) = inr (InContent (data-two first_table blank blank)
+    (record { kind = Content; inode = 2; generation = 2; slot = 0; stamp = 2 ^ 40 }) (put-tag 7) refl (old 2 (omega arith)) put-stamp)
 put-numbers (suc (suc (suc zero))) = inl refl
 put-numbers (suc (suc (suc (suc n)))) = inl refl
 

@@ -33,7 +33,8 @@ PutCase = PutLies first_files first_image put_image 2 2 0 0 (7 ∷ []) (label_fi
 
 -- A Put in place: the byte becomes 9.
 abbrev pub PutHeldCase : Type 0
-PutHeldCase = PutHeld put_files put_image (image_of put_table (put_block 9) blank) 2 2 0 0 (9 ∷ []) (label_file 1 (Bytes (7 ∷ z 1023))) (2 ^ 40 + 1) (block_two 0)
+PutHeldCase = PutHeld put_files put_image (image_of put_table (put_block 9) blank) 2 2 0 0 (9 ∷ []) (label_file 1 (Bytes (7 ∷ z 1023))) (2 ^ 40 + 1)
+    (block_two 0)
 
 -- A Resize of the empty label file to 5,000 bytes, which claims nothing.
 abbrev pub ResizeCase : Type 0
@@ -47,5 +48,6 @@ UntouchedCase = Touches (2 ^ 40) (λ j. j == 2) first_image put_image
 
 -- and slot 0 of the label file gets its block
 abbrev pub GrownCase : Type 0
-GrownCase = Rewrites (2 ^ 40) first_image put_image × (agreed (files_in first_image) 2 ≡ true) × SameIdentity first_image put_image 2 × OldPointers (2 ^ 40) first_image 2
+GrownCase = Rewrites (2 ^ 40) first_image put_image × (agreed (files_in first_image) 2 ≡ true) × SameIdentity first_image put_image 2 × OldPointers (2 ^ 40)
+    first_image 2
     × Grows (2 ^ 40) first_image put_image 2 (path_of 0) put_places

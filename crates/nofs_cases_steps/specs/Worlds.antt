@@ -63,7 +63,8 @@ first_world = world first_files (λ p. None) 0
 
 -- the world after a step that is done
 abbrev pub world_after : World → Step → Claims → World
-world_after W s c = world (files_after W.files (gives W.files s c)) (homes_after W s c (files_after W.files (gives W.files s c))) (W.serial + inodes_needed s + blocks_needed W.files s)
+world_after W s c = world (files_after W.files (gives W.files s c)) (homes_after W s c (files_after W.files (gives W.files s c)))
+    (W.serial + inodes_needed s + blocks_needed W.files s)
 
 -- its entry, from one moment to another
 abbrev pub entry_of_step : Step → Reply → Claims → ℕ → ℕ → Entry1

@@ -12,7 +12,8 @@ use Rattle.nofs_client.specs.declared.progress.Progress.{Progress}
 use Rattle.nofs_client.specs.declared.progress.See.{See}
 use Rattle.nofs_client.specs.Task.{TaskStands}
 use Rattle.nofs_client.specs.Asks.{task_asks}
-use Rattle.nofs_client.specs.Drive.{Answers, asks, goes_on, step_answered, examines_block, examines_inode, stored_by, progress_after, after_refused, after_step, after_see, after_beside, asks_beside}
+use Rattle.nofs_client.specs.Drive.{Answers, asks, goes_on, step_answered, examines_block, examines_inode, stored_by, progress_after, after_refused}
+use Rattle.nofs_client.specs.Drive.{after_step, after_see, after_beside, asks_beside}
 use Rattle.nofs_client.proofs.TaskRank.{task_rank, task-falls, refused-rank}
 
 -- how often a reply of one kind may still come to a step

@@ -1,5 +1,6 @@
 -- A run of commands goes on, step by step and command by command.
-use Rattle.std.proofs.Common.{◌≡◌, ℕ, suc, ◌+◌, ◌<◌, length, take, drop, get_or, subst, List, [], ◌∷◌, ◌++◌, map, fold, false, refl, sym, ap, ◌∙◌, append_assoc, Some, None, Option, if◌then◌else◌}
+use Rattle.std.proofs.Common.{◌≡◌, ℕ, suc, ◌+◌, ◌<◌, length, take, drop, get_or, subst, List, [], ◌∷◌, ◌++◌, map, fold, false, refl, sym, ap, ◌∙◌}
+use Rattle.std.proofs.Common.{append_assoc, Some, None, Option, if◌then◌else◌}
 use Rattle.std.specs.Option.{option_map_or}
 use Rattle.std.proofs.Math.Seq.{drop-cons}
 use Rattle.std.proofs.lemmas.List.{map-append, append-nil, take-append-drop, take_more}
@@ -67,7 +68,8 @@ lines-run [] ms ls more h = sym h.1
 lines-run (c ∷ cs) ms ls more h =
     let (front, back, line, others, made, lines, first, rest) = h in
     let parts : map made_reply ms ++ more ≡ map made_reply front ++ (map made_reply back ++ more) =
-    ap (λ m. map made_reply m ++ more) made ∙ ap (λ k. k ++ more) (map-append made_reply front back) ∙ append_assoc (map made_reply front) (map made_reply back) more in
+    ap (λ m. map made_reply m ++ more) made ∙ ap (λ k. k ++ more) (map-append made_reply front back)
+    ∙ append_assoc (map made_reply front) (map made_reply back) more in
     let one = said-run c (start_of c) front line (map made_reply back ++ more) first.asked first.says in
     ap (lines_of (c ∷ cs)) parts ∙ ap (λ (o : Option (Line × List Reply)). option_map_or (λ p. p.0 ∷ lines_of cs p.1) o []) one
     ∙ ap (λ k. line ∷ k) (lines-run cs back others more rest) ∙ sym lines
@@ -102,7 +104,8 @@ runs-some cs i old mid new ms old_lines lines all more begun = record {
 }
 
 -- no command is begun beside those that were run
-pub runs-so-far : (cs : List Command) (i : ℕ) (old new : List Made) (old_lines lines : List Line) → RunsAll (take i cs) old new old_lines lines → RunsSome cs old new old_lines lines
+pub runs-so-far : (cs : List Command) (i : ℕ) (old new : List Made) (old_lines lines : List Line) → RunsAll (take i cs) old new old_lines lines
+    → RunsSome cs old new old_lines lines
 runs-so-far cs i old new old_lines lines all = runs-some cs i old new new [] old_lines lines all (sym (append-nil new)) (nothing-begun (drop i cs))
 
 -- one command is begun beside those that were run
@@ -113,7 +116,8 @@ runs-in-part cs i c old mid new ms old_lines lines lt is all more asked =
     runs-some cs i old mid new ms old_lines lines all more (subst (λ l. IsBegun l ms) (sym left) asked)
 
 -- one more command is run
-pub runs-more : (cs : List Command) (i : ℕ) (c : Command) (old mid new ms : List Made) (old_lines lines new_lines : List Line) (l : Line) → i < length cs → c ≡ get_or cs i c
+pub runs-more : (cs : List Command) (i : ℕ) (c : Command) (old mid new ms : List Made) (old_lines lines new_lines : List Line) (l : Line) → i < length cs
+    → c ≡ get_or cs i c
     → RunsAll (take i cs) old mid old_lines lines → new ≡ mid ++ ms → IsCommandRun c ms l → new_lines ≡ lines ++ l ∷ []
     → RunsAll (take (i + 1) cs) old new old_lines new_lines
 runs-more cs i c old mid new ms old_lines lines new_lines l lt is all more run more_lines =

@@ -22,7 +22,8 @@ use Rattle.nofs_client.specs.declared.task.Task.TheVariants as task
 use Rattle.nofs_client.specs.Places.{first_handle, looks, new_looks}
 use Rattle.nofs_client.specs.Task.{acting, arrived, arrived_new, first_stage, refused, TaskStands, IsActing, IsPutting, IsLinking, HasTwoPaths}
 use Rattle.nofs_client.specs.Asks.{act_of, put_slot_step, put_at, within_slot, task_asks}
-use Rattle.nofs_client.specs.Answers.{handle_of, got_here, looked, looked_new, acted, task_after_stat, getting, linked, next_stage, stored, after_put, after_get, listing, after_list, task_after}
+use Rattle.nofs_client.specs.Answers.{handle_of, got_here, looked, looked_new, acted, task_after_stat, getting, linked, next_stage, stored, after_put}
+use Rattle.nofs_client.specs.Answers.{after_get, listing, after_list, task_after}
 use Rattle.nofs_client.specs.Drive.{Answers}
 
 -- a test with what it says
@@ -58,14 +59,17 @@ task_rank c (task.Getting at from end parts) = end - from
 task_rank c (task.Listing at slot parts) = 73 - slot
 task_rank c (task.Ended line) = 0
 
-arrived_new-rank : (c : Command) (place : Location) (to : Handle) (depth : ℕ) → HasTwoPaths c → task_rank c (arrived_new c place to depth) ≤ act_rank c + (new_looks c - depth)
+arrived_new-rank : (c : Command) (place : Location) (to : Handle) (depth : ℕ) → HasTwoPaths c
+    → task_rank c (arrived_new c place to depth) ≤ act_rank c + (new_looks c - depth)
 arrived_new-rank (command.Link path new_path) place to depth two =
     let c = command.Link path new_path in
-    let P : Bool → Type 0 = λ b. task_rank c (if b then task.LookingNew place to depth else task.Linking place to (first_stage c)) ≤ act_rank c + (new_looks c - depth) in
+    let P : Bool → Type 0 = λ b. task_rank c (if b then task.LookingNew place to depth else task.Linking place to (first_stage c)) ≤ act_rank c +
+    (new_looks c - depth) in
     tested depth (new_looks c) P (λ lt. le_refl _) (λ le. omega arith)
 arrived_new-rank (command.Move from to') place to depth two =
     let c = command.Move from to' in
-    let P : Bool → Type 0 = λ b. task_rank c (if b then task.LookingNew place to depth else task.Linking place to (first_stage c)) ≤ act_rank c + (new_looks c - depth) in
+    let P : Bool → Type 0 = λ b. task_rank c (if b then task.LookingNew place to depth else task.Linking place to (first_stage c)) ≤ act_rank c +
+    (new_looks c - depth) in
     tested depth (new_looks c) P (λ lt. le_refl _) (λ le. omega arith)
 arrived_new-rank _ place to depth two = absurd two
 
@@ -158,7 +162,8 @@ linked-falls c place to s _ is = next_stage-falls c place to s is
 stored-falls : (c : Command) (at : Handle) (done : ℕ) → IsPutting c done → task_rank c (stored c at done) < act_rank c - done
 stored-falls (command.Put path offset bytes) at done lt =
     let next = done + within_slot (put_at offset done) (length bytes - done) in
-    let P : Bool → Type 0 = λ b. task_rank (command.Put path offset bytes) (if b then task.Putting at next else task.Ended (line.Put (length bytes))) < length bytes - done in
+    let P : Bool → Type 0 = λ b. task_rank (command.Put path offset bytes) (if b then task.Putting at next else task.Ended (line.Put (length bytes)))
+    < length bytes - done in
     tested next (length bytes) P (λ l. omega arith) (λ l. omega arith)
 stored-falls _ at done lt = absurd lt
 
@@ -166,7 +171,8 @@ put-room : (c : Command) (done : ℕ) → IsPutting c done → 0 < act_rank c - 
 put-room (command.Put path offset bytes) done lt = omega arith
 put-room _ done lt = absurd lt
 
-put-falls : (c : Command) (at : Handle) (done : ℕ) (r : Reply) → IsPutting c done → Answers (Do (put_slot_step c at done)) r → task_rank c (after_put c at done r) < act_rank c - done
+put-falls : (c : Command) (at : Handle) (done : ℕ) (r : Reply) → IsPutting c done → Answers (Do (put_slot_step c at done)) r
+    → task_rank c (after_put c at done r) < act_rank c - done
 put-falls c at done reply.Stored lt h = stored-falls c at done lt
 put-falls c at done (reply.Refused r) lt h = let k = refused-rank c done r in let room = put-room c done lt in omega arith
 put-falls (command.Put path offset bytes) at done _ lt h = absurd h.0
@@ -183,7 +189,8 @@ get-falls c at from end parts reply.Lost lt h = le_lt (getting-rank c at (from +
 get-falls c at from end parts (reply.Refused r) lt h = omega arith
 get-falls c at from end parts _ lt h = absurd h.0
 
-listing-rank : (c : Command) (at : Handle) (asked slot : ℕ) (parts more : List ListPart) → asked ≤ 72 → task_rank c (listing at asked slot parts more) < 73 - asked
+listing-rank : (c : Command) (at : Handle) (asked slot : ℕ) (parts more : List ListPart) → asked ≤ 72
+    → task_rank c (listing at asked slot parts more) < 73 - asked
 listing-rank c at asked slot parts more le =
     let P : Bool → Type 0 = λ b. task_rank c (if b then task.Ended (line.Names parts) else task.Listing at (slot + 1) (parts ++ more)) < 73 - asked in
     tested slot asked P (λ l. omega arith) (λ l. omega arith)

@@ -1,5 +1,6 @@
 -- Where each cell that a read gives is below a bound, each live record and each tag of the data area is.
-use Rattle.std.proofs.Common.{◌≡◌, ℕ, ◌+◌, ◌-◌, ◌/◌, ◌%◌, ◌<◌, ◌≤◌, Bool, true, false, cond, leb, ltb, leb-true, ltb-true, Option, Some, IfSome, refl, sym, subst, arith}
+use Rattle.std.proofs.Common.{◌≡◌, ℕ, ◌+◌, ◌-◌, ◌/◌, ◌%◌, ◌<◌, ◌≤◌, Bool, true, false, cond, leb, ltb, leb-true, ltb-true, Option, Some, IfSome, refl, sym}
+use Rattle.std.proofs.Common.{subst, arith}
 use Rattle.nofs_model.specs.Cells.{Tag, Record, tag_of, record_at, free_record, is_live}
 use Rattle.nofs_model.specs.Image.{Image, cell_at, super_at, is_data_block, is_inode, inode, CellBelow}
 use Rattle.nofs_model.proofs.Find.{and-both}
@@ -21,7 +22,8 @@ some-of : {A : Type 0} (P : A → Type 0) (o : Option A) (x : A) → o ≡ Some 
 some-of P o x e h = subst (λ q. IfSome q P) e h
 
 -- every live record is below the bound
-pub live-below : (X : Image) (s n : ℕ) → ((b : ℕ) → b < n → CellBelow s X b (cell_at X b)) → (super_at X).blocks ≤ n → 2 + (super_at X).inodes / 4 ≤ (super_at X).blocks
+pub live-below : (X : Image) (s n : ℕ) → ((b : ℕ) → b < n → CellBelow s X b (cell_at X b)) → (super_at X).blocks ≤ n
+    → 2 + (super_at X).inodes / 4 ≤ (super_at X).blocks
     → (j : ℕ) → is_live (inode X j) ≡ true → (inode X j).generation < s
 live-below X s n own fits table j live =
     let st = live-stands X j live in

@@ -41,7 +41,8 @@ module _ (d : DiskState) (s : ℕ) (p : IsLeftByMount d s) where
 
   new : IsMark (new_mark d.now [] d.now s)
   new = flushed d.now [] d.now s tt (self-match d.now) (rest-first d.now) p.positive (geometry.multiple)
-      (live-below d.now s (super_at d.now).blocks p.below (le_refl (super_at d.now).blocks) geometry.table) (tag-below d.now s (super_at d.now).blocks p.below (le_refl (super_at d.now).blocks))
+      (live-below d.now s (super_at d.now).blocks p.below (le_refl (super_at d.now).blocks) geometry.table)
+      (tag-below d.now s (super_at d.now).blocks p.below (le_refl (super_at d.now).blocks))
 
   survives : CellsSurvive d (mark_at d.now [] (d.moment + 1) d.now s)
   survives =

@@ -1,6 +1,7 @@
 -- A flush that succeeds makes a new mark, from which the next step may begin.
 use Rattle.nofs_super.specs.Geometry.{IsGeometry}
-use Rattle.std.proofs.Common.{◌≡◌, ℕ, suc, ◌+◌, ◌%◌, ◌<◌, ◌≤◌, inl, inr, true, false, cond, is_some, append-nil, eqb, if◌then◌else◌, leb, ◌&&◌, List, [], ◌∷◌, ◌++◌, length, Option, Some, None, IsTrue, Ok, refl, sym, ap, ◌∙◌, subst, arith, le_refl}
+use Rattle.std.proofs.Common.{◌≡◌, ℕ, suc, ◌+◌, ◌%◌, ◌<◌, ◌≤◌, inl, inr, true, false, cond, is_some, append-nil, eqb, if◌then◌else◌, leb, ◌&&◌, List, [], ◌∷◌}
+use Rattle.std.proofs.Common.{◌++◌, length, Option, Some, None, IsTrue, Ok, refl, sym, ap, ◌∙◌, subst, arith, le_refl}
 use Rattle.std.proofs.lemmas.Bool.{cases_lt}
 use Rattle.nofs_disk.specs.Disk.{DiskState, IsDisk, IsSettled, Flushes, Picks, cell_at}
 use Rattle.nofs_model.specs.Cells.{SuperBlock}
@@ -12,7 +13,8 @@ use Rattle.nofs_law_images.proofs.Moments.{law-images, law-flush}
 use Rattle.nofs_machine.specs.Meta.{meta_of}
 use Rattle.nofs_machine.specs.Marks.{Mark}
 use Rattle.nofs_machine.specs.Machine.{generation_of, nothing, gives, file_after, files_after}
-use Rattle.nofs_machine.specs.History.{agreed_files, files_along, mark_at, mark, mark_from, is_flushed, new_mark, last_in, is_generation, values_given, metas_given, FilesMatch, NoWriteFault}
+use Rattle.nofs_machine.specs.History.{agreed_files, files_along, mark_at, mark, mark_from, is_flushed, new_mark, last_in, is_generation, values_given}
+use Rattle.nofs_machine.specs.History.{metas_given, FilesMatch, NoWriteFault}
 use Rattle.nofs_machine.specs.Allowed.{IsAllowed}
 use Rattle.nofs_machine.specs.Marks.{IsUnderWay}
 use Rattle.nofs_machine.specs.Steady.{SteadyRest}
@@ -29,9 +31,11 @@ use Rattle.nofs_crashlaw.proofs.Staging.{all-begun, same-marks, by-more, by-appe
 not-le : (a b : ℕ) → b < a → leb a b ≡ false
 not-le a b h = grind arith
 
-mark-flushed : (H : List Entry1) (e : Entry1) (m at best : ℕ) → (is_flushed e.reply && leb e.to m) ≡ true → mark_from (H ++ e ∷ []) m at best ≡ at + length (H ++ e ∷ [])
+mark-flushed : (H : List Entry1) (e : Entry1) (m at best : ℕ) → (is_flushed e.reply && leb e.to m) ≡ true
+    → mark_from (H ++ e ∷ []) m at best ≡ at + length (H ++ e ∷ [])
 mark-flushed [] e m at best t = rw t (omega arith)
-mark-flushed (h ∷ H) e m at best t = mark-more (suc at) (length (H ++ e ∷ [])) at (mark-flushed H e m (suc at) (cond (is_flushed h.reply && leb h.to m) (suc at) best) t) refl
+mark-flushed (h ∷ H) e m at best t = mark-more (suc at) (length (H ++ e ∷ [])) at
+    (mark-flushed H e m (suc at) (cond (is_flushed h.reply && leb h.to m) (suc at) best) t) refl
   where
     mark-more : {n : ℕ} (a l at : ℕ) → n ≡ a + l → a ≡ suc at → n ≡ at + suc l
     mark-more a l at e f = omega arith
@@ -44,8 +48,10 @@ files-stay F = λ j i. same i (F i) j
     same i None = refl
     same i (Some f) = refl
 
-module _ (B : Image) (H : List Entry1) (M : Image) (S start s caller i g : ℕ) (old new : DiskState) (is_old : IsDisk old) (is_new : IsDisk new) (tells : IsTrue old.tells)
-    (st : Stage B H M S start s old) (f : Flushes old new (Ok tt)) (settled : IsSettled new) (mountable : is_mountable old.now ≡ true) (ok : NoWriteFault H) (rest : SteadyRest B H old.now) where
+module _ (B : Image) (H : List Entry1) (M : Image) (S start s caller i g : ℕ) (old new : DiskState) (is_old : IsDisk old) (is_new : IsDisk new)
+    (tells : IsTrue old.tells)
+    (st : Stage B H M S start s old) (f : Flushes old new (Ok tt)) (settled : IsSettled new) (mountable : is_mountable old.now ≡ true) (ok : NoWriteFault H)
+    (rest : SteadyRest B H old.now) where
   F : Files
   F = files_along (agreed_files B) H
 
@@ -69,7 +75,8 @@ module _ (B : Image) (H : List Entry1) (M : Image) (S start s caller i g : ℕ) 
 
   quarters : (super_at old.now).inodes % 4 ≡ 0
   quarters =
-      let same = supers M old.now (law-images (mark_at B H (old.moment + 1) M S) old.may old.now st.ready.survives.mark st.ready.survives.explained pick).reads.super in
+      let same = supers M old.now (law-images (mark_at B H (old.moment + 1) M S)
+      old.may old.now st.ready.survives.mark st.ready.survives.explained pick).reads.super in
       subst (λ (q : SuperBlock). q.inodes % 4 ≡ 0) (sym same) st.ready.survives.mark.quarters
 
   files-along : files_along (agreed_files B) (H ++ flush_entry caller old new i g ∷ []) ≡ files_along (agreed_files B) H
@@ -96,27 +103,39 @@ module _ (B : Image) (H : List Entry1) (M : Image) (S start s caller i g : ℕ) 
   all-through : (m : ℕ) → new.moment ≤ m → mark_at B (H ++ flush_entry caller old new i g ∷ []) m old.now s ≡ new_mark B H old.now s
   all-through m le =
       let t : leb new.moment m ≡ true = le-test new.moment m le in
-      let place : mark (H ++ flush_entry caller old new i g ∷ []) m ≡ length (H ++ flush_entry caller old new i g ∷ []) = let r = mark-flushed H (flush_entry caller old new i g) m 0 0 t in omega (arith, r) in
-      mark-new B (H ++ flush_entry caller old new i g ∷ []) m old.now s place (begun-append H (flush_entry caller old new i g) old.moment m (let q = f.moment in omega arith) st.lasts.by (let q = f.moment in omega arith)) ∙ new-same
+      let place : mark (H ++ flush_entry caller old new i g ∷ []) m ≡ length (H ++ flush_entry caller old new i g ∷ []) = let r =
+      mark-flushed H (flush_entry caller old new i g) m 0 0 t in omega (arith, r) in
+      mark-new B (H ++ flush_entry caller old new i g ∷ []) m old.now s place
+      (begun-append H (flush_entry caller old new i g) old.moment m (let q = f.moment in omega arith) st.lasts.by (let q = f.moment in omega arith))
+      ∙ new-same
 
   fresh-mark : IsMark (new_mark B H old.now s)
-  fresh-mark = flushed B H old.now s ok st.ready.files rest st.ready.positive quarters (live-below old.now s (super_at old.now).blocks now-below (le_refl (super_at old.now).blocks) (let g = geometry in g.table)) (tag-below old.now s (super_at old.now).blocks now-below (le_refl (super_at old.now).blocks))
+  fresh-mark = flushed B H old.now s ok st.ready.files rest st.ready.positive quarters
+      (live-below old.now s (super_at old.now).blocks now-below (le_refl (super_at old.now).blocks) (let g = geometry in g.table))
+      (tag-below old.now s (super_at old.now).blocks now-below (le_refl (super_at old.now).blocks))
 
   mark-again : (m : ℕ) → new.moment ≤ m → IsMark (mark_at B (H ++ flush_entry caller old new i g ∷ []) m old.now s)
   mark-again m le = subst (λ (q : Mark). IsMark q) (sym (all-through m le)) fresh-mark
 
   explained-again : (m : ℕ) → new.moment ≤ m → AllExplained (mark_at B (H ++ flush_entry caller old new i g ∷ []) m old.now s) new.may
-  explained-again m le = law-flush (mark_at B (H ++ flush_entry caller old new i g ∷ []) m old.now s) new.may (mark-again m le) (λ b c has. elim (cases_lt b new.blocks) [
-    | inl lt ↦ settled b c lt has ∙ ap (λ (X : Image). cell_at X b) f.now
-    | inr past ↦ absurd (is_new.beyond b c past has)
-  ])
+  explained-again m le = law-flush (mark_at B (H ++ flush_entry caller old new i g ∷ []) m old.now s) new.may (mark-again m le)
+      (λ b c has. elim (cases_lt b new.blocks) [
+        | inl lt ↦ settled b c lt has ∙ ap (λ (X : Image). cell_at X b) f.now
+        | inr past ↦ absurd (is_new.beyond b c past has)
+      ])
 
   pub flush-survives : CellsSurvive new (mark_at B (H ++ flush_entry caller old new i g ∷ []) (new.moment + 1) old.now s)
-  flush-survives = record { mark = mark-again (new.moment + 1) (omega arith); size = is_old.whole tells ∙ sym f.disk.blocks; explained = explained-again (new.moment + 1) (omega arith) }
+  flush-survives = record {
+    mark = mark-again (new.moment + 1) (omega arith);
+    size = is_old.whole tells ∙ sym f.disk.blocks;
+    explained =
+        explained-again (new.moment + 1) (omega arith);
+  }
 
   images : (m : ℕ) (X : Image) → start ≤ m → m ≤ new.moment → new.left m X → IsAllowed B (H ++ flush_entry caller old new i g ∷ []) m X
   images m X low high left = elim (cases_lt m (old.moment + 1)) [
-    | inl before ↦ law-later B H (flush_entry caller old new i g ∷ []) m X ((omega arith), (λ e. let q = f.moment in omega arith), tt) (st.lasts.images.each m X low (omega arith) (f.past.no_more m X (omega arith) left))
+    | inl before ↦ law-later B H (flush_entry caller old new i g ∷ []) m X ((omega arith), (λ e. let q = f.moment in omega arith), tt)
+        (st.lasts.images.each m X low (omega arith) (f.past.no_more m X (omega arith) left))
     | inr after ↦ elim (cases_lt m new.moment) [
       | inl mid ↦ during-image (let q = f.moment in omega arith)
       | inr top ↦ end-image (omega arith)
@@ -131,10 +150,22 @@ module _ (B : Image) (H : List Entry1) (M : Image) (S start s caller i g : ℕ) 
           let u : IsUnderWay H (flush_entry caller old new i g) (old.moment + 1) m = record {
             all_begun = all-begun H old.moment (old.moment + 1) (omega arith) st.lasts.by;
             begun_now = begun-append H (flush_entry caller old new i g) old.moment m (omega arith) st.lasts.by (omega arith);
-            same_mark = mark-plain H (flush_entry caller old new i g) m 0 0 late ∙ same-marks H old.moment (old.moment + 1) m 0 0 (omega arith) (omega arith) st.lasts.by;
+            same_mark = mark-plain H (flush_entry caller old new i g) m 0 0 late
+                ∙ same-marks H old.moment (old.moment + 1) m 0 0 (omega arith) (omega arith) st.lasts.by;
             mark_within = (let w = mark-within H (old.moment + 1) 0 0 (omega arith) in omega (arith, w));
           } in
-          (step-allowed B H (flush_entry caller old new i g) (old.moment + 1) m M S old.may old.may old.now (record { under_way = u; mark = st.ready.survives.mark; size = st.lasts.size; super = st.lasts.first; explained = st.ready.survives.explained; pick = pick; files = st.ready.files; proper = λ b c has. inl has })).allowed X
+          (step-allowed B H (flush_entry caller old new i g) (old.moment + 1) m M S old.may old.may old.now
+          (record {
+            under_way = u;
+            mark = st.ready.survives.mark;
+            size = st.lasts.size;
+            super = st.lasts.first;
+            explained =
+                st.ready.survives.explained;
+            pick = pick;
+            files = st.ready.files;
+            proper = λ b c has. inl has;
+          })).allowed X
           (record { len = p.len ∙ sym st.ready.survives.size; each = λ b lt. p.each b (let q = st.ready.survives.size in omega (arith, lt, q)) })
 
       end-image : m ≡ new.moment → IsAllowed B (H ++ flush_entry caller old new i g ∷ []) m X
@@ -143,7 +174,8 @@ module _ (B : Image) (H : List Entry1) (M : Image) (S start s caller i g : ℕ) 
           let p = is_new.at_rest X (subst L e left) in
           let w = is_old.whole tells in
           let same = f.disk.blocks in
-          allowed-image B (H ++ flush_entry caller old new i g ∷ []) m old.now s new.may X (mark-again m (omega arith)) size first (explained-again m (omega arith))
+          allowed-image B (H ++ flush_entry caller old new i g ∷ []) m old.now s new.may X (mark-again m (omega arith)) size first
+          (explained-again m (omega arith))
           (record { len = p.len ∙ same ∙ sym w; each = λ b lt. p.each b (omega (arith, lt, w, same)) })
 
   -- after a flush the next step may begin, from the new mark
@@ -152,12 +184,14 @@ module _ (B : Image) (H : List Entry1) (M : Image) (S start s caller i g : ℕ) 
     lasts = record {
       size = size;
       first = first;
-      by = by-append H (flush_entry caller old new i g) new.moment (by-more H old.moment new.moment (let q = f.moment in omega arith) st.lasts.by) (let q = f.moment in omega arith) (omega arith);
+      by = by-append H (flush_entry caller old new i g) new.moment (by-more H old.moment new.moment (let q = f.moment in omega arith) st.lasts.by) (let q =
+          f.moment in omega arith) (omega arith);
       survives = flush-survives;
       images = record { begun = (let a = st.lasts.images.begun in let q = f.moment in omega arith); each = images };
     };
     ready = record {
-      files = subst (λ (E : Files). FilesMatch E new.now) (sym files-along) (subst (λ (X : Image). FilesMatch (files_along (agreed_files B) H) X) (sym f.now) st.ready.files);
+      files = subst (λ (E : Files). FilesMatch E new.now) (sym files-along)
+          (subst (λ (X : Image). FilesMatch (files_along (agreed_files B) H) X) (sym f.now) st.ready.files);
       survives = flush-survives;
       positive = st.ready.positive;
       fresh = λ b c lt has.
@@ -167,4 +201,5 @@ module _ (B : Image) (H : List Entry1) (M : Image) (S start s caller i g : ℕ) 
   }
 
 pub law-flush-stage : (old new : DiskState) → LawFlushStage old new
-law-flush-stage old new B H M S start s caller i g p = flush-stage B H M S start s caller i g old new p.before p.after p.tells p.stage p.flushes p.flushes.settled p.mountable p.no_fault p.rest
+law-flush-stage old new B H M S start s caller i g p = flush-stage B H M S start s caller i g old new p.before p.after p.tells p.stage p.flushes
+    p.flushes.settled p.mountable p.no_fault p.rest

@@ -1,5 +1,6 @@
 -- A flush makes a new mark.
-use Rattle.std.proofs.Common.{◌≡◌, ℕ, ◌%◌, ◌<◌, inl, inr, Bool, true, false, eqb, ◌&&◌, List, [], ◌∷◌, Some, is_some, refl, sym, ap, ◌∙◌, subst, subst₂, arith, Contains, eqb-true, eq-eqb}
+use Rattle.std.proofs.Common.{◌≡◌, ℕ, ◌%◌, ◌<◌, inl, inr, Bool, true, false, eqb, ◌&&◌, List, [], ◌∷◌, Some, is_some, refl, sym, ap, ◌∙◌, subst, subst₂}
+use Rattle.std.proofs.Common.{arith, Contains, eqb-true, eq-eqb}
 use Rattle.nofs_ptrs.specs.Paths.{slot_limit}
 use Rattle.nofs_law_images.specs.Reasons.{IsMark}
 use Rattle.nofs_model.proofs.Find.{and-both}
@@ -17,7 +18,8 @@ use Rattle.nofs_model.specs.declared.value.Value.{Value}
 only : {A : Type 0} → (xs : List A) (v : A) → xs ≡ v ∷ [] → Contains xs v
 only xs v e = subst (λ (ys : List _). Contains ys v) (sym e) (0, omega arith, refl)
 
-module _ (B : Image) (H : List Entry1) (X : Image) (stamps : ℕ) (ok : NoWriteFault H) (match : FilesMatch (files_along (agreed_files B) H) X) (rest : SteadyRest B H X) where
+module _ (B : Image) (H : List Entry1) (X : Image) (stamps : ℕ) (ok : NoWriteFault H) (match : FilesMatch (files_along (agreed_files B) H) X)
+    (rest : SteadyRest B H X) where
   F : Files
   F = files_along (agreed_files B) H
 
@@ -41,12 +43,14 @@ module _ (B : Image) (H : List Entry1) (X : Image) (stamps : ℕ) (ok : NoWriteF
       go true ea =
           let m = matched-agreed (files_along (agreed_files B) H) X i match live ea in
           let e0 : last_in (accepted_of B H i m.file.generation k) ≡ m.file.values k ∷ [] = now.values i m.file m.is k in
-          let e1 : last_in (accepted_of B H i (inode X i).generation k) ≡ value X i k ∷ [] = subst₂ (λ (g : ℕ) (v : Value). last_in (accepted_of B H i g k) ≡ v ∷ []) m.generation (m.values k lt) e0 in
+          let e1 : last_in (accepted_of B H i (inode X i).generation k) ≡ value X i k ∷ [] =
+          subst₂ (λ (g : ℕ) (v : Value). last_in (accepted_of B H i g k) ≡ v ∷ []) m.generation (m.values k lt) e0 in
           inr (only (last_in (accepted_of B H i (inode X i).generation k)) (value X i k) e1)
       go false ea =
           let u = rest i live ea in
           elim (u.values k lt) [
-            | inl same ↦ inr (only (last_in (accepted_of B H i (inode X i).generation k)) (value X i k) (base-value i u k ∙ ap (λ (v : Value). v ∷ []) (sym same)))
+            | inl same ↦ inr (only (last_in (accepted_of B H i (inode X i).generation k)) (value X i k)
+                (base-value i u k ∙ ap (λ (v : Value). v ∷ []) (sym same)))
             | inr lost ↦ inl lost
           ]
 
@@ -62,7 +66,8 @@ module _ (B : Image) (H : List Entry1) (X : Image) (stamps : ℕ) (ok : NoWriteF
           let u = rest i live ea in
           only (last_in (accepted_meta_of B H i (inode X i).generation)) (meta_of (inode X i)) (base-meta i u ∙ ap (λ (v : Meta). v ∷ []) (sym u.meta))
 
-  stands-file : (i g : ℕ) → (is_some (files_along (agreed_files B) H i) && (eqb (generation_of (files_along (agreed_files B) H) i) g)) ≡ true → (m : Matched (files_along (agreed_files B) H) X i) × (m.file.generation ≡ g)
+  stands-file : (i g : ℕ) → (is_some (files_along (agreed_files B) H i) && (eqb (generation_of (files_along (agreed_files B) H) i) g)) ≡ true
+      → (m : Matched (files_along (agreed_files B) H) X i) × (m.file.generation ≡ g)
   stands-file i g e =
       let a = and-both (is_some (files_along (agreed_files B) H i)) (eqb (generation_of (files_along (agreed_files B) H) i) g) e in
       let m = matched-file (files_along (agreed_files B) H) X i match a.0 in
@@ -81,6 +86,7 @@ module _ (B : Image) (H : List Entry1) (X : Image) (stamps : ℕ) (ok : NoWriteF
     stood_generation = λ i g e. let s = stands-file i g e in sym s.0.generation ∙ s.1;
     stood_values = λ i g k e lt.
         let s = stands-file i g e in
-        only (last_in (accepted_of B H i g k)) (value X i k) (subst₂ (λ (q : ℕ) (v : Value). last_in (accepted_of B H i q k) ≡ v ∷ []) s.1 (s.0.values k lt) (now.values i s.0.file s.0.is k));
+        only (last_in (accepted_of B H i g k)) (value X i k)
+        (subst₂ (λ (q : ℕ) (v : Value). last_in (accepted_of B H i q k) ≡ v ∷ []) s.1 (s.0.values k lt) (now.values i s.0.file s.0.is k));
     below = below;
   }

@@ -34,10 +34,18 @@ mark-during B H e l m image stamps u = λ j. record {
 
 -- each image that picks from explained cells is allowed
 pub allowed-image : (B : Image) (H : List Entry1) (m : ℕ) (image : Image) (stamps : ℕ) (may : ℕ → List Cell) (X : Image)
-    → IsMark (mark_at B H m image stamps) → length image ≡ length B → cell_at image 0 ≡ cell_at B 0 → AllExplained (mark_at B H m image stamps) may → Picks may (length image) X → IsAllowed B H m X
+    → IsMark (mark_at B H m image stamps) → length image ≡ length B → cell_at image 0 ≡ cell_at B 0 → AllExplained (mark_at B H m image stamps) may
+    → Picks may (length image) X → IsAllowed B H m X
 allowed-image B H m image stamps may X h size first all picks =
     let s = law-images (mark_at B H m image stamps) may X h all picks in
-    let v : HasVersions B H m X = record { super = s.reads.super ∙ first; metas = s.reads.metas; values = s.reads.values; records = s.keeps.records; sure = s.keeps.values } in
+    let v : HasVersions B H m X = record {
+      super = s.reads.super ∙ first;
+      metas = s.reads.metas;
+      values = s.reads.values;
+      records = s.keeps.records;
+      sure =
+          s.keeps.values;
+    } in
     record { len = picks.len ∙ size; versions = v; names = names-stay B H m X v }
 
 -- the pointers of what is sure are the same in every image
@@ -54,7 +62,8 @@ steady-pointers B H m image stamps may X h all px i g k path Y picks st lt sure 
 -- A step: where each cell that it may leave was there before it, or is a proper write, every image is allowed with the step's entry under way, and steady.
 pub step-allowed : LawStep
 step-allowed B H e l m image stamps before after X p =
-    let tracked : (i g : ℕ) → stands B H l i g ≡ true → agreed (files_in X) i ≡ true = λ i g s. (matched-file (files_along (agreed_files B) H) X i p.files (stands-now B H l i g p.under_way.all_begun s)).agreed in
+    let tracked : (i g : ℕ) → stands B H l i g ≡ true → agreed (files_in X) i ≡ true =
+    λ i g s. (matched-file (files_along (agreed_files B) H) X i p.files (stands-now B H l i g p.under_way.all_begun s)).agreed in
     let r = law-moment (mark_at B H l image stamps) (given_by (files_along (agreed_files B) H) e) X before after p.mark p.pick tracked p.explained p.proper in
     let d = mark-during B H e l m image stamps p.under_way in
     let mark' : IsMark (mark_at B (H ++ e ∷ []) m image stamps) = subst IsMark (sym d) r.0 in

@@ -1,7 +1,8 @@
 -- Entries that come later change nothing of what is allowed at a moment.
 use Rattle.nofs_machine.specs.Allowed.{HasVersions}
 use Rattle.nofs_machine.proofs.Names.{names-stay}
-use Rattle.std.proofs.Common.{if◌then◌else◌, ◌≡◌, ℕ, suc, ◌+◌, ◌<◌, ◌≤◌, Bool, true, false, cond, ltb, leb, ◌&&◌, List, [], ◌∷◌, ◌++◌, length, take, drop, refl, sym, ap, ◌∙◌, subst, arith, Contains, le-ltb, is_some, eqb, not}
+use Rattle.std.proofs.Common.{if◌then◌else◌, ◌≡◌, ℕ, suc, ◌+◌, ◌<◌, ◌≤◌, Bool, true, false, cond, ltb, leb, ◌&&◌, List, [], ◌∷◌, ◌++◌, length, take, drop}
+use Rattle.std.proofs.Common.{refl, sym, ap, ◌∙◌, subst, arith, Contains, le-ltb, is_some, eqb, not}
 use Rattle.std.specs.List.{list_any}
 use Rattle.std.proofs.lemmas.List.{take-append-le}
 use Rattle.std.proofs.lemmas.Bool.Decides.{nat_tests}
@@ -9,7 +10,8 @@ use Rattle.nofs_crashlaw.specs.Laws.{AllLater, LawLater}
 use Rattle.nofs_machine.specs.Meta.{Meta, meta_of, MayRead, is_gone}
 use Rattle.nofs_machine.specs.declared.history.Entry1.{Entry1}
 use Rattle.nofs_machine.specs.Machine.{generation_of}
-use Rattle.nofs_machine.specs.History.{agreed_files, files_along, values_given, metas_given, accepted_of, accepted_meta_of, last_in, begun, mark_from, mark, before_mark, since_mark, since, since_meta, stands, is_flushed}
+use Rattle.nofs_machine.specs.History.{agreed_files, files_along, values_given, metas_given, accepted_of, accepted_meta_of, last_in, begun, mark_from, mark}
+use Rattle.nofs_machine.specs.History.{before_mark, since_mark, since, since_meta, stands, is_flushed}
 use Rattle.nofs_model.specs.Image.{Image, inode, value}
 use Rattle.nofs_model.specs.declared.value.Value.{Value}
 
@@ -28,7 +30,8 @@ mark-past (e ∷ es) m at best l = go (is_flushed e.reply) refl (mark-past es m 
     late : is_flushed e.reply ≡ true → leb e.to m ≡ false
     late f = let h = l.1 f in later-leb e.to m h
 
-    go : (b : Bool) → is_flushed e.reply ≡ b → mark_from es m (suc at) best ≡ best → mark_from es m (suc at) (cond (is_flushed e.reply && leb e.to m) (suc at) best) ≡ best
+    go : (b : Bool) → is_flushed e.reply ≡ b → mark_from es m (suc at) best ≡ best
+        → mark_from es m (suc at) (cond (is_flushed e.reply && leb e.to m) (suc at) best) ≡ best
     go true f ih = rw (late f, f) ih
     go false f ih = rw f ih
 
@@ -74,7 +77,9 @@ versions-later B H es m X l a = record {
     metas-same i g = λ j. last_in (accepted_meta_of B (before-same j) i g) ++ metas_given (files_along (agreed_files B) (before-same j)) (after-same j) i g
 
     stands-same : (i g : ℕ) → stands B (H ++ es) m i g ≡ stands B H m i g
-    stands-same i g = λ j. is_some (files_along (agreed_files B) (before-same j) i) && (eqb (generation_of (files_along (agreed_files B) (before-same j)) i) g && not (list_any is_gone (metas_given (files_along (agreed_files B) (before-same j)) (after-same j) i g)))
+    stands-same i g = λ j. is_some (files_along (agreed_files B) (before-same j) i)
+        && (eqb (generation_of (files_along (agreed_files B) (before-same j)) i) g
+        && not (list_any is_gone (metas_given (files_along (agreed_files B) (before-same j)) (after-same j) i g)))
 
 pub law-later : LawLater
 law-later B H es m X l a =

@@ -1,5 +1,6 @@
 -- A history with one more entry that has begun gives what the history gave, and what the entry gives.
-use Rattle.std.proofs.Common.{◌≡◌, ◌≢◌, ℕ, Bool, true, false, cond, eqb, ◌&&◌, ◌||◌, not, List, [], ◌∷◌, ◌++◌, take, drop, Option, Some, None, is_some, option_to_list, refl, sym, ap, ◌∙◌, subst, append_assoc, append-nil, take-append-drop, eqb-true, eq-eqb}
+use Rattle.std.proofs.Common.{◌≡◌, ◌≢◌, ℕ, Bool, true, false, cond, eqb, ◌&&◌, ◌||◌, not, List, [], ◌∷◌, ◌++◌, take, drop, Option, Some, None, is_some}
+use Rattle.std.proofs.Common.{option_to_list, refl, sym, ap, ◌∙◌, subst, append_assoc, append-nil, take-append-drop, eqb-true, eq-eqb}
 use Rattle.std.specs.List.{list_any}
 use Rattle.std.proofs.lemmas.List.{take-append-le, drop-append-le}
 use Rattle.std.proofs.lemmas.List.Folds.{list_any-append}
@@ -10,8 +11,10 @@ use Rattle.nofs_model.proofs.Find.{and-both}
 use Rattle.nofs_machine.proofs.Lives.{values-append, metas-append, along-append}
 use Rattle.nofs_machine.specs.Meta.{Meta, Gone, Is, is_gone}
 use Rattle.nofs_machine.specs.declared.history.Entry1.{Entry1}
-use Rattle.nofs_machine.specs.Machine.{Given, gives, given_by, files_by, nothing, generation_of, filled, after_meta, born_file, new_file, file_after, files_after, is_refused, is_write_fault}
-use Rattle.nofs_machine.specs.History.{agreed_files, files_along, values_given, metas_given, accepted_of, accepted_meta_of, last_in, begun, mark, before_mark, since_mark, files_at_mark, since, since_meta, stands}
+use Rattle.nofs_machine.specs.Machine.{Given, gives, given_by, files_by, nothing, generation_of, filled, after_meta, born_file, new_file, file_after}
+use Rattle.nofs_machine.specs.Machine.{files_after, is_refused, is_write_fault}
+use Rattle.nofs_machine.specs.History.{agreed_files, files_along, values_given, metas_given, accepted_of, accepted_meta_of, last_in, begun, mark, before_mark}
+use Rattle.nofs_machine.specs.History.{since_mark, files_at_mark, since, since_meta, stands}
 use Rattle.nofs_machine.specs.Marks.{IsUnderWay}
 use Rattle.nofs_model.specs.Image.{Image, FileState, Files}
 use Rattle.nofs_model.specs.declared.value.Value.{Value}
@@ -50,56 +53,86 @@ module _ (B : Image) (H : List Entry1) (e : Entry1) (l m : ℕ) (u : IsUnderWay 
   now = files_along (agreed_files B) H
 
   -- each slot has what it had, and what the entry gives
-  pub since-grows : (i g k : ℕ) → since B (H ++ e ∷ []) m i g k ≡ since B H l i g k ++ option_to_list ((given_by (files_along (agreed_files B) H) e).slots i g k)
+  pub since-grows : (i g k : ℕ) → since B (H ++ e ∷ []) m i g k ≡ since B H l i g k ++ option_to_list
+      ((given_by (files_along (agreed_files B) H) e).slots i g k)
   since-grows i g k =
-      let a : since B (H ++ e ∷ []) m i g k ≡ last_in (accepted_of B (before_mark H l) i g k) ++ values_given (files_at_mark B H l) (since_mark H l ++ e ∷ []) i g k =
+      let a : since B (H ++ e ∷ []) m i g k ≡ last_in (accepted_of B (before_mark H l) i g k) ++ values_given (files_at_mark B H l)
+      (since_mark H l ++ e ∷ []) i g k =
       ap₂' (λ (x y : List Entry1). last_in (accepted_of B x i g k) ++ values_given (files_along (agreed_files B) x) y i g k) before-same since-more in
-      let b : values_given (files_at_mark B H l) (since_mark H l ++ e ∷ []) i g k ≡ values_given (files_at_mark B H l) (since_mark H l) i g k ++ option_to_list ((given_by (files_along (agreed_files B) H) e).slots i g k) =
+      let b : values_given (files_at_mark B H l) (since_mark H l ++ e ∷ []) i g k ≡ values_given (files_at_mark B H l) (since_mark H l)
+      i g k ++ option_to_list ((given_by (files_along (agreed_files B) H) e).slots i g k) =
       values-append (files_at_mark B H l) (since_mark H l) (e ∷ []) i g k
       ∙ ap (λ (vs : List Value). values_given (files_at_mark B H l) (since_mark H l) i g k ++ vs)
       (append-nil (option_to_list ((given_by (files_along (files_at_mark B H l) (since_mark H l)) e).slots i g k))
       ∙ ap (λ (F : Files). option_to_list ((given_by F e).slots i g k)) files-now) in
       a ∙ ap (λ (vs : List Value). last_in (accepted_of B (before_mark H l) i g k) ++ vs) b
-      ∙ sym (append_assoc (last_in (accepted_of B (before_mark H l) i g k)) (values_given (files_at_mark B H l) (since_mark H l) i g k) (option_to_list ((given_by (files_along (agreed_files B) H) e).slots i g k)))
+      ∙ sym (append_assoc (last_in (accepted_of B (before_mark H l) i g k)) (values_given (files_at_mark B H l) (since_mark H l) i g k)
+      (option_to_list ((given_by (files_along (agreed_files B) H) e).slots i g k)))
     where
       ap₂' : (f : List Entry1 → List Entry1 → List Value) {x y u v : List Entry1} → x ≡ y → u ≡ v → f x u ≡ f y v
       ap₂' f p q = λ j. f (p j) (q j)
 
-  later : (i g : ℕ) → metas_given (files_at_mark B H l) (since_mark H l ++ e ∷ []) i g ≡ metas_given (files_at_mark B H l) (since_mark H l) i g ++ option_to_list ((given_by (files_along (agreed_files B) H) e).metas i g)
+  later : (i g : ℕ) → metas_given (files_at_mark B H l) (since_mark H l ++ e ∷ []) i g ≡ metas_given (files_at_mark B H l) (since_mark H l)
+      i g ++ option_to_list ((given_by (files_along (agreed_files B) H) e).metas i g)
   later i g =
       metas-append (files_at_mark B H l) (since_mark H l) (e ∷ []) i g
       ∙ ap (λ (vs : List Meta). metas_given (files_at_mark B H l) (since_mark H l) i g ++ vs)
       (append-nil (option_to_list ((given_by (files_along (files_at_mark B H l) (since_mark H l)) e).metas i g))
       ∙ ap (λ (F : Files). option_to_list ((given_by F e).metas i g)) files-now)
 
-  pub metas-grow : (i g : ℕ) → since_meta B (H ++ e ∷ []) m i g ≡ since_meta B H l i g ++ option_to_list ((given_by (files_along (agreed_files B) H) e).metas i g)
+  pub metas-grow : (i g : ℕ) → since_meta B (H ++ e ∷ []) m i g ≡ since_meta B H l i g ++ option_to_list
+      ((given_by (files_along (agreed_files B) H) e).metas i g)
   metas-grow i g =
-      let a : since_meta B (H ++ e ∷ []) m i g ≡ last_in (accepted_meta_of B (before_mark H l) i g) ++ metas_given (files_at_mark B H l) (since_mark H l ++ e ∷ []) i g =
+      let a : since_meta B (H ++ e ∷ []) m i g ≡ last_in (accepted_meta_of B (before_mark H l) i g) ++ metas_given (files_at_mark B H l)
+      (since_mark H l ++ e ∷ []) i g =
       (λ j. last_in (accepted_meta_of B (before-same j) i g) ++ metas_given (files_along (agreed_files B) (before-same j)) (since-more j) i g) in
       a ∙ ap (λ (vs : List Meta). last_in (accepted_meta_of B (before_mark H l) i g) ++ vs) (later i g)
-      ∙ sym (append_assoc (last_in (accepted_meta_of B (before_mark H l) i g)) (metas_given (files_at_mark B H l) (since_mark H l) i g) (option_to_list ((given_by (files_along (agreed_files B) H) e).metas i g)))
+      ∙ sym (append_assoc (last_in (accepted_meta_of B (before_mark H l) i g)) (metas_given (files_at_mark B H l) (since_mark H l) i g)
+      (option_to_list ((given_by (files_along (agreed_files B) H) e).metas i g)))
 
-  pub stands-shrinks : (i g : ℕ) → stands B (H ++ e ∷ []) m i g ≡ (stands B H l i g && not (is_removal ((given_by (files_along (agreed_files B) H) e).metas i g)))
+  pub stands-shrinks : (i g : ℕ) → stands B (H ++ e ∷ []) m i g ≡
+      (stands B H l i g && not (is_removal ((given_by (files_along (agreed_files B) H) e).metas i g)))
   stands-shrinks i g =
-      let a : stands B (H ++ e ∷ []) m i g ≡ (is_some (files_at_mark B H l i) && (eqb (generation_of (files_at_mark B H l) i) g && not (list_any is_gone (metas_given (files_at_mark B H l) (since_mark H l ++ e ∷ []) i g)))) =
-      (λ j. is_some (files_along (agreed_files B) (before-same j) i) && (eqb (generation_of (files_along (agreed_files B) (before-same j)) i) g && not (list_any is_gone (metas_given (files_along (agreed_files B) (before-same j)) (since-more j) i g)))) in
-      let b : list_any is_gone (metas_given (files_at_mark B H l) (since_mark H l ++ e ∷ []) i g) ≡ (list_any is_gone (metas_given (files_at_mark B H l) (since_mark H l) i g) || is_removal ((given_by (files_along (agreed_files B) H) e).metas i g)) =
+      let a : stands B (H ++ e ∷ []) m i g ≡ (is_some (files_at_mark B H l i)
+      && (eqb (generation_of (files_at_mark B H l) i) g && not (list_any is_gone (metas_given (files_at_mark B H l) (since_mark H l ++ e ∷ []) i g)))) =
+      (λ j. is_some (files_along (agreed_files B) (before-same j) i)
+      && (eqb (generation_of (files_along (agreed_files B) (before-same j)) i) g
+      && not (list_any is_gone (metas_given (files_along (agreed_files B) (before-same j)) (since-more j) i g)))) in
+      let b : list_any is_gone (metas_given (files_at_mark B H l) (since_mark H l ++ e ∷ []) i g) ≡
+      (list_any is_gone (metas_given (files_at_mark B H l) (since_mark H l) i g) || is_removal ((given_by (files_along (agreed_files B) H) e).metas i g)) =
       ap (λ (vs : List Meta). list_any is_gone vs) (later i g)
-      ∙ list_any-append is_gone (metas_given (files_at_mark B H l) (since_mark H l) i g) (option_to_list ((given_by (files_along (agreed_files B) H) e).metas i g))
-      ∙ ap (λ (t : Bool). list_any is_gone (metas_given (files_at_mark B H l) (since_mark H l) i g) || t) (list-gone ((given_by (files_along (agreed_files B) H) e).metas i g)) in
+      ∙ list_any-append is_gone (metas_given (files_at_mark B H l) (since_mark H l) i g)
+      (option_to_list ((given_by (files_along (agreed_files B) H) e).metas i g))
+      ∙ ap (λ (t : Bool). list_any is_gone (metas_given (files_at_mark B H l) (since_mark H l) i g) || t)
+      (list-gone ((given_by (files_along (agreed_files B) H) e).metas i g)) in
       a ∙ ap (λ (t : Bool). is_some (files_at_mark B H l i) && (eqb (generation_of (files_at_mark B H l) i) g && not t)) b
-      ∙ shuffle (is_some (files_at_mark B H l i)) (eqb (generation_of (files_at_mark B H l) i) g) (list_any is_gone (metas_given (files_at_mark B H l) (since_mark H l) i g)) (is_removal ((given_by (files_along (agreed_files B) H) e).metas i g))
+      ∙ shuffle (is_some (files_at_mark B H l i)) (eqb (generation_of (files_at_mark B H l) i) g)
+      (list_any is_gone (metas_given (files_at_mark B H l) (since_mark H l) i g)) (is_removal ((given_by (files_along (agreed_files B) H) e).metas i g))
 
 -- What stands is in the machine's files
 
 -- a step leaves a generation that it does not remove
-pub stays-given : (F : Files) (given : Given) (i : ℕ) (f : FileState) → IsBirth given → F i ≡ Some f → is_removal (given.metas i f.generation) ≡ false → (h : FileState) × (files_after F given i ≡ Some h) × (h.generation ≡ f.generation)
+pub stays-given : (F : Files) (given : Given) (i : ℕ) (f : FileState) → IsBirth given → F i ≡ Some f → is_removal (given.metas i f.generation) ≡ false
+    → (h : FileState) × (files_after F given i ≡ Some h) × (h.generation ≡ f.generation)
 stays-given F given i f birth is keeps = go (given.born i) refl
   where
-    kept : (m : Option Meta) (old : FileState) → is_removal m ≡ false → old.generation ≡ f.generation → (h : FileState) × (after_meta m old ≡ Some h) × (h.generation ≡ f.generation)
+    kept : (m : Option Meta) (old : FileState) → is_removal m ≡ false → old.generation ≡ f.generation
+        → (h : FileState) × (after_meta m old ≡ Some h) × (h.generation ≡ f.generation)
     kept None old k g = (old, refl, g)
     kept (Some Gone) old k g = cc
-    kept (Some (Is kind size links)) old k g = (record { generation = old.generation; kind = kind; size = size; links = links; values = old.values; nodes = old.nodes }, refl, g)
+    kept (Some (Is kind size links)) old k g = (
+      record {
+        generation = old.generation;
+        kind = kind;
+        size = size;
+        links = links;
+        values = old.values;
+        nodes =
+            old.nodes;
+      },
+      refl,
+      g,
+    )
 
     go : (b : Option ℕ) → given.born i ≡ b → (h : FileState) × (file_after given i (born_file (given.born i) (F i)) ≡ Some h) × (h.generation ≡ f.generation)
     go None e =
@@ -112,7 +145,8 @@ stays-given F given i f birth is keeps = go (given.born i) refl
         gone (Some Gone) e k = cc
         gone (Some (Is kind size links)) e k = cc
 
-        born : (g : ℕ) → given.born i ≡ Some g → (t : Bool) → eqb f.generation g ≡ t → (h : FileState) × (file_after given i (born_file (given.born i) (F i)) ≡ Some h) × (h.generation ≡ f.generation)
+        born : (g : ℕ) → given.born i ≡ Some g → (t : Bool) → eqb f.generation g ≡ t
+            → (h : FileState) × (file_after given i (born_file (given.born i) (F i)) ≡ Some h) × (h.generation ≡ f.generation)
         born g e true t =
             let same = eqb-true f.generation g t in
             let m = birth.meta i g e in
@@ -124,20 +158,24 @@ stays-given F given i f birth is keeps = go (given.born i) refl
             let o = birth.others i g f.generation e ne in
             absurd (gone (given.metas i f.generation) o keeps)
 
-stays-event : (F : Files) (e : Entry1) (i : ℕ) (f : FileState) → F i ≡ Some f → is_removal ((given_by F e).metas i f.generation) ≡ false → (h : FileState) × (files_by F e i ≡ Some h) × (h.generation ≡ f.generation)
+stays-event : (F : Files) (e : Entry1) (i : ℕ) (f : FileState) → F i ≡ Some f → is_removal ((given_by F e).metas i f.generation) ≡ false
+    → (h : FileState) × (files_by F e i ≡ Some h) × (h.generation ≡ f.generation)
 stays-event F e i f is none = go (is_refused e.reply) none
   where
-    go : (r : Bool) → is_removal ((cond (not r || is_write_fault e.reply) (gives F e.step e.claims) nothing).metas i f.generation) ≡ false → (h : FileState) × (cond r F (files_after F (gives F e.step e.claims)) i ≡ Some h) × (h.generation ≡ f.generation)
+    go : (r : Bool) → is_removal ((cond (not r || is_write_fault e.reply) (gives F e.step e.claims) nothing).metas i f.generation) ≡ false
+        → (h : FileState) × (cond r F (files_after F (gives F e.step e.claims)) i ≡ Some h) × (h.generation ≡ f.generation)
     go true n = (f, is, refl)
     go false n = stays-given F (gives F e.step e.claims) i f (gives-birth F e.step e.claims) is n
 
-split-gone : (o : Option Meta) (rest : List Meta) → list_any is_gone (option_to_list o ++ rest) ≡ false → (is_removal o ≡ false) × (list_any is_gone rest ≡ false)
+split-gone : (o : Option Meta) (rest : List Meta) → list_any is_gone (option_to_list o ++ rest) ≡ false
+    → (is_removal o ≡ false) × (list_any is_gone rest ≡ false)
 split-gone None rest q = (refl, q)
 split-gone (Some Gone) rest q = cc
 split-gone (Some (Is kind size links)) rest q = (refl, q)
 
 -- what has no removal in these entries is still there after them
-pub stays-along : (es : List Entry1) (F : Files) (i : ℕ) (f : FileState) → F i ≡ Some f → list_any is_gone (metas_given F es i f.generation) ≡ false → (h : FileState) × (files_along F es i ≡ Some h) × (h.generation ≡ f.generation)
+pub stays-along : (es : List Entry1) (F : Files) (i : ℕ) (f : FileState) → F i ≡ Some f → list_any is_gone (metas_given F es i f.generation) ≡ false
+    → (h : FileState) × (files_along F es i ≡ Some h) × (h.generation ≡ f.generation)
 stays-along [] F i f is none = (f, is, refl)
 stays-along (e ∷ es) F i f is none =
     let p = split-gone ((given_by F e).metas i f.generation) (metas_given (files_by F e) es i f.generation) none in
@@ -150,11 +188,14 @@ not-false true e = cc
 not-false false e = refl
 
 -- what stands is in the machine's files now
-pub stands-file-now : (B : Image) (H : List Entry1) (l i g : ℕ) → begun H l ≡ H → stands B H l i g ≡ true → (h : FileState) × (files_along (agreed_files B) H i ≡ Some h) × (h.generation ≡ g)
+pub stands-file-now : (B : Image) (H : List Entry1) (l i g : ℕ) → begun H l ≡ H → stands B H l i g ≡ true
+    → (h : FileState) × (files_along (agreed_files B) H i ≡ Some h) × (h.generation ≡ g)
 stands-file-now B H l i g all s = go (files_at_mark B H l i) refl
   where
-    a : (is_some (files_at_mark B H l i) ≡ true) × ((eqb (generation_of (files_at_mark B H l) i) g && not (list_any is_gone (metas_given (files_at_mark B H l) (since_mark H l) i g))) ≡ true)
-    a = and-both (is_some (files_at_mark B H l i)) (eqb (generation_of (files_at_mark B H l) i) g && not (list_any is_gone (metas_given (files_at_mark B H l) (since_mark H l) i g))) s
+    a : (is_some (files_at_mark B H l i) ≡ true) × ((eqb (generation_of (files_at_mark B H l) i) g
+        && not (list_any is_gone (metas_given (files_at_mark B H l) (since_mark H l) i g))) ≡ true)
+    a = and-both (is_some (files_at_mark B H l i)) (eqb (generation_of (files_at_mark B H l) i) g
+        && not (list_any is_gone (metas_given (files_at_mark B H l) (since_mark H l) i g))) s
 
     b : (eqb (generation_of (files_at_mark B H l) i) g ≡ true) × (not (list_any is_gone (metas_given (files_at_mark B H l) (since_mark H l) i g)) ≡ true)
     b = and-both (eqb (generation_of (files_at_mark B H l) i) g) (not (list_any is_gone (metas_given (files_at_mark B H l) (since_mark H l) i g))) a.1
@@ -175,14 +216,16 @@ stands-file-now B H l i g all s = go (files_at_mark B H l i) refl
     go (Some f) e =
         let eg : f.generation ≡ g = sym (gen-of (files_at_mark B H l) i f e) ∙ eqb-true (generation_of (files_at_mark B H l) i) g b.0 in
         let n = not-false (list_any is_gone (metas_given (files_at_mark B H l) (since_mark H l) i g)) b.1 in
-        let r = stays-along (since_mark H l) (files_at_mark B H l) i f e (subst (λ (q : ℕ). list_any is_gone (metas_given (files_at_mark B H l) (since_mark H l) i q) ≡ false) (sym eg) n) in
+        let r = stays-along (since_mark H l) (files_at_mark B H l) i f e
+        (subst (λ (q : ℕ). list_any is_gone (metas_given (files_at_mark B H l) (since_mark H l) i q) ≡ false) (sym eg) n) in
         (r.0, sym (ap (λ (F : Files). F i) along) ∙ r.1, r.2 ∙ eg)
 
 pub stands-now : (B : Image) (H : List Entry1) (l i g : ℕ) → begun H l ≡ H → stands B H l i g ≡ true → is_some (files_along (agreed_files B) H i) ≡ true
 stands-now B H l i g all s = let r = stands-file-now B H l i g all s in let e = r.1 in rw e refl
 
 -- the premises of Drop and Make on what stands
-pub stands-generation : (B : Image) (H : List Entry1) (l i : ℕ) (h : FileState) → begun H l ≡ H → files_along (agreed_files B) H i ≡ Some h → (q : ℕ) → stands B H l i q ≡ true → h.generation ≡ q
+pub stands-generation : (B : Image) (H : List Entry1) (l i : ℕ) (h : FileState) → begun H l ≡ H → files_along (agreed_files B) H i ≡ Some h → (q : ℕ)
+    → stands B H l i q ≡ true → h.generation ≡ q
 stands-generation B H l i h all is q s =
     let r = stands-file-now B H l i q all s in
     let e = r.1 in

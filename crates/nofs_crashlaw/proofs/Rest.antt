@@ -8,7 +8,8 @@ use Rattle.nofs_model.proofs.Paths.{path_of-slot}
 use Rattle.nofs_law_untouched.proofs.Touching.{one-owner}
 use Rattle.nofs_model.specs.declared.path.PathAnswer.TheVariants as answer
 use Rattle.nofs_model.specs.Cells.{Cell, Tag, Pointer, Record, tag_of, is_null, pointer_at}
-use Rattle.nofs_model.specs.Image.{super_in, Image, cell_at, super_at, is_data_block, inode, value, value_in, Path, InRecord, Under, path_of, tag_for, agrees, judged, find, pointer, record_pointer, IsSlot}
+use Rattle.nofs_model.specs.Image.{super_in, Image, cell_at, super_at, is_data_block, inode, value, value_in, Path, InRecord, Under, path_of, tag_for, agrees}
+use Rattle.nofs_model.specs.Image.{judged, find, pointer, record_pointer, IsSlot}
 use Rattle.nofs_model.specs.declared.value.Value.{Value}
 use Rattle.nofs_model.specs.declared.value.Value.TheVariants.{Lost}
 
@@ -37,7 +38,8 @@ module _ (s : ℕ) (touched : ℕ → Bool) (X Y : Image) (w : Touches s touched
           absurd (omega (arith, le, lt))
 
   -- a block that is written in place is another's
-  not-mine : (a : Path) (x : Pointer) → find X i a ≡ answer.Holds x → ((j : ℕ) × (path : Path) × (y : Pointer) × (touched j ≡ true) × (find X j path ≡ answer.Holds y) × (y.block ≡ x.block)) → ⊥
+  not-mine : (a : Path) (x : Pointer) → find X i a ≡ answer.Holds x
+      → ((j : ℕ) × (path : Path) × (y : Pointer) × (touched j ≡ true) × (find X j path ≡ answer.Holds y) × (y.block ≡ x.block)) → ⊥
   not-mine a x e (j, p, y, t, ey, eb) =
       let o = one-owner X j i p a y x ey e eb in
       let t' : touched i ≡ true = subst (λ (q : ℕ). touched q ≡ true) o.0 t in
@@ -87,7 +89,8 @@ module _ (s : ℕ) (touched : ℕ → Bool) (X Y : Image) (w : Touches s touched
       ]
   same-or-broken (Under a n) slot = under (same-or-broken a slot.2) (find X i a) refl
     where
-      under : (find Y i a ≡ find X i a) ⊎ (find Y i a ≡ answer.Lost) → (f : PathAnswer) → find X i a ≡ f → (find Y i (Under a n) ≡ find X i (Under a n)) ⊎ (find Y i (Under a n) ≡ answer.Lost)
+      under : (find Y i a ≡ find X i a) ⊎ (find Y i a ≡ answer.Lost) → (f : PathAnswer) → find X i a ≡ f
+          → (find Y i (Under a n) ≡ find X i (Under a n)) ⊎ (find Y i (Under a n) ≡ answer.Lost)
       under (inr b) f e = inr (rw (b, find) refl)
       under (inl same) answer.Hole e = let y : find Y i a ≡ answer.Hole = same ∙ e in inl (rw (e, y, find) refl)
       under (inl same) answer.Lost e = let y : find Y i a ≡ answer.Lost = same ∙ e in inl (rw (e, y, find) refl)

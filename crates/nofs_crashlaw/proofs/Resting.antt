@@ -1,6 +1,7 @@
 -- What is live and not agreed stays the base's, as far as it is still there.
 use Rattle.nofs_crashlaw.specs.Laws.{LawRest}
-use Rattle.std.proofs.Common.{◌≡◌, ℕ, ◌⊎◌, inl, inr, Bool, true, false, List, [], ◌∷◌, ◌++◌, Option, Some, None, is_some, option_to_list, refl, sym, ap, ◌∙◌, subst}
+use Rattle.std.proofs.Common.{◌≡◌, ℕ, ◌⊎◌, inl, inr, Bool, true, false, List, [], ◌∷◌, ◌++◌, Option, Some, None, is_some, option_to_list, refl, sym, ap, ◌∙◌}
+use Rattle.std.proofs.Common.{subst}
 use Rattle.nofs_law_untouched.specs.Frames.{OldPointers, Touches}
 use Rattle.nofs_machine.proofs.Lives.{values-append, metas-append}
 use Rattle.nofs_law_untouched.proofs.Matching.{matched-file, matched-agreed}
@@ -34,9 +35,11 @@ rest-stays B H e s touched X Y E rest before after w old owned stays quiet quiet
         let live_x : is_live (inode X i) ≡ true = subst (λ (q : Record). is_live q ≡ true) r live in
         out r live_x (is_some (files_along (agreed_files B) H i)) refl (agreed (files_in X) i) refl
       where
-        out : inode Y i ≡ inode X i → is_live (inode X i) ≡ true → (b : Bool) → is_some (files_along (agreed_files B) H i) ≡ b → (c : Bool) → agreed (files_in X) i ≡ c → Untouched B (H ++ e ∷ []) Y i
+        out : inode Y i ≡ inode X i → is_live (inode X i) ≡ true → (b : Bool) → is_some (files_along (agreed_files B) H i) ≡ b → (c : Bool)
+            → agreed (files_in X) i ≡ c → Untouched B (H ++ e ∷ []) Y i
         out r lx true eb c ec = absurd (not-in (stays i t eb))
-        out r lx false eb true ec = absurd (let m = matched-agreed (files_along (agreed_files B) H) X i before lx ec in some-none (files_along (agreed_files B) H i) m.file m.is eb)
+        out r lx false eb true ec = absurd (let m = matched-agreed (files_along (agreed_files B) H) X i before lx ec in some-none
+            (files_along (agreed_files B) H i) m.file m.is eb)
           where
             some-none : (o : Option FileState) (f : FileState) → o ≡ Some f → is_some o ≡ false → ⊥
             some-none None f p q = cc
@@ -57,7 +60,8 @@ rest-stays B H e s touched X Y E rest before after w old owned stays quiet quiet
               values = λ k lt. value-case k (u.values k lt) (value-or-lost s touched X Y w i t (old i lx) k lt);
             }
           where
-            value-case : (k : ℕ) → (value X i k ≡ value B i k) ⊎ (value X i k ≡ Lost) → (value Y i k ≡ value X i k) ⊎ (value Y i k ≡ Lost) → (value Y i k ≡ value B i k) ⊎ (value Y i k ≡ Lost)
+            value-case : (k : ℕ) → (value X i k ≡ value B i k) ⊎ (value X i k ≡ Lost) → (value Y i k ≡ value X i k) ⊎ (value Y i k ≡ Lost)
+                → (value Y i k ≡ value B i k) ⊎ (value Y i k ≡ Lost)
             value-case k p (inr lost) = inr lost
             value-case k (inl base) (inl same) = inl (same ∙ base)
             value-case k (inr lost) (inl same) = inr (same ∙ lost)

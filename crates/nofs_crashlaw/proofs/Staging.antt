@@ -1,5 +1,6 @@
 -- Any step: where all that it puts on the disk is proper, every image at every moment is allowed.
-use Rattle.std.proofs.Common.{◌≡◌, ℕ, suc, ◌+◌, ◌<◌, ◌≤◌, inl, inr, Bool, true, false, cond, ltb, ltb-true, leb, zero, ◌&&◌, List, [], ◌∷◌, ◌++◌, length, IsTrue, refl, sym, ap, ◌∙◌, subst, subst₂, arith, Contains}
+use Rattle.std.proofs.Common.{◌≡◌, ℕ, suc, ◌+◌, ◌<◌, ◌≤◌, inl, inr, Bool, true, false, cond, ltb, ltb-true, leb, zero, ◌&&◌, List, [], ◌∷◌, ◌++◌, length}
+use Rattle.std.proofs.Common.{IsTrue, refl, sym, ap, ◌∙◌, subst, subst₂, arith, Contains}
 use Rattle.std.proofs.lemmas.Bool.{cases_lt}
 use Rattle.nofs_disk.specs.Disk.{DiskState, IsDisk, Picks, cell_at}
 use Rattle.nofs_disk.specs.Moments.{AtEach}
@@ -67,11 +68,13 @@ begun-append (h ∷ H) e n m lt by low =
     lt-test : (a b : ℕ) → a < b → ltb a b ≡ true
     lt-test a b h = grind arith
 
-pub mark-plain : (H : List Entry1) (e : Entry1) (m at best : ℕ) → (is_flushed e.reply && leb e.to m) ≡ false → mark_from (H ++ e ∷ []) m at best ≡ mark_from H m at best
+pub mark-plain : (H : List Entry1) (e : Entry1) (m at best : ℕ) → (is_flushed e.reply && leb e.to m) ≡ false
+    → mark_from (H ++ e ∷ []) m at best ≡ mark_from H m at best
 mark-plain [] e m at best plain = rw plain refl
 mark-plain (h ∷ H) e m at best plain = mark-plain H e m (suc at) (cond (is_flushed h.reply && leb h.to m) (suc at) best) plain
 
-module _ (B : Image) (H : List Entry1) (e : Entry1) (M : Image) (S start s : ℕ) (old new : DiskState) (is_old : IsDisk old) (tells : IsTrue old.tells) (st : Stage B H M S start s old)
+module _ (B : Image) (H : List Entry1) (e : Entry1) (M : Image) (S start s : ℕ) (old new : DiskState) (is_old : IsDisk old) (tells : IsTrue old.tells)
+    (st : Stage B H M S start s old)
     (from : e.from ≡ old.moment) (to : e.to ≡ new.moment) (plain : is_flushed e.reply ≡ false)
     (adds : Adds (Proper (during (mark_at B H (old.moment + 1) M S) (given_by (files_along (agreed_files B) H) e)) old.now) old new) where
   under-way : (m : ℕ) → old.moment < m → IsUnderWay H e (old.moment + 1) m
@@ -88,17 +91,41 @@ module _ (B : Image) (H : List Entry1) (e : Entry1) (M : Image) (S start s : ℕ
   pub survives-step : CellsSurvive new (mark_at B (H ++ e ∷ []) (new.moment + 1) M S)
   survives-step =
       let u = under-way (new.moment + 1) (let q = adds.later in omega arith) in
-      let r = step-allowed B H e (old.moment + 1) (new.moment + 1) M S old.may new.may old.now (record { under_way = u; mark = st.ready.survives.mark; size = st.lasts.size; super = st.lasts.first; explained = st.ready.survives.explained; pick = pick; files = st.ready.files; proper = adds.cells }) in
+      let r = step-allowed B H e (old.moment + 1) (new.moment + 1) M S old.may new.may old.now
+      (record {
+        under_way = u;
+        mark = st.ready.survives.mark;
+        size = st.lasts.size;
+        super = st.lasts.first;
+        explained =
+            st.ready.survives.explained;
+        pick = pick;
+        files = st.ready.files;
+        proper = adds.cells;
+      }) in
       record { mark = r.mark; size = st.ready.survives.size ∙ sym adds.disk.blocks; explained = r.explained }
 
   -- an image that is left during the step
   new-image : (m : ℕ) (X : Image) → old.moment < m → m ≤ new.moment → new.left m X → IsAllowed B (H ++ e ∷ []) m X
-  new-image m X low high left = (step-allowed B H e (old.moment + 1) m M S old.may (these X old.blocks) old.now (record { under_way = under-way m low; mark = st.ready.survives.mark; size = st.lasts.size; super = st.lasts.first; explained = st.ready.survives.explained; pick = pick; files = st.ready.files; proper = only })).allowed X picks
+  new-image m X low high left = (step-allowed B H e (old.moment + 1) m M S old.may (these X old.blocks) old.now
+      (record {
+        under_way = under-way m low;
+        mark = st.ready.survives.mark;
+        size = st.lasts.size;
+        super = st.lasts.first;
+        explained =
+            st.ready.survives.explained;
+        pick = pick;
+        files = st.ready.files;
+        proper = only;
+      })).allowed X picks
     where
-      got : (length X ≡ old.blocks) × ((b : ℕ) → b < old.blocks → WasOr (Proper (during (mark_at B H (old.moment + 1) M S) (given_by (files_along (agreed_files B) H) e)) old.now) old b (cell_at X b))
+      got : (length X ≡ old.blocks) × ((b : ℕ) → b < old.blocks
+          → WasOr (Proper (during (mark_at B H (old.moment + 1) M S) (given_by (files_along (agreed_files B) H) e)) old.now) old b (cell_at X b))
       got = adds.left m X low high left
 
-      only-at : (b : ℕ) (c : Cell) (t : Bool) → ltb b old.blocks ≡ t → Contains (cond t (cell_at X b ∷ []) []) c → WasOr (Proper (during (mark_at B H (old.moment + 1) M S) (given_by (files_along (agreed_files B) H) e)) old.now) old b c
+      only-at : (b : ℕ) (c : Cell) (t : Bool) → ltb b old.blocks ≡ t → Contains (cond t (cell_at X b ∷ []) []) c
+          → WasOr (Proper (during (mark_at B H (old.moment + 1) M S) (given_by (files_along (agreed_files B) H) e)) old.now) old b c
       only-at b c false t has = absurd (none has)
         where
           none : Contains [] c → ⊥
@@ -106,7 +133,8 @@ module _ (B : Image) (H : List Entry1) (e : Entry1) (M : Image) (S start s : ℕ
       only-at b c true t has =
           let lt : b < old.blocks = ltb-true b old.blocks t in
           let same : c ≡ cell_at X b = one has in
-          subst (λ (q : Cell). WasOr (Proper (during (mark_at B H (old.moment + 1) M S) (given_by (files_along (agreed_files B) H) e)) old.now) old b q) (sym same) (got.1 b lt)
+          subst (λ (q : Cell). WasOr (Proper (during (mark_at B H (old.moment + 1) M S) (given_by (files_along (agreed_files B) H) e)) old.now) old b q)
+          (sym same) (got.1 b lt)
         where
           one : Contains (cell_at X b ∷ []) c → c ≡ cell_at X b
           one (suc k, low, is) = absurd (omega arith)
@@ -128,7 +156,8 @@ module _ (B : Image) (H : List Entry1) (e : Entry1) (M : Image) (S start s : ℕ
     begun = (let a = st.lasts.images.begun in let b = adds.later in omega arith);
     each = λ m X low high left. elim (cases_lt old.moment m) [
       | inl beyond ↦ new-image m X beyond high left
-      | inr within ↦ law-later B H (e ∷ []) m X ((omega arith), (λ f. cc (f, plain)), tt) (st.lasts.images.each m X low within (adds.past.no_more m X within left))
+      | inr within ↦ law-later B H (e ∷ []) m X ((omega arith), (λ f. cc (f, plain)), tt)
+          (st.lasts.images.each m X low within (adds.past.no_more m X within left))
     ];
   }
 
@@ -164,13 +193,16 @@ law-stage old new B H e M S start s t p adds ready = stage-step B H e M S start 
 
 pub law-idle-stage : (old new : DiskState) → LawIdleStage old new
 law-idle-stage old new B H e M S start s p stays files =
-    law-stage old new B H e M S start s s p (Adds-stays (Proper (during (mark_at B H (old.moment + 1) M S) (given_by (files_along (agreed_files B) H) e)) old.now) old new stays)
+    law-stage old new B H e M S start s s p (Adds-stays (Proper (during (mark_at B H (old.moment + 1) M S) (given_by (files_along (agreed_files B) H) e))
+    old.now) old new stays)
     (record {
       files = subst₂ (λ (F : Files) (X : Image). FilesMatch F X) (sym files) (sym stays.cells.now) p.stage.ready.files;
       positive = p.stage.ready.positive;
       fresh = λ b c lt has. subst (λ (X : Image). CellBelow s X b c) (sym stays.cells.now)
-          (p.stage.ready.fresh b c (subst (λ (X : Image). b < (super_at X).blocks) stays.cells.now lt) (subst (λ (may : ℕ → List Cell). Contains (may b) c) stays.cells.may has));
+          (p.stage.ready.fresh b c (subst (λ (X : Image). b < (super_at X).blocks) stays.cells.now lt)
+          (subst (λ (may : ℕ → List Cell). Contains (may b) c) stays.cells.may has));
     })
 
 pub law-tracked : (d : DiskState) → LawTracked d
-law-tracked old B H M S start s st i g stood = (matched-file (files_along (agreed_files B) H) old.now i st.ready.files (stands-now B H (old.moment + 1) i g (all-begun H old.moment (old.moment + 1) (omega arith) st.lasts.by) stood)).agreed
+law-tracked old B H M S start s st i g stood = (matched-file (files_along (agreed_files B) H) old.now i st.ready.files
+    (stands-now B H (old.moment + 1) i g (all-begun H old.moment (old.moment + 1) (omega arith) st.lasts.by) stood)).agreed

@@ -1,5 +1,6 @@
 -- Until a flush has succeeded, the base is among what a crash may leave.
-use Rattle.std.proofs.Common.{◌≡◌, ◌≢◌, ℕ, true, false, cond, eqb, ◌&&◌, not, List, [], ◌∷◌, ◌++◌, take, Option, Some, None, is_some, inr, refl, sym, ap, ◌∙◌, subst, arith, Contains, eqb-true, eq-eqb}
+use Rattle.std.proofs.Common.{◌≡◌, ◌≢◌, ℕ, true, false, cond, eqb, ◌&&◌, not, List, [], ◌∷◌, ◌++◌, take, Option, Some, None, is_some, inr, refl, sym, ap, ◌∙◌}
+use Rattle.std.proofs.Common.{subst, arith, Contains, eqb-true, eq-eqb}
 use Rattle.std.specs.List.{list_any}
 use Rattle.std.proofs.lemmas.List.Elements.{Contains-append_left}
 use Rattle.nofs_crashlaw.specs.Laws.{LawUnflushed}
@@ -9,7 +10,8 @@ use Rattle.nofs_law_untouched.proofs.Matching.{matched-file, gen-of}
 use Rattle.nofs_machine.specs.Meta.{Meta, meta_of, is_bytes, is_gone}
 use Rattle.nofs_machine.specs.declared.history.Entry1.{Entry1}
 use Rattle.nofs_machine.specs.Machine.{generation_of}
-use Rattle.nofs_machine.specs.History.{SameFile, FilesMatch, agreed_files, files_along, accepted_of, accepted_meta_of, last_in, is_generation, mark, before_mark, since_mark, files_at_mark, values_given, metas_given, since, since_meta, stands}
+use Rattle.nofs_machine.specs.History.{SameFile, FilesMatch, agreed_files, files_along, accepted_of, accepted_meta_of, last_in, is_generation, mark}
+use Rattle.nofs_machine.specs.History.{before_mark, since_mark, files_at_mark, values_given, metas_given, since, since_meta, stands}
 use Rattle.nofs_machine.specs.Since.{IsSure}
 use Rattle.nofs_machine.specs.Allowed.{HasVersions}
 use Rattle.nofs_model.specs.Cells.{is_live}
@@ -36,14 +38,16 @@ module _ (B : Image) (H : List Entry1) (m : ℕ) (none : mark H m ≡ 0) where
   has-value i k live =
       let e : last_in (accepted_of B (before_mark H m) i (inode B i).generation k) ≡ value B i k ∷ [] =
       (λ j. last_in (accepted_of B (before j) i (inode B i).generation k)) ∙ (λ j. last_in (cond (is-of i live j) (value B i k ∷ []) [] ++ [])) in
-      Contains-append_left (last_in (accepted_of B (before_mark H m) i (inode B i).generation k)) (values_given (files_at_mark B H m) (since_mark H m) i (inode B i).generation k) (value B i k)
+      Contains-append_left (last_in (accepted_of B (before_mark H m) i (inode B i).generation k))
+      (values_given (files_at_mark B H m) (since_mark H m) i (inode B i).generation k) (value B i k)
       (subst (λ (vs : List Value). Contains vs (value B i k)) (sym e) (0, omega arith, refl))
 
   has-meta : (i : ℕ) → is_live (inode B i) ≡ true → Contains (since_meta B H m i (inode B i).generation) (meta_of (inode B i))
   has-meta i live =
       let e : last_in (accepted_meta_of B (before_mark H m) i (inode B i).generation) ≡ meta_of (inode B i) ∷ [] =
       (λ j. last_in (accepted_meta_of B (before j) i (inode B i).generation)) ∙ (λ j. last_in (cond (is-of i live j) (meta_of (inode B i) ∷ []) [] ++ [])) in
-      Contains-append_left (last_in (accepted_meta_of B (before_mark H m) i (inode B i).generation)) (metas_given (files_at_mark B H m) (since_mark H m) i (inode B i).generation) (meta_of (inode B i))
+      Contains-append_left (last_in (accepted_meta_of B (before_mark H m) i (inode B i).generation))
+      (metas_given (files_at_mark B H m) (since_mark H m) i (inode B i).generation) (meta_of (inode B i))
       (subst (λ (vs : List Meta). Contains vs (meta_of (inode B i))) (sym e) (0, omega arith, refl))
 
   files-now : files_at_mark B H m ≡ agreed_files B
@@ -52,8 +56,10 @@ module _ (B : Image) (H : List Entry1) (m : ℕ) (none : mark H m ≡ 0) where
   -- what stands is an agreed file of the base
   stood : (i g : ℕ) → stands B H m i g ≡ true → (is_some (agreed_files B i) ≡ true) × (generation_of (agreed_files B) i ≡ g)
   stood i g s =
-      let a = and-both (is_some (files_at_mark B H m i)) (eqb (generation_of (files_at_mark B H m) i) g && not (list_any is_gone (metas_given (files_at_mark B H m) (since_mark H m) i g))) s in
-      let b = and-both (eqb (generation_of (files_at_mark B H m) i) g) (not (list_any is_gone (metas_given (files_at_mark B H m) (since_mark H m) i g))) a.1 in (
+      let a = and-both (is_some (files_at_mark B H m i)) (eqb (generation_of (files_at_mark B H m) i) g
+      && not (list_any is_gone (metas_given (files_at_mark B H m) (since_mark H m) i g))) s in
+      let b = and-both (eqb (generation_of (files_at_mark B H m) i) g) (not (list_any is_gone (metas_given (files_at_mark B H m) (since_mark H m) i g)))
+      a.1 in (
         subst (λ (F : Files). is_some (F i) ≡ true) files-now a.0,
         eqb-true (generation_of (agreed_files B) i) g (subst (λ (F : Files). eqb (generation_of F i) g ≡ true) files-now b.0),
       )

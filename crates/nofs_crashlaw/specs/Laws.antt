@@ -14,7 +14,8 @@ use Rattle.nofs_model.specs.Cells.{Cell, is_live}
 use Rattle.nofs_model.specs.Image.{Image, cell_at, inode, Files}
 
 -- A step that begins at image X, a pick of what a crash may leave at moment l, with its reasons; and what may be left at moment m of it
-pub record StepUnderWay (B : Image) (H : List Entry1) (e : Entry1) (l m : ℕ) (image : Image) (stamps : ℕ) (before after : ℕ → List Cell) (X : Image) : Type 0 where
+pub record StepUnderWay (B : Image) (H : List Entry1) (e : Entry1) (l m : ℕ) (image : Image) (stamps : ℕ) (before after : ℕ → List Cell) (X : Image)
+    : Type 0 where
   pub under_way : IsUnderWay H e l m
   pub mark : IsMark (mark_at B H l image stamps)
   pub size : length image ≡ length B
@@ -58,12 +59,15 @@ pub record SparesRest (B : Image) (H : List Entry1) (e : Entry1) (s : ℕ) (touc
   pub old : (i : ℕ) → is_live (inode X i) ≡ true → OldPointers s X i
   pub owned : (i : ℕ) → touched i ≡ true → is_live (inode Y i) ≡ true → is_some (E i) ≡ true
   pub stays : (i : ℕ) → touched i ≡ false → is_some (files_along (agreed_files B) H i) ≡ true → is_some (E i) ≡ true
-  pub no_value : (i g k : ℕ) → touched i ≡ false → is_some (files_along (agreed_files B) H i) ≡ false → (given_by (files_along (agreed_files B) H) e).slots i g k ≡ None
-  pub no_meta : (i g : ℕ) → touched i ≡ false → is_some (files_along (agreed_files B) H i) ≡ false → (given_by (files_along (agreed_files B) H) e).metas i g ≡ None
+  pub no_value : (i g k : ℕ) → touched i ≡ false → is_some (files_along (agreed_files B) H i) ≡ false
+      → (given_by (files_along (agreed_files B) H) e).slots i g k ≡ None
+  pub no_meta : (i g : ℕ) → touched i ≡ false → is_some (files_along (agreed_files B) H i) ≡ false
+      → (given_by (files_along (agreed_files B) H) e).metas i g ≡ None
 
 -- what is live and not agreed stays the base's
 abbrev pub LawRest : Type 0
-LawRest = (B : Image) (H : List Entry1) (e : Entry1) (s : ℕ) (touched : ℕ → Bool) (X Y : Image) (E : Files) → SteadyRest B H X → SparesRest B H e s touched X Y E → SteadyRest B (H ++ e ∷ []) Y
+LawRest = (B : Image) (H : List Entry1) (e : Entry1) (s : ℕ) (touched : ℕ → Bool) (X Y : Image) (E : Files) → SteadyRest B H X
+    → SparesRest B H e s touched X Y E → SteadyRest B (H ++ e ∷ []) Y
 
 -- Until a flush has succeeded, the base is among what a crash may leave.
 abbrev pub LawUnflushed : Type 0

@@ -97,7 +97,15 @@ LawTracked d = (B : Image) (H : List Entry1) (M : Image) (S start s : ℕ) → S
 
 -- the entry of a flush that succeeded
 abbrev pub flush_entry : ℕ → DiskState → DiskState → ℕ → ℕ → Entry1
-flush_entry caller old new i g = record { caller = caller; from = old.moment; to = new.moment; step = step.Flush i g; reply = reply.Flushed; claims = no_claims }
+flush_entry caller old new i g = record {
+  caller = caller;
+  from = old.moment;
+  to = new.moment;
+  step = step.Flush i g;
+  reply = reply.Flushed;
+  claims =
+      no_claims;
+}
 
 -- a flush that succeeds, before which no write failed
 pub record IsFlush (B : Image) (H : List Entry1) (M : Image) (S start s : ℕ) (old new : DiskState) : Type 0 where

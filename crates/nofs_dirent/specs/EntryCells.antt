@@ -20,11 +20,13 @@ take-put_bytes to at part old fits front =
     take-append-le to (take at old) (part ++ drop (at + length part) old) (let e = length-take-le at old fits in omega arith) ∙ take-take to at old front
 
 -- another place has the bytes that it had
-pub entry_bytes-beside : (at j : ℕ) (part old : List ℕ) → length part ≡ 64 → 64 * at ≤ length old → j ≢ at → entry_bytes (put_bytes (64 * at) part old) j ≡ entry_bytes old j
+pub entry_bytes-beside : (at j : ℕ) (part old : List ℕ) → length part ≡ 64 → 64 * at ≤ length old → j ≢ at
+    → entry_bytes (put_bytes (64 * at) part old) j ≡ entry_bytes old j
 entry_bytes-beside at j part old len fits other = elim (cases_lt j at) [
   | inl before ↦
       let size : 64 ≡ 64 * j + 64 - 64 * j = omega arith in
-      let whole : (l : List ℕ) → take 64 (drop (64 * j) l) ≡ drop (64 * j) (take (64 * j + 64) l) = λ l. ap (λ n. take n (drop (64 * j) l)) size ∙ between_is l (64 * j) (64 * j + 64) in
+      let whole : (l : List ℕ) → take 64 (drop (64 * j) l) ≡ drop (64 * j) (take (64 * j + 64) l) =
+      λ l. ap (λ n. take n (drop (64 * j) l)) size ∙ between_is l (64 * j) (64 * j + 64) in
       whole (put_bytes (64 * at) part old) ∙ ap (drop (64 * j)) (take-put_bytes (64 * j + 64) (64 * at) part old fits (omega arith)) ∙ sym (whole old)
   | inr rest ↦ elim (cases_lt at j) [
     | inl behind ↦ ap (take 64) (drop-put_bytes (64 * at) (64 * j) part old fits (omega arith))

@@ -1,5 +1,6 @@
 -- The bytes that spell an entry are read as it.
-use Rattle.std.proofs.Common.{◌≡◌, ℕ, ◌+◌, ◌-◌, ◌^◌, ◌<◌, ◌≤◌, Bool, true, false, ◌&&◌, List, ◌++◌, length, take, drop, Option, Some, None, if◌then◌else◌, ◌==◌, arith, refl, sym, ap, ◌∙◌, le-leb, replicate}
+use Rattle.std.proofs.Common.{◌≡◌, ℕ, ◌+◌, ◌-◌, ◌^◌, ◌<◌, ◌≤◌, Bool, true, false, ◌&&◌, List, ◌++◌, length, take, drop, Option, Some, None, if◌then◌else◌}
+use Rattle.std.proofs.Common.{◌==◌, arith, refl, sym, ap, ◌∙◌, le-leb, replicate}
 use Rattle.std.specs.List.{list_all}
 use Rattle.std.proofs.lemmas.Bool.{and_from}
 use Rattle.std.proofs.lemmas.Option.{none-some}
@@ -19,7 +20,8 @@ pub record Spells (bytes : List ℕ) (e : Entry) : Type 0 where
   pub reads : entry_of bytes ≡ Some e
 
 -- bytes with the fields of an entry are read as it
-pub Spells-from : (bytes : List ℕ) (e : Entry) → HasEntrySpelling e → length bytes ≡ 64 → number_at 4 0 bytes ≡ e.inode → number_at 4 4 bytes ≡ length e.name → number_at 8 8 bytes ≡ e.generation
+pub Spells-from : (bytes : List ℕ) (e : Entry) → HasEntrySpelling e → length bytes ≡ 64 → number_at 4 0 bytes ≡ e.inode → number_at 4 4 bytes ≡ length e.name
+    → number_at 8 8 bytes ≡ e.generation
     → take (length e.name) (drop 16 bytes) ≡ e.name → list_all (λ b. b == 0) (drop (16 + length e.name) bytes) ≡ true → Spells bytes e
 unfolding entry_of entry_fields
 Spells-from bytes e spelled len inode n generation name rest =
@@ -27,7 +29,8 @@ Spells-from bytes e spelled len inode n generation name rest =
     let zeros_after : has_zeros_after bytes (number_at 4 4 bytes) ≡ true =
     ap (has_zeros_after bytes) n ∙ and_from _ _ (le-leb (length e.name) 48 spelled.name.short) rest in
     let has : has_entry_spelling (entry_fields bytes) ≡ true =
-    ap has_entry_spelling fields ∙ and_from _ _ (le-leb 1 e.inode spelled.inode) (and_from _ _ (le-leb 1 e.generation spelled.generation) ((is_name-Decides e.name).1 spelled.name)) in
+    ap has_entry_spelling fields ∙ and_from _ _ (le-leb 1 e.inode spelled.inode)
+    (and_from _ _ (le-leb 1 e.generation spelled.generation) ((is_name-Decides e.name).1 spelled.name)) in
     record {
       short = len;
       reads = ap (λ b. if b then Some (entry_fields bytes) else None) (and_from _ _ zeros_after has) ∙ ap Some fields;
@@ -111,7 +114,8 @@ spelled_entry-spells inode generation name some small from below ok =
     (length-spelled inode generation name short)
     (generation-spelled inode generation name short below)
     (ap (take (length name)) tail ∙ take_at name (drop (16 + length name) (zeros 64)) (length name) refl)
-    (ap (list_all (λ b. b == 0)) (sym (ap (λ k. drop k (spelled_entry inode generation name)) (omega arith)) ∙ sym (drop-drop (length name) 16 (spelled_entry inode generation name)) ∙ ap (drop (length name)) tail) ∙ zeros-after inode generation name short)
+    (ap (list_all (λ b. b == 0)) (sym (ap (λ k. drop k (spelled_entry inode generation name)) (omega arith))
+    ∙ sym (drop-drop (length name) 16 (spelled_entry inode generation name)) ∙ ap (drop (length name)) tail) ∙ zeros-after inode generation name short)
 
 -- The name of the entry that bytes spell
 
@@ -138,10 +142,13 @@ name_or d None = d
 name_or d (Some name) = name
 
 -- an entry from its name
-pub entry_of-named : (bytes name : List ℕ) → Some name ≡ name_of (entry_of bytes) → entry_of bytes ≡ Some (entry_with (number_at 4 0 bytes) (number_at 8 8 bytes) name)
+pub entry_of-named : (bytes name : List ℕ) → Some name ≡ name_of (entry_of bytes)
+    → entry_of bytes ≡ Some (entry_with (number_at 4 0 bytes) (number_at 8 8 bytes) name)
 unfolding entry_of entry_fields
 entry_of-named bytes name e = go (has_zeros_after bytes (number_at 4 4 bytes) && has_entry_spelling (entry_fields bytes)) e
   where
-    go : (b : Bool) → Some name ≡ name_of (if b then Some (entry_fields bytes) else None) → (if b then Some (entry_fields bytes) else None) ≡ Some (entry_with (number_at 4 0 bytes) (number_at 8 8 bytes) name)
-    go true e = let same : take (number_at 4 4 bytes) (drop 16 bytes) ≡ name = ap (name_or (take (number_at 4 4 bytes) (drop 16 bytes))) (sym e) in ap (λ n. Some (entry_with (number_at 4 0 bytes) (number_at 8 8 bytes) n)) same
+    go : (b : Bool) → Some name ≡ name_of (if b then Some (entry_fields bytes) else None)
+        → (if b then Some (entry_fields bytes) else None) ≡ Some (entry_with (number_at 4 0 bytes) (number_at 8 8 bytes) name)
+    go true e = let same : take (number_at 4 4 bytes) (drop 16 bytes) ≡ name =
+        ap (name_or (take (number_at 4 4 bytes) (drop 16 bytes))) (sym e) in ap (λ n. Some (entry_with (number_at 4 0 bytes) (number_at 8 8 bytes) n)) same
     go false e = absurd (none-some name (sym e))

@@ -26,10 +26,13 @@ decides-bytes = Decides-by_and is_name_byte IsNameByte (list_all is_name_byte) d
 pub is_name-Decides : (name : List ℕ) → Decides (is_name name) (NameOk name)
 unfolding is_name
 is_name-Decides name =
-    let dots = Decides-not (bytes_eq name (46 ∷ []) || bytes_eq name (46 ∷ 46 ∷ [])) (Decides-or (bytes_eq name (46 ∷ [])) (bytes_eq name (46 ∷ 46 ∷ [])) (bytes_eq-Decides name (46 ∷ [])) (bytes_eq-Decides name (46 ∷ 46 ∷ []))) in
+    let dots = Decides-not (bytes_eq name (46 ∷ []) || bytes_eq name (46 ∷ 46 ∷ []))
+    (Decides-or (bytes_eq name (46 ∷ [])) (bytes_eq name (46 ∷ 46 ∷ [])) (bytes_eq-Decides name (46 ∷ [])) (bytes_eq-Decides name (46 ∷ 46 ∷ []))) in
     let tail = Decides-and (list_all is_name_byte name) (not (bytes_eq name (46 ∷ []) || bytes_eq name (46 ∷ 46 ∷ []))) (decides-bytes name) dots in
-    let short = Decides-and (nat_le (length name) longest_name) (list_all is_name_byte name && not (bytes_eq name (46 ∷ []) || bytes_eq name (46 ∷ 46 ∷ []))) (decides-le (length name) longest_name) tail in
-    let all = Decides-and (nat_le 1 (length name)) (nat_le (length name) longest_name && (list_all is_name_byte name && not (bytes_eq name (46 ∷ []) || bytes_eq name (46 ∷ 46 ∷ [])))) (decides-le 1 (length name)) short in
+    let short = Decides-and (nat_le (length name) longest_name) (list_all is_name_byte name && not (bytes_eq name (46 ∷ []) || bytes_eq name (46 ∷ 46 ∷ [])))
+    (decides-le (length name) longest_name) tail in
+    let all = Decides-and (nat_le 1 (length name)) (nat_le (length name) longest_name
+    && (list_all is_name_byte name && not (bytes_eq name (46 ∷ []) || bytes_eq name (46 ∷ 46 ∷ [])))) (decides-le 1 (length name)) short in
     Decides-like (is_name name)
     (λ h. record { some = h.0; short = h.1.0; bytes = h.1.1.0; not_dot = λ e. h.1.1.1 (inl e); not_dots = λ e. h.1.1.1 (inr e) })
     (λ n. (n.some, (n.short, (n.bytes, λ o. ⊎_elim n.not_dot n.not_dots o))))

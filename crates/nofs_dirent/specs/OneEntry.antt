@@ -1,5 +1,6 @@
 -- An entry has one spelling: the bytes that are read as it are the bytes that are written for it.
-use Rattle.std.specs.Prelude.{◌≡◌, ℕ, ◌+◌, ◌-◌, ◌^◌, ◌<◌, ◌≤◌, Bool, true, false, ◌&&◌, ◌==◌, List, [], ◌∷◌, ◌++◌, length, take, drop, replicate, Option, Some, None, Result, Ok, Err, IfOk, IfSome, if◌then◌else◌, slice_index, nat_le, refl}
+use Rattle.std.specs.Prelude.{◌≡◌, ℕ, ◌+◌, ◌-◌, ◌^◌, ◌<◌, ◌≤◌, Bool, true, false, ◌&&◌, ◌==◌, List, [], ◌∷◌, ◌++◌, length, take, drop, replicate, Option}
+use Rattle.std.specs.Prelude.{Some, None, Result, Ok, Err, IfOk, IfSome, if◌then◌else◌, slice_index, nat_le, refl}
 use Rattle.std.specs.List.{list_all}
 use Rattle.std.proofs.Common.{arith, sym, ap, ap₂, ◌∙◌, inl, inr, subst, leb-true, eqb-true}
 use Rattle.std.proofs.lemmas.Bool.{and_parts, cases_lt}
@@ -75,7 +76,8 @@ module _ (bytes : List ℕ) (e : Entry) (is : IsBytes 64 bytes) (s : IsSpelled b
 
   small : (k : ℕ) → slice_index (spelled_entry e.inode e.generation e.name) k < 256
   unfolding spelled_entry
-  small = put_number-byte 4 0 e.inode _ (put_number-byte 4 4 (length e.name) _ (put_number-byte 8 8 e.generation _ (put_bytes-byte 16 e.name (zeros 64) name-byte (zeros-byte 64))))
+  small = put_number-byte 4 0 e.inode _ (put_number-byte 4 4 (length e.name) _
+      (put_number-byte 8 8 e.generation _ (put_bytes-byte 16 e.name (zeros 64) name-byte (zeros-byte 64))))
 
   tails : drop 16 bytes ≡ drop 16 (spelled_entry e.inode e.generation e.name)
   unfolding zeros
@@ -83,12 +85,14 @@ module _ (bytes : List ℕ) (e : Entry) (is : IsBytes 64 bytes) (s : IsSpelled b
       let n = length e.name in
       let fits = short in
       let size : length (drop (16 + n) bytes) ≡ 64 - (16 + n) = length-drop (16 + n) bytes ∙ ap (λ k. k - (16 + n)) is.len in
-      let rest : drop (16 + n) bytes ≡ drop (16 + n) (zeros 64) = zeros-alone (drop (16 + n) bytes) s.rest ∙ ap (λ k. replicate k 0) size ∙ sym (drop-replicate (16 + n) 64 0) in
+      let rest : drop (16 + n) bytes ≡ drop (16 + n) (zeros 64) =
+      zeros-alone (drop (16 + n) bytes) s.rest ∙ ap (λ k. replicate k 0) size ∙ sym (drop-replicate (16 + n) 64 0) in
       sym (take-append-drop n (drop 16 bytes))
       ∙ ap₂ (λ a b. a ++ b) s.name (drop-drop n 16 bytes ∙ rest)
       ∙ sym (tail-spelled e.inode e.generation e.name fits)
 
-  head : (n at : ℕ) → number_at n at bytes ≡ number_at n at (spelled_entry e.inode e.generation e.name) → (k : ℕ) → at ≤ k → k < at + n → slice_index bytes k ≡ slice_index (spelled_entry e.inode e.generation e.name) k
+  head : (n at : ℕ) → number_at n at bytes ≡ number_at n at (spelled_entry e.inode e.generation e.name) → (k : ℕ) → at ≤ k → k < at + n
+      → slice_index bytes k ≡ slice_index (spelled_entry e.inode e.generation e.name) k
   head n at same k low high = number_at-same n at bytes (spelled_entry e.inode e.generation e.name) is.each small same k low high
 
   -- they are the bytes that are written for it
@@ -97,9 +101,12 @@ module _ (bytes : List ℕ) (e : Entry) (is : IsBytes 64 bytes) (s : IsSpelled b
       let S = spelled_entry e.inode e.generation e.name in
       let fits = short in
       let len = is.len in
-      let inode : number_at 4 0 bytes ≡ number_at 4 0 S = s.inode ∙ sym (inode-spelled e.inode e.generation e.name fits (subst (λ (x : ℕ). x < 2 ^ 32) s.inode (number_at-lt 4 0 bytes is.each))) in
+      let inode : number_at 4 0 bytes ≡ number_at 4 0 S = s.inode
+      ∙ sym (inode-spelled e.inode e.generation e.name fits (subst (λ (x : ℕ). x < 2 ^ 32) s.inode (number_at-lt 4 0 bytes is.each))) in
       let size : number_at 4 4 bytes ≡ number_at 4 4 S = s.size ∙ sym (length-spelled e.inode e.generation e.name fits) in
-      let generation : number_at 8 8 bytes ≡ number_at 8 8 S = s.generation ∙ sym (generation-spelled e.inode e.generation e.name fits (subst (λ (x : ℕ). x < 2 ^ 64) s.generation (number_at-lt 8 8 bytes is.each))) in
+      let generation : number_at 8 8 bytes ≡ number_at 8 8 S =
+      s.generation ∙ sym (generation-spelled e.inode e.generation e.name fits
+      (subst (λ (x : ℕ). x < 2 ^ 64) s.generation (number_at-lt 8 8 bytes is.each))) in
       ext_get_or 0 bytes S (len ∙ sym (length-spelled_entry e.inode e.generation e.name fits)) (λ k low. elim (cases_lt k 4) [
         | inl a ↦ head 4 0 inode k (omega arith) a
         | inr b ↦ elim (cases_lt k 8) [
@@ -116,12 +123,14 @@ module _ (bytes : List ℕ) (e : Entry) (is : IsBytes 64 bytes) (s : IsSpelled b
 
 -- What a reader answers
 
-pub IfOk-spelling : {E : Type 0} (r : Result (Option Entry) E) (bytes : List ℕ) → length bytes ≡ 64 → IfOk r (λ o. o ≡ entry_of bytes) → IfOk r (λ o. IfSome o HasEntrySpelling)
+pub IfOk-spelling : {E : Type 0} (r : Result (Option Entry) E) (bytes : List ℕ) → length bytes ≡ 64 → IfOk r (λ o. o ≡ entry_of bytes)
+    → IfOk r (λ o. IfSome o HasEntrySpelling)
 IfOk-spelling (Err x) bytes len h = tt
 IfOk-spelling (Ok None) bytes len h = tt
 IfOk-spelling (Ok (Some e)) bytes len h = (spelled bytes e len (sym h)).has
 
-pub IfOk-one : {E : Type 0} (r : Result (Option Entry) E) (bytes : List ℕ) → IsBytes 64 bytes → IfOk r (λ o. o ≡ entry_of bytes) → IfOk r (λ o. IfSome o (λ e. bytes ≡ spelled_entry e.inode e.generation e.name))
+pub IfOk-one : {E : Type 0} (r : Result (Option Entry) E) (bytes : List ℕ) → IsBytes 64 bytes → IfOk r (λ o. o ≡ entry_of bytes)
+    → IfOk r (λ o. IfSome o (λ e. bytes ≡ spelled_entry e.inode e.generation e.name))
 IfOk-one (Err x) bytes is h = tt
 IfOk-one (Ok None) bytes is h = tt
 IfOk-one (Ok (Some e)) bytes is h = one-spelling bytes e is (spelled bytes e is.len (sym h))

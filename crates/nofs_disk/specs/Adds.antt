@@ -17,7 +17,8 @@ pub record Adds (ok : ℕ → Cell → Type 0) (old new : DiskState) : Type 0 wh
   pub past : KeepsPast old new
   pub later : old.moment ≤ new.moment
   pub cells : (b : ℕ) (c : Cell) → Contains (new.may b) c → WasOr ok old b c
-  pub left : (m : ℕ) (X : List Cell) → old.moment < m → m ≤ new.moment → new.left m X → (length X ≡ old.blocks) × ((b : ℕ) → b < old.blocks → WasOr ok old b (cell_at X b))
+  pub left : (m : ℕ) (X : List Cell) → old.moment < m → m ≤ new.moment → new.left m X
+      → (length X ≡ old.blocks) × ((b : ℕ) → b < old.blocks → WasOr ok old b (cell_at X b))
 
 module _ (ok : ℕ → Cell → Type 0) where
   -- a call that makes no moment and leaves the cells
@@ -43,7 +44,8 @@ module _ (ok : ℕ → Cell → Type 0) where
   Adds-readies old new calls ready = Adds-keeps old new ready.disk ready.past ready.cells
 
   -- a write of one of these cells
-  pub Adds-writes : (old new : DiskState) (block : ℕ) (cell : Cell) {result : Result (Unit {0}) Failed} → IsDisk new → Writes old new block cell result → ok block cell → Adds ok old new
+  pub Adds-writes : (old new : DiskState) (block : ℕ) (cell : Cell) {result : Result (Unit {0}) Failed} → IsDisk new → Writes old new block cell result
+      → ok block cell → Adds ok old new
   Adds-writes old new block cell is w good = record {
     disk = w.disk;
     past = w.past;

@@ -28,7 +28,8 @@ same_cell-true a b e =
     λ i. record { payload = payload i; tag = tag i }
 
 pub same_cell-refl : (a : Cell) → same_cell a a ≡ true
-same_cell-refl a = and_from (pointwise nat_eq a.payload a.payload) (pointwise nat_eq a.tag a.tag) ((bytes_decides a.payload a.payload).1 refl) ((bytes_decides a.tag a.tag).1 refl)
+same_cell-refl a = and_from (pointwise nat_eq a.payload a.payload) (pointwise nat_eq a.tag a.tag) ((bytes_decides a.payload a.payload).1 refl)
+    ((bytes_decides a.tag a.tag).1 refl)
 
 -- whether a cell is among these
 abbrev pub has_cell : List Cell → Cell → Bool
@@ -75,11 +76,13 @@ pub now-sized : (d : DiskState) → IsDisk d → IsTrue d.tells → (block : ℕ
 now-sized d is tells block low = is.sized block (cell_at d.now block) (is.has_now block tells low)
 
 -- each cell of an image that picks from what a disk may hold is sized
-pub image-sized : (d : DiskState) → IsDisk d → (image : List Cell) → Picks d.may d.blocks image → (block : ℕ) → block < d.blocks → IsSizedCell (cell_at image block)
+pub image-sized : (d : DiskState) → IsDisk d → (image : List Cell) → Picks d.may d.blocks image → (block : ℕ) → block < d.blocks
+    → IsSizedCell (cell_at image block)
 image-sized d is image picks block low = is.sized block (cell_at image block) (picks.each block low)
 
 -- a cell that a write may leave is sized, where the one that was written is
-pub writes-sized : (old new : DiskState) {block : ℕ} {cell : Cell} {result : Result (Unit {0}) Failed} → IsDisk old → IsSizedCell cell → Writes old new block cell result
+pub writes-sized : (old new : DiskState) {block : ℕ} {cell : Cell} {result : Result (Unit {0}) Failed} → IsDisk old → IsSizedCell cell
+    → Writes old new block cell result
     → (b : ℕ) (c : Cell) → Contains (new.may b) c → IsSizedCell c
 writes-sized old new {block} {cell} is size w b c has = elim (cases_eq b block) [
   | inl same ↦ elim (w.may c (subst (λ (k : ℕ). Contains (new.may k) c) same has)) [

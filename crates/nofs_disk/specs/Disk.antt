@@ -1,5 +1,6 @@
 -- What contracts see of a disk, what each of its calls does, and what a crash may leave.
-use Rattle.std.specs.Prelude.{◌≡◌, ◌≢◌, ◌↔◌, ℕ, ◌+◌, ◌*◌, ◌-◌, ◌^◌, ◌<◌, ◌≤◌, ◌⊎◌, min, List, [], ◌∷◌, length, Bool, IsTrue, Option, None, Result, Ok, IsOk, IfOk, IfSome, OnOk, OnErr, Contains, IsPermutation, slice_index_or, slice_set}
+use Rattle.std.specs.Prelude.{◌≡◌, ◌≢◌, ◌↔◌, ℕ, ◌+◌, ◌*◌, ◌-◌, ◌^◌, ◌<◌, ◌≤◌, ◌⊎◌, min, List, [], ◌∷◌, length, Bool, IsTrue, Option, None, Result, Ok, IsOk}
+use Rattle.std.specs.Prelude.{IfOk, IfSome, OnOk, OnErr, Contains, IsPermutation, slice_index_or, slice_set}
 use Rattle.nofs_disk.specs.Number.{IsBytes}
 use Rattle.nofs_disk.specs.declared.Failed.{Failed}
 use Rattle.nofs_disk.specs.declared.tag.Cell.{Cell}

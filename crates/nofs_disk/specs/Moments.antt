@@ -19,7 +19,8 @@ after old new m e le = elim (cases_lt m (old + 1)) [
 ]
 
 -- a call that makes no moment goes on
-pub AtEach-stays : (P : ℕ → List Cell → Type 0) (from : ℕ) (old new : DiskState) → KeepsPast old new → new.moment ≡ old.moment → AtEach P from old → AtEach P from new
+pub AtEach-stays : (P : ℕ → List Cell → Type 0) (from : ℕ) (old new : DiskState) → KeepsPast old new → new.moment ≡ old.moment → AtEach P from old
+    → AtEach P from new
 AtEach-stays P from old new past same at = record {
   begun = let b = at.begun in omega arith;
   each = λ m image low high left. at.each m image low (omega arith) (past.no_more m image (omega arith) left);

@@ -51,18 +51,21 @@ number_at-put_same n at x bytes small fits =
     ∙ little_number-reads_back n x (drop (at + n) bytes) small
 
 -- a number behind what was put stays
-pub number_at-put_before : (n at m to x : ℕ) (bytes : List ℕ) → at + n ≤ length bytes → at + n ≤ to → number_at m to (put_number n at x bytes) ≡ number_at m to bytes
+pub number_at-put_before : (n at m to x : ℕ) (bytes : List ℕ) → at + n ≤ length bytes → at + n ≤ to
+    → number_at m to (put_number n at x bytes) ≡ number_at m to bytes
 unfolding number_at put_number
 number_at-put_before n at m to x bytes fits after =
     let cut : drop (at + n) (take at bytes ++ (little_bytes n x ++ drop (at + n) bytes)) ≡ drop (at + n) bytes =
     sym (drop-drop n at (take at bytes ++ (little_bytes n x ++ drop (at + n) bytes)))
     ∙ ap (drop n) (drop_at (take at bytes) (little_bytes n x ++ drop (at + n) bytes) at (length-take-le at bytes (omega arith)))
     ∙ drop_at (little_bytes n x) (drop (at + n) bytes) n (length-bytes_low_first 0 n x) in
-    let whole : (l : List ℕ) → drop (to - (at + n)) (drop (at + n) l) ≡ drop to l = λ l. drop-drop (to - (at + n)) (at + n) l ∙ ap (λ k. drop k l) (omega arith) in
+    let whole : (l : List ℕ) → drop (to - (at + n)) (drop (at + n) l) ≡ drop to l =
+    λ l. drop-drop (to - (at + n)) (at + n) l ∙ ap (λ k. drop k l) (omega arith) in
     ap (little_number m) (sym (whole (take at bytes ++ (little_bytes n x ++ drop (at + n) bytes))) ∙ ap (drop (to - (at + n))) cut ∙ whole bytes)
 
 -- a number before what was put stays
-pub number_at-put_after : (n at m to x : ℕ) (bytes : List ℕ) → at + n ≤ length bytes → to + m ≤ at → number_at m to (put_number n at x bytes) ≡ number_at m to bytes
+pub number_at-put_after : (n at m to x : ℕ) (bytes : List ℕ) → at + n ≤ length bytes → to + m ≤ at
+    → number_at m to (put_number n at x bytes) ≡ number_at m to bytes
 unfolding number_at put_number
 number_at-put_after n at m to x bytes fits before =
     let front : (rest : List ℕ) → little_number m (drop to (take at bytes ++ rest)) ≡ little_number m (drop to (take at bytes)) =
@@ -113,11 +116,14 @@ zeros-byte (suc n) (suc k) = zeros-byte n k
 
 pub put_number-byte : (n at x : ℕ) (bytes : List ℕ) → ((k : ℕ) → slice_index bytes k < 256) → (k : ℕ) → slice_index (put_number n at x bytes) k < 256
 unfolding put_number
-put_number-byte n at x bytes small = append-byte (take at bytes) (little_bytes n x ++ drop (at + n) bytes) (take-byte at bytes small) (append-byte (little_bytes n x) (drop (at + n) bytes) (little_bytes-byte 0 n x) (drop-byte (at + n) bytes small))
+put_number-byte n at x bytes small = append-byte (take at bytes) (little_bytes n x ++ drop (at + n) bytes) (take-byte at bytes small)
+    (append-byte (little_bytes n x) (drop (at + n) bytes) (little_bytes-byte 0 n x) (drop-byte (at + n) bytes small))
 
-pub put_bytes-byte : (at : ℕ) (part bytes : List ℕ) → ((k : ℕ) → slice_index part k < 256) → ((k : ℕ) → slice_index bytes k < 256) → (k : ℕ) → slice_index (put_bytes at part bytes) k < 256
+pub put_bytes-byte : (at : ℕ) (part bytes : List ℕ) → ((k : ℕ) → slice_index part k < 256) → ((k : ℕ) → slice_index bytes k < 256) → (k : ℕ)
+    → slice_index (put_bytes at part bytes) k < 256
 unfolding put_bytes
-put_bytes-byte at part bytes small_part small = append-byte (take at bytes) (part ++ drop (at + length part) bytes) (take-byte at bytes small) (append-byte part (drop (at + length part) bytes) small_part (drop-byte (at + length part) bytes small))
+put_bytes-byte at part bytes small_part small = append-byte (take at bytes) (part ++ drop (at + length part) bytes) (take-byte at bytes small)
+    (append-byte part (drop (at + length part) bytes) small_part (drop-byte (at + length part) bytes small))
 
 -- zeros are bytes, and bytes with a number in them
 pub IsBytes-zeros : (n : ℕ) → IsBytes n (zeros n)

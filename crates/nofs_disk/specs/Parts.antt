@@ -1,19 +1,23 @@
 -- The parts of a list of bytes that a write leaves.
 use Rattle.std.proofs.Common.{◌≡◌, ℕ, ◌+◌, ◌-◌, ◌≤◌, List, ◌++◌, length, take, drop, arith, refl, sym, ap, ◌∙◌}
 use Rattle.std.specs.Prelude.{slice_range}
-use Rattle.std.proofs.lemmas.List.{drop_at, drop-drop, length-append, length-drop, length-take-le, take-append-le, take_at, take-replicate, drop-replicate, take-take}
+use Rattle.std.proofs.lemmas.List.{drop_at, drop-drop, length-append, length-drop, length-take-le, take-append-le, take_at, take-replicate, drop-replicate}
+use Rattle.std.proofs.lemmas.List.{take-take}
 use Rattle.std.proofs.lemmas.Slice.{between_is}
 use Rattle.byteorder.specs.Endian.{little_bytes}
 use Rattle.byteorder.specs.Numbers.{length-bytes_low_first}
 use Rattle.nofs_disk.specs.Number.{put_bytes, put_number, zeros}
 
 -- what stands behind a part that was put
-drop_behind : (n at to : ℕ) (part bytes : List ℕ) → length part ≡ n → at ≤ length bytes → at + n ≤ to → drop to (take at bytes ++ (part ++ drop (at + n) bytes)) ≡ drop to bytes
+drop_behind : (n at to : ℕ) (part bytes : List ℕ) → length part ≡ n → at ≤ length bytes → at + n ≤ to
+    → drop to (take at bytes ++ (part ++ drop (at + n) bytes)) ≡ drop to bytes
 drop_behind n at to part bytes len fits behind =
     let all = take at bytes ++ (part ++ drop (at + n) bytes) in
     let cut : drop (at + n) all ≡ drop (at + n) bytes =
-    sym (drop-drop n at all) ∙ ap (drop n) (drop_at (take at bytes) (part ++ drop (at + n) bytes) at (length-take-le at bytes fits)) ∙ drop_at part (drop (at + n) bytes) n len in
-    let whole : (l : List ℕ) → drop (to - (at + n)) (drop (at + n) l) ≡ drop to l = λ l. drop-drop (to - (at + n)) (at + n) l ∙ ap (λ k. drop k l) (omega arith) in
+    sym (drop-drop n at all) ∙ ap (drop n) (drop_at (take at bytes) (part ++ drop (at + n) bytes) at (length-take-le at bytes fits))
+    ∙ drop_at part (drop (at + n) bytes) n len in
+    let whole : (l : List ℕ) → drop (to - (at + n)) (drop (at + n) l) ≡ drop to l =
+    λ l. drop-drop (to - (at + n)) (at + n) l ∙ ap (λ k. drop k l) (omega arith) in
     sym (whole all) ∙ ap (drop (to - (at + n))) cut ∙ whole bytes
 
 -- what stands in front of a part that was put

@@ -32,7 +32,8 @@ length-put_pointer at it bytes fits =
     length-put_number 8 (at + 8) it.stamp (put_number 8 at it.block bytes) (omega arith) ∙ first
 
 -- a number behind a pointer that was put stays
-pub number_at-put_pointer_before : (at m to : ℕ) (it : Pointer) (bytes : List ℕ) → at + 16 ≤ length bytes → at + 16 ≤ to → number_at m to (put_pointer at it bytes) ≡ number_at m to bytes
+pub number_at-put_pointer_before : (at m to : ℕ) (it : Pointer) (bytes : List ℕ) → at + 16 ≤ length bytes → at + 16 ≤ to
+    → number_at m to (put_pointer at it bytes) ≡ number_at m to bytes
 unfolding put_pointer
 number_at-put_pointer_before at m to it bytes fits after =
     let len = length-put_number 8 at it.block bytes (omega arith) in
@@ -40,7 +41,8 @@ number_at-put_pointer_before at m to it bytes fits after =
     ∙ number_at-put_before 8 at m to it.block bytes (omega arith) (omega arith)
 
 -- a number before a pointer that was put stays
-pub number_at-put_pointer_after : (at m to : ℕ) (it : Pointer) (bytes : List ℕ) → at + 16 ≤ length bytes → to + m ≤ at → number_at m to (put_pointer at it bytes) ≡ number_at m to bytes
+pub number_at-put_pointer_after : (at m to : ℕ) (it : Pointer) (bytes : List ℕ) → at + 16 ≤ length bytes → to + m ≤ at
+    → number_at m to (put_pointer at it bytes) ≡ number_at m to bytes
 unfolding put_pointer
 number_at-put_pointer_after at m to it bytes fits before =
     let len = length-put_number 8 at it.block bytes (omega arith) in
@@ -62,7 +64,8 @@ pointer_in-put_same at it bytes is fits =
     λ i. record { block = block i; stamp = stamp i }
 
 -- a pointer behind one that was put stays
-pub pointer_in-put_before : (at to : ℕ) (it : Pointer) (bytes : List ℕ) → at + 16 ≤ length bytes → at + 16 ≤ to → pointer_in to (put_pointer at it bytes) ≡ pointer_in to bytes
+pub pointer_in-put_before : (at to : ℕ) (it : Pointer) (bytes : List ℕ) → at + 16 ≤ length bytes → at + 16 ≤ to
+    → pointer_in to (put_pointer at it bytes) ≡ pointer_in to bytes
 unfolding pointer_in
 pointer_in-put_before at to it bytes fits after =
     let block = number_at-put_pointer_before at 8 to it bytes fits after in
@@ -70,7 +73,8 @@ pointer_in-put_before at to it bytes fits after =
     λ i. record { block = block i; stamp = stamp i }
 
 -- a pointer before one that was put stays
-pub pointer_in-put_after : (at to : ℕ) (it : Pointer) (bytes : List ℕ) → at + 16 ≤ length bytes → to + 16 ≤ at → pointer_in to (put_pointer at it bytes) ≡ pointer_in to bytes
+pub pointer_in-put_after : (at to : ℕ) (it : Pointer) (bytes : List ℕ) → at + 16 ≤ length bytes → to + 16 ≤ at
+    → pointer_in to (put_pointer at it bytes) ≡ pointer_in to bytes
 unfolding pointer_in
 pointer_in-put_after at to it bytes fits before =
     let block = number_at-put_pointer_after at 8 to it bytes fits (omega arith) in
@@ -78,7 +82,8 @@ pointer_in-put_after at to it bytes fits before =
     λ i. record { block = block i; stamp = stamp i }
 
 -- a pointer behind a number that was put stays
-pub pointer_in-put_number_before : (n at to x : ℕ) (bytes : List ℕ) → at + n ≤ length bytes → at + n ≤ to → pointer_in to (put_number n at x bytes) ≡ pointer_in to bytes
+pub pointer_in-put_number_before : (n at to x : ℕ) (bytes : List ℕ) → at + n ≤ length bytes → at + n ≤ to
+    → pointer_in to (put_number n at x bytes) ≡ pointer_in to bytes
 unfolding pointer_in
 pointer_in-put_number_before n at to x bytes fits after =
     let block = number_at-put_before n at 8 to x bytes fits after in
@@ -86,7 +91,8 @@ pointer_in-put_number_before n at to x bytes fits after =
     λ i. record { block = block i; stamp = stamp i }
 
 -- a pointer before a number that was put stays
-pub pointer_in-put_number_after : (n at to x : ℕ) (bytes : List ℕ) → at + n ≤ length bytes → to + 16 ≤ at → pointer_in to (put_number n at x bytes) ≡ pointer_in to bytes
+pub pointer_in-put_number_after : (n at to x : ℕ) (bytes : List ℕ) → at + n ≤ length bytes → to + 16 ≤ at
+    → pointer_in to (put_number n at x bytes) ≡ pointer_in to bytes
 unfolding pointer_in
 pointer_in-put_number_after n at to x bytes fits before =
     let block = number_at-put_after n at 8 to x bytes fits (omega arith) in
@@ -94,4 +100,12 @@ pointer_in-put_number_after n at to x bytes fits before =
     λ i. record { block = block i; stamp = stamp i }
 
 -- what numbers and pointers read after pointers were put
-pub ruleset pointer_puts = (arith, length-put_pointer, number_at-put_pointer_before, number_at-put_pointer_after, pointer_in-put_same, pointer_in-put_before, pointer_in-put_after)
+pub ruleset pointer_puts = (
+  arith,
+  length-put_pointer,
+  number_at-put_pointer_before,
+  number_at-put_pointer_after,
+  pointer_in-put_same,
+  pointer_in-put_before,
+  pointer_in-put_after,
+)

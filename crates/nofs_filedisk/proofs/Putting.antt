@@ -40,7 +40,8 @@ grown-some : (old at n : ℕ) → 0 < n → grown old at n ≡ max old (at + n)
 grown-some old at n low = rw (lt-ltb 0 n low)
 
 -- bytes over others that are there
-pub put-over : (at : ℕ) (part old mid : List ℕ) → ((k : ℕ) → slice_index mid k ≡ slice_index old k) → length mid ≡ max (length old) (at + length part) → 0 < length part → IsPut at part old (put_bytes at part mid)
+pub put-over : (at : ℕ) (part old mid : List ℕ) → ((k : ℕ) → slice_index mid k ≡ slice_index old k) → length mid ≡ max (length old) (at + length part)
+    → 0 < length part → IsPut at part old (put_bytes at part mid)
 put-over at part old mid same size some =
     let fits : at + length part ≤ length mid = omega (arith, size) in
     record {
@@ -70,7 +71,8 @@ grown-more old at (suc d) (suc n) =
     two ∙ ap (λ m. max m (at + suc d + suc n)) one ∙ both ∙ sym all
 
 -- the next bytes of a part
-pub put-more : (at d n : ℕ) (part a b c : List ℕ) → d + n ≤ length part → IsPut at (take d part) a b → IsPut (at + d) (take n (drop d part)) b c → IsPut at (take (d + n) part) a c
+pub put-more : (at d n : ℕ) (part a b c : List ℕ) → d + n ≤ length part → IsPut at (take d part) a b → IsPut (at + d) (take n (drop d part)) b c
+    → IsPut at (take (d + n) part) a c
 put-more at d n part a b c fits p q =
     let ld : length (take d part) ≡ d = length-take-le d part (omega arith) in
     let lr = length-drop d part in
@@ -94,7 +96,8 @@ put-more at d n part a b c fits p q =
     }
 
 -- the bytes of a cell, one part behind the other
-pub put-both : (first second bytes : List ℕ) → length first ≡ 1024 → length second ≡ 32 → length bytes ≡ 1056 → put_bytes 1024 second (put_bytes 0 first bytes) ≡ first ++ second
+pub put-both : (first second bytes : List ℕ) → length first ≡ 1024 → length second ≡ 32 → length bytes ≡ 1056
+    → put_bytes 1024 second (put_bytes 0 first bytes) ≡ first ++ second
 unfolding put_bytes
 put-both first second bytes one two size =
     let rest = drop (0 + length first) bytes in
@@ -102,4 +105,5 @@ put-both first second bytes one two size =
     let all : length (first ++ rest) ≡ 1056 = omega (arith, length-append first rest) in
     let front : take 1024 (first ++ rest) ≡ first = take_at first rest 1024 one in
     let none : drop (1024 + length second) (first ++ rest) ≡ [] = drop_all (1024 + length second) (first ++ rest) (omega arith) in
-    ap (λ l. l ++ (second ++ drop (1024 + length second) (first ++ rest))) front ∙ ap (λ l. first ++ (second ++ l)) none ∙ ap (λ l. first ++ l) (append-nil second)
+    ap (λ l. l ++ (second ++ drop (1024 + length second) (first ++ rest))) front ∙ ap (λ l. first ++ (second ++ l)) none
+    ∙ ap (λ l. first ++ l) (append-nil second)

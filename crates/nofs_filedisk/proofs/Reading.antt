@@ -32,7 +32,8 @@ pub begins : (at : ℕ) (into : List ℕ) (f : HostFileState) → HasRead at (le
 begins at into f = record { keeps = KeepsBytes-refl f; len = refl; fits = omega arith; part = λ tells k low. absurd (omega (arith, low)); no_fault = refl }
 
 -- parts one behind the other
-part-more : (bytes : List ℕ) (at done n : ℕ) (was into : List ℕ) → done + n ≤ length into → take done into ≡ take done was → IsPart bytes at (take done was) → IsPart bytes (at + done) (take n (drop done into))
+part-more : (bytes : List ℕ) (at done n : ℕ) (was into : List ℕ) → done + n ≤ length into → take done into ≡ take done was → IsPart bytes at (take done was)
+    → IsPart bytes (at + done) (take n (drop done into))
     → IsPart bytes at (take (done + n) into)
 part-more bytes at done n was into fits same first next k low =
     let whole : length (take (done + n) into) ≡ done + n = length-take-le (done + n) into fits in
@@ -50,7 +51,8 @@ part-more bytes at done n was into fits same first next k low =
           ∙ next (k - done) (omega arith) ∙ ap (slice_index bytes) place
     ]
 
-pub goes-on : (at size done n : ℕ) (was into : List ℕ) (old mid new : HostFileState) → HasRead at size done was old mid → KeepsBytes mid new → length into ≡ length was → take done into ≡ take done was → done + n ≤ length was
+pub goes-on : (at size done n : ℕ) (was into : List ℕ) (old mid new : HostFileState) → HasRead at size done was old mid → KeepsBytes mid new
+    → length into ≡ length was → take done into ≡ take done was → done + n ≤ length was
     → (IsTrue mid.tells → IsPart mid.bytes (at + done) (take n (drop done into))) → new.faults ≡ mid.faults → HasRead at size (done + n) into old new
 goes-on at size done n was into old mid new has keeps len same fits part no_fault =
     let size_was = has.len in
@@ -65,13 +67,15 @@ goes-on at size done n was into old mid new has keeps len same fits part no_faul
     }
 
 -- all bytes are read
-pub ends : (at size done : ℕ) (into : List ℕ) (old now : HostFileState) → HasRead at size done into old now → size ≤ done → IsTrue old.tells → IsPart old.bytes at into
+pub ends : (at size done : ℕ) (into : List ℕ) (old now : HostFileState) → HasRead at size done into old now → size ≤ done → IsTrue old.tells
+    → IsPart old.bytes at into
 ends at size done into old now has all tells =
     let size_is = has.len in
     subst (λ (l : List ℕ). IsPart old.bytes at l) (take_all done into (omega arith)) (has.part tells)
 
 -- the file has ended, and what is left is cleared
-pub ends-short : (at size done : ℕ) (was into : List ℕ) (old mid new : HostFileState) → HasRead at size done was old mid → KeepsBytes mid new → take done into ≡ take done was → length into ≡ length was
+pub ends-short : (at size done : ℕ) (was into : List ℕ) (old mid new : HostFileState) → HasRead at size done was old mid → KeepsBytes mid new
+    → take done into ≡ take done was → length into ≡ length was
     → ((k : ℕ) → done ≤ k → slice_index into k ≡ 0) → (IsTrue mid.tells → length mid.bytes ≤ at + done) → IsTrue old.tells → IsPart old.bytes at into
 ends-short at size done was into old mid new has keeps same len zero_from end tells k low =
     let ended : length old.bytes ≤ at + done = subst (λ (l : List ℕ). length l ≤ at + done) has.keeps.bytes (end (has.keeps.tells ∙ tells)) in
@@ -90,7 +94,8 @@ zero-at zero k = get_or-eq_default {A = ℕ} [] 0 {n = k} (omega arith)
 zero-at (suc n) zero = refl
 zero-at (suc n) (suc k) = zero-at n k
 
-pub cleared : (done k : ℕ) (bytes new : List ℕ) → done ≤ length bytes → new ≡ zeros (length bytes - done) → done ≤ k → slice_index (put_mid done (length bytes - done) bytes new) k ≡ 0
+pub cleared : (done k : ℕ) (bytes new : List ℕ) → done ≤ length bytes → new ≡ zeros (length bytes - done) → done ≤ k
+    → slice_index (put_mid done (length bytes - done) bytes new) k ≡ 0
 cleared done k bytes new fits is behind =
     let front = length-take-le done bytes fits in
     let none : drop (length bytes - done) (drop done bytes) ≡ [] = drop_all (length bytes - done) (drop done bytes) (omega (arith, length-drop done bytes)) in

@@ -1,5 +1,6 @@
 -- Windows show what the file holds, before and after a write.
-use Rattle.std.proofs.Common.{◌≡◌, ◌≢◌, ℕ, ◌+◌, ◌-◌, ◌*◌, ◌/◌, ◌%◌, ◌<◌, ◌≤◌, List, length, take, drop, set, get_or, Option, None, Some, arith, refl, subst, sym, ap, ◌∙◌, inl, inr}
+use Rattle.std.proofs.Common.{◌≡◌, ◌≢◌, ℕ, ◌+◌, ◌-◌, ◌*◌, ◌/◌, ◌%◌, ◌<◌, ◌≤◌, List, length, take, drop, set, get_or, Option, None, Some, arith, refl, subst}
+use Rattle.std.proofs.Common.{sym, ap, ◌∙◌, inl, inr}
 use Rattle.std.specs.Prelude.{All, slice_index, slice_range}
 use Rattle.std.specs.List.{AllWithin}
 use Rattle.std.proofs.lemmas.Bool.{cases_lt}
@@ -46,11 +47,13 @@ cell-shown bytes w block at cell is fits shown payload tag =
     let second : 67584 * (block / 64) + (at + 1024) ≡ 1056 * block + 1024 = omega arith in
     let end : at + 1056 ≡ at + 1024 + 32 = omega arith in
     let one = payload ∙ range-shown bytes w (67584 * (block / 64)) at 1024 (omega arith) shown ∙ ap (λ k. part_of bytes k 1024) first in
-    let two = tag ∙ ap (λ k. slice_range w (at + 1024) k) end ∙ range-shown bytes w (67584 * (block / 64)) (at + 1024) 32 (omega arith) shown ∙ ap (λ k. part_of bytes k 32) second in
+    let two = tag ∙ ap (λ k. slice_range w (at + 1024) k) end ∙ range-shown bytes w (67584 * (block / 64)) (at + 1024) 32 (omega arith) shown
+    ∙ ap (λ k. part_of bytes k 32) second in
     λ i. record { payload = one i; tag = two i }
 
 -- the cell of a block that was read alone
-pub cell-alone : (bytes w : List ℕ) (block : ℕ) (cell : Cell) → length w ≡ 1056 → IsPart bytes (1056 * block) w → cell.payload ≡ slice_range w 0 1024 → cell.tag ≡ slice_range w 1024 1056
+pub cell-alone : (bytes w : List ℕ) (block : ℕ) (cell : Cell) → length w ≡ 1056 → IsPart bytes (1056 * block) w → cell.payload ≡ slice_range w 0 1024
+    → cell.tag ≡ slice_range w 1024 1056
     → cell ≡ cell_in bytes block
 unfolding cell_in
 cell-alone bytes w block cell size shown payload tag =
@@ -60,7 +63,8 @@ cell-alone bytes w block cell size shown payload tag =
     λ i. record { payload = one i; tag = two i }
 
 -- a window of other cells
-apart : (block n : ℕ) (part a b w : List ℕ) → length part ≤ 1056 → IsPut (1056 * block) part a b → n ≢ block / 64 → length w ≤ 67584 → IsPart a (67584 * n) w → IsPart b (67584 * n) w
+apart : (block n : ℕ) (part a b w : List ℕ) → length part ≤ 1056 → IsPut (1056 * block) part a b → n ≢ block / 64 → length w ≤ 67584 → IsPart a (67584 * n) w
+    → IsPart b (67584 * n) w
 apart block n part a b w short put other size shown k low =
     let whole = block-place block in
     let small : block % 64 < 64 = omega arith in
@@ -72,13 +76,15 @@ apart block n part a b w short put other size shown k low =
           put.behind (67584 * n + k) (omega arith)
     ])
 
-pub kept-apart : (number : Option ℕ) (block : ℕ) (part a b w : List ℕ) → length part ≤ 1056 → IsPut (1056 * block) part a b → number ≢ Some (block / 64) → length w ≤ 67584
+pub kept-apart : (number : Option ℕ) (block : ℕ) (part a b w : List ℕ) → length part ≤ 1056 → IsPut (1056 * block) part a b → number ≢ Some (block / 64)
+    → length w ≤ 67584
     → ((n : ℕ) → number ≡ Some n → IsPart a (67584 * n) w) → (n : ℕ) → number ≡ Some n → IsPart b (67584 * n) w
 kept-apart number block part a b w short put other size shown n is =
     apart block n part a b w short put (λ same. other (is ∙ ap Some same)) size (shown n is)
 
 -- the window of the block
-pub put-shown : (block at : ℕ) (cell a b w : List ℕ) → at ≡ 1056 * (block % 64) → length cell ≡ 1056 → IsPut (1056 * block) cell a b → length w ≡ 67584 → IsPart a (67584 * (block / 64)) w
+pub put-shown : (block at : ℕ) (cell a b w : List ℕ) → at ≡ 1056 * (block % 64) → length cell ≡ 1056 → IsPut (1056 * block) cell a b → length w ≡ 67584
+    → IsPart a (67584 * (block / 64)) w
     → IsPart b (67584 * (block / 64)) (put_bytes at cell w)
 put-shown block at cell a b w is len put size shown k low =
     let whole = block-place block in
@@ -91,12 +97,14 @@ put-shown block at cell a b w is len put size shown k low =
         | inl inside ↦
             let index : at + (k - at) ≡ k = omega arith in
             let place : 1056 * block + (k - at) ≡ 67584 * (block / 64) + k = omega arith in
-            ap (slice_index (put_bytes at cell w)) (sym index) ∙ put-inside at (k - at) cell w fits (omega arith) ∙ sym (put.inside (k - at) (omega arith)) ∙ ap (slice_index b) place
+            ap (slice_index (put_bytes at cell w)) (sym index) ∙ put-inside at (k - at) cell w fits (omega arith) ∙ sym (put.inside (k - at) (omega arith))
+            ∙ ap (slice_index b) place
         | inr behind ↦ put-behind at k cell w fits (omega arith) ∙ shown k (omega arith) ∙ sym (put.behind (67584 * (block / 64) + k) (omega arith))
       ]
     ]
 
-pub put-known : (number : Option ℕ) (block at : ℕ) (cell a b w new : List ℕ) → number ≡ Some (block / 64) → at ≡ 1056 * (block % 64) → length cell ≡ 1056 → IsPut (1056 * block) cell a b → length w ≡ 67584
+pub put-known : (number : Option ℕ) (block at : ℕ) (cell a b w new : List ℕ) → number ≡ Some (block / 64) → at ≡ 1056 * (block % 64) → length cell ≡ 1056
+    → IsPut (1056 * block) cell a b → length w ≡ 67584
     → new ≡ put_bytes at cell w → ((n : ℕ) → number ≡ Some n → IsPart a (67584 * n) w) → (n : ℕ) → number ≡ Some n → IsPart b (67584 * n) new
 put-known number block at cell a b w new has is len put size same shown n named =
     let number_is : block / 64 ≡ n = same_Some (block / 64) n (sym has ∙ named) in
@@ -114,7 +122,8 @@ pub record HalfShown (old new : List ℕ) (at : ℕ) (windows : List Window) : T
 pub half-none : (old new : List ℕ) (windows : List Window) → All (IsShown old) windows → HalfShown old new 0 windows
 half-none old new windows all = record { done = λ k d low high. absurd (omega (arith, high)); left = λ k d low high. all k d high }
 
-pub half-more : (old new : List ℕ) (at : ℕ) (windows : List Window) (w : Window) → at < length windows → HalfShown old new at windows → IsShown new w → HalfShown old new (at + 1) (set windows at w)
+pub half-more : (old new : List ℕ) (at : ℕ) (windows : List Window) (w : Window) → at < length windows → HalfShown old new at windows → IsShown new w
+    → HalfShown old new (at + 1) (set windows at w)
 half-more old new at windows w inside half shown = record {
   done = AllWithin-more_set windows at w inside (IsShown new) half.done shown;
   left = λ k d low high.
@@ -132,7 +141,8 @@ pub record ShowNothing (count : ℕ) (windows : List Window) : Type 0 where
   pub none : (k : ℕ) (d : Window) → k < length windows → (get_or windows k d).number ≡ None
 
 -- one window more
-pub half-next : (old new : List ℕ) (at : ℕ) (windows : List Window) (was now : Window) → at < length windows → was ≡ get_or windows at was → HalfShown old new at windows → (IsShown old was → IsShown new now)
+pub half-next : (old new : List ℕ) (at : ℕ) (windows : List Window) (was now : Window) → at < length windows → was ≡ get_or windows at was
+    → HalfShown old new at windows → (IsShown old was → IsShown new now)
     → HalfShown old new (at + 1) (set windows at now)
 half-next old new at windows was now inside is half step =
     half-more old new at windows now inside half (step (subst (IsShown old) (sym is) (half.left at was (omega arith) inside)))

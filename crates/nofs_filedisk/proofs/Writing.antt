@@ -17,7 +17,12 @@ pub KeepsDurable-refl : (f : HostFileState) → KeepsDurable f f
 KeepsDurable-refl f = record { tells = refl; durable = refl; faults = omega arith }
 
 pub KeepsDurable-trans : (a b c : HostFileState) → KeepsDurable a b → KeepsDurable b c → KeepsDurable a c
-KeepsDurable-trans a b c p q = record { tells = q.tells ∙ p.tells; durable = q.durable ∙ p.durable; faults = (let x = p.faults in let y = q.faults in omega arith) }
+KeepsDurable-trans a b c p q = record {
+  tells = q.tells ∙ p.tells;
+  durable =
+      q.durable ∙ p.durable;
+  faults = (let x = p.faults in let y = q.faults in omega arith);
+}
 
 pub begins : (at : ℕ) (part : List ℕ) (f : HostFileState) → HasPut at part 0 f f
 begins at part f = record { keeps = KeepsDurable-refl f; fits = omega arith; put = λ tells. put-none at f.bytes; no_fault = refl }
@@ -26,7 +31,8 @@ begins at part f = record { keeps = KeepsDurable-refl f; fits = omega arith; put
 rest-is : (done : ℕ) (part : List ℕ) → take (length part - done) (drop done part) ≡ drop done part
 rest-is done part = take_all (length part - done) (drop done part) (omega (arith, length-drop done part))
 
-pub goes-on : (at : ℕ) (part : List ℕ) (done n : ℕ) (old mid new : HostFileState) → HasPut at part done old mid → WritesSome mid new (at + done) (take (length part - done) (drop done part)) (Ok n) → HasPut at part (done + n) old new
+pub goes-on : (at : ℕ) (part : List ℕ) (done n : ℕ) (old mid new : HostFileState) → HasPut at part done old mid
+    → WritesSome mid new (at + done) (take (length part - done) (drop done part)) (Ok n) → HasPut at part (done + n) old new
 goes-on at part done n old mid new has writes =
     let w = subst (λ (l : List ℕ). WritesSome mid new (at + done) l (Ok n)) (rest-is done part) writes in
     let fits = w.fits in
@@ -39,10 +45,12 @@ goes-on at part done n old mid new has writes =
       no_fault = w.no_fault ∙ has.no_fault;
     }
 
-pub ends : (at : ℕ) (part : List ℕ) (done : ℕ) (old now : HostFileState) → HasPut at part done old now → length part ≤ done → IsTrue old.tells → IsPut at part old.bytes now.bytes
+pub ends : (at : ℕ) (part : List ℕ) (done : ℕ) (old now : HostFileState) → HasPut at part done old now → length part ≤ done → IsTrue old.tells
+    → IsPut at part old.bytes now.bytes
 ends at part done old now has all tells = subst (λ (l : List ℕ). IsPut at l old.bytes now.bytes) (take_all done part all) (has.put tells)
 
-pub fails : (at : ℕ) (part : List ℕ) (done : ℕ) (x : Failed) (old mid new : HostFileState) → HasPut at part done old mid → WritesSome mid new (at + done) (take (length part - done) (drop done part)) (Err x) → IsTrue old.tells → IsPartlyPut at part old.bytes new.bytes
+pub fails : (at : ℕ) (part : List ℕ) (done : ℕ) (x : Failed) (old mid new : HostFileState) → HasPut at part done old mid
+    → WritesSome mid new (at + done) (take (length part - done) (drop done part)) (Err x) → IsTrue old.tells → IsPartlyPut at part old.bytes new.bytes
 fails at part done x old mid new has writes tells =
     let w = subst (λ (l : List ℕ). WritesSome mid new (at + done) l (Err x)) (rest-is done part) writes in
     let partly = w.err (has.keeps.tells ∙ tells) in

@@ -163,7 +163,8 @@ module _ (old new : DiskState) (k l : Books) (H : List Entry1) (p : Past) (i g s
   -- The claim
 
   claims-free : ClaimsFree W c X
-  claims-free = law-claims W (step.Put i g slot at bytes) c W.known_inodes (λ j. not (uses_inode W j)) W.known_blocks (λ q. not (uses_block W q)) X (law-good W X has-numbers match o.homes) claim
+  claims-free = law-claims W (step.Put i g slot at bytes) c W.known_inodes (λ j. not (uses_inode W j)) W.known_blocks (λ q. not (uses_block W q)) X
+      (law-good W X has-numbers match o.homes) claim
 
   free : (a : Path) → IsNew m way a → IsFree X (places a).block
   free a n = claims-free.block_free (places a) (listed c (places a) (h.claimed a n))

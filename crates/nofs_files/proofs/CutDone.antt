@@ -1,11 +1,13 @@
 -- A Resize that is done, or that failed at a write: the mount stands.
-use Rattle.std.proofs.Common.{◌≡◌, ℕ, ◌+◌, ◌/◌, ◌<◌, ◌≤◌, ◌⊎◌, inl, inr, Bool, true, false, cond, eqb, eqb-true, eq-eqb, leb, ltb, ◌&&◌, List, [], ◌∷◌, ◌++◌, length, Option, Some, None, is_some, IsTrue, Ok, refl, sym, ap, ◌∙◌, subst, subst₂, arith}
+use Rattle.std.proofs.Common.{◌≡◌, ℕ, ◌+◌, ◌/◌, ◌<◌, ◌≤◌, ◌⊎◌, inl, inr, Bool, true, false, cond, eqb, eqb-true, eq-eqb, leb, ltb, ◌&&◌, List, [], ◌∷◌, ◌++◌}
+use Rattle.std.proofs.Common.{length, Option, Some, None, is_some, IsTrue, Ok, refl, sym, ap, ◌∙◌, subst, subst₂, arith}
 use Rattle.std.proofs.lemmas.Bool.{cases_lt}
 use Rattle.nofs_ptrs.specs.Paths.{slot_limit}
 use Rattle.nofs_disk.specs.Disk.{DiskState, IsDisk, cell_at, Picks}
 use Rattle.nofs_disk.specs.Adds.{Adds}
 use Rattle.nofs_model.specs.Cells.{Cell, Leaf, Pointer, Record, SuperBlock, is_null, pointer_at, tag_of}
-use Rattle.nofs_model.specs.Image.{Image, super_at, is_data_block, inode, Path, InRecord, Under, path_of, IsSlot, kind_in, tag_for, find, pointer, record_pointer, FileState, Files}
+use Rattle.nofs_model.specs.Image.{Image, super_at, is_data_block, inode, Path, InRecord, Under, path_of, IsSlot, kind_in, tag_for, find, pointer}
+use Rattle.nofs_model.specs.Image.{record_pointer, FileState, Files}
 use Rattle.nofs_model.specs.declared.path.PathAnswer.TheVariants as answer
 use Rattle.nofs_model.specs.declared.value.Value.TheVariants.{Bytes}
 use Rattle.nofs_model.proofs.Find.{HoldsAt, find-held}

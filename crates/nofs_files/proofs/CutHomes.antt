@@ -1,5 +1,6 @@
 -- The homes after a Resize: the blocks of what is cut have none, and all others keep theirs.
-use Rattle.std.proofs.Common.{◌≡◌, ◌≢◌, ℕ, ◌+◌, ◌-◌, ◌/◌, ◌^◌, ◌<◌, ◌≤◌, ◌⊎◌, inl, inr, Bool, true, false, cond, leb, ltb, leb-true, ltb-true, lt-ltb, ◌&&◌, ◌||◌, not, List, Option, Some, None, is_some, IsTrue, refl, sym, ap, ◌∙◌, subst, arith}
+use Rattle.std.proofs.Common.{◌≡◌, ◌≢◌, ℕ, ◌+◌, ◌-◌, ◌/◌, ◌^◌, ◌<◌, ◌≤◌, ◌⊎◌, inl, inr, Bool, true, false, cond, leb, ltb, leb-true, ltb-true, lt-ltb, ◌&&◌}
+use Rattle.std.proofs.Common.{◌||◌, not, List, Option, Some, None, is_some, IsTrue, refl, sym, ap, ◌∙◌, subst, arith}
 use Rattle.std.proofs.lemmas.Bool.{cases_eq, cases_lt, le-leb, and_parts}
 use Rattle.std.proofs.lemmas.Bool.Decides.{nat_tests}
 use Rattle.std.proofs.lemmas.List.{get_or_past}
@@ -7,7 +8,8 @@ use Rattle.nofs_ptrs.specs.Paths.{slot_limit}
 use Rattle.nofs_bits.specs.Bits.{is_set}
 use Rattle.nofs_disk.specs.Disk.{DiskState, IsDisk}
 use Rattle.nofs_model.specs.Cells.{Cell, Pointer, Record}
-use Rattle.nofs_model.specs.Image.{Image, Path, path_of, is_pointer_slot, is_slot, IsSlot, find, value_in, node_in, FileState, Files, Absent, Home, home_at, owner}
+use Rattle.nofs_model.specs.Image.{Image, Path, path_of, is_pointer_slot, is_slot, IsSlot, find, value_in, node_in, FileState, Files, Absent, Home, home_at}
+use Rattle.nofs_model.specs.Image.{owner}
 use Rattle.nofs_model.specs.declared.path.PathAnswer.{PathAnswer}
 use Rattle.nofs_model.specs.declared.path.PathAnswer.TheVariants as answer
 use Rattle.nofs_model.specs.declared.value.Value.TheVariants.{Hole}

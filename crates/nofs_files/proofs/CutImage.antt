@@ -1,12 +1,15 @@
 -- The image after a Resize: what is cut has no pointer, and all else stays.
-use Rattle.std.proofs.Common.{◌≡◌, ◌≢◌, ℕ, ◌+◌, ◌-◌, ◌*◌, ◌/◌, ◌%◌, ◌<◌, ◌≤◌, ◌⊎◌, min, inl, inr, Bool, true, false, cond, eqb, eq-eqb, ne_eqb, leb, ltb, leb-true, ltb-true, ◌&&◌, not, List, ◌++◌, length, take, Option, Some, None, unwrap_or, IsTrue, refl, sym, ap, ◌∙◌, subst, arith}
+use Rattle.std.proofs.Common.{◌≡◌, ◌≢◌, ℕ, ◌+◌, ◌-◌, ◌*◌, ◌/◌, ◌%◌, ◌<◌, ◌≤◌, ◌⊎◌, min, inl, inr, Bool, true, false, cond, eqb, eq-eqb, ne_eqb, leb, ltb}
+use Rattle.std.proofs.Common.{leb-true, ltb-true, ◌&&◌, not, List, ◌++◌, length, take, Option, Some, None, unwrap_or, IsTrue, refl, sym, ap, ◌∙◌, subst}
+use Rattle.std.proofs.Common.{arith}
 use Rattle.std.proofs.lemmas.Bool.{cases_eq, cases_lt, le-leb}
 use Rattle.nofs_ptrs.specs.Paths.{slot_limit}
 use Rattle.nofs_disk.specs.Disk.{DiskState, IsDisk, cell_at}
 use Rattle.nofs_super.specs.Geometry.{IsGeometry}
 use Rattle.nofs_inode.specs.declared.inode.FileKind.TheVariants.{File}
 use Rattle.nofs_model.specs.Cells.{Cell, Pointer, Record, is_null, pointer_at, tag_of, is_live}
-use Rattle.nofs_model.specs.Image.{Image, super_at, file_from, value_in, is_data_block, inode, Path, InRecord, Under, path_of, slot_of, is_pointer_slot, IsSlot, find, record_pointer, Files, is_folder, IsBelow}
+use Rattle.nofs_model.specs.Image.{Image, super_at, file_from, value_in, is_data_block, inode, Path, InRecord, Under, path_of, slot_of, is_pointer_slot}
+use Rattle.nofs_model.specs.Image.{IsSlot, find, record_pointer, Files, is_folder, IsBelow}
 use Rattle.nofs_model.specs.declared.path.PathAnswer.{PathAnswer}
 use Rattle.nofs_model.specs.declared.path.PathAnswer.TheVariants as answer
 use Rattle.nofs_model.specs.declared.value.Value.{Value}
@@ -37,9 +40,11 @@ use Rattle.nofs_files.specs.Resizing.{kept_slots, cut_record, cut_writes, IsCutB
 use Rattle.nofs_files.specs.declared.cutting.NewCell.{NewCell}
 use Rattle.nofs_files.specs.declared.cutting.Edge.{Edge}
 use Rattle.nofs_files.proofs.Ways.{written-apart, written-here}
-use Rattle.nofs_files.proofs.CutPaths.{Inside, above-cases, below_path, near-path, far-path, leaf-inside, top-inside, child-inside, only-child, leb-lt, lt-leb, or-one, or-parts}
+use Rattle.nofs_files.proofs.CutPaths.{Inside, above-cases, below_path, near-path, far-path, leaf-inside, top-inside, child-inside, only-child, leb-lt}
+use Rattle.nofs_files.proofs.CutPaths.{lt-leb, or-one, or-parts}
 use Rattle.nofs_files.proofs.CutRecords.{record-cut, record-stays}
-use Rattle.nofs_files.proofs.CutWrites.{Cuts, IsAt, AtTail, AtBelow, AtAbove, Held, one-is, at-one, table-one, meets, tail-at, at-tail, below-at, above-at, held-at, same-slot, same-at, content-apart, tail-low}
+use Rattle.nofs_files.proofs.CutWrites.{Cuts, IsAt, AtTail, AtBelow, AtAbove, Held, one-is, at-one, table-one, meets, tail-at, at-tail, below-at, above-at}
+use Rattle.nofs_files.proofs.CutWrites.{held-at, same-slot, same-at, content-apart, tail-low}
 
 -- what a Resize gives to a slot, by the size and the value before
 abbrev slot_by : ℕ → Value → ℕ → ℕ → Option Value

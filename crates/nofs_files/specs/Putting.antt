@@ -33,14 +33,16 @@ pointed r n slot x = record r { size = n; direct = slice_set r.direct slot x }
 
 -- no row before those of blocks and stamps refuses the step
 abbrev pub RowsLead : DiskState → Books → Step → Type 0
-RowsLead d k s = IsTrue d.tells → (H : List Entry1) (p : Past) → IsOpen d k H p → (V : World) → first_of (rows p.world V s) ≡ first_of (full p.world V s ∷ serials_spent p.world s ∷ [])
+RowsLead d k s = IsTrue d.tells → (H : List Entry1) (p : Past) → IsOpen d k H p → (V : World)
+    → first_of (rows p.world V s) ≡ first_of (full p.world V s ∷ serials_spent p.world s ∷ [])
 
 -- all rows before that of lost blocks above a slot pass, and the slot itself may be put
 abbrev pub RowsReach : DiskState → Books → ℕ → ℕ → ℕ → ℕ → List ℕ → Type 0
 RowsReach d k i g slot at bytes =
     let s : Step = step.Put i g slot at bytes in
     IsTrue d.tells → (H : List Entry1) (p : Past) → IsOpen d k H p → (V : World)
-    → first_of (rows p.world V s) ≡ first_of (row (damaged_above p.world.files i (path_of slot)) (refusal.LostSlot slot) ∷ full p.world V s ∷ serials_spent p.world s ∷ [])
+    → first_of (rows p.world V s) ≡ first_of (row (damaged_above p.world.files i (path_of slot)) (refusal.LostSlot slot)
+    ∷ full p.world V s ∷ serials_spent p.world s ∷ [])
 
 -- the bytes don't lie in one slot, or there are none
 abbrev pub is_bad_range : ℕ → ℕ → Bool

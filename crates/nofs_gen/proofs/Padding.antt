@@ -1,5 +1,6 @@
 -- The slots of a file, with holes up to 72.
-use Rattle.std.proofs.Common.{◌≡◌, ℕ, suc, ◌+◌, ◌-◌, ◌<◌, ◌≤◌, min, List, [], ◌∷◌, ◌++◌, length, map, take, replicate, refl, sym, ap, ◌∙◌, append_assoc, append-nil, arith, length-append}
+use Rattle.std.proofs.Common.{◌≡◌, ℕ, suc, ◌+◌, ◌-◌, ◌<◌, ◌≤◌, min, List, [], ◌∷◌, ◌++◌, length, map, take, replicate, refl, sym, ap, ◌∙◌, append_assoc}
+use Rattle.std.proofs.Common.{append-nil, arith, length-append}
 use Rattle.std.proofs.lemmas.List.{map_push, length-map, take-map}
 use Rattle.nofs_model.specs.declared.value.Value.{Value}
 use Rattle.nofs_model.specs.declared.value.Value.TheVariants as value
@@ -16,7 +17,8 @@ one-hole l low =
     append_assoc l (value.Hole ∷ []) (replicate n value.Hole) ∙ ap (λ m. l ++ replicate m value.Hole) (sym more)
 
 -- one hole more
-pub padded-push : (xs ys : List KeptValue) (start : List Value) → ys ≡ xs ++ kept.Hole ∷ [] → length xs < 72 → padded (map kept_value xs) ≡ start → padded (map kept_value ys) ≡ start
+pub padded-push : (xs ys : List KeptValue) (start : List Value) → ys ≡ xs ++ kept.Hole ∷ [] → length xs < 72 → padded (map kept_value xs) ≡ start
+    → padded (map kept_value ys) ≡ start
 padded-push xs ys start is low e =
     let long = length-map xs kept_value in
     ap (λ t. padded (map kept_value t)) is ∙ (ap padded (map_push kept_value xs kept.Hole) ∙ (one-hole (map kept_value xs) (omega (arith, low, long)) ∙ e))

@@ -39,4 +39,5 @@ drawn user x (suc n) = drawn_command user (next_number x / 65536) ∷ drawn user
 -- the script of a user: it makes its file, works on it, and makes it durable
 unfoldable pub script_of : ℕ → ℕ → ℕ → List Command
 script_of start steps user =
-    command.MakeDirectory (directory_of user) ∷ command.Make (user_path user) ∷ drawn user (first_number start user) steps ++ command.Fsync (user_path user) ∷ []
+    command.MakeDirectory (directory_of user) ∷ command.Make (user_path user) ∷ drawn user (first_number start user) steps ++ command.Fsync (user_path user)
+    ∷ []

@@ -28,7 +28,8 @@ little_from-range i (suc n) xs ys same =
 pub number_at-range : (n at : ℕ) (xs ys : List ℕ) → SameRange at n xs ys → number_at n at xs ≡ number_at n at ys
 unfolding number_at
 number_at-range n at xs ys same =
-    little_from-range 0 n (drop at xs) (drop at ys) (λ k low high. get_or-drop at xs k 0 ∙ same (at + k) (omega arith) (omega arith) ∙ sym (get_or-drop at ys k 0))
+    little_from-range 0 n (drop at xs) (drop at ys) (λ k low high. get_or-drop at xs k 0 ∙ same (at + k) (omega arith) (omega arith)
+    ∙ sym (get_or-drop at ys k 0))
 
 -- what stands beside a write stays
 pub SameBeside-range : (at n to m : ℕ) (old new : List ℕ) → SameBeside at n old new → (to + m ≤ at) ⊎ (at + n ≤ to) → SameRange to m new old
@@ -61,11 +62,14 @@ pub SameBeside-put_number : (n at x : ℕ) (bytes : List ℕ) → at + n ≤ len
 SameBeside-put_number n at x bytes fits = record {
   len = length-put_number n at x bytes fits;
   byte = λ k out. ⊎_elim
-      (λ before. sym (get_or-take at (put_number n at x bytes) k 0 before) ∙ ap (λ l. slice_index l k) (take-put_number n at x at bytes (omega arith) (omega arith)) ∙ get_or-take at bytes k 0 before)
+      (λ before. sym (get_or-take at (put_number n at x bytes) k 0 before)
+      ∙ ap (λ l. slice_index l k) (take-put_number n at x at bytes (omega arith) (omega arith)) ∙ get_or-take at bytes k 0 before)
       (λ behind.
       let whole : at + n + (k - (at + n)) ≡ k = omega arith in
-      let part : (l : List ℕ) → slice_index (drop (at + n) l) (k - (at + n)) ≡ slice_index l k = λ l. get_or-drop (at + n) l (k - (at + n)) 0 ∙ ap (slice_index l) whole in
-      sym (part (put_number n at x bytes)) ∙ ap (λ l. slice_index l (k - (at + n))) (drop-put_number n at x (at + n) bytes (omega arith) (omega arith)) ∙ part bytes)
+      let part : (l : List ℕ) → slice_index (drop (at + n) l) (k - (at + n)) ≡ slice_index l k =
+      λ l. get_or-drop (at + n) l (k - (at + n)) 0 ∙ ap (slice_index l) whole in
+      sym (part (put_number n at x bytes)) ∙ ap (λ l. slice_index l (k - (at + n))) (drop-put_number n at x (at + n) bytes (omega arith) (omega arith))
+      ∙ part bytes)
       out;
 }
 
@@ -75,12 +79,14 @@ SameBeside-put_pointer at it bytes fits =
     let len = length-put_number 8 at it.block bytes (omega arith) in
     SameBeside-trans at 16 bytes (put_number 8 at it.block bytes) (put_number 8 (at + 8) it.stamp (put_number 8 at it.block bytes))
     (SameBeside-wider at 16 at 8 bytes (put_number 8 at it.block bytes) (SameBeside-put_number 8 at it.block bytes (omega arith)) (omega arith) (omega arith))
-    (SameBeside-wider at 16 (at + 8) 8 (put_number 8 at it.block bytes) (put_number 8 (at + 8) it.stamp (put_number 8 at it.block bytes)) (SameBeside-put_number 8 (at + 8) it.stamp (put_number 8 at it.block bytes) (omega arith)) (omega arith) (omega arith))
+    (SameBeside-wider at 16 (at + 8) 8 (put_number 8 at it.block bytes) (put_number 8 (at + 8) it.stamp (put_number 8 at it.block bytes))
+    (SameBeside-put_number 8 (at + 8) it.stamp (put_number 8 at it.block bytes) (omega arith)) (omega arith) (omega arith))
 
 -- a write, and one right behind it
 pub SameBeside-then : (a n b m : ℕ) (old mid new : List ℕ) → b ≡ a + n → SameBeside a n old mid → SameBeside b m mid new → SameBeside a (n + m) old new
 SameBeside-then a n b m old mid new e p q =
-    SameBeside-trans a (n + m) old mid new (SameBeside-wider a (n + m) a n old mid p (omega arith) (omega arith)) (SameBeside-wider a (n + m) b m mid new q (omega arith) (omega arith))
+    SameBeside-trans a (n + m) old mid new (SameBeside-wider a (n + m) a n old mid p (omega arith) (omega arith))
+    (SameBeside-wider a (n + m) b m mid new q (omega arith) (omega arith))
 
 pub SameBeside-number : (n at x : ℕ) (old new : List ℕ) → at + n ≤ length old → new ≡ put_number n at x old → SameBeside at n old new
 SameBeside-number n at x old new fits e = subst (λ (l : List ℕ). SameBeside at n old l) (sym e) (SameBeside-put_number n at x old fits)

@@ -1,5 +1,6 @@
 -- Records of the inode table, and the 256 bytes that spell one.
-use Rattle.std.specs.Prelude.{◌≡◌, ℕ, ◌+◌, ◌*◌, ◌≤◌, Bool, ◌&&◌, ◌||◌, not, List, [], ◌∷◌, All, count_by, Option, Some, None, if◌then◌else◌, is_some, nat_le, ◌==◌}
+use Rattle.std.specs.Prelude.{◌≡◌, ℕ, ◌+◌, ◌*◌, ◌≤◌, Bool, ◌&&◌, ◌||◌, not, List, [], ◌∷◌, All, count_by, Option, Some, None, if◌then◌else◌, is_some, nat_le}
+use Rattle.std.specs.Prelude.{◌==◌}
 use Rattle.std.specs.List.{list_all}
 use Rattle.nofs_disk.specs.Number.{number_at}
 use Rattle.nofs_disk.specs.declared.tag.Pointer.{Pointer}

@@ -1,5 +1,6 @@
 -- A record has one spelling, and what spells it is read as it.
-use Rattle.std.specs.Prelude.{◌≡◌, ℕ, zero, suc, ◌+◌, ◌-◌, ◌*◌, ◌/◌, ◌<◌, ◌≤◌, ◌⊎◌, Bool, true, false, ◌&&◌, not, List, [], ◌∷◌, length, All, Decides, get_or, replicate, IfSome, Option, Some, None, if◌then◌else◌, nat_le, ◌==◌, slice_index, refl}
+use Rattle.std.specs.Prelude.{◌≡◌, ℕ, zero, suc, ◌+◌, ◌-◌, ◌*◌, ◌/◌, ◌<◌, ◌≤◌, ◌⊎◌, Bool, true, false, ◌&&◌, not, List, [], ◌∷◌, length, All, Decides, get_or}
+use Rattle.std.specs.Prelude.{replicate, IfSome, Option, Some, None, if◌then◌else◌, nat_le, ◌==◌, slice_index, refl}
 use Rattle.std.specs.List.{list_all}
 use Rattle.std.proofs.Common.{arith, sym, ap, ap₂, ◌∙◌, inl, inr, ⊎_elim, subst, leb-true, le-leb, eq-eqb, eqb-true}
 use Rattle.std.proofs.lemmas.Bool.{and_from, and_parts, cases_eq, cases_lt}
@@ -10,8 +11,12 @@ use Rattle.nofs_disk.specs.Number.{IsBytes, number_at}
 use Rattle.nofs_disk.specs.OneSpelling.{number_at-same}
 use Rattle.nofs_disk.specs.Pointer.{null, is_null, pointer_in}
 use Rattle.nofs_disk.specs.declared.tag.Pointer.{Pointer}
-use Rattle.nofs_inode.specs.Beside.{SameBeside, SameBeside-range, SameBeside-trans, SameBeside-wider, SameRange, number_at-beside, number_at-range, pointer_in-beside}
-use Rattle.nofs_inode.specs.InodeRecords.{AllowsKind, AllowsRecord, HasNumbers, HasRecordSpelling, IsLiveSpelling, IsTidyLink, SpellsRecord, allows_kind, allows_record, direct_in, fields_in, file_kind_number, file_kind_of, free_record, has_rest, is_empty_link, is_free, is_no_link, is_tidy_link, largest_size, link_count, link_in, links_in, no_link, record_of, record_or_free, record_with}
+use Rattle.nofs_inode.specs.Beside.{SameBeside, SameBeside-range, SameBeside-trans, SameBeside-wider, SameRange, number_at-beside, number_at-range}
+use Rattle.nofs_inode.specs.Beside.{pointer_in-beside}
+use Rattle.nofs_inode.specs.InodeRecords.{AllowsKind, AllowsRecord, HasNumbers, HasRecordSpelling, IsLiveSpelling, IsTidyLink, SpellsRecord, allows_kind}
+use Rattle.nofs_inode.specs.InodeRecords.{allows_record, direct_in, fields_in, file_kind_number, file_kind_of, free_record, has_rest, is_empty_link, is_free}
+use Rattle.nofs_inode.specs.InodeRecords.{is_no_link, is_tidy_link, largest_size, link_count, link_in, links_in, no_link, record_of, record_or_free}
+use Rattle.nofs_inode.specs.InodeRecords.{record_with}
 use Rattle.nofs_inode.specs.declared.inode.FileKind.{FileKind}
 use Rattle.nofs_inode.specs.declared.inode.FileKind.TheVariants.{File, Directory}
 use Rattle.nofs_inode.specs.declared.inode.BackLink.{BackLink}
@@ -44,14 +49,16 @@ decides-kind Directory r =
     Decides-like (allows_kind Directory r)
     (λ h. (h.0.0, h.0.1, h.1))
     (λ h. ((h.0, h.1), h.2))
-    (Decides-and ((r.size == 0) && nat_le (link_count r.links) 1) (is_null r.top) (Decides-and (r.size == 0) (nat_le (link_count r.links) 1) (Decides-eqb r.size 0) (decides-le (link_count r.links) 1)) (decides-null r.top))
+    (Decides-and ((r.size == 0) && nat_le (link_count r.links) 1) (is_null r.top)
+    (Decides-and (r.size == 0) (nat_le (link_count r.links) 1) (Decides-eqb r.size 0) (decides-le (link_count r.links) 1)) (decides-null r.top))
 
 decides-live : (kind : FileKind) (r : Record) → Decides (allows_record (Some kind) r) (IsLiveSpelling kind r)
 decides-live kind r =
     Decides-like (allows_record (Some kind) r)
     (λ h. record { generation = h.0.0; tidy = h.0.1; allowed = h.1 })
     (λ h. ((h.generation, h.tidy), h.allowed))
-    (Decides-and (nat_le 1 r.generation && list_all is_tidy_link r.links) (allows_kind kind r) (Decides-and (nat_le 1 r.generation) (list_all is_tidy_link r.links) (decides-le 1 r.generation) (decides-tidies r.links)) (decides-kind kind r))
+    (Decides-and (nat_le 1 r.generation && list_all is_tidy_link r.links) (allows_kind kind r)
+    (Decides-and (nat_le 1 r.generation) (list_all is_tidy_link r.links) (decides-le 1 r.generation) (decides-tidies r.links)) (decides-kind kind r))
 
 -- the test answers true for a record that has a spelling
 pub allowed-true : (k : Option FileKind) (r : Record) → AllowsRecord k r → allows_record k r ≡ true
@@ -70,8 +77,18 @@ record_of-spells index bytes r s =
     let at = 256 * index in
     let kind : file_kind_of (number_at 4 (at + 8) bytes) ≡ r.kind = ap file_kind_of s.numbers.kind ∙ file_kind_of-number r.kind in
     let fields : fields_in at bytes ≡ r =
-    λ i. record { generation = s.numbers.generation i; kind = kind i; links = s.links i; size = s.numbers.size i; direct = s.direct i; leaf = s.leaf i; top = s.top i } in
-    let rest : has_rest at bytes r ≡ true = and_from _ _ (and_from _ _ (eq-eqb (number_at 4 (at + 8) bytes) (file_kind_number r.kind) s.numbers.kind) (eq-eqb (number_at 4 (at + 12) bytes) (link_count r.links) s.numbers.count)) (eq-eqb (number_at 8 (at + 24) bytes) 0 s.numbers.zero) in
+    λ i. record {
+      generation = s.numbers.generation i;
+      kind = kind i;
+      links = s.links i;
+      size = s.numbers.size i;
+      direct = s.direct i;
+      leaf = s.leaf i;
+      top =
+          s.top i;
+    } in
+    let rest : has_rest at bytes r ≡ true = and_from _ _ (and_from _ _ (eq-eqb (number_at 4 (at + 8) bytes) (file_kind_number r.kind) s.numbers.kind)
+    (eq-eqb (number_at 4 (at + 12) bytes) (link_count r.links) s.numbers.count)) (eq-eqb (number_at 8 (at + 24) bytes) 0 s.numbers.zero) in
     ap (record_with at bytes) fields ∙ ap (λ (b : Bool). if b then Some r else None) (and_from _ _ rest (allowed-true r.kind r s.allowed))
 
 -- What a record is read from
@@ -81,14 +98,17 @@ decides-no_link l =
     Decides-like (is_no_link l)
     (λ h. (λ i. record { directory = h.0.0 i; entry = h.0.1 i; generation = h.1 i }))
     (λ e. ((ap (λ (x : BackLink). x.directory) e, ap (λ (x : BackLink). x.entry) e), ap (λ (x : BackLink). x.generation) e))
-    (Decides-and ((l.directory == 0) && (l.entry == 0)) (l.generation == 0) (Decides-and (l.directory == 0) (l.entry == 0) (Decides-eqb l.directory 0) (Decides-eqb l.entry 0)) (Decides-eqb l.generation 0))
+    (Decides-and ((l.directory == 0) && (l.entry == 0)) (l.generation == 0)
+    (Decides-and (l.directory == 0) (l.entry == 0) (Decides-eqb l.directory 0) (Decides-eqb l.entry 0)) (Decides-eqb l.generation 0))
 
 -- a list whose items pass a test that one item alone passes
-all-one : {X : Type 0} (p : X → Bool) (x : X) → ((y : X) → p y ≡ true → y ≡ x) → (n : ℕ) (ys : List X) → length ys ≡ n → list_all p ys ≡ true → ys ≡ replicate n x
+all-one : {X : Type 0} (p : X → Bool) (x : X) → ((y : X) → p y ≡ true → y ≡ x) → (n : ℕ) (ys : List X) → length ys ≡ n → list_all p ys ≡ true
+    → ys ≡ replicate n x
 all-one p x one zero [] len e = refl
 all-one p x one (suc n) [] len e = absurd (omega arith)
 all-one p x one zero (y ∷ ys) len e = absurd (omega arith)
-all-one p x one (suc n) (y ∷ ys) len e = let parts = and_parts (p y) (list_all p ys) e in ap₂ (λ a l. a ∷ l) (one y parts.0) (all-one p x one n ys (omega arith) parts.1)
+all-one p x one (suc n) (y ∷ ys) len e = let parts = and_parts (p y) (list_all p ys) e in ap₂ (λ a l. a ∷ l) (one y parts.0)
+    (all-one p x one n ys (omega arith) parts.1)
 
 free-from : (r : Record) → r.kind ≡ None → length r.links ≡ 4 → length r.direct ≡ 8 → is_free r ≡ true → r ≡ free_record
 free-from r kind links direct e =
@@ -127,7 +147,8 @@ record_of-read index bytes r e = go (has_rest at bytes F && allows_record F.kind
     spells : (has_rest at bytes F && allows_record F.kind F) ≡ true → SpellsRecord at bytes F
     spells t =
         let parts = and_parts (has_rest at bytes F) (allows_record F.kind F) t in
-        let rest = and_parts ((number_at 4 (at + 8) bytes == file_kind_number F.kind) && (number_at 4 (at + 12) bytes == link_count F.links)) (number_at 8 (at + 24) bytes == 0) parts.0 in
+        let rest = and_parts ((number_at 4 (at + 8) bytes == file_kind_number F.kind) && (number_at 4 (at + 12) bytes == link_count F.links))
+        (number_at 8 (at + 24) bytes == 0) parts.0 in
         let numbers = and_parts (number_at 4 (at + 8) bytes == file_kind_number F.kind) (number_at 4 (at + 12) bytes == link_count F.links) rest.0 in
         record {
           numbers = record {
@@ -251,14 +272,17 @@ link_in-beside at n to old new same apart = link_in-same to new old (SameBeside-
 
 pub links_in-beside : (at n to : ℕ) (old new : List ℕ) → SameBeside at n old new → (to + 64 ≤ at) ⊎ (at + n ≤ to) → links_in to new ≡ links_in to old
 links_in-beside at n to old new same apart =
-    let link : (j : ℕ) → j + 16 ≤ 64 → link_in (to + j) new ≡ link_in (to + j) old = λ j fits. link_in-beside at n (to + j) old new same (⊎_elim (λ before. inl (omega arith)) (λ behind. inr (omega arith)) apart) in
+    let link : (j : ℕ) → j + 16 ≤ 64 → link_in (to + j) new ≡ link_in (to + j) old =
+    λ j fits. link_in-beside at n (to + j) old new same (⊎_elim (λ before. inl (omega arith)) (λ behind. inr (omega arith)) apart) in
     let first : link_in to new ≡ link_in to old = link_in-beside at n to old new same (⊎_elim (λ before. inl (omega arith)) (λ behind. inr behind) apart) in
     rw (first, link 16 (omega arith), link 32 (omega arith), link 48 (omega arith)) refl
 
 pub direct_in-beside : (at n to : ℕ) (old new : List ℕ) → SameBeside at n old new → (to + 128 ≤ at) ⊎ (at + n ≤ to) → direct_in to new ≡ direct_in to old
 direct_in-beside at n to old new same apart =
-    let at_place : (j : ℕ) → j + 16 ≤ 128 → pointer_in (to + j) new ≡ pointer_in (to + j) old = λ j fits. pointer_in-beside at n (to + j) old new same (⊎_elim (λ before. inl (omega arith)) (λ behind. inr (omega arith)) apart) in
-    let first : pointer_in to new ≡ pointer_in to old = pointer_in-beside at n to old new same (⊎_elim (λ before. inl (omega arith)) (λ behind. inr behind) apart) in
+    let at_place : (j : ℕ) → j + 16 ≤ 128 → pointer_in (to + j) new ≡ pointer_in (to + j) old =
+    λ j fits. pointer_in-beside at n (to + j) old new same (⊎_elim (λ before. inl (omega arith)) (λ behind. inr (omega arith)) apart) in
+    let first : pointer_in to new ≡ pointer_in to old = pointer_in-beside at n to old new same
+    (⊎_elim (λ before. inl (omega arith)) (λ behind. inr behind) apart) in
     rw (
       first,
       at_place 16 (omega arith),
@@ -280,7 +304,8 @@ HasNumbers-beside at to n r old new behind same has = record {
 }
 
 -- one more back link, or pointer, is written
-pub links-more : (at j : ℕ) (links : List BackLink) (d : BackLink) (first old new : List ℕ) → length links ≡ 4 → j < 4 → SameBeside at 64 first old × ((k : ℕ) → k < j → link_in (at + 16 * k) old ≡ get_or links k no_link)
+pub links-more : (at j : ℕ) (links : List BackLink) (d : BackLink) (first old new : List ℕ) → length links ≡ 4 → j < 4
+    → SameBeside at 64 first old × ((k : ℕ) → k < j → link_in (at + 16 * k) old ≡ get_or links k no_link)
     → link_in (at + 16 * j) new ≡ get_or links j d → SameBeside (at + 16 * j) 16 old new
     → SameBeside at 64 first new × ((k : ℕ) → k < j + 1 → link_in (at + 16 * k) new ≡ get_or links k no_link)
 links-more at j links d first old new len low before value same = (
@@ -291,7 +316,8 @@ links-more at j links d first old new len low before value same = (
   ],
 )
 
-pub pointers-more : (at j : ℕ) (pointers : List Pointer) (d : Pointer) (first old new : List ℕ) → length pointers ≡ 8 → j < 8 → SameBeside at 128 first old × ((k : ℕ) → k < j → pointer_in (at + 16 * k) old ≡ get_or pointers k null)
+pub pointers-more : (at j : ℕ) (pointers : List Pointer) (d : Pointer) (first old new : List ℕ) → length pointers ≡ 8 → j < 8
+    → SameBeside at 128 first old × ((k : ℕ) → k < j → pointer_in (at + 16 * k) old ≡ get_or pointers k null)
     → pointer_in (at + 16 * j) new ≡ get_or pointers j d → SameBeside (at + 16 * j) 16 old new
     → SameBeside at 128 first new × ((k : ℕ) → k < j + 1 → pointer_in (at + 16 * k) new ≡ get_or pointers k null)
 pointers-more at j pointers d first old new len low before value same = (
@@ -303,8 +329,10 @@ pointers-more at j pointers d first old new len low before value same = (
 )
 
 -- all of them
-pub direct_in-from : (at : ℕ) (bytes : List ℕ) (pointers : List Pointer) → length pointers ≡ 8 → ((k : ℕ) → k < 8 → pointer_in (at + 16 * k) bytes ≡ get_or pointers k null) → direct_in at bytes ≡ pointers
-direct_in-from at bytes pointers len each = ext_get_or null (direct_in at bytes) pointers (sym len) (λ k low. direct_in-at at bytes k (omega arith) ∙ each k (omega arith))
+pub direct_in-from : (at : ℕ) (bytes : List ℕ) (pointers : List Pointer) → length pointers ≡ 8
+    → ((k : ℕ) → k < 8 → pointer_in (at + 16 * k) bytes ≡ get_or pointers k null) → direct_in at bytes ≡ pointers
+direct_in-from at bytes pointers len each = ext_get_or null (direct_in at bytes) pointers (sym len)
+    (λ k low. direct_in-at at bytes k (omega arith) ∙ each k (omega arith))
 
 pointer_in-same : (at : ℕ) (xs ys : List ℕ) → SameRange at 16 xs ys → pointer_in at xs ≡ pointer_in at ys
 unfolding pointer_in
@@ -318,16 +346,24 @@ pub record_of-range : (index : ℕ) (xs ys : List ℕ) → SameRange (256 * inde
 unfolding record_of fields_in
 record_of-range index xs ys same =
     let at = 256 * index in
-    let number : (n to : ℕ) → to + n ≤ 256 → number_at n (at + to) xs ≡ number_at n (at + to) ys = λ n to fits. number_at-range n (at + to) xs ys (λ k low high. same k (omega arith) (omega arith)) in
-    let link : (to : ℕ) → at ≤ to → to + 16 ≤ at + 256 → link_in to xs ≡ link_in to ys = λ to low fits. link_in-same to xs ys (λ k a b. same k (omega arith) (omega arith)) in
-    let pointer : (to : ℕ) → at ≤ to → to + 16 ≤ at + 256 → pointer_in to xs ≡ pointer_in to ys = λ to low fits. pointer_in-same to xs ys (λ k a b. same k (omega arith) (omega arith)) in
+    let number : (n to : ℕ) → to + n ≤ 256 → number_at n (at + to) xs ≡ number_at n (at + to) ys =
+    λ n to fits. number_at-range n (at + to) xs ys (λ k low high. same k (omega arith) (omega arith)) in
+    let link : (to : ℕ) → at ≤ to → to + 16 ≤ at + 256 → link_in to xs ≡ link_in to ys =
+    λ to low fits. link_in-same to xs ys (λ k a b. same k (omega arith) (omega arith)) in
+    let pointer : (to : ℕ) → at ≤ to → to + 16 ≤ at + 256 → pointer_in to xs ≡ pointer_in to ys =
+    λ to low fits. pointer_in-same to xs ys (λ k a b. same k (omega arith) (omega arith)) in
     let first : number_at 8 at xs ≡ number_at 8 at ys = number_at-range 8 at xs ys (λ k low high. same k low (omega arith)) in
     let kind = number 4 8 (omega arith) in
     let count = number 4 12 (omega arith) in
     let size = number 8 16 (omega arith) in
     let zero = number 8 24 (omega arith) in
     let links : links_in (at + 32) xs ≡ links_in (at + 32) ys =
-    rw (link (at + 32) (omega arith) (omega arith), link (at + 32 + 16) (omega arith) (omega arith), link (at + 32 + 32) (omega arith) (omega arith), link (at + 32 + 48) (omega arith) (omega arith)) refl in
+    rw (
+      link (at + 32) (omega arith) (omega arith),
+      link (at + 32 + 16) (omega arith) (omega arith),
+      link (at + 32 + 32) (omega arith) (omega arith),
+      link (at + 32 + 48) (omega arith) (omega arith),
+    ) refl in
     let direct : direct_in (at + 96) xs ≡ direct_in (at + 96) ys = rw (
       pointer (at + 96) (omega arith) (omega arith),
       pointer (at + 96 + 16) (omega arith) (omega arith),
@@ -340,7 +376,16 @@ record_of-range index xs ys same =
     ) refl in
     let leaf = pointer (at + 224) (omega arith) (omega arith) in
     let top = pointer (at + 240) (omega arith) (omega arith) in
-    let fields : fields_in at xs ≡ fields_in at ys = λ i. record { generation = first i; kind = file_kind_of (kind i); links = links i; size = size i; direct = direct i; leaf = leaf i; top = top i } in
+    let fields : fields_in at xs ≡ fields_in at ys = λ i. record {
+      generation = first i;
+      kind = file_kind_of (kind i);
+      links = links i;
+      size =
+          size i;
+      direct = direct i;
+      leaf = leaf i;
+      top = top i;
+    } in
     let rest : (r : Record) → record_with at xs r ≡ record_with at ys r = λ r. rw (kind, count, zero) refl in
     rest (fields_in at xs) ∙ ap (record_with at ys) fields
 
@@ -352,4 +397,5 @@ IfSome-spelling index bytes (Some r) e = (record_of-read index bytes r (sym e)).
 pub IfSome-one : (index : ℕ) (bytes : List ℕ) (o : Option Record) → ((k : ℕ) → slice_index bytes k < 256) → o ≡ record_of index bytes
     → IfSome o (λ r. (other : List ℕ) → IsBytes 1024 other → record_of index other ≡ Some r → SameRange (256 * index) 256 other bytes)
 IfSome-one index bytes None small e = tt
-IfSome-one index bytes (Some r) small e = λ other is reads. SpellsRecord-range other bytes is.each small (256 * index) r (record_of-read index other r reads) (record_of-read index bytes r (sym e))
+IfSome-one index bytes (Some r) small e = λ other is reads. SpellsRecord-range other bytes is.each small (256 * index) r (record_of-read index other r reads)
+    (record_of-read index bytes r (sym e))

@@ -34,7 +34,8 @@ module _ (F : Files) (given : Given) (X Y : Image) (i s : ℕ) (f made : FileSta
     where
       go : (t : Bool) → eqb i j ≡ t → Alike (F j) (files_after F given j)
       go true e = subst (λ (q : ℕ). Alike (F q) (files_after F given q)) (eqb-true i j e)
-          (subst₂ (λ (o p : Option FileState). Alike o p) (sym gives.is) (sym gives.new) (record { generation = gives.generation; kind = gives.kind; links = gives.links; cells = λ d l lt. let z = gives.file in cc (d, z) }))
+          (subst₂ (λ (o p : Option FileState). Alike o p) (sym gives.is) (sym gives.new)
+          (record { generation = gives.generation; kind = gives.kind; links = gives.links; cells = λ d l lt. let z = gives.file in cc (d, z) }))
       go false e = alike-sym (files_after F given j) (F j) (same-alike (files_after F given j) (F j) (elsewhere j e))
 
   same : (j : ℕ) → is_some (files_after F given j) ≡ true → SameFile (files_after F given j) (files_in Y j)
@@ -47,12 +48,14 @@ module _ (F : Files) (given : Given) (X Y : Image) (i s : ℕ) (f made : FileSta
           let m = matched-file F X j match there in
           let apart : eqb j i ≡ false = ne_eqb j i (λ q. let t = eq-eqb i j (sym q) in cc (e, t)) in
           same-trans (files_after F given j) (F j) (files_in Y j) (elsewhere j e)
-          (same-trans (F j) (files_in X j) (files_in Y j) (same-of F X j match m.agreed) (same-file s (λ q. eqb q i) X Y w j apart m.agreed (old j there) m.live))
+          (same-trans (F j) (files_in X j) (files_in Y j) (same-of F X j match m.agreed)
+          (same-file s (λ q. eqb q i) X Y w j apart m.agreed (old j there) m.live))
 
   kin : (j : ℕ) → Kin (files_in X j) (files_in Y j)
   kin j = go (eqb j i) refl
     where
-      both : (n : ℕ) → (inode Y n).kind ≡ (inode X n).kind → (inode Y n).generation ≡ (inode X n).generation → (inode Y n).links ≡ (inode X n).links → Kin (files_in X n) (files_in Y n)
+      both : (n : ℕ) → (inode Y n).kind ≡ (inode X n).kind → (inode Y n).generation ≡ (inode X n).generation → (inode Y n).links ≡ (inode X n).links
+          → Kin (files_in X n) (files_in Y n)
       both n k g l = by-kind (inode X n).kind refl
         where
           one : (q : Option FileKind) → Kin (file_from X n q) (file_from Y n q)

@@ -1,7 +1,8 @@
 -- A Put into a slot that holds: its block is written in place, and each slot of its path stays.
 use Rattle.std.proofs.Common.{◌≡◌, ◌≢◌, ℕ, ◌≤◌, ◌⊎◌, inl, inr, Bool, true, false, eqb, List, Some, refl, sym, ap, ◌∙◌, subst, eqb-true, eq-eqb}
 use Rattle.nofs_model.specs.Cells.{Cell, Tag, Pointer, tag_of, pointer_at}
-use Rattle.nofs_model.specs.Image.{Image, cell_at, is_data_block, inode, Path, InRecord, Under, path_of, slot_of, is_pointer_slot, kind_in, tag_for, find, pointer, FileState, Files, IsAbove, IsSlot, IsFree}
+use Rattle.nofs_model.specs.Image.{Image, cell_at, is_data_block, inode, Path, InRecord, Under, path_of, slot_of, is_pointer_slot, kind_in, tag_for, find}
+use Rattle.nofs_model.specs.Image.{pointer, FileState, Files, IsAbove, IsSlot, IsFree}
 use Rattle.nofs_model.specs.declared.path.PathAnswer.TheVariants as answer
 use Rattle.nofs_model.proofs.Find.{find-held}
 use Rattle.nofs_model.proofs.Paths.{path_of-slot, path_of-slot_of, path_of-content, above-up, above-slot}
@@ -15,8 +16,10 @@ use Rattle.nofs_law_files.specs.Puts.{PutHeld, PutLies, LawPutHeld}
 
 -- above a slot that holds, each slot holds
 above-held : (X : Image) (i : ℕ) (a p : Path) (x : Pointer) → IsAbove a p → find X i p ≡ answer.Holds x → find X i a ≡ answer.Holds (pointer X i a)
-above-held X i a (InRecord n) x e held = subst (λ (q : Path). find X i q ≡ answer.Holds (pointer X i q)) (sym e) (held ∙ ap answer.Holds (sym (find-held X i (InRecord n) x held).same))
-above-held X i a (Under b n) x (inl e) held = subst (λ (q : Path). find X i q ≡ answer.Holds (pointer X i q)) (sym e) (held ∙ ap answer.Holds (sym (find-held X i (Under b n) x held).same))
+above-held X i a (InRecord n) x e held = subst (λ (q : Path). find X i q ≡ answer.Holds (pointer X i q)) (sym e)
+    (held ∙ ap answer.Holds (sym (find-held X i (InRecord n) x held).same))
+above-held X i a (Under b n) x (inl e) held = subst (λ (q : Path). find X i q ≡ answer.Holds (pointer X i q)) (sym e)
+    (held ∙ ap answer.Holds (sym (find-held X i (Under b n) x held).same))
 above-held X i a (Under b n) x (inr r) held = let up = (find-held X i (Under b n) x held).above in above-held X i a b up.0 r up.1
 
 module _ (F : Files) (X Y : Image) (i g k at : ℕ) (bytes : List ℕ) (f : FileState) (s : ℕ) (x : Pointer) (p : PutHeld F X Y i g k at bytes f s x) where
@@ -33,7 +36,8 @@ module _ (F : Files) (X Y : Image) (i g k at : ℕ) (bytes : List ℕ) (f : File
       ne (sym (path_of-slot_of a slot) ∙ ap path_of o.1 ∙ path_of-slot_of (path_of k) (path_of-slot k p.range))
 
   pointers-apart : (a : Path) → is_pointer_slot a ≡ true → a ≢ path_of k
-  pointers-apart a points e = let c = path_of-content k p.range in let z : is_pointer_slot (path_of k) ≡ true = subst (λ (q : Path). is_pointer_slot q ≡ true) e points in cc (c, z)
+  pointers-apart a points e = let c = path_of-content k p.range in let z : is_pointer_slot (path_of k) ≡ true =
+      subst (λ (q : Path). is_pointer_slot q ≡ true) e points in cc (c, z)
 
   -- the cell of a block of pointers stays
   cell-stays : (a : Path) (y : Pointer) → IsSlot a → find X i a ≡ answer.Holds y → a ≢ path_of k → cell_at Y y.block ≡ cell_at X y.block
@@ -45,9 +49,13 @@ module _ (F : Files) (X Y : Image) (i g k at : ℕ) (bytes : List ℕ) (f : File
       kinds : kind_in (inode Y i) a ≡ kind_in (inode X i) a
       kinds = let e = p.names.kind in rw e refl
 
-  tag-stays : (a : Path) → IsSlot a → IsAbove a (path_of k) → (t : Bool) → eqb (pointer X i a).block x.block ≡ t → tag_of (cell_at Y (pointer X i a).block).tag ≡ tag_of (cell_at X (pointer X i a).block).tag
-  tag-stays a slot h true e = let eb = eqb-true (pointer X i a).block x.block e in subst (λ (b : ℕ). tag_of (cell_at Y b).tag ≡ tag_of (cell_at X b).tag) (sym eb) p.tag
-  tag-stays a slot h false e = ap (λ (c : Cell). tag_of c.tag) (p.blocks (pointer X i a).block (find-held X i a (pointer X i a) (holds a h)).agrees.area (λ eb. let t = eq-eqb (pointer X i a).block x.block eb in cc (e, t)))
+  tag-stays : (a : Path) → IsSlot a → IsAbove a (path_of k) → (t : Bool) → eqb (pointer X i a).block x.block ≡ t
+      → tag_of (cell_at Y (pointer X i a).block).tag ≡ tag_of (cell_at X (pointer X i a).block).tag
+  tag-stays a slot h true e = let eb = eqb-true (pointer X i a).block x.block e in subst (λ (b : ℕ). tag_of (cell_at Y b).tag ≡ tag_of (cell_at X b).tag)
+      (sym eb) p.tag
+  tag-stays a slot h false e = ap (λ (c : Cell). tag_of c.tag)
+      (p.blocks (pointer X i a).block (find-held X i a (pointer X i a) (holds a h)).agrees.area (λ eb. let t =
+      eq-eqb (pointer X i a).block x.block eb in cc (e, t)))
 
   slot-of-above : (a : Path) → IsAbove a (path_of k) → IsSlot a
   slot-of-above a h = above-slot a (path_of k) h (path_of-slot k p.range)
@@ -57,9 +65,14 @@ module _ (F : Files) (X Y : Image) (i g k at : ℕ) (bytes : List ℕ) (f : File
     placed = placed;
     not_null = λ a h. (find-held X i a (pointer X i a) (holds a h)).not_null;
     area = λ a h. let z = super-same X Y p.super in rw z (find-held X i a (pointer X i a) (holds a h)).agrees.area;
-    tag = λ a h. tag-stays a (slot-of-above a h) h (eqb (pointer X i a).block x.block) refl ∙ (find-held X i a (pointer X i a) (holds a h)).agrees.tag ∙ ap Some (sym (same-tag a (pointer X i a).stamp));
+    tag = λ a h. tag-stays a (slot-of-above a h) h (eqb (pointer X i a).block x.block) refl ∙ (find-held X i a (pointer X i a) (holds a h)).agrees.tag
+        ∙ ap Some (sym (same-tag a (pointer X i a).stamp));
     record_stays = λ n off. p.pointers n;
-    beside = λ b n slot h off. inl (holds b h, ap (λ (c : Cell). pointer_at c.payload n) (cell-stays b (pointer X i b) slot.2 (holds b h) (pointers-apart b slot.0)));
+    beside = λ b n slot h off. inl (
+      holds b h,
+      ap (λ (c : Cell). pointer_at c.payload n)
+          (cell-stays b (pointer X i b) slot.2 (holds b h) (pointers-apart b slot.0)),
+    );
     apart = λ b y slot off e. cell-stays b y slot e (λ eb. off (subst (λ (q : Path). IsAbove q (path_of k)) (sym eb) (itself (path_of k))));
   }
     where
@@ -86,7 +99,8 @@ module _ (F : Files) (X Y : Image) (i g k at : ℕ) (bytes : List ℕ) (f : File
     where
       place : (b : ℕ) → is_data_block X b ≡ true → (t : Bool) → eqb b x.block ≡ t → (cell_at Y b ≡ cell_at X b)
           ⊎ ((IsFree X b × ((t : Tag) → tag_of (cell_at Y b).tag ≡ Some t → s ≤ t.stamp))
-          ⊎ ((tag_of (cell_at Y b).tag ≡ tag_of (cell_at X b).tag) × ((j : ℕ) × (path : Path) × (y : Pointer) × (eqb j i ≡ true) × (find X j path ≡ answer.Holds y) × (y.block ≡ b))))
+          ⊎ ((tag_of (cell_at Y b).tag ≡ tag_of (cell_at X b).tag) ×
+          ((j : ℕ) × (path : Path) × (y : Pointer) × (eqb j i ≡ true) × (find X j path ≡ answer.Holds y) × (y.block ≡ b))))
       place b area true e =
           let eb = eqb-true b x.block e in
           inr (inr (subst (λ (q : ℕ). tag_of (cell_at Y q).tag ≡ tag_of (cell_at X q).tag) (sym eb) p.tag, (i, path_of k, x, eq-eqb i i refl, p.held, sym eb)))

@@ -2,7 +2,8 @@
 use Rattle.std.proofs.Common.{◌≡◌, ◌≢◌, ℕ, ◌<◌, inl, inr, true, false, eqb, List, refl, sym, ap, ◌∙◌, subst, eqb-true}
 use Rattle.nofs_ptrs.specs.Paths.{slot_limit}
 use Rattle.nofs_model.specs.Cells.{Pointer}
-use Rattle.nofs_model.specs.Image.{Image, files_in, agreed, value, node_in, Path, path_of, is_pointer_slot, find, FileState, Files, Home, home_at, IsAbove, IsSlot}
+use Rattle.nofs_model.specs.Image.{Image, files_in, agreed, value, node_in, Path, path_of, is_pointer_slot, find, FileState, Files, Home, home_at, IsAbove}
+use Rattle.nofs_model.specs.Image.{IsSlot}
 use Rattle.nofs_model.specs.declared.value.Value.TheVariants.{Bytes}
 use Rattle.nofs_model.specs.declared.path.PathAnswer.TheVariants as answer
 use Rattle.nofs_model.proofs.Paths.{path_of-content, above-refl}
@@ -23,7 +24,8 @@ use Rattle.nofs_law_files.specs.Puts.{PutLies, LawPutFiles, LawPutHomes}
 use Rattle.nofs_law_files.proofs.OneFile.{files, one-file}
 use Rattle.nofs_law_files.proofs.PutFile.{put-made, put-gives, put-own}
 
-module _ (F : Files) (X Y : Image) (i g k at : ℕ) (bytes : List ℕ) (f : FileState) (s : ℕ) (places : Path → Pointer) (p : PutLies F X Y i g k at bytes f s places) where
+module _ (F : Files) (X Y : Image) (i g k at : ℕ) (bytes : List ℕ) (f : FileState) (s : ℕ) (places : Path → Pointer)
+    (p : PutLies F X Y i g k at bytes f s places) where
   own : Matched F X i
   own = matched-file F X i p.files (some-is (F i) f p.is)
 
@@ -34,25 +36,31 @@ module _ (F : Files) (X Y : Image) (i g k at : ℕ) (bytes : List ℕ) (f : File
   same = record { live = own.live; kind = p.names.kind; generation = p.names.generation }
 
   pub on : (a : Path) → IsAbove a (path_of k) → find Y i a ≡ answer.Holds (places a)
-  on = on-path s X Y i changes own.agreed same (p.old i (some-is (F i) f p.is)) (path_of k) places p.grows.placed p.grows.not_null p.grows.area p.grows.tag p.grows.record_stays p.grows.beside p.grows.apart
+  on = on-path s X Y i changes own.agreed same (p.old i (some-is (F i) f p.is)) (path_of k)
+      places p.grows.placed p.grows.not_null p.grows.area p.grows.tag p.grows.record_stays p.grows.beside p.grows.apart
 
   pub off : (a : Path) → IsSlot a → (IsAbove a (path_of k) → ⊥) → find Y i a ≡ find X i a
-  off = off-path s X Y i changes own.agreed same (p.old i (some-is (F i) f p.is)) (path_of k) places p.grows.placed p.grows.not_null p.grows.area p.grows.tag p.grows.record_stays p.grows.beside p.grows.apart
+  off = off-path s X Y i changes own.agreed same (p.old i (some-is (F i) f p.is)) (path_of k)
+      places p.grows.placed p.grows.not_null p.grows.area p.grows.tag p.grows.record_stays p.grows.beside p.grows.apart
 
   here : value Y i k ≡ Bytes (put_content (f.values k) f.size k at bytes)
-  here = value-on s X Y i changes own.agreed same (p.old i (some-is (F i) f p.is)) (path_of k) places p.grows.placed p.grows.not_null p.grows.area p.grows.tag p.grows.record_stays p.grows.beside p.grows.apart k refl ∙ ap Bytes p.content
+  here = value-on s X Y i changes own.agreed same (p.old i (some-is (F i) f p.is)) (path_of k)
+      places p.grows.placed p.grows.not_null p.grows.area p.grows.tag p.grows.record_stays p.grows.beside p.grows.apart k refl ∙ ap Bytes p.content
 
   beside : (l : ℕ) → l < slot_limit → l ≢ k → value Y i l ≡ value X i l
-  beside l lt ne = value-off s X Y i changes own.agreed same (p.old i (some-is (F i) f p.is)) (path_of k) places p.grows.placed p.grows.not_null p.grows.area p.grows.tag p.grows.record_stays p.grows.beside p.grows.apart k l refl p.range lt ne
+  beside l lt ne = value-off s X Y i changes own.agreed same (p.old i (some-is (F i) f p.is)) (path_of k)
+      places p.grows.placed p.grows.not_null p.grows.area p.grows.tag p.grows.record_stays p.grows.beside p.grows.apart k l refl p.range lt ne
 
   apart : (path : Path) → is_pointer_slot path ≡ true → lies_above path (path_of k) ≡ false → IsAbove path (path_of k) → ⊥
   apart path q above h = elim (above-test path (path_of k) h) [
-    | inl e ↦ (let c = path_of-content k p.range in let z : is_pointer_slot (path_of k) ≡ true = subst (λ (r : Path). is_pointer_slot r ≡ true) e q in cc (c, z))
+    | inl e ↦ (let c = path_of-content k p.range in let z : is_pointer_slot (path_of k) ≡ true =
+        subst (λ (r : Path). is_pointer_slot r ≡ true) e q in cc (c, z))
     | inr l ↦ cc (l, above)
   ]
 
   pub put-file : FilesMatch (files_after F (put_given F i g k at bytes)) Y
-  put-file = one-file F (put_given F i g k at bytes) X Y i s f (put-made F i g k at bytes f p.is p.generation p.file) p.files (put-gives F i g k at bytes f p.is p.generation p.file) p.touches p.names p.old
+  put-file = one-file F (put_given F i g k at bytes) X Y i s f (put-made F i g k at bytes f p.is p.generation p.file) p.files
+      (put-gives F i g k at bytes f p.is p.generation p.file) p.touches p.names p.old
       (put-own F i g k at bytes f p.is p.generation p.file X Y p.files p.names p.size here beside
       (λ path slot above. ap node_in (on path (test-above path (path_of k) above)))
       (λ path slot q above. off path slot (apart path q above)))
@@ -65,7 +73,8 @@ module _ (F : Files) (X Y : Image) (i g k at : ℕ) (bytes : List ℕ) (f : File
       (λ path slot q above. off path slot (apart path q above)) in
       sym (uses-inode (files_after F (put_given F i g k at bytes)) Y put-file j)
       ∙ sym (some-alike (F j) (files_after F (put_given F i g k at bytes) j)
-      (files F (put_given F i g k at bytes) X Y i s f (put-made F i g k at bytes f p.is p.generation p.file) p.files (put-gives F i g k at bytes f p.is p.generation p.file) p.touches p.names p.old own' j))
+      (files F (put_given F i g k at bytes) X Y i s f (put-made F i g k at bytes f p.is p.generation p.file) p.files
+      (put-gives F i g k at bytes f p.is p.generation p.file) p.touches p.names p.old own' j))
       ∙ uses-inode F X p.files j
 
 pub law-put-files : LawPutFiles

@@ -1,17 +1,20 @@
 -- A Resize: the files after it, the homes, and why its pointers may be cut off.
-use Rattle.std.proofs.Common.{◌≡◌, ◌≢◌, ℕ, ◌+◌, ◌-◌, ◌*◌, ◌/◌, ◌%◌, ◌<◌, ◌≤◌, min, inl, inr, Bool, true, false, cond, eqb, leb, leb-true, lt-ltb, ◌&&◌, ◌||◌, not, ◌++◌, option_to_list, Option, Some, None, unwrap_or, refl, sym, ap, ◌∙◌, subst, subst₂, arith, Contains, eqb-true, ne_eqb}
+use Rattle.std.proofs.Common.{◌≡◌, ◌≢◌, ℕ, ◌+◌, ◌-◌, ◌*◌, ◌/◌, ◌%◌, ◌<◌, ◌≤◌, min, inl, inr, Bool, true, false, cond, eqb, leb, leb-true, lt-ltb, ◌&&◌, ◌||◌}
+use Rattle.std.proofs.Common.{not, ◌++◌, option_to_list, Option, Some, None, unwrap_or, refl, sym, ap, ◌∙◌, subst, subst₂, arith, Contains, eqb-true, ne_eqb}
 use Rattle.std.proofs.lemmas.Bool.{cases_lt, le-leb}
 use Rattle.std.proofs.lemmas.List.Elements.{Contains-push}
 use Rattle.nofs_ptrs.specs.Paths.{slot_limit}
 use Rattle.nofs_model.specs.Cells.{FileKind}
-use Rattle.nofs_model.specs.Image.{Image, cell_at, inode, file_from, files_in, agreed, value, value_in, node_in, Path, InRecord, Under, path_of, is_pointer_slot, find, NodeState, Absent, FileState, Files, is_folder, IsAbove, IsSlot}
+use Rattle.nofs_model.specs.Image.{Image, cell_at, inode, file_from, files_in, agreed, value, value_in, node_in, Path, InRecord, Under, path_of}
+use Rattle.nofs_model.specs.Image.{is_pointer_slot, find, NodeState, Absent, FileState, Files, is_folder, IsAbove, IsSlot}
 use Rattle.nofs_model.specs.declared.path.PathAnswer.{PathAnswer}
 use Rattle.nofs_model.specs.declared.path.PathAnswer.TheVariants as answer
 use Rattle.nofs_model.specs.declared.value.Value.{Value}
 use Rattle.nofs_model.specs.declared.value.Value.TheVariants.{Hole, Bytes, Lost}
 use Rattle.nofs_model.proofs.Paths.{path-direct, path-leaf, path-far, path_of-slot}
 use Rattle.nofs_machine.specs.Meta.{Meta, Gone, Is, is_bytes}
-use Rattle.nofs_machine.specs.Machine.{slots_in, is_at, meta_with, filled, after_meta, file_after, files_after, value_of, size_of, resize_slot, resize_node, resize_given}
+use Rattle.nofs_machine.specs.Machine.{slots_in, is_at, meta_with, filled, after_meta, file_after, files_after, value_of, size_of, resize_slot, resize_node}
+use Rattle.nofs_machine.specs.Machine.{resize_given}
 use Rattle.nofs_machine.specs.History.{FilesMatch, SameFile}
 use Rattle.nofs_machine.specs.declared.steps.Step.TheVariants as step
 use Rattle.nofs_law_untouched.specs.Frames.{Rewrites, SameIdentity}
@@ -72,8 +75,10 @@ cut-slot m k lt = elim (cases_lt k 8) [
 -- a block of pointers goes exactly where it is cut
 cut-node : (m : ℕ) (p : Path) → IsSlot p → is_pointer_slot p ≡ true → resize_node m p ≡ cond (is_cut m p) (Some Absent) None
 cut-node m (InRecord n) slot points = elim (cases_lt n 9) [
-  | inl lt ↦ (let e : n ≡ 8 = omega (arith, leb-true 8 n points, lt) in subst (λ (q : ℕ). resize_node m (InRecord q) ≡ cond (is_cut m (InRecord q)) (Some Absent) None) (sym e) refl)
-  | inr le ↦ (let e : n ≡ 9 = omega (arith, le, slot) in subst (λ (q : ℕ). resize_node m (InRecord q) ≡ cond (is_cut m (InRecord q)) (Some Absent) None) (sym e) refl)
+  | inl lt ↦ (let e : n ≡ 8 = omega (arith, leb-true 8 n points, lt) in subst
+      (λ (q : ℕ). resize_node m (InRecord q) ≡ cond (is_cut m (InRecord q)) (Some Absent) None) (sym e) refl)
+  | inr le ↦ (let e : n ≡ 9 = omega (arith, le, slot) in subst (λ (q : ℕ). resize_node m (InRecord q) ≡ cond (is_cut m (InRecord q)) (Some Absent) None)
+      (sym e) refl)
 ]
 cut-node m (Under (InRecord n) j) slot points =
     let e : n ≡ 9 = eqb-true n 9 points in
@@ -85,14 +90,23 @@ cut-node m (Under (Under a j) q) slot points = cc points
 
 module _ (F : Files) (i g size : ℕ) (f : FileState) (is : F i ≡ Some f) (gen : f.generation ≡ g) (file : is_folder f.kind ≡ false) where
   abbrev pub resize-made : FileState
-  resize-made = record { generation = f.generation; kind = f.kind; size = size; links = f.links; values = (filled (resize_given F i g size) i f).values; nodes = (filled (resize_given F i g size) i f).nodes }
+  resize-made = record {
+    generation = f.generation;
+    kind = f.kind;
+    size = size;
+    links =
+        f.links;
+    values = (filled (resize_given F i g size) i f).values;
+    nodes = (filled (resize_given F i g size) i f).nodes;
+  }
 
   pub meta-here : (resize_given F i g size).metas i f.generation ≡ Some (Is f.kind size f.links)
   meta-here = subst (λ (q : ℕ). (resize_given F i g size).metas i q ≡ Some (Is f.kind size f.links)) (sym gen)
       (rw (at-itself i g) (ap (λ (o : Option FileState). Some (elim o [ None ↦ Gone | Some h ↦ Is h.kind size h.links ])) is))
 
   pub resize-new : files_after F (resize_given F i g size) i ≡ Some resize-made
-  resize-new = ap (λ (o : Option FileState). file_after (resize_given F i g size) i o) is ∙ ap (λ (o : Option Meta). after_meta o (filled (resize_given F i g size) i f)) meta-here
+  resize-new = ap (λ (o : Option FileState). file_after (resize_given F i g size) i o) is
+      ∙ ap (λ (o : Option Meta). after_meta o (filled (resize_given F i g size) i f)) meta-here
 
   pub resize-gives : GivesFile F (resize_given F i g size) i f resize-made
   resize-gives = record { is = is; file = file; elsewhere = elsewhere; new = resize-new; generation = refl; kind = refl; links = refl }
@@ -144,8 +158,10 @@ module _ (F : Files) (X Y : Image) (i g size : ℕ) (f : FileState) (s : ℕ) (p
   same : SameIdentity X Y i
   same = record { live = own.live; kind = p.names.kind; generation = p.names.generation }
 
-  pub found : (a : Path) → IsSlot a → (is_cut (cut_at f size) a ≡ true → find Y i a ≡ answer.Hole) × (is_cut (cut_at f size) a ≡ false → find Y i a ≡ find X i a)
-  found = both s X Y i changes own.agreed same (p.old i (some-is (F i) f p.is)) (λ a. is_cut (cut_at f size) a) (cut-below (cut_at f size)) p.record_cut p.record_stays p.cell_cut p.cell_stays p.whole
+  pub found : (a : Path) → IsSlot a → (is_cut (cut_at f size) a ≡ true → find Y i a ≡ answer.Hole) × (is_cut (cut_at f size) a ≡ false
+      → find Y i a ≡ find X i a)
+  found = both s X Y i changes own.agreed same (p.old i (some-is (F i) f p.is)) (λ a. is_cut (cut_at f size) a) (cut-below (cut_at f size))
+      p.record_cut p.record_stays p.cell_cut p.cell_stays p.whole
 
   new-value : (k : ℕ) → k < slot_limit → (filled (resize_given F i g size) i f).values k ≡ value Y i k
   new-value k lt = unfold-it ∙ go (leb (cut_at f size) k) refl
@@ -156,13 +172,16 @@ module _ (F : Files) (X Y : Image) (i g size : ℕ) (f : FileState) (s : ℕ) (p
       before : f.values k ≡ value X i k
       before = (file-in F X i f p.files p.is).1.values k lt
 
-      stays : leb (cut_at f size) k ≡ false → (q : PathAnswer) → find X i (path_of k) ≡ q → find Y i (path_of k) ≡ q → unwrap_or (resize_slot F i size k) (f.values k) ≡ value Y i k
+      stays : leb (cut_at f size) k ≡ false → (q : PathAnswer) → find X i (path_of k) ≡ q → find Y i (path_of k) ≡ q
+          → unwrap_or (resize_slot F i size k) (f.values k) ≡ value Y i k
       stays e answer.Hole ex ey =
           let v : f.values k ≡ Hole = before ∙ ap (λ (q : PathAnswer). value_in X q) ex in
-          ap (λ (o : Option Value). unwrap_or o (f.values k)) (slot-kept F i g size f p.is p.generation p.file k e (ap is_bytes v)) ∙ v ∙ sym (ap (λ (q : PathAnswer). value_in Y q) ey)
+          ap (λ (o : Option Value). unwrap_or o (f.values k)) (slot-kept F i g size f p.is p.generation p.file k e (ap is_bytes v)) ∙ v
+          ∙ sym (ap (λ (q : PathAnswer). value_in Y q) ey)
       stays e answer.Lost ex ey =
           let v : f.values k ≡ Lost = before ∙ ap (λ (q : PathAnswer). value_in X q) ex in
-          ap (λ (o : Option Value). unwrap_or o (f.values k)) (slot-kept F i g size f p.is p.generation p.file k e (ap is_bytes v)) ∙ v ∙ sym (ap (λ (q : PathAnswer). value_in Y q) ey)
+          ap (λ (o : Option Value). unwrap_or o (f.values k)) (slot-kept F i g size f p.is p.generation p.file k e (ap is_bytes v)) ∙ v
+          ∙ sym (ap (λ (q : PathAnswer). value_in Y q) ey)
       stays e (answer.Holds y) ex ey =
           let v : f.values k ≡ Bytes (cell_at X y.block).payload = before ∙ ap (λ (q : PathAnswer). value_in X q) ex in
           let low : k < cut_at f size = elim (cases_lt k (cut_at f size)) [ inl l ↦ l | inr l ↦ (let t = le-leb (cut_at f size) k l in cc (t, e)) ] in
@@ -171,7 +190,8 @@ module _ (F : Files) (X Y : Image) (i g size : ℕ) (f : FileState) (s : ℕ) (p
       go : (t : Bool) → leb (cut_at f size) k ≡ t → unwrap_or (resize_slot F i size k) (f.values k) ≡ value Y i k
       go true e =
           let y : find Y i (path_of k) ≡ answer.Hole = (found (path_of k) (path_of-slot k lt)).0 (cut-slot (cut_at f size) k lt ∙ e) in
-          ap (λ (o : Option Value). unwrap_or o (f.values k)) (slot-cut F i g size f p.is p.generation p.file k lt e) ∙ sym (ap (λ (q : PathAnswer). value_in Y q) y)
+          ap (λ (o : Option Value). unwrap_or o (f.values k)) (slot-cut F i g size f p.is p.generation p.file k lt e)
+          ∙ sym (ap (λ (q : PathAnswer). value_in Y q) y)
       go false e =
           let y : find Y i (path_of k) ≡ find X i (path_of k) = (found (path_of k) (path_of-slot k lt)).1 (cut-slot (cut_at f size) k lt ∙ e) in
           stays e (find X i (path_of k)) refl y
@@ -181,7 +201,8 @@ module _ (F : Files) (X Y : Image) (i g size : ℕ) (f : FileState) (s : ℕ) (p
     where
       unfold-it : (filled (resize_given F i g size) i f).nodes a ≡ unwrap_or (cond (is_cut (cut_at f size) a) (Some Absent) None) (f.nodes a)
       unfold-it =
-          ap (λ (b : Bool). unwrap_or (cond b (resize_node (min (slots_in (size_of F i)) (slots_in size)) a) None) (f.nodes a)) (at-here F i g size f p.is p.generation p.file)
+          ap (λ (b : Bool). unwrap_or (cond b (resize_node (min (slots_in (size_of F i)) (slots_in size)) a) None) (f.nodes a))
+          (at-here F i g size f p.is p.generation p.file)
           ∙ ap (λ (n : ℕ). unwrap_or (resize_node n a) (f.nodes a)) (cut-is F i g size f p.is p.generation p.file)
           ∙ ap (λ (o : Option NodeState). unwrap_or o (f.nodes a)) (cut-node (cut_at f size) a slot points)
 
@@ -193,7 +214,8 @@ module _ (F : Files) (X Y : Image) (i g size : ℕ) (f : FileState) (s : ℕ) (p
   own-file =
       let x = file-in F X i f p.files p.is in
       let ky : (inode Y i).kind ≡ Some f.kind = p.names.kind ∙ x.0 in
-      subst₂ (λ (o : Option FileState) (q : Option FileKind). SameFile o (file_from Y i q)) (sym (resize-new F i g size f p.is p.generation p.file)) (sym ky) (record {
+      subst₂ (λ (o : Option FileState) (q : Option FileKind). SameFile o (file_from Y i q)) (sym (resize-new F i g size f p.is p.generation p.file)) (sym ky)
+      (record {
         generation = x.1.generation ∙ sym p.names.generation;
         kind = refl;
         size = sym p.size_is;
@@ -203,14 +225,16 @@ module _ (F : Files) (X Y : Image) (i g size : ℕ) (f : FileState) (s : ℕ) (p
       })
 
   pub resize-file : FilesMatch (files_after F (resize_given F i g size)) Y
-  resize-file = one-file F (resize_given F i g size) X Y i s f (resize-made F i g size f p.is p.generation p.file) p.files (resize-gives F i g size f p.is p.generation p.file) p.touches p.names p.old own-file
+  resize-file = one-file F (resize_given F i g size) X Y i s f (resize-made F i g size f p.is p.generation p.file) p.files
+      (resize-gives F i g size f p.is p.generation p.file) p.touches p.names p.old own-file
 
   -- what is agreed after it was agreed before
   pub as-before : (j : ℕ) → agreed (files_in Y) j ≡ agreed (files_in X) j
   as-before j =
       sym (uses-inode (files_after F (resize_given F i g size)) Y resize-file j)
       ∙ sym (some-alike (F j) (files_after F (resize_given F i g size) j)
-      (files F (resize_given F i g size) X Y i s f (resize-made F i g size f p.is p.generation p.file) p.files (resize-gives F i g size f p.is p.generation p.file) p.touches p.names p.old own-file j))
+      (files F (resize_given F i g size) X Y i s f (resize-made F i g size f p.is p.generation p.file) p.files
+      (resize-gives F i g size f p.is p.generation p.file) p.touches p.names p.old own-file j))
       ∙ uses-inode F X p.files j
 
 pub law-resize-files : LawResizeFiles
@@ -222,7 +246,8 @@ law-resize-homes W X Y i g size f s c p claim =
     (λ j a. p.old j (uses-inode W.files X p.files j ∙ a))
     (λ home e. cc e)
     (λ j t a. sym (as-before W.files X Y i g size f s p j) ∙ a)
-    (λ j t. subst (λ (q : ℕ). HeldMove c X Y q) (sym (eqb-true j i t)) (law-shrink c X Y i (λ a. is_cut (cut_at f size) a) there (found W.files X Y i g size f s p)))
+    (λ j t. subst (λ (q : ℕ). HeldMove c X Y q) (sym (eqb-true j i t))
+    (law-shrink c X Y i (λ a. is_cut (cut_at f size) a) there (found W.files X Y i g size f s p)))
   where
     there : agreed (files_in X) i ≡ true
     there = (matched-file W.files X i p.files (some-is (W.files i) f p.is)).agreed

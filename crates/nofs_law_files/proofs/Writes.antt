@@ -1,5 +1,6 @@
 -- Each write of a step on a file is proper.
-use Rattle.std.proofs.Common.{◌≡◌, ◌≢◌, ℕ, ◌<◌, ◌≤◌, inl, inr, Bool, true, false, eqb, ◌++◌, option_to_list, Option, Some, None, refl, sym, ap, ◌∙◌, subst, subst₂, Contains, eqb-true, eq-eqb}
+use Rattle.std.proofs.Common.{◌≡◌, ◌≢◌, ℕ, ◌<◌, ◌≤◌, inl, inr, Bool, true, false, eqb, ◌++◌, option_to_list, Option, Some, None, refl, sym, ap, ◌∙◌, subst}
+use Rattle.std.proofs.Common.{subst₂, Contains, eqb-true, eq-eqb}
 use Rattle.std.proofs.lemmas.List.Elements.{Contains-push, Contains-append_left}
 use Rattle.nofs_model.specs.Cells.{File, Content, Directory, Leaf, Pointer, Record, tag_of, pointer_at}
 use Rattle.nofs_inode.specs.declared.inode.FileKind.TheVariants.{Directory as Folder}
@@ -33,17 +34,20 @@ law-content m given X Y i g k x c p = OfContent (record {
   where
     is-content : IsContentKind (kind_in (inode Y i) (path_of k))
     is-content =
-        let e : kind_in (inode Y i) (path_of k) ≡ elim (inode Y i).kind [ None ↦ Content | Some kind ↦ elim kind [ File ↦ Content | Folder ↦ Directory ] ] = rw (path_of-content k p.range) refl in
+        let e : kind_in (inode Y i) (path_of k) ≡ elim (inode Y i).kind [ None ↦ Content | Some kind ↦ elim kind [ File ↦ Content | Folder ↦ Directory ] ] =
+        rw (path_of-content k p.range) refl in
         subst IsContentKind (sym e) (content-kind (inode Y i).kind)
 
     has : Contains ((during m given).since i g k) (Bytes c.payload)
-    has = subst (λ (o : Option Value). Contains (m.since i g k ++ option_to_list o) (Bytes c.payload)) (sym p.gives) (Contains-push (m.since i g k) (Bytes c.payload))
+    has = subst (λ (o : Option Value). Contains (m.since i g k ++ option_to_list o) (Bytes c.payload)) (sym p.gives)
+        (Contains-push (m.since i g k) (Bytes c.payload))
 
 -- what may be read as a hole still may when more is given
 holes-more : (m : Mark) (given : Given) (i g : ℕ) (a : Path) → Holes m i g a → Holes (during m given) i g a
 holes-more m given i g a h k lt above = Contains-append_left (m.since i g k) (option_to_list (given.slots i g k)) Hole (h k lt above)
 
-module _ (s : ℕ) (m : Mark) (given : Given) (X Y : Image) (i : ℕ) (b : Path) (n : ℕ) (p : Path) (at : Path → Pointer) (r : Grows s X Y i p at) (l : PointersLie m X Y i b n p at) where
+module _ (s : ℕ) (m : Mark) (given : Given) (X Y : Image) (i : ℕ) (b : Path) (n : ℕ) (p : Path) (at : Path → Pointer) (r : Grows s X Y i p at)
+    (l : PointersLie m X Y i b n p at) where
   leaf-kind : (q : Record) → kind_in q b ≡ Leaf
   leaf-kind q = let e = l.points in rw e refl
 
@@ -51,7 +55,15 @@ module _ (s : ℕ) (m : Mark) (given : Given) (X Y : Image) (i : ℕ) (b : Path)
   in-place : find X i b ≡ answer.Holds (at b) → tag_of (cell_at Y (at b).block).tag ≡ tag_of (cell_at X (at b).block).tag
   in-place e =
       let h = find-held X i b (at b) e in
-      let t : tag_for Y i b (at b).stamp ≡ tag_for X i b (at b).stamp = λ j. record { kind = (leaf-kind (inode Y i) ∙ sym (leaf-kind (inode X i))) j; inode = i; generation = l.generation j; slot = slot_of b; stamp = (at b).stamp } in
+      let t : tag_for Y i b (at b).stamp ≡ tag_for X i b (at b).stamp =
+      λ j. record {
+        kind = (leaf-kind (inode Y i) ∙ sym (leaf-kind (inode X i))) j;
+        inode = i;
+        generation = l.generation j;
+        slot =
+            slot_of b;
+        stamp = (at b).stamp;
+      } in
       r.tag b l.above ∙ ap Some t ∙ sym h.agrees.tag
 
   -- a place beside the next one
@@ -92,8 +104,10 @@ module _ (s : ℕ) (m : Mark) (given : Given) (X Y : Image) (i : ℕ) (b : Path)
     pointers = λ q lt. go q lt (eqb q n) refl;
   })
     where
-      go : (q : ℕ) → q < 64 → (t : Bool) → eqb q n ≡ t → PointerProper (during m given) X i (inode Y i).generation (Under b q) (pointer_at (cell_at Y (at b).block).payload q)
-      go q lt true e = subst (λ (z : ℕ). PointerProper (during m given) X i (inode Y i).generation (Under b z) (pointer_at (cell_at Y (at b).block).payload z)) (sym (eqb-true q n e)) here
+      go : (q : ℕ) → q < 64 → (t : Bool) → eqb q n ≡ t → PointerProper (during m given) X i (inode Y i).generation (Under b q)
+          (pointer_at (cell_at Y (at b).block).payload q)
+      go q lt true e = subst (λ (z : ℕ). PointerProper (during m given) X i (inode Y i).generation (Under b z)
+          (pointer_at (cell_at Y (at b).block).payload z)) (sym (eqb-true q n e)) here
       go q lt false e = beside q lt (λ z. let t = eq-eqb q n z in cc (e, t))
 
 pub law-pointer-block : LawPointerBlock
@@ -105,9 +119,11 @@ law-record m given X i r p = Changed p.live p.generation p.kind meta pointers
     meta : Contains ((during m given).metas i r.generation) (meta_of r)
     meta = elim p.meta [
       | inl same ↦
-          let old : Contains (m.metas i r.generation) (meta_of r) = subst₂ (λ (g : ℕ) (q : Meta). Contains (m.metas i g) q) (sym p.generation) (sym same) (p.reads.metas i p.live) in
+          let old : Contains (m.metas i r.generation) (meta_of r) =
+          subst₂ (λ (g : ℕ) (q : Meta). Contains (m.metas i g) q) (sym p.generation) (sym same) (p.reads.metas i p.live) in
           Contains-append_left (m.metas i r.generation) (option_to_list (given.metas i r.generation)) (meta_of r) old
-      | inr new ↦ subst (λ (o : Option Meta). Contains (m.metas i r.generation ++ option_to_list o) (meta_of r)) (sym new) (Contains-push (m.metas i r.generation) (meta_of r))
+      | inr new ↦ subst (λ (o : Option Meta). Contains (m.metas i r.generation ++ option_to_list o) (meta_of r)) (sym new)
+          (Contains-push (m.metas i r.generation) (meta_of r))
     ]
 
     pointers : (n : ℕ) → n < 10 → PointerProper (during m given) X i r.generation (InRecord n) (record_pointer r n)

@@ -53,7 +53,8 @@ pub record ClaimsPlaced (c : Claims) (X : Image) (i k : ℕ) (places : Path → 
   pub cell : is_claimed c.cell ≡ true → places (path_of k) ≡ c.cell
   pub leaf : is_claimed c.leaf ≡ true → IsAbove (slot_above (path_of k)) (path_of k) × (places (slot_above (path_of k)) ≡ c.leaf)
   pub top : is_claimed c.top ≡ true → IsAbove (slot_above (slot_above (path_of k))) (path_of k) × (places (slot_above (slot_above (path_of k))) ≡ c.top)
-  pub each : (a : Path) → IsAbove a (path_of k) → (find X i a ≡ answer.Holds (places a)) ⊎ (IsClaimed c (places a) × ((x : Pointer) → find X i a ≡ answer.Holds x → ⊥))
+  pub each : (a : Path) → IsAbove a (path_of k) → (find X i a ≡ answer.Holds (places a)) ⊎
+      (IsClaimed c (places a) × ((x : Pointer) → find X i a ≡ answer.Holds x → ⊥))
 
 -- A Put in place lies at the places that it had.
 abbrev pub LawPutHeld : Type 0

@@ -44,17 +44,21 @@ pub record ResizeLies (F : Files) (X Y : Image) (i g size : ℕ) (f : FileState)
   pub size_is : (inode Y i).size ≡ size
   pub record_cut : (n : ℕ) → is_cut (cut_at f size) (InRecord n) ≡ true → is_null (record_pointer (inode Y i) n) ≡ true
   pub record_stays : (n : ℕ) → is_cut (cut_at f size) (InRecord n) ≡ false → record_pointer (inode Y i) n ≡ record_pointer (inode X i) n
-  pub cell_cut : (b : Path) (n : ℕ) (y : Pointer) → IsSlot (Under b n) → is_cut (cut_at f size) b ≡ false → find X i b ≡ answer.Holds y → is_cut (cut_at f size) (Under b n) ≡ true → is_null (pointer_at (cell_at Y y.block).payload n) ≡ true
-  pub cell_stays : (b : Path) (n : ℕ) (y : Pointer) → IsSlot (Under b n) → is_cut (cut_at f size) b ≡ false → find X i b ≡ answer.Holds y → is_cut (cut_at f size) (Under b n) ≡ false → pointer_at (cell_at Y y.block).payload n ≡ pointer_at (cell_at X y.block).payload n
+  pub cell_cut : (b : Path) (n : ℕ) (y : Pointer) → IsSlot (Under b n) → is_cut (cut_at f size) b ≡ false → find X i b ≡ answer.Holds y
+      → is_cut (cut_at f size) (Under b n) ≡ true → is_null (pointer_at (cell_at Y y.block).payload n) ≡ true
+  pub cell_stays : (b : Path) (n : ℕ) (y : Pointer) → IsSlot (Under b n) → is_cut (cut_at f size) b ≡ false → find X i b ≡ answer.Holds y
+      → is_cut (cut_at f size) (Under b n) ≡ false → pointer_at (cell_at Y y.block).payload n ≡ pointer_at (cell_at X y.block).payload n
   -- nothing is cut under a slot that is lost
   pub whole : (b : Path) (n : ℕ) → IsSlot (Under b n) → is_cut (cut_at f size) b ≡ false → is_cut (cut_at f size) (Under b n) ≡ true → find X i b ≢ answer.Lost
   -- the content of a slot that stays is what the step gives, or what it was
-  pub content : (k : ℕ) (y : Pointer) → k < slot_limit → k < cut_at f size → find X i (path_of k) ≡ answer.Holds y → Bytes (cell_at Y y.block).payload ≡ unwrap_or (resize_slot F i size k) (Bytes (cell_at X y.block).payload)
+  pub content : (k : ℕ) (y : Pointer) → k < slot_limit → k < cut_at f size → find X i (path_of k) ≡ answer.Holds y
+      → Bytes (cell_at Y y.block).payload ≡ unwrap_or (resize_slot F i size k) (Bytes (cell_at X y.block).payload)
   pub old : (j : ℕ) → is_some (F j) ≡ true → OldPointers s X j
 
 -- The machine's files after a Resize are those of the disk after it.
 abbrev pub LawResizeFiles : Type 0
-LawResizeFiles = (F : Files) (X Y : Image) (i g size : ℕ) (f : FileState) (s : ℕ) → ResizeLies F X Y i g size f s → FilesMatch (files_after F (resize_given F i g size)) Y
+LawResizeFiles = (F : Files) (X Y : Image) (i g size : ℕ) (f : FileState) (s : ℕ) → ResizeLies F X Y i g size f s
+    → FilesMatch (files_after F (resize_given F i g size)) Y
 
 -- No block gets a home, and each block of a slot that stays keeps its own.
 abbrev pub LawResizeHomes : Type 0
@@ -63,4 +67,5 @@ LawResizeHomes = (W : World) (X Y : Image) (i g size : ℕ) (f : FileState) (s :
 
 -- A pointer may be cut off where its slot is, since holes are given to all that lies below.
 abbrev pub LawResizeHoles : Type 0
-LawResizeHoles = (L : Mark) (F : Files) (i g size : ℕ) (f : FileState) (a : Path) → F i ≡ Some f → IsSlot a → is_cut (cut_at f size) a ≡ true → Holes (during L (resize_given F i g size)) i g a
+LawResizeHoles = (L : Mark) (F : Files) (i g size : ℕ) (f : FileState) (a : Path) → F i ≡ Some f → IsSlot a → is_cut (cut_at f size) a ≡ true
+    → Holes (during L (resize_given F i g size)) i g a

@@ -2,7 +2,8 @@
 use Rattle.std.specs.Prelude.{◌≡◌, ℕ, ◌<◌, ◌≤◌, ◌⊎◌, true, Some}
 use Rattle.nofs_ptrs.specs.Paths.{slot_limit}
 use Rattle.nofs_model.specs.Cells.{Cell, Pointer, Record, tag_of, is_null, is_live}
-use Rattle.nofs_model.specs.Image.{Image, cell_at, is_data_block, inode, Path, InRecord, Under, path_of, is_pointer_slot, tag_for, find, record_pointer, IsAbove, IsSlot, IsFree}
+use Rattle.nofs_model.specs.Image.{Image, cell_at, is_data_block, inode, Path, InRecord, Under, path_of, is_pointer_slot, tag_for, find, record_pointer}
+use Rattle.nofs_model.specs.Image.{IsAbove, IsSlot, IsFree}
 use Rattle.nofs_model.specs.declared.path.PathAnswer.TheVariants as answer
 use Rattle.nofs_model.specs.declared.value.Value.TheVariants.{Bytes}
 use Rattle.nofs_machine.specs.Meta.{meta_of}
@@ -24,7 +25,8 @@ pub record ContentLies (L : Mark) (given : Given) (X Y : Image) (i g k : ℕ) (x
 
 -- A cell of content is proper.
 abbrev pub LawContent : Type 0
-LawContent = (L : Mark) (given : Given) (X Y : Image) (i g k : ℕ) (x : Pointer) (c : Cell) → ContentLies L given X Y i g k x c → Proper (during L given) X x.block c
+LawContent = (L : Mark) (given : Given) (X Y : Image) (i g k : ℕ) (x : Pointer) (c : Cell) → ContentLies L given X Y i g k x c
+    → Proper (during L given) X x.block c
 
 -- the block of pointers in slot b, on the way to slot p, of which place n is next: it held, or was claimed for an empty slot
 pub record PointersLie (L : Mark) (X Y : Image) (i : ℕ) (b : Path) (n : ℕ) (p : Path) (at : Path → Pointer) : Type 0 where
@@ -38,7 +40,8 @@ pub record PointersLie (L : Mark) (X Y : Image) (i : ℕ) (b : Path) (n : ℕ) (
   pub kind : (inode Y i).kind ≡ (inode X i).kind
   pub reads : ReadsSince L X
   pub block : (find X i b ≡ answer.Holds (at b)) ⊎ ((find X i b ≡ answer.Hole) × IsFree X (at b).block)
-  pub next : (find X i (Under b n) ≡ answer.Holds (at (Under b n))) ⊎ ((L.stamps ≤ (at (Under b n)).stamp) × ((z : Pointer) → find X i (Under b n) ≡ answer.Holds z → ⊥))
+  pub next : (find X i (Under b n) ≡ answer.Holds (at (Under b n))) ⊎
+      ((L.stamps ≤ (at (Under b n)).stamp) × ((z : Pointer) → find X i (Under b n) ≡ answer.Holds z → ⊥))
 
 -- A block of pointers on the path of a slot that gets its block is proper.
 abbrev pub LawPointerBlock : Type 0

@@ -1,5 +1,6 @@
 -- Where a new entry goes: its slot holds, or is a hole.
-use Rattle.std.proofs.Common.{◌≡◌, ◌≢◌, ℕ, ◌*◌, ◌/◌, ◌<◌, ◌⊎◌, inl, inr, true, false, ◌&&◌, not, List, [], ◌∷◌, Option, Some, None, is_some, option_map, refl, sym, ap, ◌∙◌, subst, arith}
+use Rattle.std.proofs.Common.{◌≡◌, ◌≢◌, ℕ, ◌*◌, ◌/◌, ◌<◌, ◌⊎◌, inl, inr, true, false, ◌&&◌, not, List, [], ◌∷◌, Option, Some, None, is_some, option_map, refl}
+use Rattle.std.proofs.Common.{sym, ap, ◌∙◌, subst, arith}
 use Rattle.nofs_dirent.specs.Entries.{entry_limit}
 use Rattle.nofs_ptrs.specs.Paths.{slot_limit}
 use Rattle.nofs_model.specs.Cells.{Entry, Pointer}
@@ -66,9 +67,12 @@ module _ (F : Files) (d : ℕ) (name : List ℕ) (f : FileState) (is : F d ≡ S
 
   fit : (e : ℕ) → place_for F d name ≡ Some e → Fit e
   unfolding place_for
-  fit e h = go (first_dead F d name) refl (least_from (λ k. is_bytes (value_of F d (k / 16)) && not (is_some (entry_at F d k))) 0 entry_limit) refl (least_from (λ k. is_hole (value_of F d k)) 0 72) refl h
+  fit e h = go (first_dead F d name) refl (least_from (λ k. is_bytes (value_of F d (k / 16)) && not (is_some (entry_at F d k))) 0 entry_limit) refl
+      (least_from (λ k. is_hole (value_of F d k)) 0 72) refl h
     where
-      go : (a : Option ℕ) → first_dead F d name ≡ a → (b : Option ℕ) → least_from (λ k. is_bytes (value_of F d (k / 16)) && not (is_some (entry_at F d k))) 0 entry_limit ≡ b → (c : Option ℕ) → least_from (λ k. is_hole (value_of F d k)) 0 72 ≡ c
+      go : (a : Option ℕ) → first_dead F d name ≡ a → (b : Option ℕ)
+          → least_from (λ k. is_bytes (value_of F d (k / 16)) && not (is_some (entry_at F d k))) 0 entry_limit ≡ b → (c : Option ℕ)
+          → least_from (λ k. is_hole (value_of F d k)) 0 72 ≡ c
           → first_of (a ∷ b ∷ option_map (λ k. 16 * k) c ∷ []) ≡ Some e → Fit e
       go (Some n) ea b eb c ec q = let s : n ≡ e = cc q in fit-dead e (ea ∙ ap Some s)
       go None ea (Some n) eb c ec q = let s : n ≡ e = cc q in fit-new e (eb ∙ ap Some s)
@@ -87,7 +91,8 @@ law-entry-place F X d e name f match is place = (fits.0, place-unpaired F d name
     read : value_of F d (e / 16) ≡ value_in X (find X d (path_of (e / 16)))
     read = value-of F d f is (e / 16) ∙ (file-of F X d f match is).1.values (e / 16) k
 
-    go : (q : PathAnswer) → find X d (path_of (e / 16)) ≡ q → ((x : Pointer) × (find X d (path_of (e / 16)) ≡ answer.Holds x)) ⊎ (find X d (path_of (e / 16)) ≡ answer.Hole)
+    go : (q : PathAnswer) → find X d (path_of (e / 16)) ≡ q
+        → ((x : Pointer) × (find X d (path_of (e / 16)) ≡ answer.Holds x)) ⊎ (find X d (path_of (e / 16)) ≡ answer.Hole)
     go (answer.Holds x) s = inl (x, s)
     go answer.Hole s = inr s
     go answer.Lost s = absurd (fits.1 (read ∙ ap (λ (q : PathAnswer). value_in X q) s))

@@ -1,7 +1,8 @@
 -- A new entry in a hole: the directory's slots after it, and where the claimed blocks stand.
 use Rattle.std.proofs.Common.{◌≡◌, ◌≢◌, ℕ, ◌+◌, ◌-◌, ◌<◌, ◌≤◌, ◌⊎◌, inl, inr, false, true, eqb, ◌||◌, Some, refl, sym, ap, ◌∙◌, subst, arith, ne_eqb}
 use Rattle.nofs_model.specs.Cells.{Pointer, Record}
-use Rattle.nofs_model.specs.Image.{Image, is_data_block, inode, files_in, agreed, Path, InRecord, Under, leaf, path_of, find, FileState, Files, node_in, NodeState, Absent, Present, Damaged, home_at, IsAbove, IsSlot}
+use Rattle.nofs_model.specs.Image.{Image, is_data_block, inode, files_in, agreed, Path, InRecord, Under, leaf, path_of, find, FileState, Files, node_in}
+use Rattle.nofs_model.specs.Image.{NodeState, Absent, Present, Damaged, home_at, IsAbove, IsSlot}
 use Rattle.nofs_model.specs.declared.path.PathAnswer.{PathAnswer}
 use Rattle.nofs_model.specs.declared.path.PathAnswer.TheVariants as answer
 use Rattle.nofs_model.proofs.Paths.{path-direct, path-leaf, above-refl}
@@ -54,7 +55,11 @@ module _ (s : ℕ) (F : Files) (c : Claims) (X Y : Image) (d i k : ℕ) (f : Fil
   Was a z = (find X d a ≡ answer.Holds z) ⊎ (IsClaimed c z × ((w : Pointer) → find X d a ≡ answer.Holds w → ⊥))
 
   was-cell : is_data_block X x.block ≡ true → (p : Path) → path_of k ≡ p → Was p x
-  was-cell area p e = inr ((is-claimed X x area, inl cell), λ w h. let n : find X d p ≡ answer.Hole = subst (λ (q : Path). find X d q ≡ answer.Hole) e empty in cc (n, h))
+  was-cell area p e = inr (
+    (is-claimed X x area, inl cell),
+    λ w h. let n : find X d p ≡ answer.Hole =
+        subst (λ (q : Path). find X d q ≡ answer.Hole) e empty in cc (n, h),
+  )
 
   -- where the path p of slot k grows
   module _ (p : Path) (at : Path → Pointer) (slot : path_of k ≡ p) (w : NameWrites s d i X Y) (meta : SameMeta X Y d) (r : Grows s X Y d p at) where
@@ -71,14 +76,16 @@ module _ (s : ℕ) (F : Files) (c : Claims) (X Y : Image) (d i k : ℕ) (f : Fil
     off = off-path s X Y d changes own.agreed same old p at r.placed r.not_null r.area r.tag r.record_stays r.beside r.apart
 
     -- the cell stands in the slot of p, and the leaf above it
-    grown-stands : at p ≡ x → (is_claimed c.leaf ≡ true → IsAbove (slot_above p) p × (at (slot_above p) ≡ y)) → is_claimed c.top ≡ false → ((a : Path) → IsAbove a p → Was a (at a)) → Stands c X Y d k
+    grown-stands : at p ≡ x → (is_claimed c.leaf ≡ true → IsAbove (slot_above p) p × (at (slot_above p) ≡ y)) → is_claimed c.top ≡ false
+        → ((a : Path) → IsAbove a p → Was a (at a)) → Stands c X Y d k
     grown-stands here up none was = record {
       moved = law-grow c X Y d p at own.agreed on off was;
       stand = λ there. record {
         agreed = there;
         range = omega (arith, range);
         cell = λ e. subst (λ (q : Path). find Y d q ≡ answer.Holds c.cell) (sym slot) (on p (above-refl p) ∙ ap answer.Holds (here ∙ sym cell));
-        leaf = λ e. subst (λ (q : Path). find Y d (slot_above q) ≡ answer.Holds c.leaf) (sym slot) (on (slot_above p) (up e).0 ∙ ap answer.Holds ((up e).1 ∙ sym (above e)));
+        leaf = λ e. subst (λ (q : Path). find Y d (slot_above q) ≡ answer.Holds c.leaf) (sym slot)
+            (on (slot_above p) (up e).0 ∙ ap answer.Holds ((up e).1 ∙ sym (above e)));
         top = λ e. absurd (cc (e, none));
       };
     }
@@ -95,14 +102,21 @@ module _ (s : ℕ) (F : Files) (c : Claims) (X Y : Image) (d i k : ℕ) (f : Fil
 
   -- the leaf's node is what is found there
   leaf-count : (q : PathAnswer) → find X d leaf ≡ q → 8 ≤ k → absent_above F d (path_of k) ≡ 0 + absent (node_in q)
-  leaf-count q e le = ap (λ (p : Path). absent_above F d p) (path-leaf k le range) ∙ ap (λ (t : NodeState). 0 + absent t) (node-here F X d f leaf q match is (omega arith) refl e)
+  leaf-count q e le = ap (λ (p : Path). absent_above F d p) (path-leaf k le range)
+      ∙ ap (λ (t : NodeState). 0 + absent t) (node-here F X d f leaf q match is (omega arith) refl e)
 
   under-leaf : 8 ≤ k → HoleUnderLeaf s X Y d i (k - 8) x y → Stands c X Y d k
   under-leaf le h =
       let n = count-is 0 (leaf-count (answer.Holds y) h.held le) in
       let same : inode Y d ≡ inode X d = h.records d (λ t. apart (sym t)) in
       grown-stands (Under leaf (k - 8)) (leaf_places y x) (path-leaf k le range) (leaf-hole-writes s X Y d i (k - 8) x y h)
-      (record { kind = ap (λ (r : Record). r.kind) same; generation = ap (λ (r : Record). r.generation) same; size = ap (λ (r : Record). r.size) same; links = ap (λ (r : Record). r.links) same })
+      (record {
+        kind = ap (λ (r : Record). r.kind) same;
+        generation = ap (λ (r : Record). r.generation) same;
+        size =
+            ap (λ (r : Record). r.size) same;
+        links = ap (λ (r : Record). r.links) same;
+      })
       (leaf-hole-grows s X Y d i (k - 8) x y apart own.agreed h)
       refl (λ e. absurd (no-leaf n.1 e)) n.2
       (λ a above. elim above [
@@ -120,7 +134,8 @@ module _ (s : ℕ) (F : Files) (c : Claims) (X Y : Image) (d i k : ℕ) (f : Fil
   with-leaf : 8 ≤ k → HoleWithLeaf s X Y d i (k - 8) x y → Stands c X Y d k
   with-leaf le h =
       let n = count-is 1 (leaf-count answer.Hole h.empty le) in
-      grown-stands (Under leaf (k - 8)) (leaf_places y x) (path-leaf k le range) (claimed-hole-writes s X Y d i (k - 8) x y h) h.meta (claimed-hole-grows s X Y d i (k - 8) x y own.agreed h)
+      grown-stands (Under leaf (k - 8)) (leaf_places y x) (path-leaf k le range) (claimed-hole-writes s X Y d i (k - 8) x y h) h.meta
+      (claimed-hole-grows s X Y d i (k - 8) x y own.agreed h)
       refl (λ e. (inr refl, refl)) n.2
       (λ a up. elim up [
         | inl e ↦ subst (λ (q : Path). Was q (leaf_places y x q)) (sym e) (was-cell h.cell.area (Under leaf (k - 8)) (path-leaf k le range))

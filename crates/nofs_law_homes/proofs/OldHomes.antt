@@ -3,7 +3,8 @@ use Rattle.std.proofs.Common.{◌≡◌, ◌≢◌, ℕ, ◌/◌, ◌<◌, List,
 use Rattle.nofs_dirent.specs.Entries.{entry_limit}
 use Rattle.nofs_model.specs.Cells.{Entry, Pointer, Record, spelled_entry}
 use Rattle.nofs_model.specs.Image.{Image, FileState, Files, entry_at}
-use Rattle.nofs_machine.specs.Machine.{Given, zeros, files_after, entry_given, no_meta, meta_given, nothing, link_to, without_link, drop_meta, drop_given, rename_given}
+use Rattle.nofs_machine.specs.Machine.{Given, zeros, files_after, entry_given, no_meta, meta_given, nothing, link_to, without_link, drop_meta, drop_given}
+use Rattle.nofs_machine.specs.Machine.{rename_given}
 use Rattle.nofs_machine.specs.History.{FilesMatch}
 use Rattle.nofs_machine.specs.World.{World}
 use Rattle.nofs_machine.specs.Claims.{IsClaim}
@@ -26,14 +27,22 @@ use Rattle.nofs_law_homes.proofs.NameSlots.{nothing-held, directory-kept, inode-
 rename-born : (F : Files) (d g e : ℕ) (new : List ℕ) (j : ℕ) → (rename_given F d g new e).born j ≡ None
 rename-born F d g e new j = go (entry_at F d e)
   where
-    go : (o : Option Entry) → (elim o as (λ t. Given) [ None ↦ nothing | Some q ↦ entry_given F d g e (spelled_entry q.inode q.generation new) no_meta ]).born j ≡ None
+    go : (o : Option Entry) → (elim o as (λ t. Given) [
+      | None ↦ nothing
+      | Some q ↦ entry_given F d g e (spelled_entry q.inode q.generation new)
+          no_meta
+    ]).born j ≡ None
     go None = refl
     go (Some q) = refl
 
 drop-born : (F : Files) (d g e j : ℕ) → (drop_given F d g e).born j ≡ None
 drop-born F d g e j = go (entry_at F d e)
   where
-    go : (o : Option Entry) → (elim o as (λ t. Given) [ None ↦ nothing | Some q ↦ entry_given F d g e (zeros 64) (meta_given q.inode q.generation (drop_meta F q.inode (link_to d e g))) ]).born j ≡ None
+    go : (o : Option Entry) → (elim o as (λ t. Given) [
+      | None ↦ nothing
+      | Some q ↦ entry_given F d g e (zeros 64)
+          (meta_given q.inode q.generation (drop_meta F q.inode (link_to d e g)))
+    ]).born j ≡ None
     go None = refl
     go (Some q) = refl
 
@@ -47,7 +56,8 @@ law-rename-homes W X Y d g e s old new f x entry c p claim =
       old = p.old;
       born = λ j nd nz. rename-born W.files d g e new j;
       stand = λ at q. cc q;
-      directory = directory-kept c s W.files X Y d 0 (e / 16) f x p.files p.is apart (omega (arith, range)) (p.old d (some-is (W.files d) f p.is)) p.held p.writes;
+      directory = directory-kept c s W.files X Y d 0 (e / 16) f x p.files p.is apart (omega (arith, range)) (p.old d (some-is (W.files d) f p.is))
+          p.held p.writes;
       inode = nothing-held c X Y 0 (ap (λ (r : Record). r.kind) (no-zero Y));
     })
   where
@@ -79,14 +89,16 @@ module _ (W : World) (X Y : Image) (d g e s : ℕ) (name : List ℕ) (f h : File
     old = p.old;
     born = λ j nd ni. drop-born W.files d g e j;
     stand = λ at q. cc q;
-    directory = let lt = drop-range in directory-kept c s W.files X Y d entry.inode (e / 16) f x p.files p.is drop-apart (omega (arith, lt)) (p.old d (some-is (W.files d) f p.is)) p.held p.writes;
+    directory = let lt = drop-range in directory-kept c s W.files X Y d entry.inode (e / 16) f x p.files p.is drop-apart (omega (arith, lt))
+        (p.old d (some-is (W.files d) f p.is)) p.held p.writes;
     inode = moved;
   })
 
 pub law-drop-name-homes : LawDropNameHomes
 law-drop-name-homes W X Y d g e s name f h x entry c p stays r claim = drop-homes W X Y d g e s name f h x entry c p claim
     (law-drop-name W.files X Y d g e s f h x entry p stays r).1
-    (inode-kept c s W.files X Y d entry.inode h (without_link (link_to d e g) h.links) p.files p.named (drop-apart W X Y d g e s name f h x entry c p claim) (p.old entry.inode (some-is (W.files entry.inode) h p.named))
+    (inode-kept c s W.files X Y d entry.inode h (without_link (link_to d e g) h.links) p.files p.named (drop-apart W X Y d g e s name f h x entry c p claim)
+    (p.old entry.inode (some-is (W.files entry.inode) h p.named))
     (drop-writes W X Y d g e s name f h x entry c p claim) r)
 
 pub law-drop-file-homes : LawDropFileHomes

@@ -31,7 +31,8 @@ LawRenameHomes = (W : World) (X Y : Image) (d g n s : ℕ) (old new : List ℕ) 
 abbrev pub LawDropNameHomes : Type 0
 LawDropNameHomes = (W : World) (X Y : Image) (d g n s : ℕ) (name : List ℕ) (f h : FileState) (x : Pointer) (entry : Entry) (c : Claims)
     → DropLies W.files X Y d g n s f h x entry
-    → drop_meta W.files entry.inode (link_to d n g) ≡ Is h.kind h.size (without_link (link_to d n g) h.links) → Relinked X Y entry.inode (without_link (link_to d n g) h.links)
+    → drop_meta W.files entry.inode (link_to d n g) ≡ Is h.kind h.size (without_link (link_to d n g) h.links)
+    → Relinked X Y entry.inode (without_link (link_to d n g) h.links)
     → IsClaim W (step.Drop d g name) c
     → HomesMove W.files (step.Drop d g name) c X Y
 

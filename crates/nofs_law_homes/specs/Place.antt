@@ -12,7 +12,8 @@ use Rattle.nofs_machine.specs.History.{FilesMatch}
 -- Into a slot that holds, or into a hole, never into one that is lost; and no pair stands at its place.
 abbrev pub LawEntryPlace : Type 0
 LawEntryPlace = (F : Files) (X : Image) (d n : ℕ) (name : List ℕ) (f : FileState) → FilesMatch F X → F d ≡ Some f → place_for F d name ≡ Some n
-    → (n < entry_limit) × (is_paired F d n ≡ false) × (((x : Pointer) × (find X d (path_of (n / 16)) ≡ answer.Holds x)) ⊎ (find X d (path_of (n / 16)) ≡ answer.Hole))
+    → (n < entry_limit) × (is_paired F d n ≡ false) × (((x : Pointer) × (find X d (path_of (n / 16)) ≡ answer.Holds x)) ⊎
+    (find X d (path_of (n / 16)) ≡ answer.Hole))
 
 -- The 64 bytes that spell an entry with a good name are read back as this entry.
 abbrev pub LawSpelledEntry : Type 0

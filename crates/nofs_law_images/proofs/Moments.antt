@@ -4,7 +4,8 @@ use Rattle.std.proofs.lemmas.Bool.{cases_lt}
 use Rattle.std.proofs.lemmas.List.{get_or_past}
 use Rattle.std.proofs.lemmas.List.Elements.{Contains-append_left}
 use Rattle.nofs_disk.specs.Disk.{Picks, no_cell}
-use Rattle.nofs_law_images.specs.Reasons.{Holes, Explained, Emptied, Fresh, Kept, WrittenAs, RecordExplained, Fine, IsKept, RecordStands, Solid, IsMark, FineImage, SolidImage}
+use Rattle.nofs_law_images.specs.Reasons.{Holes, Explained, Emptied, Fresh, Kept, WrittenAs, RecordExplained, Fine, IsKept, RecordStands, Solid, IsMark}
+use Rattle.nofs_law_images.specs.Reasons.{FineImage, SolidImage}
 use Rattle.nofs_law_images.specs.Moments.{is_removal, during, AllExplained, LawFlush, LawMoment, LawImages}
 use Rattle.nofs_model.proofs.Find.{and-both}
 use Rattle.nofs_law_images.proofs.Trace.{reads, same-super}
@@ -98,7 +99,13 @@ solid-mark m h b = record {
     own : (i g : ℕ) → m.stands i g ≡ true → is_inode m.image i ≡ true → RecordStands m i g (record_at (cell_at m.image (1 + (i - 1) / 4)).payload ((i - 1) % 4))
     own i g st range =
         let same : inode m.image i ≡ record_at (cell_at m.image (1 + (i - 1) / 4)).payload ((i - 1) % 4) = rw range refl in
-        subst (λ (r : Record). RecordStands m i g r) same (record { live = h.stood i g st; generation = h.stood_generation i g st; kind = refl; pointers = λ n k. refl })
+        subst (λ (r : Record). RecordStands m i g r) same (record {
+          live = h.stood i g st;
+          generation = h.stood_generation i g st;
+          kind = refl;
+          pointers =
+              λ n k. refl;
+        })
 
 pub law-flush : LawFlush
 law-flush m may h only b c has =
@@ -106,7 +113,8 @@ law-flush m may h only b c has =
     (inl e, subst (λ (q : Cell). Solid m b q) (sym e) (solid-mark m h b))
 
 -- a pick of explained cells is explained at every block
-pub pick-explained : (m : Mark) (may : ℕ → List Cell) (X : Image) → IsMark m → AllExplained m may → Picks may (length m.image) X → (b : ℕ) → Fine m b (cell_at X b) × Solid m b (cell_at X b)
+pub pick-explained : (m : Mark) (may : ℕ → List Cell) (X : Image) → IsMark m → AllExplained m may → Picks may (length m.image) X → (b : ℕ)
+    → Fine m b (cell_at X b) × Solid m b (cell_at X b)
 pick-explained m may X h all pick b = elim (cases_lt b (length m.image)) [
   | inl lt ↦ all b (cell_at X b) (pick.each b lt)
   | inr le ↦

@@ -8,7 +8,8 @@ use Rattle.nofs_model.specs.declared.path.PathAnswer.TheVariants as answer
 use Rattle.nofs_machine.specs.Meta.{is_bytes}
 use Rattle.nofs_machine.specs.Marks.{Mark}
 use Rattle.nofs_model.specs.Cells.{Cell, Pointer, tag_of, pointer_at, is_live, record_at, free_record}
-use Rattle.nofs_model.specs.Image.{super_in, Image, cell_at, super_at, is_data_block, is_inode, inode, Path, InRecord, Under, path_of, tag_for, find, pointer, value, value_in, IsAbove, AboveHolds}
+use Rattle.nofs_model.specs.Image.{super_in, Image, cell_at, super_at, is_data_block, is_inode, inode, Path, InRecord, Under, path_of, tag_for, find, pointer}
+use Rattle.nofs_model.specs.Image.{value, value_in, IsAbove, AboveHolds}
 use Rattle.nofs_model.specs.declared.value.Value.TheVariants.{Bytes}
 
 -- a slot that holds has those above it hold
@@ -56,13 +57,15 @@ module _ (m : Mark) (h : IsMark m) where
         rw rx ((solid (1 + (i - 1) / 4)).table i g s r refl)
 
     -- a slot whose pointer is the mark's holds as at the mark
-    holds-again : (i g : ℕ) (path : Path) (x : Pointer) → IsKept m i g path → find m.image i path ≡ answer.Holds x → AboveHolds X i path → pointer X i path ≡ pointer m.image i path → find X i path ≡ answer.Holds x
+    holds-again : (i g : ℕ) (path : Path) (x : Pointer) → IsKept m i g path → find m.image i path ≡ answer.Holds x → AboveHolds X i path
+        → pointer X i path ≡ pointer m.image i path → find X i path ≡ answer.Holds x
     holds-again i g path x k e above same =
         let hm = find-held m.image i path x e in
         let r = stands-record i g k.stands in
         let gens : (inode m.image i).generation ≡ (inode X i).generation = h.stood_generation i g k.stands ∙ sym r.generation in
         let tags : tag_for X i path x.stamp ≡ tag_for m.image i path x.stamp = rw (r.kind, gens) in
-        let tag : tag_of (cell_at X x.block).tag ≡ Some (tag_for X i path x.stamp) = ((solid x.block).block i g path x k e refl).tag ∙ hm.agrees.tag ∙ ap Some (sym tags) in
+        let tag : tag_of (cell_at X x.block).tag ≡ Some (tag_for X i path x.stamp) = ((solid x.block).block i g path x k e refl).tag ∙ hm.agrees.tag
+        ∙ ap Some (sym tags) in
         let area : is_data_block X x.block ≡ true = rw same-numbers hm.agrees.area in
         find-built X i path x above (same ∙ hm.same) (agrees-built X i path x (record { live = r.live; area = area; tag = tag })) hm.not_null
 
@@ -73,7 +76,8 @@ module _ (m : Mark) (h : IsMark m) where
         let y = hm.above.0 in
         let em : find m.image i a ≡ answer.Holds y = hm.above.1 in
         let ex : find X i a ≡ answer.Holds y = steady-held i g a y (kept-up m i g a n k) em in
-        let same : pointer_at (cell_at X y.block).payload n ≡ pointer_at (cell_at m.image y.block).payload n = ((solid y.block).block i g a y (kept-up m i g a n k) em refl).pointers n k in
+        let same : pointer_at (cell_at X y.block).payload n ≡ pointer_at (cell_at m.image y.block).payload n =
+        ((solid y.block).block i g a y (kept-up m i g a n k) em refl).pointers n k in
         holds-again i g (Under a n) x k e (y, ex) (rw (ex, em, pointer) same)
 
     pub steady : KeepsPointers m X

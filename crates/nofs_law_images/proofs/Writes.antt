@@ -1,7 +1,10 @@
 -- A write of a step leaves every block explained, and disturbs nothing that is sure.
-use Rattle.std.proofs.Common.{◌≡◌, ℕ, ◌+◌, ◌-◌, ◌/◌, ◌%◌, ◌<◌, ◌≤◌, inl, inr, true, ltb, leb, Option, Some, is_some, sym, ap, ◌∙◌, subst, subst₂, arith, leb-true}
-use Rattle.nofs_law_images.specs.Reasons.{Holes, Explained, Emptied, Fresh, WrittenAs, RecordExplained, Fine, FineImage, IsKept, RecordStands, Solid, SolidImage, IsMark, KeepsPointers}
-use Rattle.nofs_law_images.specs.Proper.{PointerProper, Same, Cut, New, InPlaceOrFree, IsContentKind, ContentProper, PointersProper, RecordProper, Unchanged, Changed, Freed, Made, TableProper, Proper, OfContent, OfPointers, OfTable}
+use Rattle.std.proofs.Common.{◌≡◌, ℕ, ◌+◌, ◌-◌, ◌/◌, ◌%◌, ◌<◌, ◌≤◌, inl, inr, true, ltb, leb, Option, Some, is_some, sym, ap, ◌∙◌, subst, subst₂, arith}
+use Rattle.std.proofs.Common.{leb-true}
+use Rattle.nofs_law_images.specs.Reasons.{Holes, Explained, Emptied, Fresh, WrittenAs, RecordExplained, Fine, FineImage, IsKept, RecordStands, Solid}
+use Rattle.nofs_law_images.specs.Reasons.{SolidImage, IsMark, KeepsPointers}
+use Rattle.nofs_law_images.specs.Proper.{PointerProper, Same, Cut, New, InPlaceOrFree, IsContentKind, ContentProper, PointersProper, RecordProper, Unchanged}
+use Rattle.nofs_law_images.specs.Proper.{Changed, Freed, Made, TableProper, Proper, OfContent, OfPointers, OfTable}
 use Rattle.nofs_model.proofs.Find.{and-both, find-held}
 use Rattle.nofs_model.proofs.Paths.{path_of-slot_of, path_of-slot, above-slot}
 use Rattle.nofs_law_images.proofs.Trace.{same-super, explained-record, explained}
@@ -10,7 +13,8 @@ use Rattle.nofs_model.specs.declared.path.PathAnswer.TheVariants as answer
 use Rattle.nofs_machine.specs.Meta.{is_bytes}
 use Rattle.nofs_machine.specs.Marks.{Mark}
 use Rattle.nofs_model.specs.Cells.{Cell, Kind, Leaf, Pointer, FileKind, Record, tag_of, pointer_at, is_live, record_at}
-use Rattle.nofs_model.specs.Image.{Image, cell_at, super_at, is_data_block, is_inode, inode, Path, InRecord, Under, path_of, slot_of, kind_in, tag_for, record_pointer, find, pointer, files_in, agreed, IsSlot}
+use Rattle.nofs_model.specs.Image.{Image, cell_at, super_at, is_data_block, is_inode, inode, Path, InRecord, Under, path_of, slot_of, kind_in, tag_for}
+use Rattle.nofs_model.specs.Image.{record_pointer, find, pointer, files_in, agreed, IsSlot}
 use Rattle.nofs_model.specs.declared.value.Value.TheVariants.{Hole}
 
 kept-slot : (m : Mark) (i g : ℕ) (path : Path) → IsKept m i g path → IsSlot path
@@ -23,7 +27,8 @@ no-hole m i g path k holes = let e : is_bytes Hole ≡ true = k.sure Hole (holes
 is_some-some : (o : Option FileKind) (p : Option FileKind) → o ≡ p → is_some p ≡ true → is_some o ≡ true
 is_some-some o p e h = rw e h
 
-module _ (m : Mark) (X : Image) (h : IsMark m) (fine : FineImage m X) (solid : SolidImage m X) (tracked : (i g : ℕ) → m.stands i g ≡ true → agreed (files_in X) i ≡ true) where
+module _ (m : Mark) (X : Image) (h : IsMark m) (fine : FineImage m X) (solid : SolidImage m X) (tracked : (i g : ℕ) → m.stands i g ≡ true
+    → agreed (files_in X) i ≡ true) where
   super : cell_at X 0 ≡ cell_at m.image 0
   super = same-super m X h fine
 
@@ -32,7 +37,8 @@ module _ (m : Mark) (X : Image) (h : IsMark m) (fine : FineImage m X) (solid : S
 
   not-table : (b i : ℕ) → is_data_block m.image b ≡ true → is_inode m.image i ≡ true → 1 + (i - 1) / 4 ≡ b → ⊥
   not-table b i area range e =
-      let first = leb-true (1 + (super_at m.image).inodes / 4) b (and-both (leb (1 + (super_at m.image).inodes / 4) b) (ltb b (super_at m.image).blocks) area).0 in
+      let first = leb-true (1 + (super_at m.image).inodes / 4) b
+      (and-both (leb (1 + (super_at m.image).inodes / 4) b) (ltb b (super_at m.image).blocks) area).0 in
       let both = and-both (leb 1 i) (leb i (super_at m.image).inodes) range in
       let low : 1 ≤ i = leb-true 1 i both.0 in
       let high : i ≤ (super_at m.image).inodes = leb-true i (super_at m.image).inodes both.1 in
@@ -60,7 +66,8 @@ module _ (m : Mark) (X : Image) (h : IsMark m) (fine : FineImage m X) (solid : S
       absurd (none held.0 (still i g path k ∙ held.1))
 
   -- what a kept slot names isn't free
-  place-tag : (i g : ℕ) (path : Path) (x : Pointer) (b : ℕ) (c : Cell) → InPlaceOrFree X b c → IsKept m i g path → find m.image i path ≡ answer.Holds x → x.block ≡ b → tag_of c.tag ≡ tag_of (cell_at m.image b).tag
+  place-tag : (i g : ℕ) (path : Path) (x : Pointer) (b : ℕ) (c : Cell) → InPlaceOrFree X b c → IsKept m i g path → find m.image i path ≡ answer.Holds x
+      → x.block ≡ b → tag_of c.tag ≡ tag_of (cell_at m.image b).tag
   place-tag i g path x b c (inl same) k e eb = same ∙ ((solid b).block i g path x k e eb).tag
   place-tag i g path x b c (inr free) k e eb = absurd (free i path x (kept-slot m i g path k) (tracked i g k.stands) (still i g path k ∙ e) eb)
 
@@ -72,7 +79,8 @@ module _ (m : Mark) (X : Image) (h : IsMark m) (fine : FineImage m X) (solid : S
   })
     where
       positive : 0 < b
-      positive = let first = leb-true (1 + (super_at m.image).inodes / 4) b (and-both (leb (1 + (super_at m.image).inodes / 4) b) (ltb b (super_at m.image).blocks) w.area).0 in omega (arith, first)
+      positive = let first = leb-true (1 + (super_at m.image).inodes / 4) b
+          (and-both (leb (1 + (super_at m.image).inodes / 4) b) (ltb b (super_at m.image).blocks) w.area).0 in omega (arith, first)
 
       given : (q : Kind) → IsContentKind q → WrittenAs m q w.tag c.payload
       given q (inl e) = rw e w.given
@@ -87,11 +95,13 @@ module _ (m : Mark) (X : Image) (h : IsMark m) (fine : FineImage m X) (solid : S
     };
   }
     where
-      no-pointers : (i g : ℕ) (path : Path) (x : Pointer) → IsKept m i g path → find m.image i path ≡ answer.Holds x → x.block ≡ b → (n : ℕ) → IsKept m i g (Under path n) → ⊥
+      no-pointers : (i g : ℕ) (path : Path) (x : Pointer) → IsKept m i g path → find m.image i path ≡ answer.Holds x → x.block ≡ b → (n : ℕ)
+          → IsKept m i g (Under path n) → ⊥
       no-pointers i g path x k e eb n kn =
           let s = kept-slot m i g (Under path n) kn in
           let hm = find-held m.image i path x e in
-          let t0 : tag_of (cell_at m.image b).tag ≡ Some (tag_for m.image i path x.stamp) = subst (λ (q : ℕ). tag_of (cell_at m.image q).tag ≡ Some (tag_for m.image i path x.stamp)) eb hm.agrees.tag in
+          let t0 : tag_of (cell_at m.image b).tag ≡ Some (tag_for m.image i path x.stamp) =
+          subst (λ (q : ℕ). tag_of (cell_at m.image q).tag ≡ Some (tag_for m.image i path x.stamp)) eb hm.agrees.tag in
           let t1 : Some w.tag ≡ Some (tag_for m.image i path x.stamp) = sym w.spelled ∙ place-tag i g path x b c w.place k e eb ∙ t0 in
           let k1 : w.tag.kind ≡ kind_in (inode m.image i) path = cc t1 in
           let k2 : kind_in (inode m.image i) path ≡ Leaf = rw s.0 in
@@ -100,12 +110,18 @@ module _ (m : Mark) (X : Image) (h : IsMark m) (fine : FineImage m X) (solid : S
   pointers-fine : (b : ℕ) (c : Cell) → PointersProper m X b c → Fine m b c
   pointers-fine b c w = inr (record {
     not_super = positive;
-    block = λ area. (w.tag, w.spelled, rw w.kind (λ n lt. rw (at-path) (pointer-explained w.tag.inode w.tag.generation (Under w.path n) (pointer_at c.payload n) (w.points, lt, w.is_slot) (w.pointers n lt))));
+    block = λ area. (
+      w.tag,
+      w.spelled,
+      rw w.kind (λ n lt. rw (at-path)
+          (pointer-explained w.tag.inode w.tag.generation (Under w.path n) (pointer_at c.payload n) (w.points, lt, w.is_slot) (w.pointers n lt))),
+    );
     table = λ i range e live. absurd (not-table b i w.area range e);
   })
     where
       positive : 0 < b
-      positive = let first = leb-true (1 + (super_at m.image).inodes / 4) b (and-both (leb (1 + (super_at m.image).inodes / 4) b) (ltb b (super_at m.image).blocks) w.area).0 in omega (arith, first)
+      positive = let first = leb-true (1 + (super_at m.image).inodes / 4) b
+          (and-both (leb (1 + (super_at m.image).inodes / 4) b) (ltb b (super_at m.image).blocks) w.area).0 in omega (arith, first)
 
       at-path : path_of w.tag.slot ≡ w.path
       at-path = ap path_of w.slot ∙ path_of-slot_of w.path w.is_slot
@@ -119,11 +135,13 @@ module _ (m : Mark) (X : Image) (h : IsMark m) (fine : FineImage m X) (solid : S
     };
   }
     where
-      each : (i g : ℕ) (path : Path) (x : Pointer) → IsKept m i g path → find m.image i path ≡ answer.Holds x → x.block ≡ b → (n : ℕ) → IsKept m i g (Under path n) → pointer_at c.payload n ≡ pointer_at (cell_at m.image b).payload n
+      each : (i g : ℕ) (path : Path) (x : Pointer) → IsKept m i g path → find m.image i path ≡ answer.Holds x → x.block ≡ b → (n : ℕ)
+          → IsKept m i g (Under path n) → pointer_at c.payload n ≡ pointer_at (cell_at m.image b).payload n
       each i g path x k e eb n kn =
           let s = kept-slot m i g (Under path n) kn in
           let hm = find-held m.image i path x e in
-          let t0 : tag_of (cell_at m.image b).tag ≡ Some (tag_for m.image i path x.stamp) = subst (λ (q : ℕ). tag_of (cell_at m.image q).tag ≡ Some (tag_for m.image i path x.stamp)) eb hm.agrees.tag in
+          let t0 : tag_of (cell_at m.image b).tag ≡ Some (tag_for m.image i path x.stamp) =
+          subst (λ (q : ℕ). tag_of (cell_at m.image q).tag ≡ Some (tag_for m.image i path x.stamp)) eb hm.agrees.tag in
           let t1 : Some w.tag ≡ Some (tag_for m.image i path x.stamp) = sym w.spelled ∙ place-tag i g path x b c w.place k e eb ∙ t0 in
           let ei : w.tag.inode ≡ i = cc t1 in
           let eg0 : w.tag.generation ≡ (inode m.image i).generation = cc t1 in
@@ -132,9 +150,12 @@ module _ (m : Mark) (X : Image) (h : IsMark m) (fine : FineImage m X) (solid : S
           let es : slot_of w.path ≡ slot_of path = sym w.slot ∙ es0 in
           let ep : w.path ≡ path = sym (path_of-slot_of w.path w.is_slot) ∙ ap path_of es ∙ path_of-slot_of path s.2 in
           let p0 : PointerProper m X w.tag.inode w.tag.generation (Under w.path n) (pointer_at c.payload n) = w.pointers n s.1 in
-          let p1 : PointerProper m X i g (Under path n) (pointer_at c.payload n) = subst₂ (λ (q : ℕ) (r : ℕ). PointerProper m X q r (Under path n) (pointer_at c.payload n)) ei eg (subst (λ (q : Path). PointerProper m X w.tag.inode w.tag.generation (Under q n) (pointer_at c.payload n)) ep p0) in
+          let p1 : PointerProper m X i g (Under path n) (pointer_at c.payload n) =
+          subst₂ (λ (q : ℕ) (r : ℕ). PointerProper m X q r (Under path n) (pointer_at c.payload n)) ei eg
+          (subst (λ (q : Path). PointerProper m X w.tag.inode w.tag.generation (Under q n) (pointer_at c.payload n)) ep p0) in
           let same : pointer m.image i (Under path n) ≡ pointer_at (cell_at m.image x.block).payload n = rw (e, pointer) in
-          let same' : pointer m.image i (Under path n) ≡ pointer_at (cell_at m.image b).payload n = subst (λ (q : ℕ). pointer m.image i (Under path n) ≡ pointer_at (cell_at m.image q).payload n) eb same in
+          let same' : pointer m.image i (Under path n) ≡ pointer_at (cell_at m.image b).payload n =
+          subst (λ (q : ℕ). pointer m.image i (Under path n) ≡ pointer_at (cell_at m.image q).payload n) eb same in
           kept-pointer i g (Under path n) (pointer_at c.payload n) kn p1 ∙ same'
 
   record-explained : (i : ℕ) (r : Record) → RecordProper m X i r → is_live r ≡ true → RecordExplained m i r
@@ -196,5 +217,6 @@ module _ (m : Mark) (X : Image) (h : IsMark m) (fine : FineImage m X) (solid : S
   proper b c (OfPointers w) = (pointers-fine b c w, pointers-solid b c w)
   proper b c (OfTable w) = (table-fine b c w, table-solid b c w)
 
-pub writes-proper : (m : Mark) (X : Image) → IsMark m → FineImage m X → SolidImage m X → ((i g : ℕ) → m.stands i g ≡ true → agreed (files_in X) i ≡ true) → (b : ℕ) (c : Cell) → Proper m X b c → Fine m b c × Solid m b c
+pub writes-proper : (m : Mark) (X : Image) → IsMark m → FineImage m X → SolidImage m X → ((i g : ℕ) → m.stands i g ≡ true → agreed (files_in X) i ≡ true)
+    → (b : ℕ) (c : Cell) → Proper m X b c → Fine m b c × Solid m b c
 writes-proper m X h fine solid tracked b c w = proper m X h fine solid tracked b c w

@@ -5,7 +5,8 @@ use Rattle.nofs_law_images.specs.Reasons.{Holes}
 use Rattle.nofs_model.specs.declared.path.PathAnswer.TheVariants as answer
 use Rattle.nofs_machine.specs.Meta.{meta_of}
 use Rattle.nofs_machine.specs.Marks.{Mark}
-use Rattle.nofs_model.specs.Image.{IsSlot, IsFree, Image, cell_at, is_data_block, is_inode, inode, Path, InRecord, Under, slot_of, is_pointer_slot, record_pointer, find, pointer, AboveHolds}
+use Rattle.nofs_model.specs.Image.{IsSlot, IsFree, Image, cell_at, is_data_block, is_inode, inode, Path, InRecord, Under, slot_of, is_pointer_slot}
+use Rattle.nofs_model.specs.Image.{record_pointer, find, pointer, AboveHolds}
 use Rattle.nofs_model.specs.Cells.{Cell, Kind, Content, Directory, Leaf, Tag, Pointer, Record, tag_of, is_null, pointer_at, record_at, is_live}
 use Rattle.nofs_model.specs.declared.value.Value.TheVariants.{Hole, Bytes}
 
@@ -50,9 +51,11 @@ pub record PointersProper (L : Mark) (X : Image) (b : ℕ) (c : Cell) : Type 0 w
 -- why a step writes this record
 pub data RecordProper (L : Mark) (X : Image) (i : ℕ) (r : Record) : Type 0 where
   Unchanged : r ≡ inode X i → RecordProper L X i r
-  Changed : is_live (inode X i) ≡ true → r.generation ≡ (inode X i).generation → r.kind ≡ (inode X i).kind → Contains (L.metas i r.generation) (meta_of r) → ((n : ℕ) → n < 10 → PointerProper L X i r.generation (InRecord n) (record_pointer r n)) → RecordProper L X i r
+  Changed : is_live (inode X i) ≡ true → r.generation ≡ (inode X i).generation → r.kind ≡ (inode X i).kind → Contains (L.metas i r.generation) (meta_of r)
+      → ((n : ℕ) → n < 10 → PointerProper L X i r.generation (InRecord n) (record_pointer r n)) → RecordProper L X i r
   Freed : is_live r ≡ false → ((g : ℕ) → L.stands i g ≡ false) → RecordProper L X i r
-  Made : L.stamps ≤ r.generation → ((g : ℕ) → L.stands i g ≡ false) → Contains (L.metas i r.generation) (meta_of r) → ((n : ℕ) → n < 10 → is_null (record_pointer r n) ≡ true) → ((k : ℕ) → k < slot_limit → Contains (L.since i r.generation k) Hole) → RecordProper L X i r
+  Made : L.stamps ≤ r.generation → ((g : ℕ) → L.stands i g ≡ false) → Contains (L.metas i r.generation) (meta_of r)
+      → ((n : ℕ) → n < 10 → is_null (record_pointer r n) ≡ true) → ((k : ℕ) → k < slot_limit → Contains (L.since i r.generation k) Hole) → RecordProper L X i r
 
 -- a table cell
 pub record TableProper (L : Mark) (X : Image) (b : ℕ) (c : Cell) : Type 0 where

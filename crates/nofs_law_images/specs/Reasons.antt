@@ -4,8 +4,10 @@ use Rattle.nofs_ptrs.specs.Paths.{slot_limit}
 use Rattle.nofs_model.specs.declared.path.PathAnswer.TheVariants as answer
 use Rattle.nofs_machine.specs.Meta.{meta_of, AllBytes, MayRead}
 use Rattle.nofs_machine.specs.Marks.{Mark}
-use Rattle.nofs_model.specs.Image.{IsAbove, AboveHolds, Image, cell_at, super_at, is_data_block, is_inode, inode, Path, InRecord, Under, path_of, record_pointer, find, pointer, value}
-use Rattle.nofs_model.specs.Cells.{Cell, Kind, Nothing, Content, Directory, Leaf, Table, Super, Tag, Pointer, Record, tag_of, is_null, pointer_at, record_at, is_live}
+use Rattle.nofs_model.specs.Image.{IsAbove, AboveHolds, Image, cell_at, super_at, is_data_block, is_inode, inode, Path, InRecord, Under, path_of}
+use Rattle.nofs_model.specs.Image.{record_pointer, find, pointer, value}
+use Rattle.nofs_model.specs.Cells.{Cell, Kind, Nothing, Content, Directory, Leaf, Table, Super, Tag, Pointer, Record, tag_of, is_null, pointer_at, record_at}
+use Rattle.nofs_model.specs.Cells.{is_live}
 use Rattle.nofs_model.specs.declared.value.Value.{Value}
 use Rattle.nofs_model.specs.declared.value.Value.TheVariants.{Hole, Bytes, Lost}
 
@@ -45,7 +47,8 @@ pub record RecordExplained (L : Mark) (i : ℕ) (r : Record) : Type 0 where
 pub record Written (L : Mark) (b : ℕ) (c : Cell) : Type 0 where
   pub not_super : 0 < b
   pub block : is_data_block L.image b ≡ true → (t : Tag) × (tag_of c.tag ≡ Some t) × WrittenAs L t.kind t c.payload
-  pub table : (i : ℕ) → is_inode L.image i ≡ true → 1 + (i - 1) / 4 ≡ b → is_live (record_at c.payload ((i - 1) % 4)) ≡ true → RecordExplained L i (record_at c.payload ((i - 1) % 4))
+  pub table : (i : ℕ) → is_inode L.image i ≡ true → 1 + (i - 1) / 4 ≡ b → is_live (record_at c.payload ((i - 1) % 4)) ≡ true
+      → RecordExplained L i (record_at c.payload ((i - 1) % 4))
 
 -- the block is as at the mark, or was written since
 abbrev pub Fine : Mark → ℕ → Cell → Type 0

@@ -1,6 +1,7 @@
 -- What a mount finds, and which entry gave a value.
 use Rattle.nofs_machine.specs.Claims.{next_stamp}
-use Rattle.std.proofs.Common.{◌≡◌, ◌≢◌, ℕ, ◌+◌, ◌*◌, ◌^◌, ◌<◌, ◌≤◌, inl, inr, Bool, true, false, eqb, leb, ◌&&◌, List, [], ◌∷◌, length, option_to_list, Option, Some, None, IfSome, Contains, refl, sym, ap, subst, subst₂, arith, eqb-true, eq-eqb}
+use Rattle.std.proofs.Common.{◌≡◌, ◌≢◌, ℕ, ◌+◌, ◌*◌, ◌^◌, ◌<◌, ◌≤◌, inl, inr, Bool, true, false, eqb, leb, ◌&&◌, List, [], ◌∷◌, length, option_to_list}
+use Rattle.std.proofs.Common.{Option, Some, None, IfSome, Contains, refl, sym, ap, subst, subst₂, arith, eqb-true, eq-eqb}
 use Rattle.std.proofs.lemmas.List.Elements.{Contains-append_cases}
 use Rattle.nofs_law_lives.specs.Lives.{OnlySuper, GivenBy, LawGiven, LawBegin, LawUpgraded}
 use Rattle.nofs_model.proofs.Find.{and-both}
@@ -40,13 +41,16 @@ first-below : (bound : ℕ) (Y : Image) → 0 < bound → tag_of (cell_at Y 0).t
 first-below bound Y pos e = record {
   tag = record {
     own = subst (λ (o : Option Tag). IfSome o (λ t. (t.generation < bound) × (t.stamp < bound))) (sym e) (pos, pos);
-    entries = subst (λ (o : Option Tag). IfSome o (λ t. t.kind ≡ Directory → (j : ℕ) → j < 16 → IfSome (entry_in (cell_at Y 0).payload j) (λ e. e.generation < bound))) (sym e) (λ d. absurd (cc d));
-    pointers = subst (λ (o : Option Tag). IfSome o (λ t. t.kind ≡ Leaf → (j : ℕ) → j < 64 → (pointer_at (cell_at Y 0).payload j).stamp < bound)) (sym e) (λ d. absurd (cc d));
+    entries = subst (λ (o : Option Tag). IfSome o (λ t. t.kind ≡ Directory → (j : ℕ) → j < 16
+        → IfSome (entry_in (cell_at Y 0).payload j) (λ e. e.generation < bound))) (sym e) (λ d. absurd (cc d));
+    pointers = subst (λ (o : Option Tag). IfSome o (λ t. t.kind ≡ Leaf → (j : ℕ) → j < 64 → (pointer_at (cell_at Y 0).payload j).stamp < bound)) (sym e)
+        (λ d. absurd (cc d));
   };
   records = λ i range eb live. absurd (omega (arith, eb));
 }
 
-other-below : (bound : ℕ) (X Y : Image) (b : ℕ) → (super_at Y).inodes ≡ (super_at X).inodes → CellBelow bound X b (cell_at X b) → CellBelow bound Y b (cell_at X b)
+other-below : (bound : ℕ) (X Y : Image) (b : ℕ) → (super_at Y).inodes ≡ (super_at X).inodes → CellBelow bound X b (cell_at X b)
+    → CellBelow bound Y b (cell_at X b)
 other-below bound X Y b e h = record {
   tag = h.tag;
   records = λ i range eb live. h.records i (subst (λ (n : ℕ). (leb 1 i && leb i n) ≡ true) e range) eb live;
@@ -68,8 +72,10 @@ only-below bound X Y pos r super h b lt = go (eqb b 0) refl
 
 only-mountable : (X Y : Image) → is_mountable X ≡ true → OnlySuper X Y → is_super (cell_at Y 0).payload ≡ true → is_mountable Y ≡ true
 only-mountable X Y m r spelled =
-    let geometry : is_geometry (length X) (super_at X).blocks (super_at X).inodes ≡ true = (and-both (is_super (cell_at X 0).payload) (is_geometry (length X) (super_at X).blocks (super_at X).inodes) m).1 in
-    let same : is_geometry (length Y) (super_at Y).blocks (super_at Y).inodes ≡ true = subst₂ (λ (n b : ℕ). is_geometry n b (super_at Y).inodes ≡ true) (sym r.size) (sym r.blocks)
+    let geometry : is_geometry (length X) (super_at X).blocks (super_at X).inodes ≡ true =
+    (and-both (is_super (cell_at X 0).payload) (is_geometry (length X) (super_at X).blocks (super_at X).inodes) m).1 in
+    let same : is_geometry (length Y) (super_at Y).blocks (super_at Y).inodes ≡ true =
+    subst₂ (λ (n b : ℕ). is_geometry n b (super_at Y).inodes ≡ true) (sym r.size) (sym r.blocks)
     (subst (λ (n : ℕ). is_geometry (length X) (super_at X).blocks n ≡ true) (sym r.inodes) geometry) in
     (λ j. spelled j && same j)
 
@@ -95,15 +101,18 @@ law-begin X Y first sound r first_cell mount = (
       let lt' : b < (super_at Y).blocks = subst (λ (n : ℕ). b < n) (blocks-of Y first) lt in
       let n = number-of Y first in
       let e = sole-is (cell_at Y b) c has in
-      subst (λ (d : Cell). CellBelow (next_stamp (world_of Y first)) Y b d) e (raise-bound ((super_at Y).mount * 2 ^ 40) (next_stamp (world_of Y first)) Y b (cell_at Y b) (omega (arith, n)) (below b lt')),
+      subst (λ (d : Cell). CellBelow (next_stamp (world_of Y first)) Y b d) e
+      (raise-bound ((super_at Y).mount * 2 ^ 40) (next_stamp (world_of Y first)) Y b (cell_at Y b) (omega (arith, n)) (below b lt')),
 )
   where
     below : IsBelow ((super_at Y).mount * 2 ^ 40) Y
-    below = subst (λ (n : ℕ). IsBelow (n * 2 ^ 40) Y) (sym r.mount) (only-below (((super_at X).mount + 1) * 2 ^ 40) X Y (omega arith) r.only first_cell.tag sound.below)
+    below = subst (λ (n : ℕ). IsBelow (n * 2 ^ 40) Y) (sym r.mount)
+        (only-below (((super_at X).mount + 1) * 2 ^ 40) X Y (omega arith) r.only first_cell.tag sound.below)
 
 pub law-upgraded : LawUpgraded
 law-upgraded X Y sound up first_cell = record {
   mountable = only-mountable X Y sound.mountable up.only first_cell.payload;
   mount = subst (λ (n : ℕ). n < 2 ^ 24) (sym up.mount) sound.mount;
-  below = subst (λ (n : ℕ). IsBelow ((n + 1) * 2 ^ 40) Y) (sym up.mount) (only-below (((super_at X).mount + 1) * 2 ^ 40) X Y (omega arith) up.only first_cell.tag sound.below);
+  below = subst (λ (n : ℕ). IsBelow ((n + 1) * 2 ^ 40) Y) (sym up.mount)
+      (only-below (((super_at X).mount + 1) * 2 ^ 40) X Y (omega arith) up.only first_cell.tag sound.below);
 }

@@ -1,6 +1,7 @@
 -- No generation and no stamp is claimed twice.
 use Rattle.nofs_machine.proofs.ClaimParts.{claim-count, claim-stamps, claim-inode, CountsUp}
-use Rattle.std.proofs.Common.{◌≡◌, ◌≢◌, ℕ, zero, suc, ◌+◌, ◌*◌, ◌^◌, ◌<◌, ◌≤◌, ◌⊎◌, inl, inr, Bool, true, false, cond, eqb, ltb, List, [], ◌∷◌, ◌++◌, length, map, get_or, Option, Some, None, Contains, refl, sym, ap, ◌∙◌, subst, arith, append-nil, eq-eqb, lt-ltb}
+use Rattle.std.proofs.Common.{◌≡◌, ◌≢◌, ℕ, zero, suc, ◌+◌, ◌*◌, ◌^◌, ◌<◌, ◌≤◌, ◌⊎◌, inl, inr, Bool, true, false, cond, eqb, ltb, List, [], ◌∷◌, ◌++◌, length}
+use Rattle.std.proofs.Common.{map, get_or, Option, Some, None, Contains, refl, sym, ap, ◌∙◌, subst, arith, append-nil, eq-eqb, lt-ltb}
 use Rattle.std.proofs.lemmas.Bool.{cases_lt}
 use Rattle.std.proofs.lemmas.List.Elements.{Contains-append_cases}
 use Rattle.nofs_law_maps.specs.Fresh.{needed}
@@ -55,27 +56,35 @@ count-numbers s (x ∷ xs) c =
     let r : Rising (suc x.stamp) (map (λ x. x.stamp) xs) = rising-weaken (suc x.stamp) (suc s) (map (λ x. x.stamp) xs) (omega (arith, e)) ih.0 in
     ((omega (arith, e), r), (omega (arith, e), under-weaken (suc s + length xs) (s + length (x ∷ xs)) (map (λ x. x.stamp) xs) (omega arith) ih.1))
 
-claim-numbers : (W : World) (step : Step) (c : Claims) → IsClaim W step c → Rising (next_stamp W) (numbers_of c) × AllUnder (next_stamp W + needed W step) (numbers_of c)
+claim-numbers : (W : World) (step : Step) (c : Claims) → IsClaim W step c
+    → Rising (next_stamp W) (numbers_of c) × AllUnder (next_stamp W + needed W step) (numbers_of c)
 claim-numbers W step c claim = go (eqb c.inode 0) refl
   where
     stamps : List ℕ
     stamps = map (λ x. x.stamp) (claimed_blocks c)
 
-    counts : Rising (next_stamp W + inodes_needed step) (map (λ x. x.stamp) (claimed_blocks c)) × AllUnder (next_stamp W + inodes_needed step + length (claimed_blocks c)) (map (λ x. x.stamp) (claimed_blocks c))
+    counts : Rising (next_stamp W + inodes_needed step) (map (λ x. x.stamp) (claimed_blocks c)) × AllUnder
+        (next_stamp W + inodes_needed step + length (claimed_blocks c)) (map (λ x. x.stamp) (claimed_blocks c))
     counts = count-numbers (next_stamp W + inodes_needed step) (claimed_blocks c) (claim-stamps W step c claim)
 
     under : AllUnder (next_stamp W + needed W step) (map (λ x. x.stamp) (claimed_blocks c))
-    under = let n = (claim-count W step c claim) in under-weaken (next_stamp W + inodes_needed step + length (claimed_blocks c)) (next_stamp W + needed W step) (map (λ x. x.stamp) (claimed_blocks c)) (omega (arith, n)) counts.1
+    under = let n = (claim-count W step c claim) in under-weaken (next_stamp W + inodes_needed step + length (claimed_blocks c))
+        (next_stamp W + needed W step) (map (λ x. x.stamp) (claimed_blocks c)) (omega (arith, n)) counts.1
 
     go : (t : Bool) → eqb c.inode 0 ≡ t
-        → Rising (next_stamp W) (cond (eqb c.inode 0) [] (c.generation ∷ []) ++ map (λ x. x.stamp) (claimed_blocks c)) × AllUnder (next_stamp W + needed W step) (cond (eqb c.inode 0) [] (c.generation ∷ []) ++ map (λ x. x.stamp) (claimed_blocks c))
+        → Rising (next_stamp W) (cond (eqb c.inode 0) [] (c.generation ∷ []) ++ map (λ x. x.stamp) (claimed_blocks c)) × AllUnder
+        (next_stamp W + needed W step) (cond (eqb c.inode 0) [] (c.generation ∷ []) ++ map (λ x. x.stamp) (claimed_blocks c))
     go true e = rw e (rising-weaken (next_stamp W) (next_stamp W + inodes_needed step) (map (λ x. x.stamp) (claimed_blocks c)) (omega arith) counts.0, under)
     go false e =
         let ne : c.inode ≢ 0 = λ z. let t : eqb c.inode 0 ≡ true = eq-eqb c.inode 0 z in cc (e, t) in
         let n = (claim-inode W step c claim ne).3 in
         let g = (claim-inode W step c claim ne).2 in
         rw e (
-          (omega (arith, g), rising-weaken (suc c.generation) (next_stamp W + inodes_needed step) (map (λ x. x.stamp) (claimed_blocks c)) (omega (arith, g, n)) counts.0),
+          (
+            omega (arith, g),
+            rising-weaken (suc c.generation) (next_stamp W + inodes_needed step) (map (λ x. x.stamp) (claimed_blocks c))
+                (omega (arith, g, n)) counts.0,
+          ),
           (omega (arith, g, n), under),
         )
 
@@ -96,9 +105,12 @@ abbrev pub Within : World → Step → Type 0
 Within W step = (W.serial + inodes_needed step + blocks_needed W.files step ≤ 2 ^ 40) ⊎ (needed W step ≡ 0)
 
 pub within : (W V : World) (step : Step) → first_of (rows W V step) ≡ None → Within W step
-within W V (step.Make d g name kind) e = inl (row-none _ (none-in (rows W V (step.Make d g name kind)) (serials_spent W (step.Make d g name kind)) (7, omega arith, refl) e))
-within W V (step.Link d g name i of) e = inl (row-none _ (none-in (rows W V (step.Link d g name i of)) (serials_spent W (step.Link d g name i of)) (9, omega arith, refl) e))
-within W V (step.Put i g k at bytes) e = inl (row-none _ (none-in (rows W V (step.Put i g k at bytes)) (serials_spent W (step.Put i g k at bytes)) (7, omega arith, refl) e))
+within W V (step.Make d g name kind) e = inl (row-none _ (none-in (rows W V (step.Make d g name kind)) (serials_spent W (step.Make d g name kind))
+    (7, omega arith, refl) e))
+within W V (step.Link d g name i of) e = inl (row-none _ (none-in (rows W V (step.Link d g name i of)) (serials_spent W (step.Link d g name i of))
+    (9, omega arith, refl) e))
+within W V (step.Put i g k at bytes) e = inl (row-none _ (none-in (rows W V (step.Put i g k at bytes)) (serials_spent W (step.Put i g k at bytes))
+    (7, omega arith, refl) e))
 within W V (step.Look d g name) e = inr refl
 within W V (step.Drop d g name) e = inr refl
 within W V (step.Rename d g old new) e = inr refl
@@ -116,7 +128,8 @@ in-mount W V step c e claim =
     elim (within W V step e) [
       | inl le ↦ under-weaken (next_stamp W + needed W step) ((W.mount + 1) * 2 ^ 40) (numbers_of c) (omega (arith, le)) n.1
       | inr z ↦
-          let none = none-between (next_stamp W) (numbers_of c) n.0 (under-weaken (next_stamp W + needed W step) (next_stamp W) (numbers_of c) (omega (arith, z)) n.1) in
+          let none = none-between (next_stamp W) (numbers_of c) n.0
+          (under-weaken (next_stamp W + needed W step) (next_stamp W) (numbers_of c) (omega (arith, z)) n.1) in
           subst (λ (xs : List ℕ). AllUnder ((W.mount + 1) * 2 ^ 40) xs) (sym none) tt
     ]
 
@@ -130,7 +143,8 @@ record StepNumbers (W : World) (c : Claims) (U : World) : Type 0 where
   idle : W.stopped ≡ true → (numbers_of c ≡ []) × (U.stopped ≡ true)
 
 -- a step that claims nothing
-idle-numbers : (W : World) (c : Claims) (U : World) → c ≡ no_claims → next_stamp W ≤ next_stamp U → U.mount ≡ W.mount → (W.stopped ≡ true → U.stopped ≡ true) → StepNumbers W c U
+idle-numbers : (W : World) (c : Claims) (U : World) → c ≡ no_claims → next_stamp W ≤ next_stamp U → U.mount ≡ W.mount → (W.stopped ≡ true → U.stopped ≡ true)
+    → StepNumbers W c U
 idle-numbers W c U e le m s =
     let n : numbers_of c ≡ [] = ap numbers_of e in
     record {
@@ -145,7 +159,8 @@ kept-number : (W V : World) → Keeps W V → next_stamp W ≤ next_stamp V
 kept-number W V k = let m = k.mount in let s = k.serial in omega (arith, m, s)
 
 step-numbers : (W : World) (e : Entry1) (U : World) → Next W e U → StepNumbers W e.claims U
-step-numbers W e U (AfterFault s r c same) = idle-numbers W e.claims U c (let q = ap next_stamp same in omega (arith, q)) (ap (λ (q : World). q.mount) same) (λ z. ap (λ (q : World). q.stopped) same ∙ z)
+step-numbers W e U (AfterFault s r c same) = idle-numbers W e.claims U c (let q = ap next_stamp same in omega (arith, q)) (ap (λ (q : World). q.mount) same)
+    (λ z. ap (λ (q : World). q.stopped) same ∙ z)
 step-numbers W e U (ByRow why s rows r c k st l) = idle-numbers W e.claims U c (kept-number W U k) k.mount (λ z. cc (s, z))
 step-numbers W e U (ByRead s rows r c k st l) = idle-numbers W e.claims U c (kept-number W U k) k.mount (λ z. cc (s, z))
 step-numbers W e U (Done s rows r claim fs hs serial vs l) =
@@ -175,7 +190,8 @@ stopped-run (e ∷ es) start W V r s =
     let rest = stopped-run es e.to r.0 V r.5 n.1 in
     (λ j. n.0 j ++ rest j)
 
-pub run-numbers : (es : List Entry1) (start : ℕ) (W V : World) → Run start W es V → Rising (next_stamp W) (claimed_in es) × AllUnder ((W.mount + 1) * 2 ^ 40) (claimed_in es)
+pub run-numbers : (es : List Entry1) (start : ℕ) (W V : World) → Run start W es V
+    → Rising (next_stamp W) (claimed_in es) × AllUnder ((W.mount + 1) * 2 ^ 40) (claimed_in es)
 run-numbers [] start W V r = (tt, tt)
 run-numbers (e ∷ es) start W V r = go (step-numbers W e r.0 r.4) (run-numbers es e.to r.0 V r.5)
   where
@@ -184,11 +200,15 @@ run-numbers (e ∷ es) start W V r = go (step-numbers W e r.0 r.4) (run-numbers 
     go n ih = elim n.next [
       | inl st ↦
           let rest = stopped-run es e.to r.0 V r.5 st in
-          let whole : numbers_of e.claims ++ claimed_in es ≡ numbers_of e.claims = ap (λ (xs : List ℕ). numbers_of e.claims ++ xs) rest ∙ append-nil (numbers_of e.claims) in
-          (subst (λ (xs : List ℕ). Rising (next_stamp W) xs) (sym whole) n.rising, subst (λ (xs : List ℕ). AllUnder ((W.mount + 1) * 2 ^ 40) xs) (sym whole) n.under)
+          let whole : numbers_of e.claims ++ claimed_in es ≡ numbers_of e.claims =
+          ap (λ (xs : List ℕ). numbers_of e.claims ++ xs) rest ∙ append-nil (numbers_of e.claims) in (
+            subst (λ (xs : List ℕ). Rising (next_stamp W) xs) (sym whole) n.rising,
+            subst (λ (xs : List ℕ). AllUnder ((W.mount + 1) * 2 ^ 40) xs) (sym whole) n.under,
+          )
       | inr u ↦ (
         rising-append (next_stamp W) (next_stamp r.0) (numbers_of e.claims) (claimed_in es) u.1 n.rising u.0 ih.0,
-        under-append ((W.mount + 1) * 2 ^ 40) (numbers_of e.claims) (claimed_in es) n.under (subst (λ (m : ℕ). AllUnder ((m + 1) * 2 ^ 40) (claimed_in es)) n.mount ih.1),
+        under-append ((W.mount + 1) * 2 ^ 40) (numbers_of e.claims) (claimed_in es) n.under
+            (subst (λ (m : ℕ). AllUnder ((m + 1) * 2 ^ 40) (claimed_in es)) n.mount ih.1),
       )
     ]
 
@@ -198,7 +218,8 @@ base-mount : (B : Image) (first : ℕ) → (world_of B first).mount ≡ (super_a
 unfolding world_of
 base-mount B first = refl
 
-life-numbers : (l : Life) → IsLife l → Rising ((super_at l.base).mount * 2 ^ 40) (claimed_in l.history) × AllUnder (((super_at l.base).mount + 1) * 2 ^ 40) (claimed_in l.history)
+life-numbers : (l : Life) → IsLife l → Rising ((super_at l.base).mount * 2 ^ 40) (claimed_in l.history) × AllUnder (((super_at l.base).mount + 1) * 2 ^ 40)
+    (claimed_in l.history)
 life-numbers l run =
     let n = run-numbers l.history l.start (world_of l.base l.first) l.end run in
     let m = base-mount l.base l.first in (
@@ -207,7 +228,8 @@ life-numbers l run =
     )
 
 next-mount : (k l : Life) → NextLife k l → (super_at l.base).mount ≡ (super_at k.base).mount + 1
-next-mount k l n = n.raised.mount ∙ ap (λ (q : ℕ). q + 1) (found-mount n.left n.found n.between ∙ ap (λ (q : SuperBlock). q.mount) (supers k.base n.left n.allowed.versions.super))
+next-mount k l n = n.raised.mount ∙ ap (λ (q : ℕ). q + 1) (found-mount n.left n.found n.between
+    ∙ ap (λ (q : SuperBlock). q.mount) (supers k.base n.left n.allowed.versions.super))
   where
     found-mount : (X Y : Image) → SameOrUpgraded X Y → (super_at Y).mount ≡ (super_at X).mount
     found-mount X Y (inl same) = ap (λ (Z : Image). (super_at Z).mount) same

@@ -1,5 +1,6 @@
 -- What block 0 alone does not change: records, values, files, owners.
-use Rattle.std.proofs.Common.{◌≡◌, ◌≢◌, ℕ, zero, suc, ◌+◌, ◌-◌, ◌/◌, ◌%◌, ◌<◌, Bool, true, false, cond, eqb, leb, ltb, ◌&&◌, ◌||◌, Option, Some, None, is_some, refl, sym, ap, ◌∙◌, arith, leb-true, le-leb}
+use Rattle.std.proofs.Common.{◌≡◌, ◌≢◌, ℕ, zero, suc, ◌+◌, ◌-◌, ◌/◌, ◌%◌, ◌<◌, Bool, true, false, cond, eqb, leb, ltb, ◌&&◌, ◌||◌, Option, Some, None}
+use Rattle.std.proofs.Common.{is_some, refl, sym, ap, ◌∙◌, arith, leb-true, le-leb}
 use Rattle.nofs_ptrs.specs.Paths.{slot_limit}
 use Rattle.nofs_model.specs.declared.path.PathAnswer.{PathAnswer}
 use Rattle.nofs_law_lives.specs.Lives.{IsNew, OnlySuper, SaysTheSame, LawOnlySuper}
@@ -7,7 +8,9 @@ use Rattle.nofs_model.proofs.Find.{and-both, find-held, judged-built-null}
 use Rattle.nofs_model.proofs.Paths.{path_of-slot}
 use Rattle.nofs_model.specs.declared.path.PathAnswer.TheVariants as answer
 use Rattle.nofs_model.specs.Cells.{FileKind, Cell, Tag, Pointer, Record, tag_of, is_null, pointer_at, record_at, free_record, is_live}
-use Rattle.nofs_model.specs.Image.{Image, cell_at, super_at, is_data_block, is_inode, inode, Path, InRecord, Under, path_of, slot_of, is_slot, kind_in, is_tag, agrees, record_pointer, judged, find, value, value_in, node_in, file_from, files_in, agreed, Home, home_at, owner, owner_by, owner_found, is_special, is_used_block, IsSlot}
+use Rattle.nofs_model.specs.Image.{Image, cell_at, super_at, is_data_block, is_inode, inode, Path, InRecord, Under, path_of, slot_of, is_slot, kind_in}
+use Rattle.nofs_model.specs.Image.{is_tag, agrees, record_pointer, judged, find, value, value_in, node_in, file_from, files_in, agreed, Home, home_at, owner}
+use Rattle.nofs_model.specs.Image.{owner_by, owner_found, is_special, is_used_block, IsSlot}
 use Rattle.nofs_model.specs.declared.value.Value.TheVariants.{Hole, Bytes}
 
 area-positive : (X : Image) (b : ℕ) → is_data_block X b ≡ true → b ≢ 0
@@ -17,7 +20,8 @@ area-positive X b area e =
 
 -- the parts that agreement goes by
 abbrev agrees_by : ℕ → Path → Pointer → Record → Bool → Option Tag → Bool
-agrees_by i path x r area t = is_live r && (area && is_tag t (record { kind = kind_in r path; inode = i; generation = r.generation; slot = slot_of path; stamp = x.stamp }))
+agrees_by i path x r area t = is_live r && (area && is_tag t
+    (record { kind = kind_in r path; inode = i; generation = r.generation; slot = slot_of path; stamp = x.stamp }))
 
 module _ (X Y : Image) (r : OnlySuper X Y) where
   same-range : (i : ℕ) → is_inode Y i ≡ is_inode X i
@@ -36,7 +40,8 @@ module _ (X Y : Image) (r : OnlySuper X Y) where
   same-agrees i path x = (λ j. agrees_by i path x (same-inode i j) (same-area x.block j) (tag_of (cell_at Y x.block).tag)) ∙ go (is_data_block X x.block) refl
     where
       go : (t : Bool) → is_data_block X x.block ≡ t
-          → agrees_by i path x (inode X i) (is_data_block X x.block) (tag_of (cell_at Y x.block).tag) ≡ agrees_by i path x (inode X i) (is_data_block X x.block) (tag_of (cell_at X x.block).tag)
+          → agrees_by i path x (inode X i) (is_data_block X x.block) (tag_of (cell_at Y x.block).tag) ≡ agrees_by i path x (inode X i)
+          (is_data_block X x.block) (tag_of (cell_at X x.block).tag)
       go true e = ap (λ (c : Cell). agrees_by i path x (inode X i) (is_data_block X x.block) (tag_of c.tag)) (r.others x.block (area-positive X x.block e))
       go false e = rw e refl
 
@@ -48,7 +53,8 @@ module _ (X Y : Image) (r : OnlySuper X Y) where
   same-cell i path x e = r.others x.block (area-positive X x.block (find-held X i path x e).agrees.area)
 
   pub same-find : (i : ℕ) (path : Path) → find Y i path ≡ find X i path
-  same-find i (InRecord n) = ap (λ (q : Record). judged Y i (InRecord n) (record_pointer q n)) (same-inode i) ∙ same-judged i (InRecord n) (record_pointer (inode X i) n)
+  same-find i (InRecord n) = ap (λ (q : Record). judged Y i (InRecord n) (record_pointer q n)) (same-inode i)
+      ∙ same-judged i (InRecord n) (record_pointer (inode X i) n)
   same-find i (Under a n) = go (find X i a) refl (same-find i a)
     where
       go : (f : PathAnswer) → find X i a ≡ f → find Y i a ≡ find X i a → find Y i (Under a n) ≡ find X i (Under a n)
@@ -56,7 +62,8 @@ module _ (X Y : Image) (r : OnlySuper X Y) where
       go answer.Lost e ih = let y : find Y i a ≡ answer.Lost = ih ∙ e in rw (e, y, find) refl
       go (answer.Holds z) e ih =
           let y : find Y i a ≡ answer.Holds z = ih ∙ e in
-          rw (e, y, find) (ap (λ (c : Cell). judged Y i (Under a n) (pointer_at c.payload n)) (same-cell i a z e) ∙ same-judged i (Under a n) (pointer_at (cell_at X z.block).payload n))
+          rw (e, y, find) (ap (λ (c : Cell). judged Y i (Under a n) (pointer_at c.payload n)) (same-cell i a z e)
+          ∙ same-judged i (Under a n) (pointer_at (cell_at X z.block).payload n))
 
   pub same-value : (i k : ℕ) → value Y i k ≡ value X i k
   same-value i k = ap (λ (f : PathAnswer). value_in Y f) (same-find i (path_of k)) ∙ go (find X i (path_of k)) refl
@@ -90,7 +97,8 @@ module _ (X Y : Image) (r : OnlySuper X Y) where
 
   by-owner : (p : ℕ) (o : Option Tag) → owner_by Y p o ≡ owner_by X p o
   by-owner p None = refl
-  by-owner p (Some t) = ap (λ (o : Option Home). cond (is_slot t.slot) o None) (found-owner p t (find Y t.inode (path_of t.slot)) ∙ ap (λ (f : PathAnswer). owner_found X p t f) (same-find t.inode (path_of t.slot)))
+  by-owner p (Some t) = ap (λ (o : Option Home). cond (is_slot t.slot) o None)
+      (found-owner p t (find Y t.inode (path_of t.slot)) ∙ ap (λ (f : PathAnswer). owner_found X p t f) (same-find t.inode (path_of t.slot)))
 
   pub same-owner : (p : ℕ) → p ≢ 0 → owner Y p ≡ owner X p
   unfolding owner

@@ -35,11 +35,14 @@ one-life k l next i g n content lt e v =
     let same : inode l.base i ≡ inode next.left i = same-inode next.found l.base next.raised.only i ∙ found-record next.left next.found i next.between in
     let live : is_live (inode next.left i) ≡ true = subst (λ (r : Record). is_live r ≡ true) same both.0 in
     let gen : (inode next.left i).generation ≡ g = sym (ap (λ (r : Record). r.generation) same) ∙ eqb-true (inode l.base i).generation g both.1 in
-    let left : value next.left i n ≡ Bytes content = sym (same-value next.found l.base next.raised.only i n ∙ found-value next.left next.found i n next.between) ∙ v in
-    subst (λ (h : ℕ). ((is_generation k.base i h ≡ true) × (value k.base i n ≡ Bytes content)) ⊎ Contains (values_given (agreed_files k.base) k.history i h n) (Bytes content)) gen
+    let left : value next.left i n ≡ Bytes content = sym (same-value next.found l.base next.raised.only i n
+    ∙ found-value next.left next.found i n next.between) ∙ v in
+    subst (λ (h : ℕ). ((is_generation k.base i h ≡ true) × (value k.base i n ≡ Bytes content)) ⊎ Contains
+    (values_given (agreed_files k.base) k.history i h n) (Bytes content)) gen
     (left-given k.base k.history next.moment next.left next.allowed.versions i n content live lt left)
 
-given-before : (l : Life) (earlier : List Life) → Lives (l ∷ earlier) → (i g n : ℕ) (content : List ℕ) → n < slot_limit → is_generation l.base i g ≡ true → value l.base i n ≡ Bytes content → GivenIn earlier i g n content
+given-before : (l : Life) (earlier : List Life) → Lives (l ∷ earlier) → (i g n : ℕ) (content : List ℕ) → n < slot_limit → is_generation l.base i g ≡ true
+    → value l.base i n ≡ Bytes content → GivenIn earlier i g n content
 given-before l [] h i g n content lt e v = no-bytes l.base h.0 i n content lt v
 given-before l (k ∷ ls) h i g n content lt e v = elim (one-life k l h.0 i g n content lt e v) [
   | inl old ↦ inr (given-before k ls h.2 i g n content lt old.0 old.1)

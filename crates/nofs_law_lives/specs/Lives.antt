@@ -11,7 +11,8 @@ use Rattle.nofs_machine.specs.Claims.{claimed_blocks}
 use Rattle.nofs_machine.specs.Next.{Run}
 use Rattle.nofs_machine.specs.Good.{IsFresh}
 use Rattle.nofs_model.specs.Cells.{Super, is_null, tag_of}
-use Rattle.nofs_model.specs.Image.{is_super, Image, cell_at, super_at, inode, record_pointer, value, Files, files_in, agreed, is_used_inode, is_used_block, IsSound}
+use Rattle.nofs_model.specs.Image.{is_super, Image, cell_at, super_at, inode, record_pointer, value, Files, files_in, agreed, is_used_inode, is_used_block}
+use Rattle.nofs_model.specs.Image.{IsSound}
 use Rattle.nofs_model.specs.declared.value.Value.TheVariants.{Bytes}
 use Rattle.nofs_model.specs.declared.value.Value.{Value}
 
@@ -100,7 +101,8 @@ LawLives = (later : List Life) (l : Life) (earlier : List Life) → Lives (later
 
 -- No generation and no stamp is claimed twice, in all lives together.
 abbrev pub LawOnce : Type 0
-LawOnce = (ls : List Life) → Lives ls → Rising 0 (claimed_by ls) × ((a b d : ℕ) → a < b → b < length (claimed_by ls) → get_or (claimed_by ls) a d ≢ get_or (claimed_by ls) b d)
+LawOnce = (ls : List Life) → Lives ls → Rising 0 (claimed_by ls) × ((a b d : ℕ) → a < b → b < length (claimed_by ls)
+    → get_or (claimed_by ls) a d ≢ get_or (claimed_by ls) b d)
 
 -- One entry, after those before it, gave this value.
 pub record GivenBy (F : Files) (H : List Entry1) (i g k : ℕ) (v : Value) : Type 0 where

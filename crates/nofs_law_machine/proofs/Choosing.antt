@@ -23,7 +23,8 @@ pick-falls test zero m = tt
 pick-falls test (suc n) zero = tt
 pick-falls test (suc n) (suc m) = go (test n) refl (pick-falls test n m) (pick-falls test n (suc m))
   where
-    go : (b : Bool) → test n ≡ b → Falls test n (pick test n m) → Falls test n (pick test n (suc m)) → Falls test (suc n) (cond b (n ∷ pick test n m) (pick test n (suc m)))
+    go : (b : Bool) → test n ≡ b → Falls test n (pick test n m) → Falls test n (pick test n (suc m))
+        → Falls test (suc n) (cond b (n ∷ pick test n m) (pick test n (suc m)))
     go true e with_n without = (omega arith, (e, with_n))
     go false e with_n without = falls-weaken test n (suc n) (pick test n (suc m)) (omega arith) without
 

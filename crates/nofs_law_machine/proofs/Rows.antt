@@ -5,7 +5,8 @@ use Rattle.nofs_model.specs.Image.{InRecord, Under}
 use Rattle.nofs_machine.specs.Search.{first_of}
 use Rattle.nofs_machine.specs.Machine.{found, first_dead, first_lost_slot, size_of, slots_in, node_of}
 use Rattle.nofs_machine.specs.World.{World, unverified_inodes, unverified_blocks, next_inode}
-use Rattle.nofs_machine.specs.Refusals.{row, missing, exists, not_empty_at, too_many_links, directory_full, inodes_full, full, serials_spent, is_damaged, lost_resize}
+use Rattle.nofs_machine.specs.Refusals.{row, missing, exists, not_empty_at, too_many_links, directory_full, inodes_full, full, serials_spent, is_damaged}
+use Rattle.nofs_machine.specs.Refusals.{lost_resize}
 use Rattle.nofs_machine.specs.Refusals.{rows}
 use Rattle.nofs_machine.specs.declared.steps.Step.{Step}
 use Rattle.nofs_machine.specs.declared.steps.Step.TheVariants as step

@@ -16,7 +16,28 @@ use Rattle.nofs_law_machine.specs.Examples.{AreShown, empty, name_examples, new_
 pub names-shown : AreShown name_examples
 unfolding number_at put_number put_bytes zeros entry_of entry_fields spelled_entry is_name path_of slot_of count_below least_from found first_dead
     first_lost_slot place_for link_place gives with_entry put_content trimmed lines_in_slot
-names-shown = (refl, (refl, (refl, (refl, (refl, (refl, (refl, (refl, (refl, (refl, (refl, (refl, (refl, (refl, (refl, (refl, (refl, (refl, (refl, (refl, (refl, (refl, (refl, tt)))))))))))))))))))))))
+names-shown = (
+  refl,
+  (
+    refl,
+    (
+      refl,
+      (
+        refl,
+        (
+          refl,
+          (
+            refl,
+            (
+              refl,
+              (refl, (refl, (refl, (refl, (refl, (refl, (refl, (refl, (refl, (refl, (refl, (refl, (refl, (refl, (refl, (refl, tt)))))))))))))))),
+            ),
+          ),
+        ),
+      ),
+    ),
+  ),
+)
 
 pub new-names-shown : AreShown new_names
 unfolding number_at put_number put_bytes zeros entry_of entry_fields spelled_entry is_name path_of slot_of count_below least_from found first_dead
@@ -26,7 +47,28 @@ new-names-shown = (refl, (refl, (refl, (refl, (refl, (refl, (refl, (refl, (refl,
 pub contents-shown : AreShown contents
 unfolding number_at put_number put_bytes zeros entry_of entry_fields spelled_entry is_name path_of slot_of count_below least_from found first_dead
     first_lost_slot place_for link_place gives with_entry put_content trimmed lines_in_slot
-contents-shown = (refl, (refl, (refl, (refl, (refl, (refl, (refl, (refl, (refl, (refl, (refl, (refl, (refl, (refl, (refl, (refl, (refl, (refl, (refl, (refl, tt))))))))))))))))))))
+contents-shown = (
+  refl,
+  (
+    refl,
+    (
+      refl,
+      (
+        refl,
+        (
+          refl,
+          (
+            refl,
+            (
+              refl,
+              (refl, (refl, (refl, (refl, (refl, (refl, (refl, (refl, (refl, (refl, (refl, (refl, (refl, tt))))))))))))),
+            ),
+          ),
+        ),
+      ),
+    ),
+  ),
+)
 
 pub elements-shown : AreShown elements
 unfolding number_at put_number put_bytes zeros entry_of entry_fields spelled_entry is_name path_of slot_of count_below least_from found first_dead

@@ -17,7 +17,8 @@ use Rattle.nofs_machine.specs.declared.steps.Step.TheVariants as step
 use Rattle.nofs_machine.specs.declared.replies.Reply.{Reply}
 use Rattle.nofs_machine.specs.declared.replies.Reply.TheVariants as reply
 use Rattle.nofs_machine.specs.declared.replies.Refusal.TheVariants as refusal
-use Rattle.nofs_law_machine.specs.Worlds.{links, no_links, first_slot, cell, directory, file, files, example_world, first_child_damaged, answer, world_after, without_claims}
+use Rattle.nofs_law_machine.specs.Worlds.{links, no_links, first_slot, cell, directory, file, files, example_world, first_child_damaged, answer, world_after}
+use Rattle.nofs_law_machine.specs.Worlds.{without_claims}
 
 -- in this world this step with these claims is answered so
 pub record Example : Type 0 where
@@ -127,7 +128,13 @@ name_examples =
 
 abbrev pub new_names : List Example
 new_names =
-    record { world = one; step = step.Make 1 1 b File; claims = record { inode = 4; generation = 2 ^ 40 + 10; cell = null; leaf = null; top = null }; reply = reply.Made 4 (2 ^ 40 + 10) }
+    record {
+      world = one;
+      step = step.Make 1 1 b File;
+      claims = record { inode = 4; generation = 2 ^ 40 + 10; cell = null; leaf = null; top = null };
+      reply =
+          reply.Made 4 (2 ^ 40 + 10);
+    }
     ∷ example one (step.Make 1 1 a File) (reply.Refused refusal.Exists)
     ∷ example broken (step.Make 1 1 a File) (reply.Refused refusal.DirectoryFull)
     ∷ example (record one { known_inodes = λ i. false }) (step.Make 1 1 b File) (reply.Refused (refusal.InodesFull 16 1))
@@ -170,7 +177,8 @@ contents =
     ∷ example short (step.Resize 2 2 73728) reply.Resized
     ∷ example short (step.Resize 2 2 73729) (reply.Refused refusal.TooLarge)
     ∷ example (world_after short (step.Resize 2 2 0) no_claims) (step.Get 2 2 0) reply.Hole
-    ∷ example (world_after (world_after short (step.Resize 2 2 2) no_claims) (step.Resize 2 2 9) no_claims) (step.Get 2 2 0) (reply.Bytes (1 ∷ 2 ∷ replicate 1022 0))
+    ∷ example (world_after (world_after short (step.Resize 2 2 2) no_claims) (step.Resize 2 2 9) no_claims) (step.Get 2 2 0)
+    (reply.Bytes (1 ∷ 2 ∷ replicate 1022 0))
     ∷ example short (step.Stat 2 2) (reply.Stat (record { kind = File; size = 1025; links = 0 }))
     ∷ []
 
@@ -184,7 +192,10 @@ large = record empty { version = 2 }
 abbrev pub damaged : World
 damaged = record empty {
   version = 2;
-  files = files (λ k. Hole) (record (file 2 no_links 80000 (λ k. if nat_le 72 k then (if nat_lt k 136 then Lost else Hole) else Hole)) { nodes = first_child_damaged }) None None;
+  files = files (λ k. Hole) (record (file 2 no_links 80000 (λ k. if nat_le 72 k then (if nat_lt k 136 then Lost else Hole) else Hole)) {
+    nodes =
+        first_child_damaged;
+  }) None None;
 }
 
 abbrev pub large_files : List Example

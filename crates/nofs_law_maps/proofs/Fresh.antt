@@ -1,10 +1,12 @@
 -- Each step keeps fresh what a crash may leave.
 use Rattle.nofs_super.specs.Geometry.{is_geometry-parts}
 use Rattle.nofs_machine.proofs.ClaimParts.{claim-count, claim-stamps, claim-inode, CountsUp}
-use Rattle.std.proofs.Common.{◌≡◌, ◌≢◌, ℕ, zero, suc, ◌+◌, ◌-◌, ◌*◌, ◌/◌, ◌%◌, ◌^◌, ◌<◌, ◌≤◌, inl, inr, Bool, true, false, cond, leb, ltb, List, [], ◌∷◌, length, Option, Some, IfSome, Contains, refl, sym, ap, ◌∙◌, subst, arith, leb-true, ltb-true}
+use Rattle.std.proofs.Common.{◌≡◌, ◌≢◌, ℕ, zero, suc, ◌+◌, ◌-◌, ◌*◌, ◌/◌, ◌%◌, ◌^◌, ◌<◌, ◌≤◌, inl, inr, Bool, true, false, cond, leb, ltb, List, [], ◌∷◌}
+use Rattle.std.proofs.Common.{length, Option, Some, IfSome, Contains, refl, sym, ap, ◌∙◌, subst, arith, leb-true, ltb-true}
 use Rattle.std.proofs.lemmas.List.Elements.{Contains-append_cases}
 use Rattle.nofs_model.specs.declared.path.PathAnswer.{PathAnswer}
-use Rattle.nofs_law_maps.specs.Fresh.{needed, Numbered, Old, Stamp, Generation, RecordNumbers, CellNumbers, InContent, InDirectory, InPointers, InTable, OnlyNumbered, AllBelow, LawFresh, LawOld}
+use Rattle.nofs_law_maps.specs.Fresh.{needed, Numbered, Old, Stamp, Generation, RecordNumbers, CellNumbers, InContent, InDirectory, InPointers, InTable}
+use Rattle.nofs_law_maps.specs.Fresh.{OnlyNumbered, AllBelow, LawFresh, LawOld}
 use Rattle.nofs_model.proofs.Find.{and-both, find-held}
 use Rattle.nofs_model.proofs.Sound.{if-some, tag-below, record-below, ranges}
 use Rattle.nofs_law_untouched.proofs.Given.{not-table}
@@ -16,8 +18,10 @@ use Rattle.nofs_machine.specs.World.{World, inodes_needed}
 use Rattle.nofs_machine.specs.Claims.{no_claims, claimed_blocks, IsClaim, next_stamp}
 use Rattle.nofs_machine.specs.Next.{Keeps, AfterFault, ByRow, Done, ByRead, ByWrite}
 use Rattle.nofs_machine.specs.Good.{IsFresh}
-use Rattle.nofs_model.specs.Cells.{Cell, Kind, Content, Directory, Leaf, Table, Tag, Pointer, Record, Entry, tag_of, null, pointer_at, record_at, free_record, is_live, entry_in}
-use Rattle.nofs_model.specs.Image.{is_super, is_geometry, Image, cell_at, super_at, is_mountable, is_inode, inode, InRecord, Under, tag_for, find, pointer, RecordBelow, CellBelow, IsBelow}
+use Rattle.nofs_model.specs.Cells.{Cell, Kind, Content, Directory, Leaf, Table, Tag, Pointer, Record, Entry, tag_of, null, pointer_at, record_at, free_record}
+use Rattle.nofs_model.specs.Cells.{is_live, entry_in}
+use Rattle.nofs_model.specs.Image.{is_super, is_geometry, Image, cell_at, super_at, is_mountable, is_inode, inode, InRecord, Under, tag_for, find, pointer}
+use Rattle.nofs_model.specs.Image.{RecordBelow, CellBelow, IsBelow}
 
 -- What is claimed is below the next number
 
@@ -37,7 +41,8 @@ counted s (y ∷ xs) c x h = elim (Contains-append_cases (y ∷ []) xs x h) [
   | inr there ↦ let ih = counted (suc s) xs c.1 x there in omega (arith, ih)
 ]
 
-pub stamp-below : (W : World) (step : Step) (c : Claims) → IsClaim W step c → (x : Pointer) → Contains (claimed_blocks c) x → x.stamp < next_stamp W + needed W step
+pub stamp-below : (W : World) (step : Step) (c : Claims) → IsClaim W step c → (x : Pointer) → Contains (claimed_blocks c) x
+    → x.stamp < next_stamp W + needed W step
 stamp-below W step c claim x h =
     let lt = counted (W.mount * 2 ^ 40 + W.serial + inodes_needed step) (claimed_blocks c) (claim-stamps W step c claim) x h in
     let n = (claim-count W step c claim) in
@@ -69,8 +74,10 @@ module _ (bound : ℕ) (P : ℕ → Type 0) (small : (n : ℕ) → P n → n < b
   numbers-below X b c q (InContent area t e k g s) = record {
     tag = record {
       own = some-in (tag_of c.tag) t (λ t. (t.generation < bound) × (t.stamp < bound)) e (small t.generation g, small t.stamp s);
-      entries = some-in (tag_of c.tag) t (λ t. t.kind ≡ Directory → (j : ℕ) → j < 16 → IfSome (entry_in c.payload j) (λ e. e.generation < bound)) e (λ d. absurd (no-kind Content Directory t k (λ z. cc z) d));
-      pointers = some-in (tag_of c.tag) t (λ t. t.kind ≡ Leaf → (j : ℕ) → j < 64 → (pointer_at c.payload j).stamp < bound) e (λ d. absurd (no-kind Content Leaf t k (λ z. cc z) d));
+      entries = some-in (tag_of c.tag) t (λ t. t.kind ≡ Directory → (j : ℕ) → j < 16 → IfSome (entry_in c.payload j) (λ e. e.generation < bound)) e
+          (λ d. absurd (no-kind Content Directory t k (λ z. cc z) d));
+      pointers = some-in (tag_of c.tag) t (λ t. t.kind ≡ Leaf → (j : ℕ) → j < 64 → (pointer_at c.payload j).stamp < bound) e
+          (λ d. absurd (no-kind Content Leaf t k (λ z. cc z) d));
     };
     records = λ i range eb live. absurd (not-table X b i q area range eb);
   }
@@ -78,15 +85,18 @@ module _ (bound : ℕ) (P : ℕ → Type 0) (small : (n : ℕ) → P n → n < b
     tag = record {
       own = some-in (tag_of c.tag) t (λ t. (t.generation < bound) × (t.stamp < bound)) e (small t.generation g, small t.stamp s);
       entries = some-in (tag_of c.tag) t (λ t. t.kind ≡ Directory → (j : ℕ) → j < 16 → IfSome (entry_in c.payload j) (λ e. e.generation < bound)) e
-          (λ d j lt. if-some (λ (n : Entry). P n.generation) (λ (n : Entry). n.generation < bound) (entry_in c.payload j) (λ n p. small n.generation p) (f j lt));
-      pointers = some-in (tag_of c.tag) t (λ t. t.kind ≡ Leaf → (j : ℕ) → j < 64 → (pointer_at c.payload j).stamp < bound) e (λ d. absurd (no-kind Directory Leaf t k (λ z. cc z) d));
+          (λ d j lt. if-some (λ (n : Entry). P n.generation) (λ (n : Entry). n.generation < bound) (entry_in c.payload j) (λ n p. small n.generation p)
+          (f j lt));
+      pointers = some-in (tag_of c.tag) t (λ t. t.kind ≡ Leaf → (j : ℕ) → j < 64 → (pointer_at c.payload j).stamp < bound) e
+          (λ d. absurd (no-kind Directory Leaf t k (λ z. cc z) d));
     };
     records = λ i range eb live. absurd (not-table X b i q area range eb);
   }
   numbers-below X b c q (InPointers area t e k g s f) = record {
     tag = record {
       own = some-in (tag_of c.tag) t (λ t. (t.generation < bound) × (t.stamp < bound)) e (small t.generation g, small t.stamp s);
-      entries = some-in (tag_of c.tag) t (λ t. t.kind ≡ Directory → (j : ℕ) → j < 16 → IfSome (entry_in c.payload j) (λ e. e.generation < bound)) e (λ d. absurd (no-kind Leaf Directory t k (λ z. cc z) d));
+      entries = some-in (tag_of c.tag) t (λ t. t.kind ≡ Directory → (j : ℕ) → j < 16 → IfSome (entry_in c.payload j) (λ e. e.generation < bound)) e
+          (λ d. absurd (no-kind Leaf Directory t k (λ z. cc z) d));
       pointers = some-in (tag_of c.tag) t (λ t. t.kind ≡ Leaf → (j : ℕ) → j < 64 → (pointer_at c.payload j).stamp < bound) e (λ d j lt. small _ (f j lt));
     };
     records = λ i range eb live. absurd (not-table X b i q area range eb);
@@ -94,8 +104,10 @@ module _ (bound : ℕ) (P : ℕ → Type 0) (small : (n : ℕ) → P n → n < b
   numbers-below X b c q (InTable t e k g s f) = record {
     tag = record {
       own = some-in (tag_of c.tag) t (λ t. (t.generation < bound) × (t.stamp < bound)) e (small t.generation g, small t.stamp s);
-      entries = some-in (tag_of c.tag) t (λ t. t.kind ≡ Directory → (j : ℕ) → j < 16 → IfSome (entry_in c.payload j) (λ e. e.generation < bound)) e (λ d. absurd (no-kind Table Directory t k (λ z. cc z) d));
-      pointers = some-in (tag_of c.tag) t (λ t. t.kind ≡ Leaf → (j : ℕ) → j < 64 → (pointer_at c.payload j).stamp < bound) e (λ d. absurd (no-kind Table Leaf t k (λ z. cc z) d));
+      entries = some-in (tag_of c.tag) t (λ t. t.kind ≡ Directory → (j : ℕ) → j < 16 → IfSome (entry_in c.payload j) (λ e. e.generation < bound)) e
+          (λ d. absurd (no-kind Table Directory t k (λ z. cc z) d));
+      pointers = some-in (tag_of c.tag) t (λ t. t.kind ≡ Leaf → (j : ℕ) → j < 64 → (pointer_at c.payload j).stamp < bound) e
+          (λ d. absurd (no-kind Table Leaf t k (λ z. cc z) d));
     };
     records = λ i range eb live. numbers-record _ (f i range eb live);
   }
@@ -109,7 +121,8 @@ move-cell a bound X Y b c le first h = record {
 
 module _ (W : World) (c : Claims) (X Y : Image) (before after : ℕ → List Cell) (quarters : (super_at X).inodes % 4 ≡ 0) (first : cell_at Y 0 ≡ cell_at X 0)
     (fresh : IsFresh W X before) (only : OnlyNumbered W c X before after) where
-  all-below : (bound : ℕ) → next_stamp W ≤ bound → ((x : Pointer) → Contains (claimed_blocks c) x → x.stamp < bound) → (c.inode ≢ 0 → c.generation < bound) → AllBelow bound W Y after
+  all-below : (bound : ℕ) → next_stamp W ≤ bound → ((x : Pointer) → Contains (claimed_blocks c) x → x.stamp < bound) → (c.inode ≢ 0 → c.generation < bound)
+      → AllBelow bound W Y after
   all-below bound le stamps generation b lt d h = elim (only b lt d h) [
     | inl old ↦ move-cell (next_stamp W) bound X Y b d le first (fresh b lt d old)
     | inr new ↦ move-cell bound bound X Y b d (omega arith) first (numbers-below bound (Numbered W c) small X b d quarters new)
@@ -128,7 +141,8 @@ module _ (W : World) (c : Claims) (X Y : Image) (before after : ℕ → List Cel
   pub by-claim : (step : Step) → IsClaim W step c → AllBelow (next_stamp W + needed W step) W Y after
   by-claim step claim = all-below (next_stamp W + needed W step) (omega arith) (stamp-below W step c claim) (generation-below W step c claim)
 
-to-world : (W V : World) (bound : ℕ) (Y : Image) (after : ℕ → List Cell) → V.blocks ≡ W.blocks → next_stamp V ≡ bound → AllBelow bound W Y after → IsFresh V Y after
+to-world : (W V : World) (bound : ℕ) (Y : Image) (after : ℕ → List Cell) → V.blocks ≡ W.blocks → next_stamp V ≡ bound → AllBelow bound W Y after
+    → IsFresh V Y after
 to-world W V bound Y after eb en h = λ b lt c has. subst (λ (n : ℕ). CellBelow n Y b c) (sym en) (h b (subst (λ (n : ℕ). b < n) eb lt) c has)
 
 keeps-number : (W V : World) → Keeps W V → next_stamp V ≡ next_stamp W
@@ -136,11 +150,13 @@ keeps-number W V k = let m = k.mount in let s = k.serial in omega (arith, m, s)
 
 pub law-fresh : LawFresh
 law-fresh W V e X Y before after (AfterFault s r c same) quarters first fresh only = (
-  λ f. to-world W V (next_stamp W) Y after (ap (λ (q : World). q.blocks) same) (ap next_stamp same) (by-none W e.claims X Y before after quarters first fresh only c (next_stamp W) (omega arith)),
+  λ f. to-world W V (next_stamp W) Y after (ap (λ (q : World). q.blocks) same) (ap next_stamp same)
+      (by-none W e.claims X Y before after quarters first fresh only c (next_stamp W) (omega arith)),
   by-none W e.claims X Y before after quarters first fresh only c (next_stamp W + needed W e.step) (omega arith),
 )
 law-fresh W V e X Y before after (ByRow why s rows r c k st l) quarters first fresh only = (
-  λ f. to-world W V (next_stamp W) Y after k.blocks (keeps-number W V k) (by-none W e.claims X Y before after quarters first fresh only c (next_stamp W) (omega arith)),
+  λ f. to-world W V (next_stamp W) Y after k.blocks (keeps-number W V k)
+      (by-none W e.claims X Y before after quarters first fresh only c (next_stamp W) (omega arith)),
   by-none W e.claims X Y before after quarters first fresh only c (next_stamp W + needed W e.step) (omega arith),
 )
 law-fresh W V e X Y before after (Done s rows r claim fs hs serial vs l) quarters first fresh only =
@@ -149,7 +165,8 @@ law-fresh W V e X Y before after (Done s rows r claim fs hs serial vs l) quarter
     let en : next_stamp V ≡ next_stamp W + needed W e.step = omega (arith, m, serial) in
     (λ f. to-world W V (next_stamp W + needed W e.step) Y after vs.1 en all, all)
 law-fresh W V e X Y before after (ByRead s rows r c k st l) quarters first fresh only = (
-  λ f. to-world W V (next_stamp W) Y after k.blocks (keeps-number W V k) (by-none W e.claims X Y before after quarters first fresh only c (next_stamp W) (omega arith)),
+  λ f. to-world W V (next_stamp W) Y after k.blocks (keeps-number W V k)
+      (by-none W e.claims X Y before after quarters first fresh only c (next_stamp W) (omega arith)),
   by-none W e.claims X Y before after quarters first fresh only c (next_stamp W + needed W e.step) (omega arith),
 )
 law-fresh W V e X Y before after (ByWrite s rows m r claim k st l) quarters first fresh only = (
@@ -177,7 +194,8 @@ old-record s X i mountable below live =
     let same : inode X i ≡ record_at (cell_at X (1 + (i - 1) / 4)).payload ((i - 1) % 4) = rw range refl in
     let both = and-both (leb 1 i) (leb i (super_at X).inodes) range in
     let high : i ≤ (super_at X).inodes = leb-true i (super_at X).inodes both.1 in
-    let room = geometry-room (length X) (super_at X).blocks (super_at X).inodes (and-both (is_super (cell_at X 0).payload) (is_geometry (length X) (super_at X).blocks (super_at X).inodes) mountable).1 in
+    let room = geometry-room (length X) (super_at X).blocks (super_at X).inodes
+    (and-both (is_super (cell_at X 0).payload) (is_geometry (length X) (super_at X).blocks (super_at X).inodes) mountable).1 in
     let lt : 1 + (i - 1) / 4 < (super_at X).blocks = omega (arith, high, room) in
     subst (λ (r : Record). RecordBelow s r) (sym same) ((below (1 + (i - 1) / 4) lt).records i range refl (subst (λ (r : Record). is_live r ≡ true) same live))
 
@@ -196,7 +214,8 @@ law-old s X i positive mountable below live (Under a n) slot = go (find X i a) r
         let area = and-both (leb (1 + (super_at X).inodes / 4) x.block) (ltb x.block (super_at X).blocks) h.agrees.area in
         let lt : x.block < (super_at X).blocks = ltb-true x.block (super_at X).blocks area.1 in
         let p = (below x.block lt).tag.pointers in
-        let q = subst (λ (o : Option Tag). IfSome o (λ t. t.kind ≡ Leaf → (j : ℕ) → j < 64 → (pointer_at (cell_at X x.block).payload j).stamp < s)) h.agrees.tag p in
+        let q = subst (λ (o : Option Tag). IfSome o (λ t. t.kind ≡ Leaf → (j : ℕ) → j < 64 → (pointer_at (cell_at X x.block).payload j).stamp < s))
+        h.agrees.tag p in
         let isp = slot.0 in
         let k : (tag_for X i a x.stamp).kind ≡ Leaf = rw isp refl in
         by (pointer_at (cell_at X x.block).payload n) (rw (e, pointer) refl) (q k n slot.1)

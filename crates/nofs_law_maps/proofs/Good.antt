@@ -1,6 +1,7 @@
 -- Maps stay good, and what is claimed was free.
 use Rattle.nofs_machine.proofs.ClaimParts.{claim-free, claim-inode}
-use Rattle.std.proofs.Common.{◌≡◌, ◌≢◌, ℕ, ◌+◌, ◌/◌, ◌<◌, Bool, true, false, leb, ltb, ◌&&◌, ◌||◌, not, Option, Some, None, is_some, Contains, refl, sym, ap, ◌∙◌, subst, arith, lt-ltb}
+use Rattle.std.proofs.Common.{◌≡◌, ◌≢◌, ℕ, ◌+◌, ◌/◌, ◌<◌, Bool, true, false, leb, ltb, ◌&&◌, ◌||◌, not, Option, Some, None, is_some, Contains, refl, sym, ap}
+use Rattle.std.proofs.Common.{◌∙◌, subst, arith, lt-ltb}
 use Rattle.std.proofs.lemmas.Bool.Decides.{nat_tests}
 use Rattle.nofs_law_maps.specs.Homes.{SameNumbers, LawGoodDone, LawGoodKept, LawClaims}
 use Rattle.nofs_model.proofs.Find.{and-both}
@@ -61,9 +62,11 @@ law-claims W step c vi fi vb fb X good claim = record {
   block_known = λ x h. (free x h).0;
   block_unused = λ x h. used x h;
   block_free = λ x h. unowned-free X x.block (none-of (owner X x.block) (apart x h).1);
-  block_data = λ x h. not-fixed x.block ((super_at X).inodes / 4) (super_at X).blocks (apart x h).0 (subst (λ (n : ℕ). x.block < n) good.numbers.blocks (claim-free W step c claim x h).1);
+  block_data = λ x h. not-fixed x.block ((super_at X).inodes / 4) (super_at X).blocks (apart x h).0
+      (subst (λ (n : ℕ). x.block < n) good.numbers.blocks (claim-free W step c claim x h).1);
   inode_known = λ ne. (plain ne).0;
-  inode_unused = λ ne. sym (ap (λ (t : Bool). is_special c.inode || t) (uses-inode W.files X good.files c.inode)) ∙ not-true (uses_inode W c.inode) (plain ne).1;
+  inode_unused = λ ne. sym (ap (λ (t : Bool). is_special c.inode || t) (uses-inode W.files X good.files c.inode))
+      ∙ not-true (uses_inode W c.inode) (plain ne).1;
 }
   where
     free : (x : Pointer) → Contains (claimed_blocks c) x → (W.known_blocks x.block ≡ true) × (not (uses_block W x.block) ≡ true)
@@ -74,7 +77,8 @@ law-claims W step c vi fi vb fb X good claim = record {
 
     used : (x : Pointer) → Contains (claimed_blocks c) x → is_used_block X x.block ≡ false
     used x h =
-        sym (ap (λ (n : ℕ). leb x.block (n / 4) || is_some (W.homes x.block)) good.numbers.inodes ∙ ap (λ (o : Option Home). leb x.block ((super_at X).inodes / 4) || is_some o) (good.homes x.block (claim-free W step c claim x h).1))
+        sym (ap (λ (n : ℕ). leb x.block (n / 4) || is_some (W.homes x.block)) good.numbers.inodes
+        ∙ ap (λ (o : Option Home). leb x.block ((super_at X).inodes / 4) || is_some o) (good.homes x.block (claim-free W step c claim x h).1))
         ∙ not-true (uses_block W x.block) (free x h).1
 
     apart : (x : Pointer) → Contains (claimed_blocks c) x → (leb x.block ((super_at X).inodes / 4) ≡ false) × (is_some (owner X x.block) ≡ false)

@@ -1,5 +1,6 @@
 -- The homes of the machine after a step are the owners of the image after it.
-use Rattle.std.proofs.Common.{◌≡◌, ℕ, ◌+◌, ◌-◌, ◌^◌, ◌/◌, ◌<◌, ◌≤◌, ◌⊎◌, inl, inr, Bool, true, false, cond, leb, ltb, ◌||◌, not, Option, Some, None, is_some, refl, sym, ap, ◌∙◌, subst, arith, lt-ltb, le-ltb}
+use Rattle.std.proofs.Common.{◌≡◌, ℕ, ◌+◌, ◌-◌, ◌^◌, ◌/◌, ◌<◌, ◌≤◌, ◌⊎◌, inl, inr, Bool, true, false, cond, leb, ltb, ◌||◌, not, Option, Some, None, is_some}
+use Rattle.std.proofs.Common.{refl, sym, ap, ◌∙◌, subst, arith, lt-ltb, le-ltb}
 use Rattle.std.proofs.lemmas.Bool.{cases_lt}
 use Rattle.std.proofs.lemmas.Bool.Decides.{nat_tests}
 use Rattle.nofs_ptrs.specs.Paths.{slot_limit}
@@ -20,7 +21,8 @@ use Rattle.nofs_machine.specs.History.{FilesMatch, SameFile}
 use Rattle.nofs_machine.specs.World.{World}
 use Rattle.nofs_machine.specs.Claims.{claimed_home, is_present, has_block, homes_after}
 use Rattle.nofs_model.specs.Cells.{FileKind, Pointer}
-use Rattle.nofs_model.specs.Image.{Image, cell_at, super_at, inode, file_from, files_in, agreed, value_in, Path, path_of, slot_of, is_pointer_slot, find, NodeState, Absent, Present, node_in, FileState, Files, Home, home_at, owner, is_special, IsSlot}
+use Rattle.nofs_model.specs.Image.{Image, cell_at, super_at, inode, file_from, files_in, agreed, value_in, Path, path_of, slot_of, is_pointer_slot, find}
+use Rattle.nofs_model.specs.Image.{NodeState, Absent, Present, node_in, FileState, Files, Home, home_at, owner, is_special, IsSlot}
 use Rattle.nofs_model.specs.declared.value.Value.{Value}
 use Rattle.nofs_model.specs.declared.value.Value.TheVariants.{Bytes, Hole}
 
@@ -75,20 +77,26 @@ module _ (E : Files) (Y : Image) (match : FilesMatch E Y) (i k : ℕ) where
   same-here : agreed (files_in Y) i ≡ true → (f : FileState) → E i ≡ Some f → (kind : FileKind) × SameFile (Some f) (file_from Y i (Some kind))
   same-here a f is = go (inode Y i).kind refl (subst (λ (o : Option FileState). SameFile o (files_in Y i)) is (same-of E Y i match a))
     where
-      go : (o : Option FileKind) → (inode Y i).kind ≡ o → SameFile (Some f) (file_from Y i o) → (kind : FileKind) × SameFile (Some f) (file_from Y i (Some kind))
+      go : (o : Option FileKind) → (inode Y i).kind ≡ o → SameFile (Some f) (file_from Y i o)
+          → (kind : FileKind) × SameFile (Some f) (file_from Y i (Some kind))
       go None e h = absurd h
       go (Some kind) e h = (kind, h)
 
   -- a slot that has its block in the machine holds in the image
-  pub has-holds : IsSlot (path_of k) → has_block E (home_at i k) ≡ true → (agreed (files_in Y) i ≡ true) × ((y : Pointer) × (find Y i (path_of k) ≡ answer.Holds y))
+  pub has-holds : IsSlot (path_of k) → has_block E (home_at i k) ≡ true
+      → (agreed (files_in Y) i ≡ true) × ((y : Pointer) × (find Y i (path_of k) ≡ answer.Holds y))
   has-holds slot h =
       let m = matched-file E Y i match (some-of (E i) (ltb k slot_limit) h) in
       let s = same-here m.agreed m.file m.is in
       (m.agreed, go (cases_lt k slot_limit) m.file (subst (λ (o : Option FileState). block_in o k (ltb k slot_limit) ≡ true) m.is h) s.0 s.1)
     where
-      go : (k < slot_limit) ⊎ (slot_limit ≤ k) → (f : FileState) → block_in (Some f) k (ltb k slot_limit) ≡ true → (kind : FileKind) → SameFile (Some f) (file_from Y i (Some kind)) → (y : Pointer) × (find Y i (path_of k) ≡ answer.Holds y)
-      go (inl lt) f e kind s = bytes-held Y (find Y i (path_of k)) (subst (λ (v : Value). is_bytes v ≡ true) (s.values k lt) (subst (λ (b : Bool). block_in (Some f) k b ≡ true) (lt-ltb k slot_limit lt) e))
-      go (inr le) f e kind s = present-held (find Y i (path_of k)) (subst (λ (v : NodeState). is_present v ≡ true) (s.nodes (path_of k) slot (far-pointers k le slot)) (subst (λ (b : Bool). block_in (Some f) k b ≡ true) (le-ltb k slot_limit le) e))
+      go : (k < slot_limit) ⊎ (slot_limit ≤ k) → (f : FileState) → block_in (Some f) k (ltb k slot_limit) ≡ true → (kind : FileKind)
+          → SameFile (Some f) (file_from Y i (Some kind)) → (y : Pointer) × (find Y i (path_of k) ≡ answer.Holds y)
+      go (inl lt) f e kind s = bytes-held Y (find Y i (path_of k))
+          (subst (λ (v : Value). is_bytes v ≡ true) (s.values k lt) (subst (λ (b : Bool). block_in (Some f) k b ≡ true) (lt-ltb k slot_limit lt) e))
+      go (inr le) f e kind s = present-held (find Y i (path_of k))
+          (subst (λ (v : NodeState). is_present v ≡ true) (s.nodes (path_of k) slot (far-pointers k le slot))
+          (subst (λ (b : Bool). block_in (Some f) k b ≡ true) (le-ltb k slot_limit le) e))
 
   -- and the other way
   pub holds-has : (y : Pointer) → IsSlot (path_of k) → agreed (files_in Y) i ≡ true → find Y i (path_of k) ≡ answer.Holds y → has_block E (home_at i k) ≡ true
@@ -97,7 +105,8 @@ module _ (E : Files) (Y : Image) (match : FilesMatch E Y) (i k : ℕ) where
       let s = same-here a m.file m.is in
       subst (λ (o : Option FileState). block_in o k (ltb k slot_limit) ≡ true) (sym m.is) (go (cases_lt k slot_limit) m.file s.0 s.1)
     where
-      go : (k < slot_limit) ⊎ (slot_limit ≤ k) → (f : FileState) → (kind : FileKind) → SameFile (Some f) (file_from Y i (Some kind)) → block_in (Some f) k (ltb k slot_limit) ≡ true
+      go : (k < slot_limit) ⊎ (slot_limit ≤ k) → (f : FileState) → (kind : FileKind) → SameFile (Some f) (file_from Y i (Some kind))
+          → block_in (Some f) k (ltb k slot_limit) ≡ true
       go (inl lt) f kind s =
           let v : f.values k ≡ Bytes (cell_at Y y.block).payload = s.values k lt ∙ ap (λ (q : PathAnswer). value_in Y q) e in
           subst (λ (b : Bool). block_in (Some f) k b ≡ true) (sym (lt-ltb k slot_limit lt)) (subst (λ (w : Value). is_bytes w ≡ true) (sym v) refl)
@@ -116,12 +125,22 @@ same-block x y e = let s : x ≡ y = cc e in ap (λ (p : Pointer). p.block) s
 some-none : {A : Type 0} → (o : Option A) (x : A) → o ≡ None → o ≡ Some x → ⊥
 some-none o x n s = cc (n, s)
 
-module _ (F E : Files) (step : Step) (c : Claims) (X Y : Image) (move : HomesMove F step c X Y) (match : FilesMatch E Y) (p : ℕ) (free : claimed_home F step c p ≡ None) where
+module _ (F E : Files) (step : Step) (c : Claims) (X Y : Image) (move : HomesMove F step c X Y) (match : FilesMatch E Y) (p : ℕ)
+    (free : claimed_home F step c p ≡ None) where
   pub back : (home : Home) → owner Y p ≡ Some home → owner X p ≡ Some home
   back home e =
       let h = owner-houses Y p home.inode home.slot e in
       elim (move.held home.inode h.path h.pointer h.is_slot h.agreed h.holds) [
-        | inl m ↦ houses-owner X home p (record { path = h.path; pointer = h.pointer; is_slot = h.is_slot; slot = h.slot; agreed = m.0; holds = m.1; block = h.block })
+        | inl m ↦ houses-owner X home p (record {
+          path = h.path;
+          pointer = h.pointer;
+          is_slot = h.is_slot;
+          slot = h.slot;
+          agreed = m.0;
+          holds = m.1;
+          block =
+              h.block;
+        })
         | inr m ↦ absurd (none (claimed_home F step c p) free (subst (λ (b : ℕ). is_some (claimed_home F step c b) ≡ true) h.block m.0))
       ]
     where
@@ -139,7 +158,16 @@ module _ (F E : Files) (step : Step) (c : Claims) (X Y : Image) (move : HomesMov
       let r = has-holds E Y match home.inode home.slot (subst IsSlot (sym ep) h.is_slot) has in
       let held : find Y home.inode h.path ≡ answer.Holds r.1.0 = subst (λ (q : Path). find Y home.inode q ≡ answer.Holds r.1.0) ep r.1.1 in
       elim (move.held home.inode h.path r.1.0 h.is_slot r.0 held) [
-        | inl m ↦ houses-owner Y home p (record { path = h.path; pointer = r.1.0; is_slot = h.is_slot; slot = h.slot; agreed = r.0; holds = held; block = same-block r.1.0 h.pointer (sym m.1 ∙ h.holds) ∙ h.block })
+        | inl m ↦ houses-owner Y home p (record {
+          path = h.path;
+          pointer = r.1.0;
+          is_slot = h.is_slot;
+          slot = h.slot;
+          agreed = r.0;
+          holds = held;
+          block =
+              same-block r.1.0 h.pointer (sym m.1 ∙ h.holds) ∙ h.block;
+        })
         | inr m ↦ absurd (m.1 h.pointer h.holds)
       ]
 
@@ -147,7 +175,8 @@ module _ (F E : Files) (step : Step) (c : Claims) (X Y : Image) (move : HomesMov
   has-it home e =
       let h = owner-houses Y p home.inode home.slot e in
       let ep : path_of home.slot ≡ h.path = ap path_of h.slot ∙ path_of-slot_of h.path h.is_slot in
-      holds-has E Y match home.inode home.slot h.pointer (subst IsSlot (sym ep) h.is_slot) h.agreed (subst (λ (q : Path). find Y home.inode q ≡ answer.Holds h.pointer) (sym ep) h.holds)
+      holds-has E Y match home.inode home.slot h.pointer (subst IsSlot (sym ep) h.is_slot) h.agreed
+      (subst (λ (q : Path). find Y home.inode q ≡ answer.Holds h.pointer) (sym ep) h.holds)
 
   kept : (q : Option Home) → q ≡ owner X p → next_home None q (has_block E) ≡ owner Y p
   kept None e = go (owner Y p) refl
@@ -171,7 +200,8 @@ module _ (F E : Files) (step : Step) (c : Claims) (X Y : Image) (move : HomesMov
           go None er = sym er
           go (Some other) er = let z = one other er in absurd (cc (z, et))
 
-step-homes : (W : World) (E : Files) (step : Step) (c : Claims) (X Y : Image) → HomesMove W.files step c X Y → FilesMatch E Y → (p : ℕ) → W.homes p ≡ owner X p → homes_after W step c E p ≡ owner Y p
+step-homes : (W : World) (E : Files) (step : Step) (c : Claims) (X Y : Image) → HomesMove W.files step c X Y → FilesMatch E Y → (p : ℕ)
+    → W.homes p ≡ owner X p → homes_after W step c E p ≡ owner Y p
 step-homes W E step c X Y move match p eh = go (claimed_home W.files step c p) refl
   where
     go : (o : Option Home) → claimed_home W.files step c p ≡ o → next_home (claimed_home W.files step c p) (W.homes p) (has_block E) ≡ owner Y p

@@ -1,6 +1,7 @@
 -- What the frame lemmas say of the homes.
 use Rattle.nofs_machine.proofs.ClaimParts.{claim-count}
-use Rattle.std.proofs.Common.{◌≡◌, ℕ, ◌/◌, ◌⊎◌, inl, inr, Bool, true, false, cond, eqb, ◌&&◌, [], ◌∷◌, ◌++◌, length, Option, Some, None, is_some, option_map, refl, sym, ap, ◌∙◌, subst, arith, eqb-true, eq-eqb}
+use Rattle.std.proofs.Common.{◌≡◌, ℕ, ◌/◌, ◌⊎◌, inl, inr, Bool, true, false, cond, eqb, ◌&&◌, [], ◌∷◌, ◌++◌, length, Option, Some, None, is_some, option_map}
+use Rattle.std.proofs.Common.{refl, sym, ap, ◌∙◌, subst, arith, eqb-true, eq-eqb}
 use Rattle.nofs_law_maps.specs.Homes.{Houses}
 use Rattle.nofs_law_maps.specs.Moves.{IsClaimed, ClaimsStand, LawHomesMove, LawGrow, LawShrink, LawBare}
 use Rattle.nofs_model.proofs.Find.{and-both, find-held}
@@ -26,7 +27,8 @@ above-is-slot (Under a n) s = s.2
 abbrev three : Bool → Bool → Bool → Home → Home → Home → Option Home
 three a b d x y z = first_of ((cond a (Some x) None) ∷ (cond b (Some y) None) ∷ (cond d (Some z) None) ∷ [])
 
-three-cases : (a b d : Bool) (x y z home : Home) → three a b d x y z ≡ Some home → ((a ≡ true) × (x ≡ home)) ⊎ (((b ≡ true) × (y ≡ home)) ⊎ ((d ≡ true) × (z ≡ home)))
+three-cases : (a b d : Bool) (x y z home : Home) → three a b d x y z ≡ Some home
+    → ((a ≡ true) × (x ≡ home)) ⊎ (((b ≡ true) × (y ≡ home)) ⊎ ((d ≡ true) × (z ≡ home)))
 three-cases true b d x y z home e = inl (refl, cc e)
 three-cases false true d x y z home e = inr (inl (refl, cc e))
 three-cases false false true x y z home e = inr (inr (refl, cc e))
@@ -55,7 +57,8 @@ home-is F step c p = go (cell_slot F step)
     go (Some at) = refl
 
 -- a claimed block stands in its slot
-stands-there : (c : Claims) (Y : Image) (p : ℕ) (home : Home) (o : Option Home) → ((at : Home) → o ≡ Some at → ClaimsStand c Y at) → home_by o c p ≡ Some home → Houses Y home p
+stands-there : (c : Claims) (Y : Image) (p : ℕ) (home : Home) (o : Option Home) → ((at : Home) → o ≡ Some at → ClaimsStand c Y at)
+    → home_by o c p ≡ Some home → Houses Y home p
 stands-there c Y p home None h e = cc e
 stands-there c Y p home (Some at) h e =
     let st = h at refl in
@@ -63,12 +66,40 @@ stands-there c Y p home (Some at) h e =
     elim (three-cases (is_claimed c.cell && eqb p c.cell.block) (is_claimed c.leaf && eqb p c.leaf.block) (is_claimed c.top && eqb p c.top.block)
     at (home_at at.inode (slot_of (slot_above (path_of at.slot)))) (home_at at.inode (slot_of (slot_above (slot_above (path_of at.slot))))) home e) [
       | inl r ↦ (let t = and-both (is_claimed c.cell) (eqb p c.cell.block) r.0 in
-          subst (λ (q : Home). Houses Y q p) r.1 (record { path = path_of at.slot; pointer = c.cell; is_slot = slot; slot = sym (slot_of-path_of at.slot st.range); agreed = st.agreed; holds = st.cell t.0; block = sym (eqb-true p c.cell.block t.1) }))
+          subst (λ (q : Home). Houses Y q p) r.1 (record {
+            path = path_of at.slot;
+            pointer = c.cell;
+            is_slot = slot;
+            slot =
+                sym (slot_of-path_of at.slot st.range);
+            agreed = st.agreed;
+            holds = st.cell t.0;
+            block = sym (eqb-true p c.cell.block t.1);
+          }))
       | inr q ↦ elim q [
         | inl r ↦ (let t = and-both (is_claimed c.leaf) (eqb p c.leaf.block) r.0 in
-            subst (λ (q : Home). Houses Y q p) r.1 (record { path = slot_above (path_of at.slot); pointer = c.leaf; is_slot = above-is-slot (path_of at.slot) slot; slot = refl; agreed = st.agreed; holds = st.leaf t.0; block = sym (eqb-true p c.leaf.block t.1) }))
+            subst (λ (q : Home). Houses Y q p) r.1 (record {
+              path = slot_above (path_of at.slot);
+              pointer = c.leaf;
+              is_slot =
+                  above-is-slot (path_of at.slot) slot;
+              slot = refl;
+              agreed = st.agreed;
+              holds = st.leaf t.0;
+              block = sym (eqb-true p c.leaf.block t.1);
+            }))
         | inr r ↦ (let t = and-both (is_claimed c.top) (eqb p c.top.block) r.0 in
-            subst (λ (q : Home). Houses Y q p) r.1 (record { path = slot_above (slot_above (path_of at.slot)); pointer = c.top; is_slot = above-is-slot (slot_above (path_of at.slot)) (above-is-slot (path_of at.slot) slot); slot = refl; agreed = st.agreed; holds = st.top t.0; block = sym (eqb-true p c.top.block t.1) }))
+            subst (λ (q : Home). Houses Y q p) r.1 (record {
+              path = slot_above (slot_above (path_of at.slot));
+              pointer = c.top;
+              is_slot =
+                  above-is-slot (slot_above (path_of at.slot)) (above-is-slot (path_of at.slot) slot);
+              slot = refl;
+              agreed = st.agreed;
+              holds =
+                  st.top t.0;
+              block = sym (eqb-true p c.top.block t.1);
+            }))
       ]
     ]
 
@@ -112,7 +143,8 @@ counted c y h n = go (is_claimed c.cell) refl (is_claimed c.leaf) refl (is_claim
 -- it has a home
 has-home : (c : Claims) (y : Pointer) (o : Option Home) → IsClaimed c y → is_some o ≡ true → is_some (home_by o c y.block) ≡ true
 has-home c y None h e = cc e
-has-home c y (Some at) h e = three-some (is_claimed c.cell && eqb y.block c.cell.block) (is_claimed c.leaf && eqb y.block c.leaf.block) (is_claimed c.top && eqb y.block c.top.block)
+has-home c y (Some at) h e = three-some (is_claimed c.cell && eqb y.block c.cell.block) (is_claimed c.leaf && eqb y.block c.leaf.block)
+    (is_claimed c.top && eqb y.block c.top.block)
     at (home_at at.inode (slot_of (slot_above (path_of at.slot)))) (home_at at.inode (slot_of (slot_above (slot_above (path_of at.slot))))) by
   where
     one : (x : Pointer) → x ≡ y → (is_claimed x && eqb y.block x.block) ≡ true
@@ -120,7 +152,8 @@ has-home c y (Some at) h e = three-some (is_claimed c.cell && eqb y.block c.cell
         let t : is_claimed x ≡ true = subst (λ (q : Pointer). is_claimed q ≡ true) (sym e) h.0 in
         rw t (eq-eqb y.block x.block (ap (λ (q : Pointer). q.block) (sym e)))
 
-    by : ((is_claimed c.cell && eqb y.block c.cell.block) ≡ true) ⊎ (((is_claimed c.leaf && eqb y.block c.leaf.block) ≡ true) ⊎ ((is_claimed c.top && eqb y.block c.top.block) ≡ true))
+    by : ((is_claimed c.cell && eqb y.block c.cell.block) ≡ true) ⊎
+        (((is_claimed c.leaf && eqb y.block c.leaf.block) ≡ true) ⊎ ((is_claimed c.top && eqb y.block c.top.block) ≡ true))
     by = elim h.1 [ inl e ↦ inl (one c.cell e) | inr r ↦ elim r [ inl e ↦ inr (inl (one c.leaf e)) | inr e ↦ inr (inr (one c.top e)) ] ]
 
 pub law-move : LawHomesMove
@@ -137,10 +170,15 @@ law-move W step c s touched X Y claim touch old stand stays moves = record {
         go false e = absurd (counted c y h ((claim-count W step c claim) ∙ no-slot W.files step e))
 
     by-touch : (j : ℕ) (a : Path) (y : Pointer) → IsSlot a → agreed (files_in Y) j ≡ true → find Y j a ≡ answer.Holds y → (t : Bool) → touched j ≡ t
-        → ((agreed (files_in X) j ≡ true) × (find X j a ≡ answer.Holds y)) ⊎ ((is_some (claimed_home W.files step c y.block) ≡ true) × ((x : Pointer) → find X j a ≡ answer.Holds x → ⊥))
+        → ((agreed (files_in X) j ≡ true) × (find X j a ≡ answer.Holds y)) ⊎
+        ((is_some (claimed_home W.files step c y.block) ≡ true) × ((x : Pointer) → find X j a ≡ answer.Holds x → ⊥))
     by-touch j a y slot ay ey true t = elim (moves j t a y slot ay ey) [
       | inl m ↦ inl m
-      | inr m ↦ inr (subst (λ (o : Option Home). is_some o ≡ true) (sym (home-is W.files step c y.block)) (has-home c y (cell_slot W.files step) m.0 (slot-there y m.0)), m.1)
+      | inr m ↦ inr (
+        subst (λ (o : Option Home). is_some o ≡ true) (sym (home-is W.files step c y.block))
+            (has-home c y (cell_slot W.files step) m.0 (slot-there y m.0)),
+        m.1,
+      )
     ]
     by-touch j a y slot ay ey false t =
         let ax = stays j t ay in
@@ -161,7 +199,8 @@ law-grow c X Y i p at ax on off was a y slot ay ey = elim (above-or-not a p) [
 pub law-shrink : LawShrink
 law-shrink c X Y i gone ax both a y slot ay ey = go (gone a) refl
   where
-    go : (t : Bool) → gone a ≡ t → ((agreed (files_in X) i ≡ true) × (find X i a ≡ answer.Holds y)) ⊎ (IsClaimed c y × ((x : Pointer) → find X i a ≡ answer.Holds x → ⊥))
+    go : (t : Bool) → gone a ≡ t → ((agreed (files_in X) i ≡ true) × (find X i a ≡ answer.Holds y)) ⊎
+        (IsClaimed c y × ((x : Pointer) → find X i a ≡ answer.Holds x → ⊥))
     go true t = let z = (both a slot).0 t in absurd (cc (z, ey))
     go false t = inl (ax, sym ((both a slot).1 t) ∙ ey)
 

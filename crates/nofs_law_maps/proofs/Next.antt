@@ -36,7 +36,8 @@ idle-owner F step X Y move mx my p = go (owner X p) refl (owner Y p) refl
     has h e =
         let o = owner-houses X p h.inode h.slot e in
         let ep : path_of h.slot ≡ o.path = ap path_of o.slot ∙ path_of-slot_of o.path o.is_slot in
-        holds-has F X mx h.inode h.slot o.pointer (subst IsSlot (sym ep) o.is_slot) o.agreed (subst (λ (q : Path). find X h.inode q ≡ answer.Holds o.pointer) (sym ep) o.holds)
+        holds-has F X mx h.inode h.slot o.pointer (subst IsSlot (sym ep) o.is_slot) o.agreed
+        (subst (λ (q : Path). find X h.inode q ≡ answer.Holds o.pointer) (sym ep) o.holds)
 
     go : (a : Option Home) → owner X p ≡ a → (b : Option Home) → owner Y p ≡ b → owner X p ≡ owner Y p
     go None ea None eb = ea ∙ sym eb
@@ -52,16 +53,25 @@ module _ (W V : World) (e : Entry1) (vi fi vb fb : ℕ → Bool) (X Y : Image) (
       homes p lt =
           let ltw : p < W.blocks = subst (λ (n : ℕ). p < n) same.blocks lt in
           ap (λ (h : ℕ → Option Home). h p) eh ∙ good.homes p ltw
-          ∙ idle-owner W.files e.step X Y (subst (λ (c : Claims). HomesMove W.files e.step c X Y) none move) good.files (subst (λ (F : Files). FilesMatch F Y) ef match) p
+          ∙ idle-owner W.files e.step X Y (subst (λ (c : Claims). HomesMove W.files e.step c X Y) none move) good.files
+          (subst (λ (F : Files). FilesMatch F Y) ef match) p
 
   by-keep : e.claims ≡ no_claims → Keeps W V → GoodMaps V Y
   by-keep none k = by-idle none (kept-numbers W V k) k.files k.homes
 
   by-next : Next W e V → is_write_fault e.reply ≡ false → GoodMaps V Y
-  by-next (AfterFault s r c same) f = by-idle c (record { version = ap (λ (q : World). q.version) same; blocks = ap (λ (q : World). q.blocks) same; inodes = ap (λ (q : World). q.inodes) same; mount = ap (λ (q : World). q.mount) same }) (ap (λ (q : World). q.files) same) (ap (λ (q : World). q.homes) same)
+  by-next (AfterFault s r c same) f = by-idle c (record {
+    version = ap (λ (q : World). q.version) same;
+    blocks = ap (λ (q : World). q.blocks) same;
+    inodes =
+        ap (λ (q : World). q.inodes) same;
+    mount = ap (λ (q : World). q.mount) same;
+  }) (ap (λ (q : World). q.files) same) (ap (λ (q : World). q.homes) same)
   by-next (ByRow why s rows r c k st l) f = by-keep c k
   by-next (ByRead s rows r c k st l) f = by-keep c k
-  by-next (Done s rows r claim fs hs serial vs l) f = law-good V Y (numbers-on W V X Y (record { version = vs.0; blocks = vs.1; inodes = vs.2; mount = vs.3 }) first good.numbers) match (law-homes W V e.step e.claims X Y good.homes good.files move vs.1 hs match)
+  by-next (Done s rows r claim fs hs serial vs l) f = law-good V Y
+      (numbers-on W V X Y (record { version = vs.0; blocks = vs.1; inodes = vs.2; mount = vs.3 }) first good.numbers) match
+      (law-homes W V e.step e.claims X Y good.homes good.files move vs.1 hs match)
   by-next (ByWrite s rows m r claim k st l) f = absurd (let z : is_write_fault e.reply ≡ true = ap is_write_fault r in cc (f, z))
 
 pub law-good-next : LawGoodNext

@@ -35,7 +35,8 @@ pub data CellNumbers (P : ℕ → Type 0) (X : Image) (b : ℕ) (c : Cell) : Typ
   InPointers : is_data_block X b ≡ true → (t : Tag) → tag_of c.tag ≡ Some t → t.kind ≡ Leaf → P t.generation → P t.stamp
       → ((j : ℕ) → j < 64 → P (pointer_at c.payload j).stamp) → CellNumbers P X b c
   InTable : (t : Tag) → tag_of c.tag ≡ Some t → t.kind ≡ Table → P t.generation → P t.stamp
-      → ((i : ℕ) → is_inode X i ≡ true → 1 + (i - 1) / 4 ≡ b → is_live (record_at c.payload ((i - 1) % 4)) ≡ true → RecordNumbers P (record_at c.payload ((i - 1) % 4))) → CellNumbers P X b c
+      → ((i : ℕ) → is_inode X i ≡ true → 1 + (i - 1) / 4 ≡ b → is_live (record_at c.payload ((i - 1) % 4)) ≡ true
+      → RecordNumbers P (record_at c.payload ((i - 1) % 4))) → CellNumbers P X b c
 
 -- may has nothing but what it had before the step, and cells with such numbers
 abbrev pub OnlyNumbered : World → Claims → Image → (ℕ → List Cell) → (ℕ → List Cell) → Type 0
@@ -57,6 +58,7 @@ LawOld = (s : ℕ) (X : Image) (i : ℕ) → 0 < s → is_mountable X ≡ true �
 
 -- All stays within the stamps of the mount, in each case and with a fault of writing too.
 abbrev pub LawMountStamps : Type 0
-LawMountStamps = (W V : World) (e : Entry1) (X Y : Image) (before after : ℕ → List Cell) → Next W e V → W.serial ≤ 2 ^ 40 → (super_at X).inodes % 4 ≡ 0 → cell_at Y 0 ≡ cell_at X 0
+LawMountStamps = (W V : World) (e : Entry1) (X Y : Image) (before after : ℕ → List Cell) → Next W e V → W.serial ≤ 2 ^ 40 → (super_at X).inodes % 4 ≡ 0
+    → cell_at Y 0 ≡ cell_at X 0
     → IsFresh W X before → OnlyNumbered W e.claims X before after
     → (V.serial ≤ 2 ^ 40) × AllBelow ((W.mount + 1) * 2 ^ 40) W Y after

@@ -26,7 +26,8 @@ second-again X Y Z (inr up) (inr s) = let a = up.0.after in let b = s.upgraded.b
 
 -- a disk that holds one image
 one-image : (d : DiskState) → IsDisk d → IsTrue d.tells → IsSettled d → (Y : Image) → Picks d.may d.blocks Y → Y ≡ d.now
-one-image d is tells settled Y p = ext_get_or no_cell Y d.now (p.len ∙ sym (is.whole tells)) (λ b low. let l = p.len in let here : b < d.blocks = omega (arith, low, l) in settled b (cell_at Y b) here (p.each b here))
+one-image d is tells settled Y p = ext_get_or no_cell Y d.now (p.len ∙ sym (is.whole tells)) (λ b low. let l = p.len in let here : b < d.blocks =
+    omega (arith, low, l) in settled b (cell_at Y b) here (p.each b here))
 
 -- an image of an upgrade
 of-upgrade : (old new : DiskState) → StaysOrUpgrades old new → (X : Image) → IsOfUpgrade old new X → IsFoundOrSecond old X
@@ -35,7 +36,11 @@ of-upgrade old new s X (inr (m, from, to, left)) = s.moments.each m X from to le
 
 module _ {D : Type 0} (state : D → DiskState) (is : (d : D) → IsDisk (state d)) where
   pub settled-after : LawSettledAfter state
-  settled-after k d X tells settled leaves same Y p = (X, leaves, subst (λ (W : Image). SameOrSecond X W) (sym (one-image (state d) (is d) tells settled Y p)) same)
+  settled-after k d X tells settled leaves same Y p = (
+    X,
+    leaves,
+    subst (λ (W : Image). SameOrSecond X W) (sym (one-image (state d) (is d) tells settled Y p)) same,
+  )
 
   pub kept-after : LawKeptAfter state
   kept-after k old new after same cells Y p = after Y (subst₂ (λ (may : ℕ → List Cell) (n : ℕ). Picks may n Y) cells.may same.blocks p)

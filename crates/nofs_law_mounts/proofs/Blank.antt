@@ -1,5 +1,6 @@
 -- What a format leaves is sound, and blank.
-use Rattle.std.proofs.Common.{◌≡◌, ◌≢◌, ℕ, zero, suc, ◌+◌, ◌-◌, ◌/◌, ◌%◌, ◌<◌, Bool, true, false, cond, eqb, leb, eqb-true, List, [], ◌∷◌, length, get_or, drop, refl, sym, ap, ◌∙◌, subst, arith}
+use Rattle.std.proofs.Common.{◌≡◌, ◌≢◌, ℕ, zero, suc, ◌+◌, ◌-◌, ◌/◌, ◌%◌, ◌<◌, Bool, true, false, cond, eqb, leb, eqb-true, List, [], ◌∷◌, length, get_or}
+use Rattle.std.proofs.Common.{drop, refl, sym, ap, ◌∙◌, subst, arith}
 use Rattle.std.specs.Prelude.{is_none}
 use Rattle.std.specs.List.{list_all}
 use Rattle.std.proofs.lemmas.Bool.{and_parts, leb-true}
@@ -7,10 +8,12 @@ use Rattle.std.proofs.lemmas.List.{get_or_append_left}
 use Rattle.nofs_disk.specs.Disk.{DiskState, no_cell}
 use Rattle.nofs_disk.specs.Number.{put_number, zeros}
 use Rattle.nofs_disk.specs.Tag.{zero_cell}
-use Rattle.nofs_super.specs.Format.{IsFormatted, cell_at-formatted, first_records, formatted, formatted_cell, fresh_super, length-first_formatted, super_cell, super_payload, table_cell}
+use Rattle.nofs_super.specs.Format.{IsFormatted, cell_at-formatted, first_records, formatted, formatted_cell, fresh_super, length-first_formatted, super_cell}
+use Rattle.nofs_super.specs.Format.{super_payload, table_cell}
 use Rattle.nofs_super.specs.Geometry.{IsGeometry, is_geometry, is_geometry-parts}
 use Rattle.nofs_super.specs.Spelling.{super_of-payload}
-use Rattle.nofs_model.specs.Cells.{Cell, Pointer, Record, SuperBlock, fields_in, free_record, is_null, link_in, null, number_at, pointer_in, record_at, record_of}
+use Rattle.nofs_model.specs.Cells.{Cell, Pointer, Record, SuperBlock, fields_in, free_record, is_null, link_in, null, number_at, pointer_in, record_at}
+use Rattle.nofs_model.specs.Cells.{record_of}
 use Rattle.nofs_model.specs.Image.{Image, cell_at, inode, is_inode, record_pointer, super_at, super_in}
 use Rattle.nofs_model.proofs.Sound.{mountable-law}
 use Rattle.nofs_model.proofs.Spells.{spells}
@@ -54,7 +57,9 @@ cell-records : (blocks inodes b j : ℕ) → b ≢ 0 → j < 4 → HasNone (reco
 unfolding formatted_cell table_cell zero_cell
 cell-records blocks inodes b j ne lt = go (eqb b 0) refl (leb b (inodes / 4)) (eqb b 1)
   where
-    go : (z : Bool) → eqb b 0 ≡ z → (q t : Bool) → HasNone (record_at (cond z (super_cell (fresh_super blocks inodes)) (cond q (record { payload = cond t first_records (zeros 1024); tag = (table_cell b).tag }) zero_cell)).payload j)
+    go : (z : Bool) → eqb b 0 ≡ z → (q t : Bool) → HasNone (record_at
+        (cond z (super_cell (fresh_super blocks inodes)) (cond q (record { payload = cond t first_records (zeros 1024); tag = (table_cell b).tag })
+        zero_cell)).payload j)
     go true e q t = absurd (ne (eqb-true b 0 e))
     go false e true true = table-records j lt
     go false e true false = zero-records j lt
@@ -76,7 +81,8 @@ module _ (X : Image) (device blocks inodes : ℕ) (g : IsGeometry device blocks 
       let most = g.most_blocks in let few = g.most_inodes in
       let it : SuperBlock = fresh_super blocks inodes in
       let payload : (cell_at X 0).payload ≡ super_payload it = ap (λ (c : Cell). c.payload) (first ∙ first-cell blocks inodes) ∙ super-payload it in
-      ap super_in payload ∙ (spells (super_payload it) it (super_of-payload it (omega arith) (omega (arith, most)) (omega (arith, few)) (omega arith) refl)).numbers
+      ap super_in payload ∙ (spells (super_payload it) it (super_of-payload it (omega arith) (omega (arith, most)) (omega (arith, few)) (omega arith)
+      refl)).numbers
 
   module _ (cells : (b : ℕ) → b < blocks → cell_at X b ≡ formatted_cell blocks inodes b) where
     has-none : (i : ℕ) → HasNone (inode X i)
@@ -109,7 +115,8 @@ first-disk old new blocks inodes told f q X p = blank X old.blocks blocks inodes
     now-is : (b : ℕ) → b < blocks → cell_at new.now b ≡ formatted_cell blocks inodes b
     now-is b low =
         ap (λ (l : Image). cell_at l b) (f.now told)
-        ∙ get_or_append_left (formatted blocks inodes) (drop blocks old.now) no_cell b (let e = length-first_formatted blocks inodes blocks in omega (arith, low, e))
+        ∙ get_or_append_left (formatted blocks inodes) (drop blocks old.now) no_cell b (let e =
+        length-first_formatted blocks inodes blocks in omega (arith, low, e))
         ∙ cell_at-formatted blocks inodes b low
 
     cell-is : (b : ℕ) → b < new.blocks → b < blocks → cell_at X b ≡ formatted_cell blocks inodes b
@@ -119,7 +126,8 @@ first-disk old new blocks inodes told f q X p = blank X old.blocks blocks inodes
     sound = ((mountable-law X).1 (q.sound X p).mountable).fits
 
     first-is : cell_at X 0 ≡ formatted_cell blocks inodes 0
-    first-is = let s = sound.some_blocks in let n = sound.fits in let l = p.len in let k = g.some_blocks in cell-is 0 (omega (arith, s, n, l)) (omega (arith, k))
+    first-is = let s = sound.some_blocks in let n = sound.fits in let l = p.len in let k =
+        g.some_blocks in cell-is 0 (omega (arith, s, n, l)) (omega (arith, k))
 
     cells : (b : ℕ) → b < blocks → cell_at X b ≡ formatted_cell blocks inodes b
     cells b low =

@@ -2,7 +2,8 @@
 use Rattle.std.proofs.Math.Logic.{∥∥₁_elim, ∥∥₁_map, ∥∥₁_prop}
 use mathlib.Core.HLevel.{×_prop, Unit-prop, Π_prop, ¬_prop}
 use native.Mathlib.Bridge.{le_prop}
-use Rattle.std.proofs.Common.{◌≡◌, ◌≢◌, ℕ, suc, ◌+◌, ◌<◌, ◌≤◌, true, inl, inr, List, [], ◌∷◌, ◌++◌, append-nil, length, get_or, Contains, refl, sym, ap, ◌∙◌, subst, arith}
+use Rattle.std.proofs.Common.{◌≡◌, ◌≢◌, ℕ, suc, ◌+◌, ◌<◌, ◌≤◌, true, inl, inr, List, [], ◌∷◌, ◌++◌, append-nil, length, get_or, Contains, refl, sym, ap, ◌∙◌}
+use Rattle.std.proofs.Common.{subst, arith}
 use Rattle.std.proofs.lemmas.Bool.{cases_lt}
 use Rattle.nofs_disk.specs.Disk.{DiskState, IsDisk, Picks}
 use Rattle.nofs_model.specs.Cells.{Record, is_null}
@@ -18,7 +19,8 @@ use Rattle.nofs_law_lives.proofs.Numbers.{law-once}
 use Rattle.nofs_law_lives.proofs.OnlySuper.{same-inode}
 use Rattle.nofs_law_lives.proofs.Values.{law-lives}
 use Rattle.nofs_crashlaw.proofs.Unflushed.{law-unflushed}
-use Rattle.nofs_law_mounts.specs.Mounts.{AreLives, GivenOver, IsBlank, IsOfRaise, LawMountContents, LawMountLives, LawMountOnce, Leaves, Mount, Mounts, claimed_over, base_of, life_in}
+use Rattle.nofs_law_mounts.specs.Mounts.{AreLives, GivenOver, IsBlank, IsOfRaise, LawMountContents, LawMountLives, LawMountOnce, Leaves, Mount, Mounts}
+use Rattle.nofs_law_mounts.specs.Mounts.{claimed_over, base_of, life_in}
 use Rattle.nofs_law_mounts.proofs.After.{upgrade-again, upgraded-of}
 use Rattle.nofs_law_mounts.proofs.Mounts.{Says, base-raised, found-picks, is-allowed, is-life, of-raise, says}
 
@@ -69,7 +71,19 @@ module _ {D : Type 0} (state : D → DiskState) (is : (d : D) → IsDisk (state 
           lives = l ∷ b.lives;
           are = (b.lives, b.are, inl (s.contents.world, refl));
           all = all;
-          next = λ Y between l raised run. (record { moment = c.moment; left = X; found = Y; allowed = is-allowed state is k s X c late; between = between; raised = raised }, run, all);
+          next = λ Y between l raised run. (
+            record {
+              moment = c.moment;
+              left = X;
+              found = Y;
+              allowed = is-allowed state is k s X c late;
+              between =
+                  between;
+              raised = raised;
+            },
+            run,
+            all,
+          );
         }
 
     without-comes : (X : Image) → k.history.entries ≡ [] → Comes ms X → Comes (k ∷ ms) X
@@ -82,7 +96,19 @@ module _ {D : Type 0} (state : D → DiskState) (is : (d : D) → IsDisk (state 
           lives = early_life X ∷ c.lives;
           are = (c.lives, c.are, inr (none, inr (early_life X, refl, refl)));
           all = all;
-          next = λ Z between l again run. (record { moment = 0; left = X; found = Z; allowed = law-unflushed X [] 0 refl; between = between; raised = again }, run, all);
+          next = λ Z between l again run. (
+            record {
+              moment = 0;
+              left = X;
+              found = Z;
+              allowed = law-unflushed X [] 0 refl;
+              between = between;
+              raised =
+                  again;
+            },
+            run,
+            all,
+          );
         }
 
     module _ (before : (Y : Image) → Picks (state k.found).may (state k.found).blocks Y → ∥ Comes ms Y ∥₁) where
@@ -103,8 +129,15 @@ module _ {D : Type 0} (state : D → DiskState) (is : (d : D) → IsDisk (state 
       left-comes X c = ∥∥₁_elim (says state is k) ∥∥₁_prop (λ s. said-comes s X c)
 
   -- what a mount finds comes after those before it
-  found-comes : (ms : List (Mount state)) (m : Mount state) → Mounts (m ∷ ms) → (Y : Image) → Picks (state m.found).may (state m.found).blocks Y → ∥ Comes ms Y ∥₁
-  found-comes [] m h Y p = ∣ record { lives = []; are = refl; all = tt; next = λ Z between l raised run. (blank-new Z l.base raised (blank-upgraded Y Z between (h Y p)), run) } ∣₁
+  found-comes : (ms : List (Mount state)) (m : Mount state) → Mounts (m ∷ ms) → (Y : Image) → Picks (state m.found).may (state m.found).blocks Y
+      → ∥ Comes ms Y ∥₁
+  found-comes [] m h Y p = ∣ record {
+    lives = [];
+    are = refl;
+    all = tt;
+    next =
+        λ Z between l raised run. (blank-new Z l.base raised (blank-upgraded Y Z between (h Y p)), run);
+  } ∣₁
   found-comes (k ∷ ms) m h Y p =
       let f = h.0 Y p in
       ∥∥₁_map (left-comes ms k (found-comes ms k h.1) f.0 f.1) (λ c. upgraded-comes (k ∷ ms) f.0 Y (upgraded-of f.0 Y f.2) c)
@@ -121,9 +154,11 @@ module _ {D : Type 0} (state : D → DiskState) (is : (d : D) → IsDisk (state 
   claimed-same (m ∷ ms) ls (rest, are, inr (none, inl e)) =
       ap claimed_by e ∙ claimed-same ms rest are ∙ sym (append-nil (claimed_over ms)) ∙ ap (λ (H : List Entry1). claimed_over ms ++ claimed_in H) (sym none)
   claimed-same (m ∷ ms) ls (rest, are, inr (none, inr (l, empty, e))) =
-      ap claimed_by e ∙ ap (λ (H : List Entry1). claimed_by rest ++ claimed_in H) (empty ∙ sym none) ∙ ap (λ (c : List ℕ). c ++ claimed_in m.history.entries) (claimed-same ms rest are)
+      ap claimed_by e ∙ ap (λ (H : List Entry1). claimed_by rest ++ claimed_in H) (empty ∙ sym none)
+      ∙ ap (λ (c : List ℕ). c ++ claimed_in m.history.entries) (claimed-same ms rest are)
 
-  once-of : (m : Mount state) (ms : List (Mount state)) (W : World) (ls : List Life) → AreLives ms ls → Lives (life_in m W ∷ ls) → IsOnce (claimed_over (m ∷ ms))
+  once-of : (m : Mount state) (ms : List (Mount state)) (W : World) (ls : List Life) → AreLives ms ls → Lives (life_in m W ∷ ls)
+      → IsOnce (claimed_over (m ∷ ms))
   once-of m ms W ls are all = subst IsOnce (ap (λ (l : List ℕ). l ++ claimed_in m.history.entries) (claimed-same ms ls are)) (law-once (life_in m W ∷ ls) all)
 
   pub mount-once : LawMountOnce state
@@ -136,14 +171,16 @@ module _ {D : Type 0} (state : D → DiskState) (is : (d : D) → IsDisk (state 
   nothing-given : (B : Image) (H : List Entry1) (i g k : ℕ) (v : Value) → H ≡ [] → Contains (values_given (agreed_files B) H i g k) v → ⊥
   nothing-given B H i g k v e c = nothing-in v (subst (λ (K : List Entry1). Contains (values_given (agreed_files B) K i g k) v) e c)
 
-  given-over : (ms : List (Mount state)) (ls : List Life) → AreLives ms ls → (i g k : ℕ) (content : List ℕ) → GivenIn ls i g k content → GivenOver ms i g k content
+  given-over : (ms : List (Mount state)) (ls : List Life) → AreLives ms ls → (i g k : ℕ) (content : List ℕ) → GivenIn ls i g k content
+      → GivenOver ms i g k content
   given-over [] ls e i g k content given = subst (λ (l : List Life). GivenIn l i g k content) e given
   given-over (m ∷ ms) ls (rest, are, inl (W, e)) i g k content given =
       elim (subst (λ (l : List Life). GivenIn l i g k content) e given) [
         | inl here ↦ inl (law-given (agreed_files (base_of m)) m.history.entries i g k (Bytes content) here)
         | inr there ↦ inr (given-over ms rest are i g k content there)
       ]
-  given-over (m ∷ ms) ls (rest, are, inr (none, inl e)) i g k content given = inr (given-over ms rest are i g k content (subst (λ (l : List Life). GivenIn l i g k content) e given))
+  given-over (m ∷ ms) ls (rest, are, inr (none, inl e)) i g k content given =
+      inr (given-over ms rest are i g k content (subst (λ (l : List Life). GivenIn l i g k content) e given))
   given-over (m ∷ ms) ls (rest, are, inr (none, inr (l, empty, e))) i g k content given =
       elim (subst (λ (l : List Life). GivenIn l i g k content) e given) [
         | inl here ↦ absurd (nothing-given l.base l.history i g k (Bytes content) empty here)
@@ -160,4 +197,5 @@ module _ {D : Type 0} (state : D → DiskState) (is : (d : D) → IsDisk (state 
 
   pub mount-contents : LawMountContents state
   mount-contents later m earlier h i g k content lt is_g is_v =
-      ∥∥₁_map (mount-lives m earlier (mounts-from later m earlier h)) (λ b. given-over earlier b.1 b.2 i g k content (law-lives [] (life_in m b.0) b.1 b.3 i g k content lt is_g is_v))
+      ∥∥₁_map (mount-lives m earlier (mounts-from later m earlier h))
+      (λ b. given-over earlier b.1 b.2 i g k content (law-lives [] (life_in m b.0) b.1 b.3 i g k content lt is_g is_v))

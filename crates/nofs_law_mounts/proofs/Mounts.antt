@@ -1,6 +1,7 @@
 -- One mount: its life, what a crash inside its raise leaves, and what the next one finds.
 use Rattle.std.proofs.Math.Logic.{∥∥₁_elim, ∥∥₁_map, ∥∥₁_prop}
-use Rattle.std.proofs.Common.{◌≡◌, ◌≢◌, ℕ, ◌<◌, ◌≤◌, Bool, true, false, eqb, eqb-true, eq-eqb, inl, inr, IsTrue, Contains, length, set, refl, sym, ap, ◌∙◌, subst, arith}
+use Rattle.std.proofs.Common.{◌≡◌, ◌≢◌, ℕ, ◌<◌, ◌≤◌, Bool, true, false, eqb, eqb-true, eq-eqb, inl, inr, IsTrue, Contains, length, set, refl, sym, ap, ◌∙◌}
+use Rattle.std.proofs.Common.{subst, arith}
 use Rattle.std.proofs.lemmas.List.{get_or-set_same, get_or-set_other, length-set}
 use Rattle.nofs_disk.specs.Disk.{DiskState, IsDisk, Picks, no_cell}
 use Rattle.nofs_disk.specs.Adds.{WasOr}
@@ -15,7 +16,8 @@ use Rattle.nofs_law_lives.specs.Lives.{IsLife, Raised}
 use Rattle.nofs_law_lives.proofs.Begin.{law-upgraded}
 use Rattle.nofs_shared.specs.Ends.{Contents}
 use Rattle.nofs_shared.specs.Mounts.{IsFound, IsSoundDisk}
-use Rattle.nofs_law_mounts.specs.Mounts.{ComesAfter, IsOfRaise, LawFoundSound, LawInRaise, LawMountLife, LawNextMount, Leaves, Mount, SameOrSecond, base_of, life_in}
+use Rattle.nofs_law_mounts.specs.Mounts.{ComesAfter, IsOfRaise, LawFoundSound, LawInRaise, LawMountLife, LawNextMount, Leaves, Mount, SameOrSecond, base_of}
+use Rattle.nofs_law_mounts.specs.Mounts.{life_in}
 use Rattle.nofs_law_mounts.proofs.Raised.{has-cell, is-raised, raised-of, some}
 
 super-same : (X Y : Image) → cell_at Y 0 ≡ cell_at X 0 → super_at Y ≡ super_at X
@@ -40,12 +42,14 @@ module _ (d : DiskState) (is : IsDisk d) (q : IsSoundDisk d) (X : Image) (found 
   others-in : (b : ℕ) → b < d.blocks → b ≢ 0 → Contains (d.may b) (cell_at X b)
   others-in b low ne = elim (found.1 b low) [ inl h ↦ h | inr c ↦ absurd (ne c.first) ]
 
-  each-of : (Y : Image) → Contains (d.may 0) (cell_at Y 0) → ((b : ℕ) → b ≢ 0 → cell_at Y b ≡ cell_at X b) → (b : ℕ) → b < d.blocks → Contains (d.may b) (cell_at Y b)
+  each-of : (Y : Image) → Contains (d.may 0) (cell_at Y 0) → ((b : ℕ) → b ≢ 0 → cell_at Y b ≡ cell_at X b) → (b : ℕ) → b < d.blocks
+      → Contains (d.may b) (cell_at Y b)
   each-of Y here same b low = go (eqb b 0) refl
     where
       go : (t : Bool) → eqb b 0 ≡ t → Contains (d.may b) (cell_at Y b)
       go true e = subst (λ (k : ℕ). Contains (d.may k) (cell_at Y k)) (sym (eqb-true b 0 e)) here
-      go false e = let ne : b ≢ 0 = λ z. let t : eqb b 0 ≡ true = eq-eqb b 0 z in cc (t, e) in subst (λ (c : Cell). Contains (d.may b) c) (sym (same b ne)) (others-in b low ne)
+      go false e = let ne : b ≢ 0 = λ z. let t : eqb b 0 ≡ true =
+          eq-eqb b 0 z in cc (t, e) in subst (λ (c : Cell). Contains (d.may b) c) (sym (same b ne)) (others-in b low ne)
 
   -- X with the cell of block 0 that a read gives
   Y : Image
@@ -64,7 +68,11 @@ module _ (d : DiskState) (is : IsDisk d) (q : IsSoundDisk d) (X : Image) (found 
   size-is = length-set X 0 (cell_at d.now 0)
 
   picks : IsPick d Y
-  picks = record { len = size-is ∙ found.0; each = each-of Y (subst (λ (c : Cell). Contains (d.may 0) c) (sym first-is) (is.has_now 0 q.tells bound)) others-are }
+  picks = record {
+    len = size-is ∙ found.0;
+    each = each-of Y (subst (λ (c : Cell). Contains (d.may 0) c) (sym first-is) (is.has_now 0 q.tells bound))
+        others-are;
+  }
 
   pub in-raise : IsOfRaise d X
   in-raise = go (found.1 0 bound)
@@ -72,7 +80,8 @@ module _ (d : DiskState) (is : IsDisk d) (q : IsSoundDisk d) (X : Image) (found 
       go : WasOr (IsSuperCell (raised (super_at d.now))) d 0 (cell_at X 0) → IsOfRaise d X
       go (inl here) = inl (record { len = found.0; each = each-of X here (λ b ne. refl) })
       go (inr c) =
-          let first : cell_at X 0 ≡ super_cell (raised (super_at Y)) = c.is ∙ ap (λ (s : SuperBlock). super_cell (raised s)) (sym (super-same d.now Y first-is)) in
+          let first : cell_at X 0 ≡ super_cell (raised (super_at Y)) =
+          c.is ∙ ap (λ (s : SuperBlock). super_cell (raised s)) (sym (super-same d.now Y first-is)) in
           inr (Y, picks, is-raised Y (q.sound Y picks) X first (sym size-is) (λ b ne. sym (others-are b ne)), has-cell Y (q.sound Y picks) X first)
 
 module _ {D : Type 0} (state : D → DiskState) (is : (d : D) → IsDisk (state d)) where
@@ -106,7 +115,11 @@ module _ {D : Type 0} (state : D → DiskState) (is : (d : D) → IsDisk (state 
     stays-sound X Y sound (inr up) = law-upgraded X Y sound up.0 up.1
 
     after-sound : (d : DiskState) → IsTrue d.tells → ComesAfter m d → IsSoundDisk d
-    after-sound d tells after = record { tells = tells; sound = λ Y p. let f = after Y p in stays-sound f.0 Y (s.contents.sound f.1.moment f.0 f.1.from f.1.to f.1.left) f.2 }
+    after-sound d tells after = record {
+      tells = tells;
+      sound = λ Y p. let f =
+          after Y p in stays-sound f.0 Y (s.contents.sound f.1.moment f.0 f.1.from f.1.to f.1.left) f.2;
+    }
 
   pub mount-life : LawMountLife state
   mount-life m = ∥∥₁_map (says m) (λ s. (s.contents.world, is-life m s))

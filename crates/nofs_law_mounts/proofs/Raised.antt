@@ -36,7 +36,8 @@ module _ (X : Image) (sound : IsSound X) where
       let b = g.most_blocks in
       let i = g.most_inodes in
       let m = sound.mount in
-      spells (super_payload (raised it)) (raised it) (super_of-payload (raised it) (version-small it.version version) (omega (arith, b)) (omega (arith, i)) (omega (arith, m)) version)
+      spells (super_payload (raised it)) (raised it) (super_of-payload (raised it) (version-small it.version version) (omega (arith, b)) (omega (arith, i))
+      (omega (arith, m)) version)
 
   pub some : 0 < length X
   some = let g = ((mountable-law X).1 sound.mountable).fits in let a = g.some_blocks in let b = g.fits in omega (arith, a, b)
@@ -54,7 +55,13 @@ module _ (X : Image) (sound : IsSound X) where
 
     pub is-raised : length Y ≡ length X → ((b : ℕ) → b ≢ 0 → cell_at Y b ≡ cell_at X b) → Raised X Y
     is-raised size others = record {
-      only = record { size = size; others = others; blocks = ap (λ (q : SuperBlock). q.blocks) numbers-are; inodes = ap (λ (q : SuperBlock). q.inodes) numbers-are };
+      only = record {
+        size = size;
+        others = others;
+        blocks = ap (λ (q : SuperBlock). q.blocks) numbers-are;
+        inodes =
+            ap (λ (q : SuperBlock). q.inodes) numbers-are;
+      };
       version = ap (λ (q : SuperBlock). q.version) numbers-are;
       mount = ap (λ (q : SuperBlock). q.mount) numbers-are;
     }

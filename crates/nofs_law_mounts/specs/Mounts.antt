@@ -94,7 +94,8 @@ LawMountLife state = (mount : Mount state) → ∥ ((W : World) × IsLife (life_
 
 -- One that reads its disk as what a crash of another may leave since its flush is the life after it.
 abbrev pub LawNextMount : {D : Type 0} → (D → DiskState) → Type 0
-LawNextMount state = (before after : Mount state) (X : Image) (crash : Leaves before X) → before.history.start ≤ crash.moment → SameOrUpgraded X (state after.found).now
+LawNextMount state = (before after : Mount state) (X : Image) (crash : Leaves before X) → before.history.start ≤ crash.moment
+    → SameOrUpgraded X (state after.found).now
     → (W V : World) → ∥ NextLife (life_in before W) (life_in after V) ∥₁
 
 -- the disk may hold this image, or one of which it is the raise
@@ -141,9 +142,11 @@ LawMountLives state = (mount : Mount state) (mounts : List (Mount state)) → Mo
 -- No generation and no stamp is claimed twice over these mounts.
 abbrev pub LawMountOnce : {D : Type 0} → (D → DiskState) → Type 0
 LawMountOnce state = (mounts : List (Mount state)) → Mounts mounts
-    → Rising 0 (claimed_over mounts) × ((a b d : ℕ) → a < b → b < length (claimed_over mounts) → get_or (claimed_over mounts) a d ≢ get_or (claimed_over mounts) b d)
+    → Rising 0 (claimed_over mounts) × ((a b d : ℕ) → a < b → b < length (claimed_over mounts)
+    → get_or (claimed_over mounts) a d ≢ get_or (claimed_over mounts) b d)
 
 -- Bytes in the base of a mount were given by an entry of an earlier one.
 abbrev pub LawMountContents : {D : Type 0} → (D → DiskState) → Type 0
-LawMountContents state = (later : List (Mount state)) (mount : Mount state) (earlier : List (Mount state)) → Mounts (later ++ mount ∷ earlier) → (i g k : ℕ) (content : List ℕ) → k < slot_limit
+LawMountContents state = (later : List (Mount state)) (mount : Mount state) (earlier : List (Mount state)) → Mounts (later ++ mount ∷ earlier)
+    → (i g k : ℕ) (content : List ℕ) → k < slot_limit
     → is_generation (base_of mount) i g ≡ true → value (base_of mount) i k ≡ Bytes content → ∥ GivenOver earlier i g k content ∥₁

@@ -1,5 +1,6 @@
 -- The directory's cell in a hole: a block is claimed for it, and a leaf where there is none.
-use Rattle.std.proofs.Common.{◌≡◌, ◌≢◌, ℕ, ◌<◌, ◌≤◌, ◌⊎◌, inl, inr, Bool, true, false, eqb, leb, ◌||◌, Some, refl, sym, ap, ap₂, ◌∙◌, subst, arith, eqb-true, eq-eqb, leb-true}
+use Rattle.std.proofs.Common.{◌≡◌, ◌≢◌, ℕ, ◌<◌, ◌≤◌, ◌⊎◌, inl, inr, Bool, true, false, eqb, leb, ◌||◌, Some, refl, sym, ap, ap₂, ◌∙◌, subst, arith, eqb-true}
+use Rattle.std.proofs.Common.{eq-eqb, leb-true}
 use Rattle.nofs_ptrs.specs.Paths.{slot_limit}
 use Rattle.nofs_law_untouched.specs.Frames.{SameIdentity, OldPointers}
 use Rattle.nofs_model.proofs.Find.{find-held}
@@ -13,7 +14,8 @@ use Rattle.nofs_model.specs.declared.path.PathAnswer.TheVariants as answer
 use Rattle.nofs_machine.specs.Machine.{Given, files_after}
 use Rattle.nofs_machine.specs.History.{FilesMatch, SameFile}
 use Rattle.nofs_model.specs.Cells.{Tag, Pointer, Record, tag_of, pointer_at, is_null}
-use Rattle.nofs_model.specs.Image.{super_in, Image, cell_at, super_at, is_data_block, inode, files_in, agreed, value, node_in, tag_for, Path, InRecord, Under, leaf, path_of, slot_of, is_pointer_slot, find, Present, FileState, Files, record_pointer, IsAbove, IsSlot, IsFree}
+use Rattle.nofs_model.specs.Image.{super_in, Image, cell_at, super_at, is_data_block, inode, files_in, agreed, value, node_in, tag_for, Path, InRecord, Under}
+use Rattle.nofs_model.specs.Image.{leaf, path_of, slot_of, is_pointer_slot, find, Present, FileState, Files, record_pointer, IsAbove, IsSlot, IsFree}
 use Rattle.nofs_model.specs.declared.value.Value.{Value}
 use Rattle.nofs_model.specs.declared.value.Value.TheVariants.{Bytes}
 use Rattle.nofs_machine.specs.Gives.{GivesCell}
@@ -24,8 +26,10 @@ use Rattle.nofs_law_old_names.specs.Names.{NameWrites}
 use Rattle.nofs_law_new_names.specs.Holes.{HoleInRecord, HoleUnderLeaf, HoleWithLeaf}
 
 -- the directory's file, where its slots grow
-pub directory-grown : (s : ℕ) (F : Files) (given : Given) (X Y : Image) (d i k : ℕ) (f : FileState) (v : Value) (at : Path → Pointer) → FilesMatch F X → F d ≡ Some f → k < slot_limit → OldPointers s X d
-    → GivesCell given d f.generation k v → NameWrites s d i X Y → SameMeta X Y d → Grows s X Y d (path_of k) at → Bytes (cell_at Y (at (path_of k)).block).payload ≡ v → SameFile (files_after F given d) (files_in Y d)
+pub directory-grown : (s : ℕ) (F : Files) (given : Given) (X Y : Image) (d i k : ℕ) (f : FileState) (v : Value) (at : Path → Pointer) → FilesMatch F X
+    → F d ≡ Some f → k < slot_limit → OldPointers s X d
+    → GivesCell given d f.generation k v → NameWrites s d i X Y → SameMeta X Y d → Grows s X Y d (path_of k) at
+    → Bytes (cell_at Y (at (path_of k)).block).payload ≡ v → SameFile (files_after F given d) (files_in Y d)
 directory-grown s F given X Y d i k f v at match is range old gives w meta r content =
     let own = matched-file F X d match (some-is (F d) f is) in
     let rw' = rewrites s (λ j. eqb j d || eqb j i) X Y (touches-of s d i X Y w) in
@@ -34,9 +38,11 @@ directory-grown s F given X Y d i k f v at match is range old gives w meta r con
     directory-file F given X Y d k f v match is gives meta
     (value-on s X Y d rw' own.agreed same old (path_of k) at r.placed r.not_null r.area r.tag r.record_stays r.beside r.apart k refl ∙ content)
     (λ l lt ne. value-off s X Y d rw' own.agreed same old (path_of k) at r.placed r.not_null r.area r.tag r.record_stays r.beside r.apart k l refl range lt ne)
-    (λ path slot above. ap node_in (on-path s X Y d rw' own.agreed same old (path_of k) at r.placed r.not_null r.area r.tag r.record_stays r.beside r.apart path (test-above path (path_of k) above)))
+    (λ path slot above. ap node_in (on-path s X Y d rw' own.agreed same old (path_of k)
+    at r.placed r.not_null r.area r.tag r.record_stays r.beside r.apart path (test-above path (path_of k) above)))
     (λ path slot q above. off path slot (λ h. elim (above-test path (path_of k) h) [
-      | inl e ↦ (let c = path_of-content k range in let z : is_pointer_slot (path_of k) ≡ true = subst (λ (r : Path). is_pointer_slot r ≡ true) e q in cc (c, z))
+      | inl e ↦ (let c = path_of-content k range in let z : is_pointer_slot (path_of k) ≡ true =
+          subst (λ (r : Path). is_pointer_slot r ≡ true) e q in cc (c, z))
       | inr l ↦ cc (l, above)
     ]))
 
@@ -48,10 +54,12 @@ record-hole-writes s X Y d i k x h = record { super = h.super; records = h.recor
         ⊎ ((tag_of (cell_at Y b).tag ≡ tag_of (cell_at X b).tag) × ((path : Path) × (y : Pointer) × (find X d path ≡ answer.Holds y) × (y.block ≡ b))))
     go b area true e =
         let eb = sym (eqb-true b x.block e) in
-        inr (inl (subst (λ (q : ℕ). IsFree X q × ((t : Tag) → tag_of (cell_at Y q).tag ≡ Some t → s ≤ t.stamp)) eb (h.cell.free, fresh-tag s X Y d (InRecord k) x h.cell)))
+        inr (inl (subst (λ (q : ℕ). IsFree X q × ((t : Tag) → tag_of (cell_at Y q).tag ≡ Some t → s ≤ t.stamp)) eb
+        (h.cell.free, fresh-tag s X Y d (InRecord k) x h.cell)))
     go b area false e = inl (h.blocks b area (λ q. let t = eq-eqb b x.block q in cc (e, t)))
 
-pub record-hole-grows : (s : ℕ) (X Y : Image) (d i k : ℕ) (x : Pointer) → k < 8 → agreed (files_in X) d ≡ true → HoleInRecord s X Y d i k x → Grows s X Y d (InRecord k) (λ a. x)
+pub record-hole-grows : (s : ℕ) (X Y : Image) (d i k : ℕ) (x : Pointer) → k < 8 → agreed (files_in X) d ≡ true → HoleInRecord s X Y d i k x
+    → Grows s X Y d (InRecord k) (λ a. x)
 record-hole-grows s X Y d i k x lt owned h = record {
   placed = λ a e. subst (λ (q : Path). IsPlaced Y d (λ (r : Path). x) q) (sym e) h.pointer;
   not_null = λ a e. not-null X x h.cell.area;
@@ -77,13 +85,21 @@ on-leaf A n h j a (inr e) = subst A (sym e) j
 under-not-pointer : (n : ℕ) → is_pointer_slot (Under leaf n) ≡ true → ⊥
 under-not-pointer n e = cc
 
-pub leaf-hole-grows : (s : ℕ) (X Y : Image) (d i n : ℕ) (x y : Pointer) → i ≢ d → agreed (files_in X) d ≡ true → HoleUnderLeaf s X Y d i n x y → Grows s X Y d (Under leaf n) (leaf_places y x)
+pub leaf-hole-grows : (s : ℕ) (X Y : Image) (d i n : ℕ) (x y : Pointer) → i ≢ d → agreed (files_in X) d ≡ true → HoleUnderLeaf s X Y d i n x y
+    → Grows s X Y d (Under leaf n) (leaf_places y x)
 leaf-hole-grows s X Y d i n x y apart owned h = record {
   placed = on-leaf (λ a. IsPlaced Y d (leaf_places y x) a) n h.pointer (ap (λ (r : Record). r.leaf) same ∙ hx.same);
   not_null = on-leaf (λ a. is_null (leaf_places y x a) ≡ false) n (not-null X x h.cell.area) hx.not_null;
   area = on-leaf (λ a. is_data_block Y (leaf_places y x a).block ≡ true) n (rw z h.cell.area) (rw z hx.agrees.area);
   tag = on-leaf (λ a. tag_of (cell_at Y (leaf_places y x a).block).tag ≡ Some (tag_for Y d a (leaf_places y x a).stamp)) n h.cell.tag
-      (h.tag ∙ hx.agrees.tag ∙ ap (λ (r : Record). Some (record { kind = Rattle.nofs_model.specs.Image.kind_in r leaf; inode = d; generation = r.generation; slot = slot_of leaf; stamp = y.stamp })) (sym same));
+      (h.tag ∙ hx.agrees.tag ∙ ap (λ (r : Record). Some (record {
+        kind = Rattle.nofs_model.specs.Image.kind_in r leaf;
+        inode = d;
+        generation =
+            r.generation;
+        slot = slot_of leaf;
+        stamp = y.stamp;
+      })) (sym same));
   record_stays = λ m off. ap (λ (r : Record). record_pointer r m) same;
   beside = λ b m slot above off. inl (elim above [
     | inl e ↦ absurd (under-not-pointer n (subst (λ (q : Path). is_pointer_slot q ≡ true) e slot.0))
@@ -106,7 +122,8 @@ leaf-hole-grows s X Y d i n x y apart owned h = record {
     z : super_at Y ≡ super_at X
     z = super-same X Y h.super
 
-pub claimed-hole-grows : (s : ℕ) (X Y : Image) (d i n : ℕ) (x y : Pointer) → agreed (files_in X) d ≡ true → HoleWithLeaf s X Y d i n x y → Grows s X Y d (Under leaf n) (leaf_places y x)
+pub claimed-hole-grows : (s : ℕ) (X Y : Image) (d i n : ℕ) (x y : Pointer) → agreed (files_in X) d ≡ true → HoleWithLeaf s X Y d i n x y
+    → Grows s X Y d (Under leaf n) (leaf_places y x)
 claimed-hole-grows s X Y d i n x y owned h = record {
   placed = on-leaf (λ a. IsPlaced Y d (leaf_places y x) a) n h.pointer h.leaf_is;
   not_null = on-leaf (λ a. is_null (leaf_places y x a) ≡ false) n (not-null X x h.cell.area) (not-null X y h.above.area);
@@ -121,7 +138,8 @@ claimed-hole-grows s X Y d i n x y owned h = record {
           (h.pointers m (λ em. off (inl (ap₂ Under e em)))),
     )
   ]);
-  apart = λ b w slot off e. h.blocks w.block (find-held X d b w e).agrees.area (λ eb. h.cell.free d b w slot owned e eb) (λ eb. h.above.free d b w slot owned e eb);
+  apart = λ b w slot off e. h.blocks w.block (find-held X d b w e).agrees.area (λ eb. h.cell.free d b w slot owned e eb)
+      (λ eb. h.above.free d b w slot owned e eb);
 }
   where
     z : super_at Y ≡ super_at X

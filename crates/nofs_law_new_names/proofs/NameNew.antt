@@ -1,5 +1,6 @@
 -- A step that writes a new entry: Link and Make, in a slot that holds or in a hole.
-use Rattle.std.proofs.Common.{◌≡◌, ◌≢◌, ℕ, ◌/◌, ◌%◌, ◌<◌, ◌≤◌, inr, Bool, true, false, cond, eqb, ltb, ◌&&◌, ◌||◌, not, List, ◌++◌, option_to_list, Option, Some, None, is_some, unwrap_or, refl, sym, ap, ◌∙◌, subst, subst₂, Contains, eqb-true, eq-eqb, lt-ltb}
+use Rattle.std.proofs.Common.{◌≡◌, ◌≢◌, ℕ, ◌/◌, ◌%◌, ◌<◌, ◌≤◌, inr, Bool, true, false, cond, eqb, ltb, ◌&&◌, ◌||◌, not, List, ◌++◌, option_to_list, Option}
+use Rattle.std.proofs.Common.{Some, None, is_some, unwrap_or, refl, sym, ap, ◌∙◌, subst, subst₂, Contains, eqb-true, eq-eqb, lt-ltb}
 use Rattle.std.proofs.lemmas.List.Elements.{Contains-push}
 use Rattle.nofs_dirent.specs.Entries.{entry_limit}
 use Rattle.nofs_model.specs.declared.path.PathAnswer.{PathAnswer}
@@ -19,38 +20,63 @@ use Rattle.nofs_machine.specs.Machine.{Given, filled, files_after, file_after, a
 use Rattle.nofs_machine.specs.History.{FilesMatch, SameFile}
 use Rattle.nofs_model.specs.Cells.{FileKind, BackLink, Entry, Record, is_null}
 use Rattle.nofs_inode.specs.declared.inode.FileKind.TheVariants.{Directory as Folder}
-use Rattle.nofs_model.specs.Image.{Image, inode, file_from, files_in, value_in, node_in, Path, InRecord, Under, path_of, find, FileState, Files, NodeState, Absent, is_folder, entry_held, entry_in_file, pairs, names, is_a, is_pair, is_special, links_in_file, record_pointer, IsSlot}
+use Rattle.nofs_model.specs.Image.{Image, inode, file_from, files_in, value_in, node_in, Path, InRecord, Under, path_of, find, FileState, Files, NodeState}
+use Rattle.nofs_model.specs.Image.{Absent, is_folder, entry_held, entry_in_file, pairs, names, is_a, is_pair, is_special, links_in_file, record_pointer}
+use Rattle.nofs_model.specs.Image.{IsSlot}
 use Rattle.nofs_model.specs.declared.value.Value.{Value}
 use Rattle.nofs_model.specs.declared.value.Value.TheVariants.{Hole}
 use Rattle.nofs_machine.specs.Gives.{GivesNothing, GivesCell, GivesMeta, GivesBirth}
 use Rattle.nofs_law_old_names.specs.Names.{Relinked, NameWrites}
 use Rattle.nofs_law_new_names.specs.Holes.{IsNewRecord}
 
-pub all-null : (Y : Image) (i : ℕ) → ((n : ℕ) → n < 10 → is_null (record_pointer (inode Y i) n) ≡ true) → (path : Path) → IsSlot path → find Y i path ≡ answer.Hole
+pub all-null : (Y : Image) (i : ℕ) → ((n : ℕ) → n < 10 → is_null (record_pointer (inode Y i) n) ≡ true) → (path : Path) → IsSlot path
+    → find Y i path ≡ answer.Hole
 all-null Y i null (InRecord n) slot = judged-built-null Y i (InRecord n) (record_pointer (inode Y i) n) (null n slot)
 all-null Y i null (Under a n) slot = let up = all-null Y i null a slot.2 in rw (up, find) refl
 
 abbrev pub linked_state : Given → ℕ → FileState → List BackLink → FileState
-linked_state given i h links = record { generation = h.generation; kind = h.kind; size = h.size; links = links; values = (filled given i h).values; nodes = (filled given i h).nodes }
+linked_state given i h links = record {
+  generation = h.generation;
+  kind = h.kind;
+  size = h.size;
+  links =
+      links;
+  values = (filled given i h).values;
+  nodes = (filled given i h).nodes;
+}
 
 abbrev pub born_state : Given → ℕ → ℕ → FileKind → List BackLink → FileState
-born_state given i g kind links = record { generation = g; kind = kind; size = 0; links = links; values = (filled given i (new_file g)).values; nodes = (filled given i (new_file g)).nodes }
+born_state given i g kind links = record {
+  generation = g;
+  kind = kind;
+  size = 0;
+  links =
+      links;
+  values = (filled given i (new_file g)).values;
+  nodes = (filled given i (new_file g)).nodes;
+}
 
-pub birth-is : (F : Files) (given : Given) (i g : ℕ) (kind : FileKind) (links : List BackLink) → GivesBirth given i g kind links → files_after F given i ≡ Some (born_state given i g kind links)
-birth-is F given i g kind links b = ap (λ (o : Option ℕ). file_after given i (born_file o (F i))) b.born ∙ ap (λ (o : Option Meta). after_meta o (filled given i (new_file g))) b.metas
+pub birth-is : (F : Files) (given : Given) (i g : ℕ) (kind : FileKind) (links : List BackLink) → GivesBirth given i g kind links
+    → files_after F given i ≡ Some (born_state given i g kind links)
+birth-is F given i g kind links b = ap (λ (o : Option ℕ). file_after given i (born_file o (F i))) b.born
+    ∙ ap (λ (o : Option Meta). after_meta o (filled given i (new_file g))) b.metas
 
-pub birth-file : (F : Files) (given : Given) (Y : Image) (i g : ℕ) (kind : FileKind) (links : List BackLink) → GivesBirth given i g kind links → IsNewRecord Y i g kind links → SameFile (files_after F given i) (files_in Y i)
-birth-file F given Y i g kind links b r = subst₂ (λ (o : Option FileState) (q : Option FileKind). SameFile o (file_from Y i q)) (sym (birth-is F given i g kind links b)) (sym r.kind_is) (record {
-  generation = sym r.generation;
-  kind = refl;
-  size = sym r.size;
-  links = sym r.links;
-  values = λ k lt. ap (λ (o : Option Value). unwrap_or o Hole) (b.slots k) ∙ sym (ap (λ (q : PathAnswer). value_in Y q) (all-null Y i r.pointers (path_of k) (path_of-slot k lt)));
-  nodes = λ path slot p. ap (λ (o : Option NodeState). unwrap_or o Absent) (b.nodes path) ∙ sym (ap node_in (all-null Y i r.pointers path slot));
-})
+pub birth-file : (F : Files) (given : Given) (Y : Image) (i g : ℕ) (kind : FileKind) (links : List BackLink) → GivesBirth given i g kind links
+    → IsNewRecord Y i g kind links → SameFile (files_after F given i) (files_in Y i)
+birth-file F given Y i g kind links b r = subst₂ (λ (o : Option FileState) (q : Option FileKind). SameFile o (file_from Y i q))
+    (sym (birth-is F given i g kind links b)) (sym r.kind_is) (record {
+      generation = sym r.generation;
+      kind = refl;
+      size = sym r.size;
+      links = sym r.links;
+      values = λ k lt. ap (λ (o : Option Value). unwrap_or o Hole) (b.slots k)
+          ∙ sym (ap (λ (q : PathAnswer). value_in Y q) (all-null Y i r.pointers (path_of k) (path_of-slot k lt)));
+      nodes = λ path slot p. ap (λ (o : Option NodeState). unwrap_or o Absent) (b.nodes path) ∙ sym (ap node_in (all-null Y i r.pointers path slot));
+    })
 
 -- the new record is proper
-pub birth-proper : (m : Mark) (given : Given) (X Y : Image) (i g : ℕ) (kind : FileKind) (links : List BackLink) → GivesBirth given i g kind links → IsNewRecord Y i g kind links → m.stamps ≤ g → ((q : ℕ) → m.stands i q ≡ false) → RecordProper (during m given) X i (inode Y i)
+pub birth-proper : (m : Mark) (given : Given) (X Y : Image) (i g : ℕ) (kind : FileKind) (links : List BackLink) → GivesBirth given i g kind links
+    → IsNewRecord Y i g kind links → m.stamps ≤ g → ((q : ℕ) → m.stands i q ≡ false) → RecordProper (during m given) X i (inode Y i)
 birth-proper m given X Y i g kind links b r fresh none = Made
     (subst (λ (q : ℕ). m.stamps ≤ q) (sym r.generation) fresh)
     (λ q. ap (λ (t : Bool). t && not (is_removal (given.metas i q))) (none q))
@@ -60,7 +86,8 @@ birth-proper m given X Y i g kind links b r fresh none = Made
     (λ k lt. subst (λ (q : ℕ). Contains ((during m given).since i q k) Hole) (sym r.generation)
     (subst (λ (o : Option Value). Contains (m.since i g k ++ option_to_list o) Hole) (sym (b.slots k)) (Contains-push (m.since i g k) Hole)))
   where
-    meta-is : (r : Record) (kind : FileKind) (size : ℕ) (links : List BackLink) → r.kind ≡ Some kind → r.size ≡ size → r.links ≡ links → meta_of r ≡ Is kind size links
+    meta-is : (r : Record) (kind : FileKind) (size : ℕ) (links : List BackLink) → r.kind ≡ Some kind → r.size ≡ size → r.links ≡ links
+        → meta_of r ≡ Is kind size links
     meta-is r kind size links ek es el = rw (ek, es, el, meta_of) refl
 
 module _ (F : Files) (given : Given) (X Y : Image) (d e i s : ℕ) (f : FileState) (v : Value) (entry : Entry)
@@ -80,15 +107,20 @@ module _ (F : Files) (given : Given) (X Y : Image) (d e i s : ℕ) (f : FileStat
       go false t = rw t refl
 
   -- the new link is a pair
-  new-pair : (own : is_some (files_after F given i) ≡ true → SameFile (files_after F given i) (files_in Y i)) (q : FileState) → files_after F given i ≡ Some q → q.generation ≡ entry.generation → (is_folder q.kind ≡ true → f.generation < q.generation) → is_pair (files_after F given) i (link_to d e f.generation) ≡ true
+  new-pair : (own : is_some (files_after F given i) ≡ true → SameFile (files_after F given i) (files_in Y i)) (q : FileState)
+      → files_after F given i ≡ Some q → q.generation ≡ entry.generation → (is_folder q.kind ≡ true → f.generation < q.generation)
+      → is_pair (files_after F given) i (link_to d e f.generation) ≡ true
   new-pair own q at gen older = ap (λ (o : Option FileState). pairs o (files_after F given d) i (link_to d e f.generation)) at
-      ∙ all (is_a Folder f.generation (files_after F given d)) (names (entry_in_file (files_after F given d) e) i q.generation) (is_folder q.kind) refl is-folder is-named
+      ∙ all (is_a Folder f.generation (files_after F given d)) (names (entry_in_file (files_after F given d) e) i q.generation) (is_folder q.kind)
+      refl is-folder is-named
     where
       is-folder : is_a Folder f.generation (files_after F given d) ≡ true
-      is-folder = sym (folder-after F given X Y d e i s f v match is apart gives nothing stay w old directory own f.generation) ∙ ap (λ (o : Option FileState). is_a Folder f.generation o) is ∙ rw (folder, eq-eqb f.generation f.generation refl) refl
+      is-folder = sym (folder-after F given X Y d e i s f v match is apart gives nothing stay w old directory own f.generation)
+          ∙ ap (λ (o : Option FileState). is_a Folder f.generation o) is ∙ rw (folder, eq-eqb f.generation f.generation refl) refl
 
       is-named : names (entry_in_file (files_after F given d) e) i q.generation ≡ true
-      is-named = ap (λ (o : Option Entry). names o i q.generation) (entry-new F given X Y d e i s f v match is apart gives nothing stay w old directory own folder range ∙ comes)
+      is-named = ap (λ (o : Option Entry). names o i q.generation)
+          (entry-new F given X Y d e i s f v match is apart gives nothing stay w old directory own folder range ∙ comes)
           ∙ rw (eq-eqb entry.inode i names_it, eq-eqb entry.generation q.generation (sym gen)) refl
 
       all : (a b c : Bool) → is_folder q.kind ≡ c → a ≡ true → b ≡ true → (a && (b && (not c || ltb f.generation q.generation))) ≡ true
@@ -98,8 +130,11 @@ module _ (F : Files) (given : Given) (X Y : Image) (d e i s : ℕ) (f : FileStat
       all false b c ec ea eb = cc
 
   -- Link: the inode is a file, and gets a link
-  pub link-matches : (h : FileState) (links : List BackLink) → F i ≡ Some h → is_folder h.kind ≡ false → h.generation ≡ entry.generation → GivesMeta given i h.generation (Is h.kind h.size links) → Relinked X Y i links → Contains links (link_to d e f.generation) → FilesMatch (files_after F given) Y
-  link-matches h links is_i file gen meta r has = match-names F given X Y d e i s f v match is apart gives nothing stay w old directory (λ some. own) folder range
+  pub link-matches : (h : FileState) (links : List BackLink) → F i ≡ Some h → is_folder h.kind ≡ false → h.generation ≡ entry.generation
+      → GivesMeta given i h.generation (Is h.kind h.size links) → Relinked X Y i links → Contains links (link_to d e f.generation)
+      → FilesMatch (files_after F given) Y
+  link-matches h links is_i file gen meta r has = match-names F given X Y d e i s f v match is apart gives nothing stay w old directory (λ some. own)
+      folder range
       (λ j link ne. unpaired-away F d e unpaired j link)
       (λ j link ne there. file-lone F i (λ q eq. let same : h ≡ q = cc (eq, is_i) in subst (λ (u : FileState). is_folder u.kind ≡ false) same file) j link)
       named
@@ -118,8 +153,17 @@ module _ (F : Files) (given : Given) (X Y : Image) (d e i s : ℕ) (f : FileStat
       ))
       (λ none. absurd (let t = some-is (files_after F given i) (linked_state given i h links) now in cc (t, none)))
     where
-      now : files_after F given i ≡ Some (record { generation = h.generation; kind = h.kind; size = h.size; links = links; values = (filled given i h).values; nodes = (filled given i h).nodes })
-      now = ap (λ (o : Option ℕ). file_after given i (born_file o (F i))) meta.born ∙ ap (λ (o : Option FileState). file_after given i o) is_i ∙ ap (λ (o : Option Meta). after_meta o (filled given i h)) meta.metas
+      now : files_after F given i ≡ Some (record {
+        generation = h.generation;
+        kind = h.kind;
+        size = h.size;
+        links =
+            links;
+        values = (filled given i h).values;
+        nodes = (filled given i h).nodes;
+      })
+      now = ap (λ (o : Option ℕ). file_after given i (born_file o (F i))) meta.born ∙ ap (λ (o : Option FileState). file_after given i o) is_i
+          ∙ ap (λ (o : Option Meta). after_meta o (filled given i h)) meta.metas
 
       own : SameFile (files_after F given i) (files_in Y i)
       own =
@@ -131,12 +175,15 @@ module _ (F : Files) (given : Given) (X Y : Image) (d e i s : ℕ) (f : FileStat
 
       entries-own : (k : ℕ) → entry_in_file (F i) k ≡ entry_in_file (files_after F given i) k
       entries-own k = ap (λ (o : Option FileState). entry_in_file o k) is_i
-          ∙ ap (λ (u : Value). cond (is_folder h.kind && ltb k entry_limit) (entry_held u k) None) (sym (ap (λ (o : Option Value). unwrap_or o (h.values (k / 16))) (meta.slots (k / 16))))
+          ∙ ap (λ (u : Value). cond (is_folder h.kind && ltb k entry_limit) (entry_held u k) None)
+          (sym (ap (λ (o : Option Value). unwrap_or o (h.values (k / 16))) (meta.slots (k / 16))))
           ∙ sym (ap (λ (o : Option FileState). entry_in_file o k) now)
 
   -- Make: the inode is new
-  pub make-matches : (g : ℕ) (kind : FileKind) (links : List BackLink) → F i ≡ None → g ≡ entry.generation → f.generation < g → GivesBirth given i g kind links → IsNewRecord Y i g kind links → Contains links (link_to d e f.generation) → FilesMatch (files_after F given) Y
-  make-matches g kind links is_i gen young b r has = match-names F given X Y d e i s f v match is apart gives nothing stay w old directory (λ some. birth-file F given Y i g kind links b r) folder range
+  pub make-matches : (g : ℕ) (kind : FileKind) (links : List BackLink) → F i ≡ None → g ≡ entry.generation → f.generation < g
+      → GivesBirth given i g kind links → IsNewRecord Y i g kind links → Contains links (link_to d e f.generation) → FilesMatch (files_after F given) Y
+  make-matches g kind links is_i gen young b r has = match-names F given X Y d e i s f v match is apart gives nothing stay w old directory
+      (λ some. birth-file F given Y i g kind links b r) folder range
       (λ j link ne. unpaired-away F d e unpaired j link)
       (λ j link ne there. file-lone F i (λ q eq. absurd (cc (eq, is_i))) j link)
       named

@@ -1,5 +1,6 @@
 -- The premises of the steps on names, from what a search found and which record was written.
-use Rattle.std.proofs.Common.{◌≡◌, ◌≢◌, ℕ, zero, suc, ◌+◌, ◌-◌, ◌*◌, ◌/◌, ◌%◌, ◌<◌, ◌≤◌, ◌⊎◌, Bool, true, false, cond, eqb, ltb, leb, ◌&&◌, ◌||◌, not, List, [], ◌∷◌, length, Option, Some, None, is_some, refl, sym, ap, ◌∙◌, subst, arith, eqb-true, eq-eqb, leb-true}
+use Rattle.std.proofs.Common.{◌≡◌, ◌≢◌, ℕ, zero, suc, ◌+◌, ◌-◌, ◌*◌, ◌/◌, ◌%◌, ◌<◌, ◌≤◌, ◌⊎◌, Bool, true, false, cond, eqb, ltb, leb, ◌&&◌, ◌||◌, not, List}
+use Rattle.std.proofs.Common.{[], ◌∷◌, length, Option, Some, None, is_some, refl, sym, ap, ◌∙◌, subst, arith, eqb-true, eq-eqb, leb-true}
 use Rattle.std.specs.Prelude.{option_map}
 use Rattle.nofs_dirent.specs.Entries.{entry_limit}
 use Rattle.nofs_law_images.specs.Proper.{Proper, RecordProper}
@@ -12,13 +13,15 @@ use Rattle.nofs_law_new_names.proofs.NameClaims.{mixed-table-proper, two-records
 use Rattle.nofs_machine.specs.Meta.{is_bytes}
 use Rattle.nofs_machine.specs.Marks.{Mark}
 use Rattle.nofs_machine.specs.declared.history.Claims.{Claims}
-use Rattle.nofs_machine.specs.Machine.{found, first_dead, place_for, link_place, entry_has_name, is_paired, is_hole, value_of, gives, rename_given, drop_given, link_given, make_given, place_for_link}
+use Rattle.nofs_machine.specs.Machine.{found, first_dead, place_for, link_place, entry_has_name, is_paired, is_hole, value_of, gives, rename_given}
+use Rattle.nofs_machine.specs.Machine.{drop_given, link_given, make_given, place_for_link}
 use Rattle.nofs_machine.specs.Search.{first_of, least_from}
 use Rattle.nofs_machine.specs.History.{FilesMatch}
 use Rattle.nofs_machine.specs.declared.steps.Step.TheVariants as step
 use Rattle.nofs_model.specs.Cells.{Cell, Entry, FileKind, BackLink, record_at, free_record, is_empty_link}
 use Rattle.nofs_inode.specs.declared.inode.FileKind.TheVariants.{Directory as Folder}
-use Rattle.nofs_model.specs.Image.{Image, cell_at, super_at, is_inode, is_data_block, inode, FileState, Files, entry_held, entry_in_file, entry_at, is_folder, files_in, Agreed, root, linked, is_a, is_pair, is_special, links_of}
+use Rattle.nofs_model.specs.Image.{Image, cell_at, super_at, is_inode, is_data_block, inode, FileState, Files, entry_held, entry_in_file, entry_at, is_folder}
+use Rattle.nofs_model.specs.Image.{files_in, Agreed, root, linked, is_a, is_pair, is_special, links_of}
 use Rattle.nofs_model.specs.declared.value.Value.{Value}
 use Rattle.nofs_model.specs.declared.value.Value.TheVariants.{Hole}
 use Rattle.nofs_law_untouched.proofs.Claiming.{super-same}
@@ -29,12 +32,14 @@ unfolding least_from
 least-passes test at zero e h = cc
 least-passes test at (suc n) e h = go (test at) refl (λ q. least-passes test (suc at) n e q) h
   where
-    go : (b : Bool) → test at ≡ b → (least_from test (suc at) n ≡ Some e → (test e ≡ true) × (e < suc at + n)) → cond b (Some at) (least_from test (suc at) n) ≡ Some e → (test e ≡ true) × (e < at + suc n)
+    go : (b : Bool) → test at ≡ b → (least_from test (suc at) n ≡ Some e → (test e ≡ true) × (e < suc at + n))
+        → cond b (Some at) (least_from test (suc at) n) ≡ Some e → (test e ≡ true) × (e < at + suc n)
     go true eb ih q = let s : at ≡ e = cc q in (subst (λ (k : ℕ). test k ≡ true) s eb, omega (arith, s))
     go false eb ih q = let r = ih q in let lt = r.1 in (r.0, omega (arith, lt))
 
 -- the entry that a name finds: Rename and Drop
-pub found-parts : (F : Files) (d : ℕ) (name : List ℕ) (e : ℕ) → found F d name ≡ Some e → (entry : Entry) × (entry_at F d e ≡ Some entry) × (is_paired F d e ≡ true) × (e < entry_limit)
+pub found-parts : (F : Files) (d : ℕ) (name : List ℕ) (e : ℕ) → found F d name ≡ Some e
+    → (entry : Entry) × (entry_at F d e ≡ Some entry) × (is_paired F d e ≡ true) × (e < entry_limit)
 unfolding found
 found-parts F d name e h =
     let p = least-passes (λ k. entry_has_name F d name k && is_paired F d k) 0 entry_limit e h in
@@ -61,13 +66,16 @@ pub no-entry-unpaired : (F : Files) (d e : ℕ) → entry_at F d e ≡ None → 
 no-entry-unpaired F d e h = rw (h, is_paired) refl
 
 -- records beside the one that is written stay
-pub records-stay : (X Y : Image) (i : ℕ) → is_inode X i ≡ true → cell_at Y 0 ≡ cell_at X 0 → ((b : ℕ) → is_data_block X b ≡ false → b ≢ 1 + (i - 1) / 4 → cell_at Y b ≡ cell_at X b)
+pub records-stay : (X Y : Image) (i : ℕ) → is_inode X i ≡ true → cell_at Y 0 ≡ cell_at X 0
+    → ((b : ℕ) → is_data_block X b ≡ false → b ≢ 1 + (i - 1) / 4 → cell_at Y b ≡ cell_at X b)
     → ((q : ℕ) → q < 4 → q ≢ (i - 1) % 4 → record_at (cell_at Y (1 + (i - 1) / 4)).payload q ≡ record_at (cell_at X (1 + (i - 1) / 4)).payload q)
     → (super_at X).inodes % 4 ≡ 0 → (j : ℕ) → j ≢ i → inode Y j ≡ inode X j
 unfolding inode
 records-stay X Y i range super blocks same quarters j ne = go (is_inode X j) refl (eqb (1 + (j - 1) / 4) (1 + (i - 1) / 4)) refl
   where
-    go : (b : Bool) → is_inode X j ≡ b → (t : Bool) → eqb (1 + (j - 1) / 4) (1 + (i - 1) / 4) ≡ t → cond (is_inode Y j) (record_at (cell_at Y (1 + (j - 1) / 4)).payload ((j - 1) % 4)) free_record ≡ cond (is_inode X j) (record_at (cell_at X (1 + (j - 1) / 4)).payload ((j - 1) % 4)) free_record
+    go : (b : Bool) → is_inode X j ≡ b → (t : Bool) → eqb (1 + (j - 1) / 4) (1 + (i - 1) / 4) ≡ t
+        → cond (is_inode Y j) (record_at (cell_at Y (1 + (j - 1) / 4)).payload ((j - 1) % 4)) free_record ≡ cond (is_inode X j)
+        (record_at (cell_at X (1 + (j - 1) / 4)).payload ((j - 1) % 4)) free_record
     go false e t et = let z = super-same X Y super in let y : is_inode Y j ≡ false = rw z e in rw (y, e) refl
     go true e true et =
         let z = super-same X Y super in
@@ -80,7 +88,8 @@ records-stay X Y i range super blocks same quarters j ne = go (is_inode X j) ref
     go true e false et =
         let z = super-same X Y super in
         let y : is_inode Y j ≡ true = rw z e in
-        let c : cell_at Y (1 + (j - 1) / 4) ≡ cell_at X (1 + (j - 1) / 4) = blocks (1 + (j - 1) / 4) (table e) (λ q. let t = eq-eqb (1 + (j - 1) / 4) (1 + (i - 1) / 4) q in cc (et, t)) in
+        let c : cell_at Y (1 + (j - 1) / 4) ≡ cell_at X (1 + (j - 1) / 4) =
+        blocks (1 + (j - 1) / 4) (table e) (λ q. let t = eq-eqb (1 + (j - 1) / 4) (1 + (i - 1) / 4) q in cc (et, t)) in
         rw (y, e, c) refl
       where
         table : is_inode X j ≡ true → is_data_block X (1 + (j - 1) / 4) ≡ false
@@ -93,29 +102,35 @@ records-stay X Y i range super blocks same quarters j ne = go (is_inode X j) ref
             below : (b : Bool) → is_data_block X (1 + (j - 1) / 4) ≡ b → 1 ≤ j → j ≤ (super_at X).inodes → is_data_block X (1 + (j - 1) / 4) ≡ false
             below false q low high = q
             below true q low high =
-                let first = leb-true (1 + (super_at X).inodes / 4) (1 + (j - 1) / 4) (and-both (leb (1 + (super_at X).inodes / 4) (1 + (j - 1) / 4)) (ltb (1 + (j - 1) / 4) (super_at X).blocks) q).0 in
+                let first = leb-true (1 + (super_at X).inodes / 4) (1 + (j - 1) / 4)
+                (and-both (leb (1 + (super_at X).inodes / 4) (1 + (j - 1) / 4)) (ltb (1 + (j - 1) / 4) (super_at X).blocks) q).0 in
                 absurd (omega (arith, first, low, high, quarters))
 
 -- the table cells of Make and Link in a hole, at any moment: the records of d and i are each that of X or that of Y
 pub step-table-proper : (m : Mark) (X Y : Image) (d i b : ℕ) (c : Cell) → 0 < b → is_data_block m.image b ≡ false
-    → ((j : ℕ) → is_inode m.image j ≡ true → 1 + (j - 1) / 4 ≡ b → (record_at c.payload ((j - 1) % 4) ≡ inode X j) ⊎ (record_at c.payload ((j - 1) % 4) ≡ inode Y j))
+    → ((j : ℕ) → is_inode m.image j ≡ true → 1 + (j - 1) / 4 ≡ b
+    → (record_at c.payload ((j - 1) % 4) ≡ inode X j) ⊎ (record_at c.payload ((j - 1) % 4) ≡ inode Y j))
     → ((j : ℕ) → j ≢ d → j ≢ i → inode Y j ≡ inode X j) → RecordProper m X d (inode Y d) → RecordProper m X i (inode Y i) → Proper m X b c
 step-table-proper m X Y d i b c pos area each others at_d at_i = mixed-table-proper m X Y b c pos area each (two-records m X Y d i others at_d at_i)
 
 -- what the steps give
-pub rename-gives : (F : Files) (d g : ℕ) (old new : List ℕ) (claims : Claims) (e : ℕ) → found F d old ≡ Some e → gives F (step.Rename d g old new) claims ≡ rename_given F d g new e
+pub rename-gives : (F : Files) (d g : ℕ) (old new : List ℕ) (claims : Claims) (e : ℕ) → found F d old ≡ Some e
+    → gives F (step.Rename d g old new) claims ≡ rename_given F d g new e
 unfolding gives
 rename-gives F d g old new claims e h = rw h refl
 
-pub drop-gives : (F : Files) (d g : ℕ) (name : List ℕ) (claims : Claims) (e : ℕ) → found F d name ≡ Some e → gives F (step.Drop d g name) claims ≡ drop_given F d g e
+pub drop-gives : (F : Files) (d g : ℕ) (name : List ℕ) (claims : Claims) (e : ℕ) → found F d name ≡ Some e
+    → gives F (step.Drop d g name) claims ≡ drop_given F d g e
 unfolding gives
 drop-gives F d g name claims e h = rw h refl
 
-pub link-gives : (F : Files) (d g : ℕ) (name : List ℕ) (i of : ℕ) (claims : Claims) (e b : ℕ) → place_for F d name ≡ Some e → link_place F i ≡ Some b → gives F (step.Link d g name i of) claims ≡ link_given F d g name i of e b
+pub link-gives : (F : Files) (d g : ℕ) (name : List ℕ) (i of : ℕ) (claims : Claims) (e b : ℕ) → place_for F d name ≡ Some e → link_place F i ≡ Some b
+    → gives F (step.Link d g name i of) claims ≡ link_given F d g name i of e b
 unfolding gives
 link-gives F d g name i of claims e b h l = rw (h, l) refl
 
-pub make-given-is : (F : Files) (d g : ℕ) (name : List ℕ) (kind : FileKind) (claims : Claims) (e : ℕ) → place_for F d name ≡ Some e → gives F (step.Make d g name kind) claims ≡ make_given F d g name kind claims e
+pub make-given-is : (F : Files) (d g : ℕ) (name : List ℕ) (kind : FileKind) (claims : Claims) (e : ℕ) → place_for F d name ≡ Some e
+    → gives F (step.Make d g name kind) claims ≡ make_given F d g name kind claims e
 unfolding gives
 make-given-is F d g name kind claims e h = rw h refl
 
@@ -147,9 +162,13 @@ some-false (Some q) e = cc
 
 pub place-unpaired : (F : Files) (d : ℕ) (name : List ℕ) (e : ℕ) → place_for F d name ≡ Some e → is_paired F d e ≡ false
 unfolding place_for
-place-unpaired F d name e h = go (first_dead F d name) refl (least_from (λ k. is_bytes (value_of F d (k / 16)) && not (is_some (entry_at F d k))) 0 entry_limit) refl (least_from (λ k. is_hole (value_of F d k)) 0 72) refl h
+place-unpaired F d name e h = go (first_dead F d name) refl
+    (least_from (λ k. is_bytes (value_of F d (k / 16)) && not (is_some (entry_at F d k))) 0 entry_limit) refl
+    (least_from (λ k. is_hole (value_of F d k)) 0 72) refl h
   where
-    go : (a : Option ℕ) → first_dead F d name ≡ a → (b : Option ℕ) → least_from (λ k. is_bytes (value_of F d (k / 16)) && not (is_some (entry_at F d k))) 0 entry_limit ≡ b → (c : Option ℕ) → least_from (λ k. is_hole (value_of F d k)) 0 72 ≡ c
+    go : (a : Option ℕ) → first_dead F d name ≡ a → (b : Option ℕ)
+        → least_from (λ k. is_bytes (value_of F d (k / 16)) && not (is_some (entry_at F d k))) 0 entry_limit ≡ b → (c : Option ℕ)
+        → least_from (λ k. is_hole (value_of F d k)) 0 72 ≡ c
         → first_of (a ∷ b ∷ option_map (λ k. 16 * k) c ∷ []) ≡ Some e → is_paired F d e ≡ false
     go (Some n) ea b eb c ec q = let s : n ≡ e = cc q in dead-unpaired F d name e (ea ∙ ap Some s)
     go None ea (Some n) eb c ec q =
@@ -169,7 +188,8 @@ unfolding least_from
 least-none test at zero h k le lt = absurd (omega (arith, le, lt))
 least-none test at (suc n) h k le lt = go (test at) refl (λ q l. least-none test (suc at) n q k l (omega (arith, lt))) h
   where
-    go : (b : Bool) → test at ≡ b → (is_some (least_from test (suc at) n) ≡ false → suc at ≤ k → test k ≡ false) → is_some (cond b (Some at) (least_from test (suc at) n)) ≡ false → test k ≡ false
+    go : (b : Bool) → test at ≡ b → (is_some (least_from test (suc at) n) ≡ false → suc at ≤ k → test k ≡ false)
+        → is_some (cond b (Some at) (least_from test (suc at) n)) ≡ false → test k ≡ false
     go true eb ih q = cc
     go false eb ih q = same (eqb at k) refl
       where
@@ -186,7 +206,8 @@ place-in-range : (test : BackLink → Bool) (links : List BackLink) (at b : ℕ)
 place-in-range test [] at b h = cc
 place-in-range test (l ∷ ls) at b h = go (test l) (λ q. place-in-range test ls (suc at) b q) h
   where
-    go : (t : Bool) → (place_for_link test ls (suc at) ≡ Some b → b < suc at + length ls) → cond t (Some at) (place_for_link test ls (suc at)) ≡ Some b → b < at + length (l ∷ ls)
+    go : (t : Bool) → (place_for_link test ls (suc at) ≡ Some b → b < suc at + length ls) → cond t (Some at) (place_for_link test ls (suc at)) ≡ Some b
+        → b < at + length (l ∷ ls)
     go true ih q = let s : at ≡ b = cc q in omega (arith, s)
     go false ih q = let lt = ih q in omega (arith, lt)
 
@@ -194,13 +215,19 @@ pub link-place-parts : (F : Files) (i b : ℕ) → link_place F i ≡ Some b →
 unfolding link_place
 link-place-parts F i b h = go (eqb i 2) refl h
   where
-    go : (t : Bool) → eqb i 2 ≡ t → cond t None (first_of (place_for_link is_empty_link (links_of F i) 0 ∷ place_for_link (λ link. not (is_pair F i link)) (links_of F i) 0 ∷ [])) ≡ Some b → (i ≢ 2) × (b < length (links_of F i))
+    go : (t : Bool) → eqb i 2 ≡ t → cond t None (first_of (place_for_link is_empty_link (links_of F i) 0 ∷ place_for_link (λ link. not (is_pair F i link))
+        (links_of F i) 0 ∷ [])) ≡ Some b → (i ≢ 2) × (b < length (links_of F i))
     go true e q = cc
-    go false e q = (λ s. let t = eq-eqb i 2 s in cc (e, t), pick (place_for_link is_empty_link (links_of F i) 0) refl (place_for_link (λ link. not (is_pair F i link)) (links_of F i) 0) refl q)
+    go false e q = (
+      λ s. let t = eq-eqb i 2 s in cc (e, t),
+      pick (place_for_link is_empty_link (links_of F i) 0) refl (place_for_link (λ link. not (is_pair F i link)) (links_of F i) 0) refl q,
+    )
       where
-        pick : (u : Option ℕ) → place_for_link is_empty_link (links_of F i) 0 ≡ u → (v : Option ℕ) → place_for_link (λ link. not (is_pair F i link)) (links_of F i) 0 ≡ v → first_of (u ∷ v ∷ []) ≡ Some b → b < length (links_of F i)
+        pick : (u : Option ℕ) → place_for_link is_empty_link (links_of F i) 0 ≡ u → (v : Option ℕ)
+            → place_for_link (λ link. not (is_pair F i link)) (links_of F i) 0 ≡ v → first_of (u ∷ v ∷ []) ≡ Some b → b < length (links_of F i)
         pick (Some n) eu v ev q = let s : n ≡ b = cc q in let lt = place-in-range is_empty_link (links_of F i) 0 b (eu ∙ ap Some s) in omega (arith, lt)
-        pick None eu (Some n) ev q = let s : n ≡ b = cc q in let lt = place-in-range (λ link. not (is_pair F i link)) (links_of F i) 0 b (ev ∙ ap Some s) in omega (arith, lt)
+        pick None eu (Some n) ev q = let s : n ≡ b = cc q in let lt =
+            place-in-range (λ link. not (is_pair F i link)) (links_of F i) 0 b (ev ∙ ap Some s) in omega (arith, lt)
         pick None eu None ev q = cc
 
 -- the file of inode 1, where there is one, is a directory

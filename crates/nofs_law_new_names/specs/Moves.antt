@@ -27,4 +27,5 @@ pub record NameMoves (W : World) (step : Step) (c : Claims) (given : Given) (s d
 
 -- Then each block has its home.
 abbrev pub LawNameHomes : Type 0
-LawNameHomes = (W : World) (step : Step) (c : Claims) (given : Given) (s d i : ℕ) (X Y : Image) → NameMoves W step c given s d i X Y → HomesMove W.files step c X Y
+LawNameHomes = (W : World) (step : Step) (c : Claims) (given : Given) (s d i : ℕ) (X Y : Image) → NameMoves W step c given s d i X Y
+    → HomesMove W.files step c X Y

@@ -1,10 +1,12 @@
 -- The numbers in what a Put and a Resize write.
-use Rattle.std.proofs.Common.{◌≡◌, ℕ, ◌<◌, inl, inr, Bool, true, false, cond, eqb, List, [], ◌∷◌, ◌++◌, Some, refl, sym, ap, ◌∙◌, subst, arith, Contains, eqb-true}
+use Rattle.std.proofs.Common.{◌≡◌, ℕ, ◌<◌, inl, inr, Bool, true, false, cond, eqb, List, [], ◌∷◌, ◌++◌, Some, refl, sym, ap, ◌∙◌, subst, arith, Contains}
+use Rattle.std.proofs.Common.{eqb-true}
 use Rattle.std.proofs.lemmas.List.Elements.{Contains-append_left, Contains-append_right}
 use Rattle.nofs_ptrs.specs.Paths.{slot_limit}
 use Rattle.nofs_model.specs.Cells.{Cell, FileKind, File, Content, Pointer, BackLink, Record, tag_of, pointer_at, is_live}
 use Rattle.nofs_inode.specs.declared.inode.FileKind.TheVariants.{Directory as Folder}
-use Rattle.nofs_model.specs.Image.{Image, cell_at, inode, Path, InRecord, Under, path_of, slot_of, is_pointer_slot, content_kind, kind_in, tag_for, find, pointer, record_pointer, FileState, is_folder, IsAbove, IsSlot}
+use Rattle.nofs_model.specs.Image.{Image, cell_at, inode, Path, InRecord, Under, path_of, slot_of, is_pointer_slot, content_kind, kind_in, tag_for, find}
+use Rattle.nofs_model.specs.Image.{pointer, record_pointer, FileState, is_folder, IsAbove, IsSlot}
 use Rattle.nofs_model.specs.declared.path.PathAnswer.TheVariants as answer
 use Rattle.nofs_model.proofs.Find.{find-held}
 use Rattle.nofs_model.proofs.Paths.{path_of-slot, path_of-content, above-refl, above-slot}
@@ -44,14 +46,16 @@ listed c y h = elim h.1 [
     one x e = subst (λ (q : Pointer). Contains (part q) y) (sym e) (subst (λ (b : Bool). Contains (cond b (y ∷ []) []) y) (sym h.0) (0, omega arith, refl))
 
 -- a tag stays where kind and generation do
-pub tag-same : (X Y : Image) (i : ℕ) (a : Path) (stamp : ℕ) → (inode Y i).kind ≡ (inode X i).kind → (inode Y i).generation ≡ (inode X i).generation → tag_for Y i a stamp ≡ tag_for X i a stamp
+pub tag-same : (X Y : Image) (i : ℕ) (a : Path) (stamp : ℕ) → (inode Y i).kind ≡ (inode X i).kind → (inode Y i).generation ≡ (inode X i).generation
+    → tag_for Y i a stamp ≡ tag_for X i a stamp
 tag-same X Y i a stamp kind generation = λ j. record { kind = kinds j; inode = i; generation = generation j; slot = slot_of a; stamp = stamp }
   where
     kinds : kind_in (inode Y i) a ≡ kind_in (inode X i) a
     kinds = rw kind refl
 
 -- a file's slots have content
-content-here : (X : Image) (i k : ℕ) (f : FileState) → (inode X i).kind ≡ Some f.kind → is_folder f.kind ≡ false → k < slot_limit → kind_in (inode X i) (path_of k) ≡ Content
+content-here : (X : Image) (i k : ℕ) (f : FileState) → (inode X i).kind ≡ Some f.kind → is_folder f.kind ≡ false → k < slot_limit
+    → kind_in (inode X i) (path_of k) ≡ Content
 content-here X i k f is file range = rw (path_of-content k range, is) (go f.kind file)
   where
     go : (q : FileKind) → is_folder q ≡ false → content_kind (Some q) ≡ Content
@@ -59,7 +63,8 @@ content-here X i k f is file range = rw (path_of-content k range, is) (go f.kind
     go Folder e = cc
 
 -- the file's record at a moment
-file-record : (W : World) (c : Claims) (X Y : Image) (i : ℕ) (r : Record) → is_live (inode X i) ≡ true → ((n : ℕ) → n < 10 → PointerFrom c X i (InRecord n) (record_pointer (inode Y i) n)) → FileRecord X Y i r → RecordWritten W c X i r
+file-record : (W : World) (c : Claims) (X Y : Image) (i : ℕ) (r : Record) → is_live (inode X i) ≡ true
+    → ((n : ℕ) → n < 10 → PointerFrom c X i (InRecord n) (record_pointer (inode Y i) n)) → FileRecord X Y i r → RecordWritten W c X i r
 file-record W c X Y i r live from q = Changed (record {
   live = live;
   generation = q.generation;
@@ -68,7 +73,8 @@ file-record W c X Y i r live from q = Changed (record {
 })
 
 -- all records, where one file alone is touched
-all-records : (W : World) (c : Claims) (s : ℕ) (X Y : Image) (i : ℕ) → Touches s (λ j. eqb j i) X Y → ((r : Record) → FileRecord X Y i r → RecordWritten W c X i r) → FileRecord X Y i (inode Y i) → (j : ℕ) → RecordWritten W c X j (inode Y j)
+all-records : (W : World) (c : Claims) (s : ℕ) (X Y : Image) (i : ℕ) → Touches s (λ j. eqb j i) X Y
+    → ((r : Record) → FileRecord X Y i r → RecordWritten W c X i r) → FileRecord X Y i (inode Y i) → (j : ℕ) → RecordWritten W c X j (inode Y j)
 all-records W c s X Y i touch own is j = go (eqb j i) refl
   where
     go : (t : Bool) → eqb j i ≡ t → RecordWritten W c X j (inode Y j)
@@ -94,7 +100,8 @@ module _ (W : World) (X Y : Image) (i g k at : ℕ) (bytes : List ℕ) (f : File
   }
 
   put-content : CellNumbers (Numbered W c) X (places (path_of k)).block (cell_at Y (places (path_of k)).block)
-  put-content = law-content-numbers W c X i (path_of k) (places (path_of k)) (cell_at Y (places (path_of k)).block) o (put-cell (path_of k) (above-refl (path_of k)))
+  put-content = law-content-numbers W c X i (path_of k) (places (path_of k)) (cell_at Y (places (path_of k)).block) o
+      (put-cell (path_of k) (above-refl (path_of k)))
       (content-here X i k f (file-in W.files X i f p.files p.is).0 p.file p.range)
 
   put-pointers : (b : Path) → IsAbove b (path_of k) → is_pointer_slot b ≡ true → CellNumbers (Numbered W c) X (places b).block (cell_at Y (places b).block)
@@ -106,7 +113,8 @@ module _ (W : World) (X Y : Image) (i g k at : ℕ) (bytes : List ℕ) (f : File
     where
       beside : (n : ℕ) → n < 64 → (IsAbove (Under b n) (path_of k) → ⊥) → PointerFrom c X i (Under b n) (pointer_at (cell_at Y (places b).block).payload n)
       beside n lt off = elim (p.grows.beside b n (points, lt, above-slot b (path_of k) h (path_of-slot k p.range)) h off) [
-        | inl kept ↦ (let px : pointer X i (Under b n) ≡ pointer_at (cell_at X (places b).block).payload n = let z = kept.0 in rw (z, pointer) refl in Before (px ∙ sym kept.1))
+        | inl kept ↦ (let px : pointer X i (Under b n) ≡ pointer_at (cell_at X (places b).block).payload n = let z =
+            kept.0 in rw (z, pointer) refl in Before (px ∙ sym kept.1))
         | inr new ↦ Empty new.1
       ]
 
@@ -120,7 +128,8 @@ module _ (W : World) (X Y : Image) (i g k at : ℕ) (bytes : List ℕ) (f : File
   put-record r q = file-record W c X Y i r put-own.live put-record-from q
 
 pub law-put-cells : LawPutCells
-law-put-cells W X Y i g k at bytes f s places c o p placed = (put-content W X Y i g k at bytes f s places c o p placed, put-pointers W X Y i g k at bytes f s places c o p placed)
+law-put-cells W X Y i g k at bytes f s places c o p placed =
+    (put-content W X Y i g k at bytes f s places c o p placed, put-pointers W X Y i g k at bytes f s places c o p placed)
 
 pub law-put-record : LawPutRecord
 law-put-record W X Y i g k at bytes f s places c o p placed =
@@ -154,9 +163,11 @@ module _ (W : World) (X Y : Image) (i g size : ℕ) (f : FileState) (s : ℕ) (c
       (content-here X i k f (file-in W.files X i f p.files p.is).0 p.file range)
 
   resize-pointers : (b : Path) (y : Pointer) → IsSlot b → is_pointer_slot b ≡ true → is_cut (cut_at f size) b ≡ false → find X i b ≡ answer.Holds y → CellNumbers (Numbered W c) X y.block (cell_at Y y.block)
-  resize-pointers b y slot points stays held = law-pointer-numbers W c X i b y (cell_at Y y.block) o (resize-cell b y slot held) points (λ n lt. go n (points, lt, slot) (is_cut (cut_at f size) (Under b n)) refl)
+  resize-pointers b y slot points stays held = law-pointer-numbers W c X i b y (cell_at Y y.block) o (resize-cell b y slot held) points
+      (λ n lt. go n (points, lt, slot) (is_cut (cut_at f size) (Under b n)) refl)
     where
-      go : (n : ℕ) → IsSlot (Under b n) → (t : Bool) → is_cut (cut_at f size) (Under b n) ≡ t → PointerFrom c X i (Under b n) (pointer_at (cell_at Y y.block).payload n)
+      go : (n : ℕ) → IsSlot (Under b n) → (t : Bool) → is_cut (cut_at f size) (Under b n) ≡ t
+          → PointerFrom c X i (Under b n) (pointer_at (cell_at Y y.block).payload n)
       go n at true e = Empty (p.cell_cut b n y at stays held e)
       go n at false e =
           let px : pointer X i (Under b n) ≡ pointer_at (cell_at X y.block).payload n = rw (held, pointer) refl in

@@ -1,5 +1,6 @@
 -- Rename and Drop: the numbers in what they write.
-use Rattle.std.proofs.Common.{◌≡◌, ◌≢◌, ℕ, ◌/◌, ◌%◌, ◌<◌, ◌⊎◌, inl, inr, Bool, true, false, cond, eqb, List, [], ◌∷◌, length, Option, Some, IfSome, refl, sym, ap, ◌∙◌, subst, arith, Contains, eqb-true, eq-eqb}
+use Rattle.std.proofs.Common.{◌≡◌, ◌≢◌, ℕ, ◌/◌, ◌%◌, ◌<◌, ◌⊎◌, inl, inr, Bool, true, false, cond, eqb, List, [], ◌∷◌, length, Option, Some, IfSome, refl, sym}
+use Rattle.std.proofs.Common.{ap, ◌∙◌, subst, arith, Contains, eqb-true, eq-eqb}
 use Rattle.std.proofs.lemmas.List.Elements.{Contains-append_left, Contains-append_right, Contains-append_cases}
 use Rattle.nofs_dirent.specs.Entries.{entry_limit}
 use Rattle.nofs_ptrs.specs.Paths.{slot_limit}
@@ -29,7 +30,8 @@ use Rattle.nofs_law_numbers.specs.Names.{LawRenameNumbers, LawDropNumbers}
 use Rattle.nofs_law_numbers.proofs.WrittenCells.{held-entries, old-generation, law-directory-numbers}
 
 -- a directory's slots have entries
-pub entries-here : (X : Image) (d k : ℕ) (f : FileState) → (inode X d).kind ≡ Some f.kind → is_folder f.kind ≡ true → k < slot_limit → kind_in (inode X d) (path_of k) ≡ Directory
+pub entries-here : (X : Image) (d k : ℕ) (f : FileState) → (inode X d).kind ≡ Some f.kind → is_folder f.kind ≡ true → k < slot_limit
+    → kind_in (inode X d) (path_of k) ≡ Directory
 entries-here X d k f is folder range = rw (path_of-content k range, is) (go f.kind folder)
   where
     go : (q : FileKind) → is_folder q ≡ true → content_kind (Some q) ≡ Directory
@@ -37,17 +39,22 @@ entries-here X d k f is folder range = rw (path_of-content k range, is) (go f.ki
     go File e = cc
 
 -- the bytes of an entry name a number where the entry does
-pub entry-number : (W : World) (c : Claims) (bytes : List ℕ) (entry : Entry) → entry_of bytes ≡ Some entry → Numbered W c entry.generation → IfSome (entry_of bytes) (λ (n : Entry). Numbered W c n.generation)
+pub entry-number : (W : World) (c : Claims) (bytes : List ℕ) (entry : Entry) → entry_of bytes ≡ Some entry → Numbered W c entry.generation
+    → IfSome (entry_of bytes) (λ (n : Entry). Numbered W c n.generation)
 entry-number W c bytes entry e number = subst (λ (q : Option Entry). IfSome q (λ (n : Entry). Numbered W c n.generation)) (sym e) number
 
 -- the generation of a file is old
-pub file-number : (W : World) (c : Claims) (X : Image) (j : ℕ) (f : FileState) → OldNumbers W X → FilesMatch W.files X → W.files j ≡ Some f → Numbered W c f.generation
-file-number W c X j f o match is = subst (Numbered W c) (sym (file-of W.files X j f match is).1.generation) (old-generation W c X j o (matched-file W.files X j match (some-is (W.files j) f is)).live)
+pub file-number : (W : World) (c : Claims) (X : Image) (j : ℕ) (f : FileState) → OldNumbers W X → FilesMatch W.files X → W.files j ≡ Some f
+    → Numbered W c f.generation
+file-number W c X j f o match is = subst (Numbered W c) (sym (file-of W.files X j f match is).1.generation)
+    (old-generation W c X j o (matched-file W.files X j match (some-is (W.files j) f is)).live)
 
 -- one entry is written in place
-pub entry-in-place : (W : World) (c : Claims) (X Y : Image) (d e : ℕ) (bytes : List ℕ) (f : FileState) (x : Pointer) → OldNumbers W X → FilesMatch W.files X → W.files d ≡ Some f → is_folder f.kind ≡ true → e < entry_limit
+pub entry-in-place : (W : World) (c : Claims) (X Y : Image) (d e : ℕ) (bytes : List ℕ) (f : FileState) (x : Pointer) → OldNumbers W X → FilesMatch W.files X
+    → W.files d ≡ Some f → is_folder f.kind ≡ true → e < entry_limit
     → find X d (path_of (e / 16)) ≡ answer.Holds x → length (cell_at X x.block).payload ≡ 1024 → tag_of (cell_at Y x.block).tag ≡ tag_of (cell_at X x.block).tag
-    → length bytes ≡ 64 → Bytes (cell_at Y x.block).payload ≡ with_entry (Bytes (cell_at X x.block).payload) e bytes → IfSome (entry_of bytes) (λ (n : Entry). Numbered W c n.generation)
+    → length bytes ≡ 64 → Bytes (cell_at Y x.block).payload ≡ with_entry (Bytes (cell_at X x.block).payload) e bytes
+    → IfSome (entry_of bytes) (λ (n : Entry). Numbered W c n.generation)
     → CellNumbers (Numbered W c) X x.block (cell_at Y x.block)
 entry-in-place W c X Y d e bytes f x o match is folder lt held full tag whole content number =
     let range : e / 16 < slot_limit = omega (arith, lt) in
@@ -59,8 +66,10 @@ entry-in-place W c X Y d e bytes f x o match is folder lt held full tag whole co
 
 pub law-rename-numbers : LawRenameNumbers
 law-rename-numbers W X Y d g e s new f x entry c o p =
-    entry-in-place W c X Y d e (spelled_entry entry.inode entry.generation new) f x o p.files p.is parts.0 parts.1 p.held p.whole p.writes.tag p.spells.short p.content
-    (entry-number W c (spelled_entry entry.inode entry.generation new) (record { inode = entry.inode; generation = entry.generation; name = new }) p.spells.reads was)
+    entry-in-place W c X Y d e (spelled_entry entry.inode entry.generation new)
+    f x o p.files p.is parts.0 parts.1 p.held p.whole p.writes.tag p.spells.short p.content
+    (entry-number W c (spelled_entry entry.inode entry.generation new) (record { inode = entry.inode; generation = entry.generation; name = new })
+    p.spells.reads was)
   where
     parts : (is_folder f.kind ≡ true) × (e < entry_limit) × (entry_held (f.values (e / 16)) e ≡ Some entry)
     parts = entry-parts (W.files d) f e entry p.is p.found
@@ -74,7 +83,8 @@ law-rename-numbers W X Y d g e s new f x entry c o p =
 
     was : Numbered W c entry.generation
     was = subst (λ (q : Option Entry). IfSome q (λ (n : Entry). Numbered W c n.generation)) here
-        (held-entries W c X d (path_of (e / 16)) x o (entries-here X d (e / 16) f (file-of W.files X d f p.files p.is).0 parts.0 range) p.held (e % 16) (omega arith))
+        (held-entries W c X d (path_of (e / 16)) x o (entries-here X d (e / 16) f (file-of W.files X d f p.files p.is).0 parts.0 range) p.held (e % 16)
+        (omega arith))
 
 -- Records
 
@@ -91,7 +101,8 @@ without-cases link (k ∷ ks) l has = elim (Contains-append_cases (cond (same_li
     first false e = inl (Contains-append_left (k ∷ []) ks l (0, omega arith, e))
 
 -- the record whose links alone change
-pub relinked-record : (W : World) (c : Claims) (X Y : Image) (i : ℕ) (h : FileState) (links : List BackLink) → FilesMatch W.files X → W.files i ≡ Some h → Relinked X Y i links
+pub relinked-record : (W : World) (c : Claims) (X Y : Image) (i : ℕ) (h : FileState) (links : List BackLink) → FilesMatch W.files X → W.files i ≡ Some h
+    → Relinked X Y i links
     → ((l : BackLink) → Contains links l → Contains h.links l ⊎ Numbered W c l.generation) → RecordWritten W c X i (inode Y i)
 relinked-record W c X Y i h links match is r from = Changed (record {
   live = (matched-file W.files X i match (some-is (W.files i) h is)).live;
@@ -104,7 +115,8 @@ relinked-record W c X Y i h links match is r from = Changed (record {
 })
 
 -- and every other stays
-pub one-record : (W : World) (c : Claims) (X Y : Image) (i : ℕ) → ((j : ℕ) → j ≢ i → inode Y j ≡ inode X j) → RecordWritten W c X i (inode Y i) → (j : ℕ) → RecordWritten W c X j (inode Y j)
+pub one-record : (W : World) (c : Claims) (X Y : Image) (i : ℕ) → ((j : ℕ) → j ≢ i → inode Y j ≡ inode X j) → RecordWritten W c X i (inode Y i) → (j : ℕ)
+    → RecordWritten W c X j (inode Y j)
 one-record W c X Y i others own j = go (eqb j i) refl
   where
     go : (t : Bool) → eqb j i ≡ t → RecordWritten W c X j (inode Y j)
@@ -117,10 +129,11 @@ law-drop-numbers W X Y d g e s f h x entry c o p = (
       entry-in-place W c X Y d e (zeros 64) f x o p.files p.is parts.0 parts.1 p.held p.whole p.writes.tag refl p.content
       (subst (λ (q : Option Entry). IfSome q (λ (n : Entry). Numbered W c n.generation)) (sym no-entry) tt)),
   λ what. one-record W c X Y entry.inode p.writes.records (elim what [
-    | inl r ↦ relinked-record W c X Y entry.inode h (without_link (link_to d e g) h.links) p.files p.named r (λ l has. elim (without-cases (link_to d e g) h.links l has) [
-      | inl there ↦ inl there
-      | inr z ↦ inr (subst (λ (q : BackLink). Numbered W c q.generation) (sym z) (Old o.positive))
-    ])
+    | inl r ↦ relinked-record W c X Y entry.inode h (without_link (link_to d e g) h.links) p.files p.named r
+        (λ l has. elim (without-cases (link_to d e g) h.links l has) [
+          | inl there ↦ inl there
+          | inr z ↦ inr (subst (λ (q : BackLink). Numbered W c q.generation) (sym z) (Old o.positive))
+        ])
     | inr free ↦ Freed (rw free refl)
   ]),
 )

@@ -22,14 +22,17 @@ pub old-generation : (W : World) (c : Claims) (X : Image) (i : ℕ) → OldNumbe
 old-generation W c X i o live = Old (old-record (next_stamp W) X i o.mountable o.below live).generation
 
 -- the stamp of a written cell is old, or claimed
-cell-stamp : (W : World) (c : Claims) (X : Image) (i : ℕ) (a : Path) (x : Pointer) (cell : Cell) → OldNumbers W X → CellFor c X i a x cell → Numbered W c x.stamp
+cell-stamp : (W : World) (c : Claims) (X : Image) (i : ℕ) (a : Path) (x : Pointer) (cell : Cell) → OldNumbers W X → CellFor c X i a x cell
+    → Numbered W c x.stamp
 cell-stamp W c X i a x cell o p = law-pointers W c X i a x o.positive o.mountable o.below p.live p.slot p.from
 
 pub law-content-numbers : LawContentNumbers
-law-content-numbers W c X i a x cell o p kind = InContent p.area (tag_for X i a x.stamp) p.tag kind (old-generation W c X i o p.live) (cell-stamp W c X i a x cell o p)
+law-content-numbers W c X i a x cell o p kind = InContent p.area (tag_for X i a x.stamp) p.tag kind (old-generation W c X i o p.live)
+    (cell-stamp W c X i a x cell o p)
 
 pub law-pointer-numbers : LawPointerNumbers
-law-pointer-numbers W c X i a x cell o p points from = InPointers p.area (tag_for X i a x.stamp) p.tag leaf-kind (old-generation W c X i o p.live) (cell-stamp W c X i a x cell o p)
+law-pointer-numbers W c X i a x cell o p points from = InPointers p.area (tag_for X i a x.stamp) p.tag leaf-kind (old-generation W c X i o p.live)
+    (cell-stamp W c X i a x cell o p)
     (λ n lt. law-pointers W c X i (Under a n) (pointer_at cell.payload n) o.positive o.mountable o.below p.live (points, lt, p.slot) (from n lt))
   where
     leaf-kind : kind_in (inode X i) a ≡ Leaf
@@ -46,15 +49,18 @@ no-entries j lt =
     ∙ sym (others Hole (suc j) (zeros 64) refl refl j apart) ∙ entry-there Hole (suc j) j (zeros 64) refl refl (λ e. cc e) apart
 
 -- those of a cell that held are old
-pub held-entries : (W : World) (c : Claims) (X : Image) (d : ℕ) (a : Path) (y : Pointer) → OldNumbers W X → kind_in (inode X d) a ≡ Directory → find X d a ≡ answer.Holds y
+pub held-entries : (W : World) (c : Claims) (X : Image) (d : ℕ) (a : Path) (y : Pointer) → OldNumbers W X → kind_in (inode X d) a ≡ Directory
+    → find X d a ≡ answer.Holds y
     → (j : ℕ) → j < 16 → IfSome (entry_in (cell_at X y.block).payload j) (λ (n : Entry). Numbered W c n.generation)
 held-entries W c X d a y o kind held j lt =
     let h = find-held X d a y held in
     let area = and-both (leb (1 + (super_at X).inodes / 4) y.block) (ltb y.block (super_at X).blocks) h.agrees.area in
     let within : y.block < (super_at X).blocks = ltb-true y.block (super_at X).blocks area.1 in
     let p = (o.below y.block within).tag.entries in
-    let q = subst (λ (t : Option Tag). IfSome t (λ t. t.kind ≡ Directory → (j : ℕ) → j < 16 → IfSome (entry_in (cell_at X y.block).payload j) (λ e. e.generation < next_stamp W))) h.agrees.tag p in
-    if-some (λ (n : Entry). n.generation < next_stamp W) (λ (n : Entry). Numbered W c n.generation) (entry_in (cell_at X y.block).payload j) (λ n z. Old z) (q kind j lt)
+    let q = subst (λ (t : Option Tag). IfSome t (λ t. t.kind ≡ Directory → (j : ℕ) → j < 16
+    → IfSome (entry_in (cell_at X y.block).payload j) (λ e. e.generation < next_stamp W))) h.agrees.tag p in
+    if-some (λ (n : Entry). n.generation < next_stamp W) (λ (n : Entry). Numbered W c n.generation) (entry_in (cell_at X y.block).payload j) (λ n z. Old z)
+    (q kind j lt)
 
 -- of whatever the cell had before
 module _ (W : World) (c : Claims) (X : Image) (d : ℕ) (a : Path) (old : Value) (o : OldNumbers W X) (kind : kind_in (inode X d) a ≡ Directory) where
@@ -63,10 +69,13 @@ module _ (W : World) (c : Claims) (X : Image) (d : ℕ) (a : Path) (old : Value)
   before-whole (Zeros e) = ap (λ (v : Value). length (bytes_in v)) e
 
   before-numbers : EntriesFrom X d a old → (j : ℕ) → j < 16 → IfSome (entry_in (bytes_in old) j) (λ (n : Entry). Numbered W c n.generation)
-  before-numbers (Held y held whole e) j lt = subst (λ (v : Value). IfSome (entry_in (bytes_in v) j) (λ (n : Entry). Numbered W c n.generation)) (sym e) (held-entries W c X d a y o kind held j lt)
+  before-numbers (Held y held whole e) j lt = subst (λ (v : Value). IfSome (entry_in (bytes_in v) j) (λ (n : Entry). Numbered W c n.generation)) (sym e)
+      (held-entries W c X d a y o kind held j lt)
   before-numbers (Zeros e) j lt = subst (λ (v : Value). IfSome (entry_in (bytes_in v) j) (λ (n : Entry). Numbered W c n.generation)) (sym e)
       (subst (λ (q : Option Entry). IfSome q (λ (n : Entry). Numbered W c n.generation)) (sym (no-entries j lt)) tt)
 
 pub law-directory-numbers : LawDirectoryNumbers
-law-directory-numbers W c X d a x cell old e bytes o p kind w = InDirectory p.area (tag_for X d a x.stamp) p.tag kind (old-generation W c X d o p.live) (cell-stamp W c X d a x cell o p)
-    (law-entry-numbers W c old e bytes cell.payload (before-whole W c X d a old o kind w.before) w.whole (sym w.content) w.number (before-numbers W c X d a old o kind w.before))
+law-directory-numbers W c X d a x cell old e bytes o p kind w =
+    InDirectory p.area (tag_for X d a x.stamp) p.tag kind (old-generation W c X d o p.live) (cell-stamp W c X d a x cell o p)
+    (law-entry-numbers W c old e bytes cell.payload (before-whole W c X d a old o kind w.before) w.whole (sym w.content) w.number
+    (before-numbers W c X d a old o kind w.before))

@@ -10,7 +10,8 @@ use Rattle.nofs_machine.specs.declared.history.Claims.{Claims}
 use Rattle.nofs_law_maps.specs.Fresh.{Numbered, Old, Generation, RecordNumbers, InTable}
 use Rattle.nofs_law_maps.proofs.Fresh.{old-record}
 use Rattle.nofs_law_maps.proofs.Pieces.{law-pointers}
-use Rattle.nofs_law_numbers.specs.Cells.{OldNumbers, RecordFrom, RecordBorn, RecordWritten, AsBefore, Changed, Made, Freed, table_tag, LawTableNumbers, LawTableMoment}
+use Rattle.nofs_law_numbers.specs.Cells.{OldNumbers, RecordFrom, RecordBorn, RecordWritten, AsBefore, Changed, Made, Freed, table_tag, LawTableNumbers}
+use Rattle.nofs_law_numbers.specs.Cells.{LawTableMoment}
 use Rattle.nofs_law_numbers.proofs.WrittenCells.{old-generation}
 
 null-below : (s : ℕ) (x : Pointer) → is_null x ≡ true → 0 < s → x.stamp < s
@@ -18,7 +19,8 @@ null-below s x z positive = let e = eqb-true x.stamp 0 (and-both (eqb x.block 0)
 
 module _ (W : World) (c : Claims) (X : Image) (j : ℕ) (o : OldNumbers W X) where
   old-link : is_live (inode X j) ≡ true → (l : BackLink) → Contains (inode X j).links l → Numbered W c l.generation
-  old-link live l has = Old (All-contains (λ (q : BackLink). q.generation < next_stamp W) (inode X j).links l (old-record (next_stamp W) X j o.mountable o.below live).links has)
+  old-link live l has = Old (All-contains (λ (q : BackLink). q.generation < next_stamp W) (inode X j).links l
+      (old-record (next_stamp W) X j o.mountable o.below live).links has)
 
   -- a record before the step
   old-numbers : is_live (inode X j) ≡ true → RecordNumbers (Numbered W c) (inode X j)

@@ -1,7 +1,9 @@
 -- Why each number in a written cell is one that the step may write: a cell as before but for one piece, or a claimed one.
 use Rattle.std.specs.Prelude.{◌≡◌, ◌≢◌, ℕ, ◌+◌, ◌-◌, ◌/◌, ◌%◌, ◌<◌, ◌⊎◌, true, false, Some, List, length, IfSome, Contains}
-use Rattle.nofs_model.specs.Cells.{Cell, Content, Directory, Table, Tag, Pointer, BackLink, Record, Entry, tag_of, is_null, is_live, pointer_at, record_at, entry_of}
-use Rattle.nofs_model.specs.Image.{Image, cell_at, is_mountable, is_data_block, is_inode, inode, Path, InRecord, Under, is_pointer_slot, kind_in, tag_for, find, record_pointer, IsBelow, IsSlot}
+use Rattle.nofs_model.specs.Cells.{Cell, Content, Directory, Table, Tag, Pointer, BackLink, Record, Entry, tag_of, is_null, is_live, pointer_at, record_at}
+use Rattle.nofs_model.specs.Cells.{entry_of}
+use Rattle.nofs_model.specs.Image.{Image, cell_at, is_mountable, is_data_block, is_inode, inode, Path, InRecord, Under, is_pointer_slot, kind_in, tag_for}
+use Rattle.nofs_model.specs.Image.{find, record_pointer, IsBelow, IsSlot}
 use Rattle.nofs_model.specs.declared.path.PathAnswer.TheVariants as answer
 use Rattle.nofs_model.specs.declared.value.Value.{Value}
 use Rattle.nofs_model.specs.declared.value.Value.TheVariants.{Hole, Bytes}
@@ -61,7 +63,8 @@ pub record EntryWritten (W : World) (c : Claims) (X : Image) (d : ℕ) (a : Path
 
 -- A directory's cell with one entry written.
 abbrev pub LawDirectoryNumbers : Type 0
-LawDirectoryNumbers = (W : World) (c : Claims) (X : Image) (d : ℕ) (a : Path) (x : Pointer) (cell : Cell) (old : Value) (n : ℕ) (bytes : List ℕ) → OldNumbers W X → CellFor c X d a x cell
+LawDirectoryNumbers = (W : World) (c : Claims) (X : Image) (d : ℕ) (a : Path) (x : Pointer) (cell : Cell) (old : Value) (n : ℕ) (bytes : List ℕ)
+    → OldNumbers W X → CellFor c X d a x cell
     → kind_in (inode X d) a ≡ Directory → EntryWritten W c X d a cell old n bytes → CellNumbers (Numbered W c) X x.block cell
 
 -- a record that is written in place of a live one

@@ -36,7 +36,8 @@ abbrev pub LawLinkInHoleNumbers : Type 0
 LawLinkInHoleNumbers = (W : World) (X Y : Image) (d g n i of b s : ℕ) (name : List ℕ) (f h : FileState) (x y : Pointer) (c : Claims)
     → OldNumbers W X → LinkLies W.files X Y d g n i of b s name f h → EntryInHole s X Y d n i (spelled_entry i of name) x y
     → EntryClaims W.files c d n name x y → IsClaim W (step.Link d g name i of) c
-    → CellNumbers (Numbered W c) X x.block (cell_at Y x.block) × (8 ≤ n / 16 → CellNumbers (Numbered W c) X y.block (cell_at Y y.block)) × ((j : ℕ) → RecordWritten W c X j (inode Y j))
+    → CellNumbers (Numbered W c) X x.block (cell_at Y x.block) × (8 ≤ n / 16 → CellNumbers (Numbered W c) X y.block (cell_at Y y.block)) × ((j : ℕ)
+    → RecordWritten W c X j (inode Y j))
 
 -- Make in a slot that holds.
 abbrev pub LawMakeInPlaceNumbers : Type 0
@@ -48,6 +49,8 @@ LawMakeInPlaceNumbers = (W : World) (X Y : Image) (d g n s : ℕ) (name : List �
 -- Make in a hole.
 abbrev pub LawMakeInHoleNumbers : Type 0
 LawMakeInHoleNumbers = (W : World) (X Y : Image) (d g n s : ℕ) (name : List ℕ) (kind : FileKind) (claims : Claims) (f : FileState) (y : Pointer)
-    → OldNumbers W X → MakeLies W.files X Y d g n s name kind claims f → EntryInHole s X Y d n claims.inode (spelled_entry claims.inode claims.generation name) claims.cell y
+    → OldNumbers W X → MakeLies W.files X Y d g n s name kind claims f
+    → EntryInHole s X Y d n claims.inode (spelled_entry claims.inode claims.generation name) claims.cell y
     → EntryClaims W.files claims d n name claims.cell y → IsClaim W (step.Make d g name kind) claims
-    → CellNumbers (Numbered W claims) X claims.cell.block (cell_at Y claims.cell.block) × (8 ≤ n / 16 → CellNumbers (Numbered W claims) X y.block (cell_at Y y.block)) × ((j : ℕ) → RecordWritten W claims X j (inode Y j))
+    → CellNumbers (Numbered W claims) X claims.cell.block (cell_at Y claims.cell.block) × (8 ≤ n / 16
+    → CellNumbers (Numbered W claims) X y.block (cell_at Y y.block)) × ((j : ℕ) → RecordWritten W claims X j (inode Y j))

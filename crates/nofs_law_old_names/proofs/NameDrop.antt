@@ -1,5 +1,6 @@
 -- Drop: the found entry is cleared; the name's inode stays without the link, or its record becomes free.
-use Rattle.std.proofs.Common.{◌≡◌, ◌≢◌, ℕ, suc, ◌+◌, ◌-◌, ◌/◌, ◌<◌, ◌⊎◌, inl, inr, Bool, true, false, cond, eqb, ltb, ◌&&◌, ◌||◌, not, List, [], ◌∷◌, length, Option, Some, None, is_some, refl, sym, ap, ◌∙◌, subst, subst₂, arith, Contains, eqb-true, eq-eqb}
+use Rattle.std.proofs.Common.{◌≡◌, ◌≢◌, ℕ, suc, ◌+◌, ◌-◌, ◌/◌, ◌<◌, ◌⊎◌, inl, inr, Bool, true, false, cond, eqb, ltb, ◌&&◌, ◌||◌, not, List, [], ◌∷◌, length}
+use Rattle.std.proofs.Common.{Option, Some, None, is_some, refl, sym, ap, ◌∙◌, subst, subst₂, arith, Contains, eqb-true, eq-eqb}
 use Rattle.std.specs.List.{list_any}
 use Rattle.nofs_dirent.specs.Entries.{entry_limit}
 use Rattle.nofs_law_images.specs.Proper.{Proper}
@@ -18,28 +19,37 @@ use Rattle.nofs_law_old_names.proofs.NameLinks.{pair-apart, entry-proper, record
 use Rattle.nofs_model.specs.declared.path.PathAnswer.TheVariants as answer
 use Rattle.nofs_machine.specs.Meta.{Gone, Is}
 use Rattle.nofs_machine.specs.Marks.{Mark}
-use Rattle.nofs_machine.specs.Machine.{zeros, files_after, with_entry, entry_given, meta_given, drop_given, drop_meta, without_link, link_to, same_link, is_paired, generation_of, nothing}
+use Rattle.nofs_machine.specs.Machine.{zeros, files_after, with_entry, entry_given, meta_given, drop_given, drop_meta, without_link, link_to, same_link}
+use Rattle.nofs_machine.specs.Machine.{is_paired, generation_of, nothing}
 use Rattle.nofs_machine.specs.History.{FilesMatch}
 use Rattle.nofs_model.specs.Cells.{FileKind, File, BackLink, Entry, Pointer, entry_of}
 use Rattle.nofs_inode.specs.declared.inode.FileKind.TheVariants.{Directory as Folder}
-use Rattle.nofs_model.specs.Image.{Image, cell_at, super_at, is_data_block, inode, files_in, agreed, Agreed, root, linked, Path, path_of, find, FileState, Files, is_folder, entry_in_file, entry_at, pairs, names, is_a, is_pair, is_root, is_special, links_of, links_in_file}
+use Rattle.nofs_model.specs.Image.{Image, cell_at, super_at, is_data_block, inode, files_in, agreed, Agreed, root, linked, Path, path_of, find, FileState}
+use Rattle.nofs_model.specs.Image.{Files, is_folder, entry_in_file, entry_at, pairs, names, is_a, is_pair, is_root, is_special, links_of, links_in_file}
 use Rattle.nofs_model.specs.declared.value.Value.TheVariants.{Bytes}
 use Rattle.nofs_law_old_names.specs.Names.{InPlace, Relinked}
 
 -- the back link of a paired entry
-pub paired-link : (F : Files) (d e : ℕ) (entry : Entry) → entry_at F d e ≡ Some entry → is_paired F d e ≡ true → (l : BackLink) × Contains (links_of F entry.inode) l × (is_pair F entry.inode l ≡ true) × (l.directory ≡ d) × (l.entry ≡ e)
+pub paired-link : (F : Files) (d e : ℕ) (entry : Entry) → entry_at F d e ≡ Some entry → is_paired F d e ≡ true
+    → (l : BackLink) × Contains (links_of F entry.inode) l × (is_pair F entry.inode l ≡ true) × (l.directory ≡ d) × (l.entry ≡ e)
 paired-link F d e entry at paired =
     let any : list_any (λ l. same_link l (link_to d e (generation_of F d)) && is_pair F entry.inode l) (links_of F entry.inode) ≡ true =
-    sym (ap (λ (o : Option Entry). elim o [ None ↦ false | Some q ↦ list_any (λ l. same_link l (link_to d e (generation_of F d)) && is_pair F q.inode l) (links_of F q.inode) ]) at) ∙ paired in
+    sym (ap (λ (o : Option Entry). elim o [
+      | None ↦ false
+      | Some q ↦ list_any (λ l. same_link l (link_to d e (generation_of F d)) && is_pair F q.inode l)
+          (links_of F q.inode)
+    ]) at) ∙ paired in
     let l = any-true (λ l. same_link l (link_to d e (generation_of F d)) && is_pair F entry.inode l) (links_of F entry.inode) any in
     let a = and-both (same_link l.0 (link_to d e (generation_of F d))) (is_pair F entry.inode l.0) l.2 in
     let b = and-both (eqb l.0.directory d) ((eqb l.0.entry e) && (eqb l.0.generation (generation_of F d))) a.0 in
     let c = and-both (eqb l.0.entry e) (eqb l.0.generation (generation_of F d)) b.1 in
     (l.0, l.1, a.1, eqb-true l.0.directory d b.0, eqb-true l.0.entry e c.0)
 
-own-named : (h : FileState) (u : Option FileState) (i : ℕ) (link : BackLink) → pairs (Some h) u i link ≡ true → names (entry_in_file u link.entry) i h.generation ≡ true
+own-named : (h : FileState) (u : Option FileState) (i : ℕ) (link : BackLink) → pairs (Some h) u i link ≡ true
+    → names (entry_in_file u link.entry) i h.generation ≡ true
 own-named h u i link e =
-    let a = and-both (is_a Folder link.generation u) (names (entry_in_file u link.entry) i h.generation && (not (is_folder h.kind) || (ltb link.generation h.generation))) e in
+    let a = and-both (is_a Folder link.generation u) (names (entry_in_file u link.entry) i h.generation
+    && (not (is_folder h.kind) || (ltb link.generation h.generation))) e in
     (and-both (names (entry_in_file u link.entry) i h.generation) (not (is_folder h.kind) || (ltb link.generation h.generation)) a.1).0
 
 -- a link that is left when one is cleared is another one, or empty
@@ -52,13 +62,18 @@ any-without p link (l ∷ ls) e = first (same_link l link) refl (λ h. any-witho
         → (k : BackLink) × Contains (new ∷ without_link link ls) k × (p k ≡ true) × ((same_link k link ≡ false) ⊎ (k ≡ link_to 0 0 0))
     rest new (k, at, pk, why) = (k, (suc at.0, omega arith, at.2), pk, why)
 
-    pick : (new : BackLink) → ((same_link new link ≡ false) ⊎ (new ≡ link_to 0 0 0)) → (t : Bool) → p new ≡ t → (list_any p (without_link link ls) ≡ true → (k : BackLink) × Contains (without_link link ls) k × (p k ≡ true) × ((same_link k link ≡ false) ⊎ (k ≡ link_to 0 0 0)))
-        → (t || list_any p (without_link link ls)) ≡ true → (k : BackLink) × Contains (new ∷ without_link link ls) k × (p k ≡ true) × ((same_link k link ≡ false) ⊎ (k ≡ link_to 0 0 0))
+    pick : (new : BackLink) → ((same_link new link ≡ false) ⊎ (new ≡ link_to 0 0 0)) → (t : Bool) → p new ≡ t
+        → (list_any p (without_link link ls) ≡ true → (k : BackLink) × Contains (without_link link ls) k × (p k ≡ true) ×
+        ((same_link k link ≡ false) ⊎ (k ≡ link_to 0 0 0)))
+        → (t || list_any p (without_link link ls)) ≡ true → (k : BackLink) × Contains (new ∷ without_link link ls) k × (p k ≡ true) ×
+        ((same_link k link ≡ false) ⊎ (k ≡ link_to 0 0 0))
     pick new why true et ih h = (new, (0, omega arith, refl), et, why)
     pick new why false et ih h = rest new (ih h)
 
-    first : (b : Bool) → same_link l link ≡ b → (list_any p (without_link link ls) ≡ true → (k : BackLink) × Contains (without_link link ls) k × (p k ≡ true) × ((same_link k link ≡ false) ⊎ (k ≡ link_to 0 0 0)))
-        → list_any p (cond b (link_to 0 0 0) l ∷ without_link link ls) ≡ true → (k : BackLink) × Contains (cond b (link_to 0 0 0) l ∷ without_link link ls) k × (p k ≡ true) × ((same_link k link ≡ false) ⊎ (k ≡ link_to 0 0 0))
+    first : (b : Bool) → same_link l link ≡ b → (list_any p (without_link link ls) ≡ true
+        → (k : BackLink) × Contains (without_link link ls) k × (p k ≡ true) × ((same_link k link ≡ false) ⊎ (k ≡ link_to 0 0 0)))
+        → list_any p (cond b (link_to 0 0 0) l ∷ without_link link ls) ≡ true
+        → (k : BackLink) × Contains (cond b (link_to 0 0 0) l ∷ without_link link ls) k × (p k ≡ true) × ((same_link k link ≡ false) ⊎ (k ≡ link_to 0 0 0))
     first true eb ih h = pick (link_to 0 0 0) (inr refl) (p (link_to 0 0 0)) refl ih h
     first false eb ih h = pick l (inl eb) (p l) refl ih h
 
@@ -75,7 +90,8 @@ root-moves F E i kin r = go (eqb i 1) refl (eqb i 2) refl
     go false ep false eq = absurd (let z : is_root F i ≡ false = rw (ep, eq) refl in cc (z, r))
 
 module _ (F : Files) (X Y : Image) (d g e s : ℕ) (f h : FileState) (x : Pointer) (entry : Entry)
-    (match : FilesMatch F X) (is : F d ≡ Some f) (gen : f.generation ≡ g) (found : entry_at F d e ≡ Some entry) (paired : is_paired F d e ≡ true) (is_i : F entry.inode ≡ Some h)
+    (match : FilesMatch F X) (is : F d ≡ Some f) (gen : f.generation ≡ g) (found : entry_at F d e ≡ Some entry) (paired : is_paired F d e ≡ true)
+    (is_i : F entry.inode ≡ Some h)
     (no_names : is_folder h.kind ≡ true → (b : ℕ) → b < entry_limit → is_paired F entry.inode b ≡ false)
     (held : find X d (path_of (e / 16)) ≡ answer.Holds x) (whole : length (cell_at X x.block).payload ≡ 1024)
     (content : Bytes (cell_at Y x.block).payload ≡ with_entry (Bytes (cell_at X x.block).payload) e (zeros 64))
@@ -91,21 +107,32 @@ module _ (F : Files) (X Y : Image) (d g e s : ℕ) (f h : FileState) (x : Pointe
 
   same-generation : entry.generation ≡ h.generation
   same-generation =
-      let p : pairs (Some h) (F back.0.directory) entry.inode back.0 ≡ true = subst (λ (o : Option FileState). pairs o (F back.0.directory) entry.inode back.0 ≡ true) is_i back.2 in
+      let p : pairs (Some h) (F back.0.directory) entry.inode back.0 ≡ true =
+      subst (λ (o : Option FileState). pairs o (F back.0.directory) entry.inode back.0 ≡ true) is_i back.2 in
       let n = own-named h (F back.0.directory) entry.inode back.0 p in
-      let at : names (entry_in_file (F d) e) entry.inode h.generation ≡ true = subst₂ (λ (a b : ℕ). names (entry_in_file (F a) b) entry.inode h.generation ≡ true) back.3 back.4 n in
+      let at : names (entry_in_file (F d) e) entry.inode h.generation ≡ true =
+      subst₂ (λ (a b : ℕ). names (entry_in_file (F a) b) entry.inode h.generation ≡ true) back.3 back.4 n in
       let some : names (Some entry) entry.inode h.generation ≡ true = subst (λ (o : Option Entry). names o entry.inode h.generation ≡ true) found at in
       eqb-true entry.generation h.generation (and-both (eqb entry.inode entry.inode) (eqb entry.generation h.generation) some).1
 
   given-is : drop_given F d g e ≡ entry_given F d g e (zeros 64) (meta_given entry.inode h.generation (drop_meta F entry.inode (link_to d e g)))
-  given-is = ap (λ (o : Option Entry). elim o [ None ↦ nothing | Some q ↦ entry_given F d g e (zeros 64) (meta_given q.inode q.generation (drop_meta F q.inode (link_to d e g))) ]) found
+  given-is = ap (λ (o : Option Entry). elim o [
+    | None ↦ nothing
+    | Some q ↦ entry_given F d g e (zeros 64)
+        (meta_given q.inode q.generation (drop_meta F q.inode (link_to d e g)))
+  ]) found
       ∙ ap (λ (q : ℕ). entry_given F d g e (zeros 64) (meta_given entry.inode q (drop_meta F entry.inode (link_to d e g)))) same-generation
 
   abbrev pub goes : Bool
   goes = not (is_special entry.inode) && not (list_any (λ l. is_pair F entry.inode l) (without_link (link_to d e g) h.links))
 
   pub meta-is : drop_meta F entry.inode (link_to d e g) ≡ cond goes Gone (Is h.kind h.size (without_link (link_to d e g) h.links))
-  meta-is = ap (λ (o : Option FileState). elim o [ None ↦ Gone | Some q ↦ cond (not (is_special entry.inode) && not (list_any (λ l. is_pair F entry.inode l) (without_link (link_to d e g) q.links))) Gone (Is q.kind q.size (without_link (link_to d e g) q.links)) ]) is_i
+  meta-is = ap (λ (o : Option FileState). elim o [
+    | None ↦ Gone
+    | Some q ↦ cond
+        (not (is_special entry.inode) && not (list_any (λ l. is_pair F entry.inode l) (without_link (link_to d e g) q.links))) Gone
+        (Is q.kind q.size (without_link (link_to d e g) q.links))
+  ]) is_i
 
   away : (j : ℕ) (link : BackLink) → j ≢ entry.inode → Contains (links_of F j) link → is_pair F j link ≡ true → link.directory ≡ d → link.entry ≡ e → ⊥
   away j link ne has pair ed ee =
@@ -129,17 +156,22 @@ module _ (F : Files) (X Y : Image) (d g e s : ℕ) (f h : FileState) (x : Pointe
 
   -- the directory's cell is proper
   pub drop-entry-proper : (m : Mark) → is_data_block m.image x.block ≡ true → Proper (during m (drop_given F d g e)) X x.block (cell_at Y x.block)
-  drop-entry-proper m area = entry-proper F X Y d g e entry.inode s f h x (zeros 64) (drop_meta F entry.inode (link_to d e g)) (drop_given F d g e) match is gen parts.0 is_i apart parts.1 given-is held whole short content writes old m area
+  drop-entry-proper m area = entry-proper F X Y d g e entry.inode s f h x (zeros 64) (drop_meta F entry.inode (link_to d e g)) (drop_given F d g e)
+      match is gen parts.0 is_i apart parts.1 given-is held whole short content writes old m area
 
   module _ (keeps : goes ≡ false) (linked_now : Relinked X Y entry.inode (without_link (link_to d e g) h.links)) where
     stays : drop_meta F entry.inode (link_to d e g) ≡ Is h.kind h.size (without_link (link_to d e g) h.links)
     stays = meta-is ∙ rw keeps refl
 
-    pub drop-record-proper : (m : Mark) → super_at m.image ≡ super_at Y → is_data_block m.image (1 + (entry.inode - 1) / 4) ≡ false → Proper (during m (drop_given F d g e)) X (1 + (entry.inode - 1) / 4) (cell_at Y (1 + (entry.inode - 1) / 4))
-    drop-record-proper m super area = record-proper F X Y d g e entry.inode s f h x (zeros 64) (drop_meta F entry.inode (link_to d e g)) (drop_given F d g e) match is gen parts.0 is_i apart parts.1 given-is held whole short content writes old
+    pub drop-record-proper : (m : Mark) → super_at m.image ≡ super_at Y → is_data_block m.image (1 + (entry.inode - 1) / 4) ≡ false
+        → Proper (during m (drop_given F d g e)) X (1 + (entry.inode - 1) / 4) (cell_at Y (1 + (entry.inode - 1) / 4))
+    drop-record-proper m super area = record-proper F X Y d g e entry.inode s f h x (zeros 64) (drop_meta F entry.inode (link_to d e g)) (drop_given F d g e)
+        match is gen parts.0 is_i apart parts.1 given-is held whole short content writes old
         (without_link (link_to d e g) h.links) stays linked_now m super area
 
-    home : (is_root (files_after F (drop_given F d g e)) entry.inode ≡ true) ⊎ ((link : BackLink) × (is_special entry.inode ≡ false) × Contains (without_link (link_to d e g) h.links) link × (is_pair (files_after F (drop_given F d g e)) entry.inode link ≡ true) × (link.directory ≢ entry.inode) × (is_some (F link.directory) ≡ true))
+    home : (is_root (files_after F (drop_given F d g e)) entry.inode ≡ true) ⊎
+        ((link : BackLink) × (is_special entry.inode ≡ false) × Contains (without_link (link_to d e g) h.links) link ×
+        (is_pair (files_after F (drop_given F d g e)) entry.inode link ≡ true) × (link.directory ≢ entry.inode) × (is_some (F link.directory) ≡ true))
     home = go (is_special entry.inode) refl (list_any (λ l. is_pair F entry.inode l) (without_link (link_to d e g) h.links)) refl
       where
         was-root : is_special entry.inode ≡ true → Agreed F entry.inode → is_root F entry.inode ≡ true
@@ -148,15 +180,19 @@ module _ (F : Files) (X Y : Image) (d g e s : ℕ) (f h : FileState) (x : Pointe
 
         same-kind : (q : FileKind) (r : ℕ) → is_a q r (F entry.inode) ≡ is_a q r (files_after F (drop_given F d g e) entry.inode)
         same-kind q r = ap (λ (o : Option FileState). is_a q r o) is_i ∙ alike q ∙ sym (ap (λ (o : Option FileState). is_a q r o)
-            (Rattle.nofs_law_old_names.proofs.NameLinks.file-now F X Y d g e entry.inode s f h x (zeros 64) (drop_meta F entry.inode (link_to d e g)) (drop_given F d g e) match is gen parts.0 is_i apart parts.1 given-is held whole short content writes old
+            (Rattle.nofs_law_old_names.proofs.NameLinks.file-now F X Y d g e entry.inode s f h x (zeros 64) (drop_meta F entry.inode (link_to d e g))
+            (drop_given F d g e) match is gen parts.0 is_i apart parts.1 given-is held whole short content writes old
             (without_link (link_to d e g) h.links) stays linked_now))
           where
-            alike : (q : FileKind) → is_a q r (Some h) ≡ is_a q r (Some (Rattle.nofs_law_old_names.proofs.NameLinks.made F X Y d g e entry.inode s f h x (zeros 64) (drop_meta F entry.inode (link_to d e g)) (drop_given F d g e) match is gen parts.0 is_i apart parts.1 given-is held whole short content writes old
+            alike : (q : FileKind) → is_a q r (Some h) ≡ is_a q r
+                (Some (Rattle.nofs_law_old_names.proofs.NameLinks.made F X Y d g e entry.inode s f h x (zeros 64) (drop_meta F entry.inode (link_to d e g))
+                (drop_given F d g e) match is gen parts.0 is_i apart parts.1 given-is held whole short content writes old
                 (without_link (link_to d e g) h.links) stays linked_now))
             alike File = refl
             alike Folder = refl
 
-        other : (l : BackLink) → is_pair F entry.inode l ≡ true → ((same_link l (link_to d e g) ≡ false) ⊎ (l ≡ link_to 0 0 0)) → l.directory ≡ d → l.entry ≡ e → ⊥
+        other : (l : BackLink) → is_pair F entry.inode l ≡ true → ((same_link l (link_to d e g) ≡ false) ⊎ (l ≡ link_to 0 0 0)) → l.directory ≡ d
+            → l.entry ≡ e → ⊥
         other l pair (inr z) ed ee =
             let p = pair-of F entry.inode l pair in
             let n = no-file-zero F X match in
@@ -169,9 +205,12 @@ module _ (F : Files) (X Y : Image) (d g e s : ℕ) (f h : FileState) (x : Pointe
             let on : same_link l (link_to d e g) ≡ true = rw (eq-eqb l.directory d ed, eq-eqb l.entry e ee, eq-eqb l.generation g lg) refl in cc (off, on)
 
         go : (sp : Bool) → is_special entry.inode ≡ sp → (any : Bool) → list_any (λ l. is_pair F entry.inode l) (without_link (link_to d e g) h.links) ≡ any
-            → (is_root (files_after F (drop_given F d g e)) entry.inode ≡ true) ⊎ ((link : BackLink) × (is_special entry.inode ≡ false) × Contains (without_link (link_to d e g) h.links) link × (is_pair (files_after F (drop_given F d g e)) entry.inode link ≡ true) × (link.directory ≢ entry.inode) × (is_some (F link.directory) ≡ true))
+            → (is_root (files_after F (drop_given F d g e)) entry.inode ≡ true) ⊎
+            ((link : BackLink) × (is_special entry.inode ≡ false) × Contains (without_link (link_to d e g) h.links) link ×
+            (is_pair (files_after F (drop_given F d g e)) entry.inode link ≡ true) × (link.directory ≢ entry.inode) × (is_some (F link.directory) ≡ true))
         go true sp any ea =
-            let a = agreed-machine F X match entry.inode (agreed-holds (files_in X) entry.inode (matched-file F X entry.inode match (some-is (F entry.inode) h is_i)).agreed) in
+            let a = agreed-machine F X match entry.inode (agreed-holds (files_in X) entry.inode
+            (matched-file F X entry.inode match (some-is (F entry.inode) h is_i)).agreed) in
             inl (root-moves F (files_after F (drop_given F d g e)) entry.inode same-kind (was-root sp a))
         go false sp false ea = absurd (let z : goes ≡ true = rw (sp, ea) refl in cc (z, keeps))
         go false sp true ea =
@@ -181,25 +220,30 @@ module _ (F : Files) (X Y : Image) (d g e s : ℕ) (f h : FileState) (x : Pointe
               l.0,
               sp,
               l.1,
-              pair-kept F X Y d g e entry.inode s f h x (zeros 64) (drop_meta F entry.inode (link_to d e g)) (drop_given F d g e) match is gen parts.0 is_i apart parts.1 given-is held whole short content writes old
+              pair-kept F X Y d g e entry.inode s f h x (zeros 64) (drop_meta F entry.inode (link_to d e g)) (drop_given F d g e)
+                  match is gen parts.0 is_i apart parts.1 given-is held whole short content writes old
                   (without_link (link_to d e g) h.links) stays linked_now l.0 l.2 (other l.0 l.2 l.3),
               pair-apart F entry.inode l.0 l.2,
               some-is (F l.0.directory) p.parent p.parent_is,
             )
 
     pub drop-matches : FilesMatch (files_after F (drop_given F d g e)) Y
-    drop-matches = stays-match F X Y d g e entry.inode s f h x (zeros 64) (drop_meta F entry.inode (link_to d e g)) (drop_given F d g e) match is gen parts.0 is_i apart parts.1 given-is held whole short content writes old
+    drop-matches = stays-match F X Y d g e entry.inode s f h x (zeros 64) (drop_meta F entry.inode (link_to d e g)) (drop_given F d g e)
+        match is gen parts.0 is_i apart parts.1 given-is held whole short content writes old
         (without_link (link_to d e g) h.links) stays linked_now away lone named home
 
   module _ (removes : goes ≡ true) (free : (inode Y entry.inode).kind ≡ None) where
     is-gone : drop_meta F entry.inode (link_to d e g) ≡ Gone
     is-gone = meta-is ∙ rw removes refl
 
-    pub remove-record-proper : (m : Mark) → super_at m.image ≡ super_at Y → is_data_block m.image (1 + (entry.inode - 1) / 4) ≡ false → ((q : ℕ) → m.stands entry.inode q ≡ true → h.generation ≡ q)
+    pub remove-record-proper : (m : Mark) → super_at m.image ≡ super_at Y → is_data_block m.image (1 + (entry.inode - 1) / 4) ≡ false
+        → ((q : ℕ) → m.stands entry.inode q ≡ true → h.generation ≡ q)
         → Proper (during m (drop_given F d g e)) X (1 + (entry.inode - 1) / 4) (cell_at Y (1 + (entry.inode - 1) / 4))
-    remove-record-proper m super area tracked = free-proper F X Y d g e entry.inode s f h x (zeros 64) (drop_meta F entry.inode (link_to d e g)) (drop_given F d g e) match is gen parts.0 is_i apart parts.1 given-is held whole short content writes old
+    remove-record-proper m super area tracked = free-proper F X Y d g e entry.inode s f h x (zeros 64) (drop_meta F entry.inode (link_to d e g))
+        (drop_given F d g e) match is gen parts.0 is_i apart parts.1 given-is held whole short content writes old
         is-gone free m super area tracked
 
     pub remove-matches : FilesMatch (files_after F (drop_given F d g e)) Y
-    remove-matches = goes-match F X Y d g e entry.inode s f h x (zeros 64) (drop_meta F entry.inode (link_to d e g)) (drop_given F d g e) match is gen parts.0 is_i apart parts.1 given-is held whole short content writes old
+    remove-matches = goes-match F X Y d g e entry.inode s f h x (zeros 64) (drop_meta F entry.inode (link_to d e g)) (drop_given F d g e)
+        match is gen parts.0 is_i apart parts.1 given-is held whole short content writes old
         is-gone free away lone named

@@ -14,7 +14,8 @@ use Rattle.nofs_machine.specs.Meta.{Meta, Gone, Is}
 use Rattle.nofs_machine.specs.Machine.{Given, filled, after_meta, born_file, file_after, files_after, lies_above}
 use Rattle.nofs_machine.specs.History.{FilesMatch, SameFile}
 use Rattle.nofs_model.specs.Cells.{Cell, FileKind, BackLink, Pointer, pointer_at}
-use Rattle.nofs_model.specs.Image.{Image, cell_at, inode, file_from, files_in, agreed, value, value_in, node_in, Path, InRecord, Under, path_of, is_pointer_slot, find, NodeState, Present, FileState, Files, record_pointer, IsSlot}
+use Rattle.nofs_model.specs.Image.{Image, cell_at, inode, file_from, files_in, agreed, value, value_in, node_in, Path, InRecord, Under, path_of}
+use Rattle.nofs_model.specs.Image.{is_pointer_slot, find, NodeState, Present, FileState, Files, record_pointer, IsSlot}
 use Rattle.nofs_model.specs.declared.value.Value.{Value}
 use Rattle.nofs_model.specs.declared.value.Value.TheVariants.{Bytes}
 use Rattle.nofs_machine.specs.Gives.{GivesCell, GivesMeta}
@@ -24,7 +25,8 @@ use Rattle.nofs_law_old_names.specs.Names.{NameWrites}
 pub touches-of : (s d i : ℕ) (X Y : Image) → NameWrites s d i X Y → Touches s (λ j. eqb j d || eqb j i) X Y
 touches-of s d i X Y w = record {
   super = w.super;
-  records = λ j e. let p = neither (eqb j d) (eqb j i) e in w.records j (λ q. let t = eq-eqb j d q in let z = p.0 in cc (t, z)) (λ q. let t = eq-eqb j i q in let z = p.1 in cc (t, z));
+  records = λ j e. let p = neither (eqb j d) (eqb j i) e in w.records j (λ q. let t = eq-eqb j d q in let z = p.0 in cc (t, z)) (λ q. let t =
+      eq-eqb j i q in let z = p.1 in cc (t, z));
   blocks = λ b area. elim (w.blocks b area) [
     | inl same ↦ inl same
     | inr r ↦ elim r [
@@ -54,7 +56,8 @@ module _ (F : Files) (given : Given) (X Y : Image) (d k : ℕ) (f : FileState) (
     (on : (path : Path) → IsSlot path → lies_above path (path_of k) ≡ true → node_in (find Y d path) ≡ Present)
     (off : (path : Path) → IsSlot path → is_pointer_slot path ≡ true → lies_above path (path_of k) ≡ false → find Y d path ≡ find X d path) where
   pub directory-is : files_after F given d ≡ Some (filled given d f)
-  directory-is = ap (λ (o : Option ℕ). file_after given d (born_file o (F d))) gives.born ∙ ap (λ (o : Option FileState). file_after given d o) is ∙ ap (λ (o : Option Meta). after_meta o (filled given d f)) gives.metas
+  directory-is = ap (λ (o : Option ℕ). file_after given d (born_file o (F d))) gives.born ∙ ap (λ (o : Option FileState). file_after given d o) is
+      ∙ ap (λ (o : Option Meta). after_meta o (filled given d f)) gives.metas
 
   values : (l : ℕ) → l < slot_limit → (filled given d f).values l ≡ value Y d l
   values l lt = ap (λ (o : Option Value). unwrap_or o (f.values l)) (gives.slots l) ∙ go (eqb k l) refl
@@ -68,7 +71,8 @@ module _ (F : Files) (given : Given) (X Y : Image) (d k : ℕ) (f : FileState) (
   nodes : (path : Path) → IsSlot path → is_pointer_slot path ≡ true → (filled given d f).nodes path ≡ node_in (find Y d path)
   nodes path slot p = ap (λ (o : Option NodeState). unwrap_or o (f.nodes path)) (gives.nodes path) ∙ go (lies_above path (path_of k)) refl
     where
-      go : (t : Bool) → lies_above path (path_of k) ≡ t → unwrap_or (cond (lies_above path (path_of k)) (Some Present) None) (f.nodes path) ≡ node_in (find Y d path)
+      go : (t : Bool) → lies_above path (path_of k) ≡ t → unwrap_or (cond (lies_above path (path_of k)) (Some Present) None) (f.nodes path) ≡ node_in
+          (find Y d path)
       go true e = rw e (sym (on path slot e))
       go false e = rw e ((file-of F X d f match is).1.nodes path slot p ∙ sym (ap node_in (off path slot p e)))
 
@@ -87,30 +91,44 @@ module _ (F : Files) (given : Given) (X Y : Image) (d k : ℕ) (f : FileState) (
       })
 
 -- an inode whose links alone change
-pub linked-file : (F : Files) (given : Given) (X Y : Image) (i : ℕ) (h : FileState) (links : List BackLink) → FilesMatch F X → F i ≡ Some h → GivesMeta given i h.generation (Is h.kind h.size links)
+pub linked-file : (F : Files) (given : Given) (X Y : Image) (i : ℕ) (h : FileState) (links : List BackLink) → FilesMatch F X → F i ≡ Some h
+    → GivesMeta given i h.generation (Is h.kind h.size links)
     → (inode Y i).kind ≡ (inode X i).kind → (inode Y i).generation ≡ (inode X i).generation → (inode Y i).size ≡ (inode X i).size → (inode Y i).links ≡ links
-    → ((path : Path) → IsSlot path → find Y i path ≡ find X i path) → ((l : ℕ) → l < slot_limit → value Y i l ≡ value X i l) → SameFile (files_after F given i) (files_in Y i)
+    → ((path : Path) → IsSlot path → find Y i path ≡ find X i path) → ((l : ℕ) → l < slot_limit → value Y i l ≡ value X i l)
+    → SameFile (files_after F given i) (files_in Y i)
 linked-file F given X Y i h links match is gives kind generation size now found values =
     let x = file-of F X i h match is in
     let same = x.1 in
     let ky : (inode Y i).kind ≡ Some h.kind = kind ∙ x.0 in
-    let new : files_after F given i ≡ Some (record { generation = h.generation; kind = h.kind; size = h.size; links = links; values = (filled given i h).values; nodes = (filled given i h).nodes }) =
-    ap (λ (o : Option ℕ). file_after given i (born_file o (F i))) gives.born ∙ ap (λ (o : Option FileState). file_after given i o) is ∙ ap (λ (o : Option Meta). after_meta o (filled given i h)) gives.metas in
+    let new : files_after F given i ≡ Some (record {
+      generation = h.generation;
+      kind = h.kind;
+      size = h.size;
+      links =
+          links;
+      values = (filled given i h).values;
+      nodes = (filled given i h).nodes;
+    }) =
+    ap (λ (o : Option ℕ). file_after given i (born_file o (F i))) gives.born ∙ ap (λ (o : Option FileState). file_after given i o) is
+    ∙ ap (λ (o : Option Meta). after_meta o (filled given i h)) gives.metas in
     subst₂ (λ (o : Option FileState) (q : Option FileKind). SameFile o (file_from Y i q)) (sym new) (sym ky) (record {
       generation = same.generation ∙ sym generation;
       kind = refl;
       size = same.size ∙ sym size;
       links = sym now;
       values = λ l lt. ap (λ (o : Option Value). unwrap_or o (h.values l)) (gives.slots l) ∙ same.values l lt ∙ sym (values l lt);
-      nodes = λ path slot p. ap (λ (o : Option NodeState). unwrap_or o (h.nodes path)) (gives.nodes path) ∙ same.nodes path slot p ∙ sym (ap node_in (found path slot));
+      nodes = λ path slot p. ap (λ (o : Option NodeState). unwrap_or o (h.nodes path)) (gives.nodes path) ∙ same.nodes path slot p
+          ∙ sym (ap node_in (found path slot));
     })
 
 -- an inode that is gone after the step
 pub gone-file : (F : Files) (given : Given) (i : ℕ) (h : FileState) → F i ≡ Some h → GivesMeta given i h.generation Gone → files_after F given i ≡ None
-gone-file F given i h is gives = ap (λ (o : Option ℕ). file_after given i (born_file o (F i))) gives.born ∙ ap (λ (o : Option FileState). file_after given i o) is ∙ ap (λ (o : Option Meta). after_meta o (filled given i h)) gives.metas
+gone-file F given i h is gives = ap (λ (o : Option ℕ). file_after given i (born_file o (F i))) gives.born
+    ∙ ap (λ (o : Option FileState). file_after given i o) is ∙ ap (λ (o : Option Meta). after_meta o (filled given i h)) gives.metas
 
 -- the cells of an inode other than the directory stay, and so its slots, where its pointers stay
-module _ (s d i : ℕ) (X Y : Image) (w : NameWrites s d i X Y) (apart : i ≢ d) (owned : agreed (files_in X) i ≡ true) (old : OldPointers s X i) (same : SameIdentity X Y i)
+module _ (s d i : ℕ) (X Y : Image) (w : NameWrites s d i X Y) (apart : i ≢ d) (owned : agreed (files_in X) i ≡ true) (old : OldPointers s X i)
+    (same : SameIdentity X Y i)
     (pointers : (n : ℕ) → n < 10 → record_pointer (inode Y i) n ≡ record_pointer (inode X i) n) where
   cell-stays : (path : Path) (y : Pointer) → IsSlot path → find X i path ≡ answer.Holds y → cell_at Y y.block ≡ cell_at X y.block
   cell-stays path y slot e = elim (w.blocks y.block (find-held X i path y e).agrees.area) [
@@ -137,4 +155,5 @@ module _ (s d i : ℕ) (X Y : Image) (w : NameWrites s d i X Y) (apart : i ≢ d
       go : (q : PathAnswer) → find X i (path_of l) ≡ q → value Y i l ≡ value X i l
       go answer.Hole e = ap (λ (q : PathAnswer). value_in Y q) (find-stays (path_of l) (path_of-slot l lt) ∙ e) ∙ sym (ap (λ (q : PathAnswer). value_in X q) e)
       go answer.Lost e = ap (λ (q : PathAnswer). value_in Y q) (find-stays (path_of l) (path_of-slot l lt) ∙ e) ∙ sym (ap (λ (q : PathAnswer). value_in X q) e)
-      go (answer.Holds z) e = ap (λ (q : PathAnswer). value_in Y q) (find-stays (path_of l) (path_of-slot l lt) ∙ e) ∙ ap (λ (c : Cell). Bytes c.payload) (cell-stays (path_of l) z (path_of-slot l lt) e) ∙ sym (ap (λ (q : PathAnswer). value_in X q) e)
+      go (answer.Holds z) e = ap (λ (q : PathAnswer). value_in Y q) (find-stays (path_of l) (path_of-slot l lt) ∙ e)
+          ∙ ap (λ (c : Cell). Bytes c.payload) (cell-stays (path_of l) z (path_of-slot l lt) e) ∙ sym (ap (λ (q : PathAnswer). value_in X q) e)

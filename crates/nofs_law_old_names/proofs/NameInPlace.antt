@@ -1,5 +1,6 @@
 -- A step on names that writes a directory's cell in place; Rename.
-use Rattle.std.proofs.Common.{◌≡◌, ◌≢◌, ℕ, ◌<◌, ◌≤◌, ◌⊎◌, inl, inr, Bool, true, false, cond, eqb, ◌&&◌, ◌||◌, ◌++◌, option_to_list, Option, Some, None, refl, sym, ap, ◌∙◌, subst, subst₂, Contains, eqb-true, eq-eqb, ne_eqb}
+use Rattle.std.proofs.Common.{◌≡◌, ◌≢◌, ℕ, ◌<◌, ◌≤◌, ◌⊎◌, inl, inr, Bool, true, false, cond, eqb, ◌&&◌, ◌||◌, ◌++◌, option_to_list, Option, Some, None, refl}
+use Rattle.std.proofs.Common.{sym, ap, ◌∙◌, subst, subst₂, Contains, eqb-true, eq-eqb, ne_eqb}
 use Rattle.std.proofs.lemmas.List.Elements.{Contains-push}
 use Rattle.nofs_ptrs.specs.Paths.{slot_limit}
 use Rattle.nofs_model.specs.declared.path.PathAnswer.{PathAnswer}
@@ -20,15 +21,19 @@ use Rattle.nofs_machine.specs.Machine.{Given, files_after, lies_above, cell_give
 use Rattle.nofs_machine.specs.History.{FilesMatch, SameFile}
 use Rattle.nofs_model.specs.Cells.{Cell, File, Content, Directory, Tag, Pointer, Record, tag_of, pointer_at, is_live, free_record}
 use Rattle.nofs_inode.specs.declared.inode.FileKind.TheVariants.{Directory as Folder}
-use Rattle.nofs_model.specs.Image.{Image, cell_at, super_at, is_inode, is_data_block, inode, file_from, files_in, agreed, value, value_in, node_in, kind_in, tag_for, Path, InRecord, Under, path_of, slot_of, is_pointer_slot, find, Present, FileState, Files, record_pointer, is_folder, entry_held, entry_in_file, entry_at, names, is_pair, links_of, IsSlot}
+use Rattle.nofs_model.specs.Image.{Image, cell_at, super_at, is_inode, is_data_block, inode, file_from, files_in, agreed, value, value_in, node_in, kind_in}
+use Rattle.nofs_model.specs.Image.{tag_for, Path, InRecord, Under, path_of, slot_of, is_pointer_slot, find, Present, FileState, Files, record_pointer}
+use Rattle.nofs_model.specs.Image.{is_folder, entry_held, entry_in_file, entry_at, names, is_pair, links_of, IsSlot}
 use Rattle.nofs_model.specs.declared.value.Value.{Value}
 use Rattle.nofs_model.specs.declared.value.Value.TheVariants.{Bytes}
 use Rattle.nofs_machine.specs.Gives.{GivesNothing, GivesCell}
 use Rattle.nofs_law_old_names.specs.Names.{InPlace, NameWrites}
 
 -- a write of a content cell that holds is proper
-pub cell-proper : (F : Files) (X : Image) (d k : ℕ) (f : FileState) (x : Pointer) (m : Mark) (given : Given) (c : Cell) → FilesMatch F X → F d ≡ Some f → k < slot_limit → find X d (path_of k) ≡ answer.Holds x
-    → is_data_block m.image x.block ≡ true → tag_of c.tag ≡ tag_of (cell_at X x.block).tag → given.slots d f.generation k ≡ Some (Bytes c.payload) → Proper (during m given) X x.block c
+pub cell-proper : (F : Files) (X : Image) (d k : ℕ) (f : FileState) (x : Pointer) (m : Mark) (given : Given) (c : Cell) → FilesMatch F X → F d ≡ Some f
+    → k < slot_limit → find X d (path_of k) ≡ answer.Holds x
+    → is_data_block m.image x.block ≡ true → tag_of c.tag ≡ tag_of (cell_at X x.block).tag → given.slots d f.generation k ≡ Some (Bytes c.payload)
+    → Proper (during m given) X x.block c
 cell-proper F X d k f x m given c match is range held area tag gives =
     let hx = find-held X d (path_of k) x held in
     OfContent (record {
@@ -36,17 +41,20 @@ cell-proper F X d k f x m given c match is range held area tag gives =
       tag = tag_for X d (path_of k) x.stamp;
       spelled = tag ∙ hx.agrees.tag;
       kind = is-content;
-      given = subst₂ (λ (h l : ℕ). Contains ((during m given).since d h l) (Bytes c.payload)) (file-of F X d f match is).1.generation (sym (slot_of-path_of k range)) has;
+      given = subst₂ (λ (h l : ℕ). Contains ((during m given).since d h l) (Bytes c.payload)) (file-of F X d f match is).1.generation
+          (sym (slot_of-path_of k range)) has;
       place = inl tag;
     })
   where
     is-content : IsContentKind (kind_in (inode X d) (path_of k))
     is-content =
-        let e : kind_in (inode X d) (path_of k) ≡ elim (inode X d).kind [ None ↦ Content | Some kind ↦ elim kind [ File ↦ Content | Folder ↦ Directory ] ] = rw (path_of-content k range) refl in
+        let e : kind_in (inode X d) (path_of k) ≡ elim (inode X d).kind [ None ↦ Content | Some kind ↦ elim kind [ File ↦ Content | Folder ↦ Directory ] ] =
+        rw (path_of-content k range) refl in
         subst IsContentKind (sym e) (content-kind (inode X d).kind)
 
     has : Contains ((during m given).since d f.generation k) (Bytes c.payload)
-    has = subst (λ (o : Option Value). Contains (m.since d f.generation k ++ option_to_list o) (Bytes c.payload)) (sym gives) (Contains-push (m.since d f.generation k) (Bytes c.payload))
+    has = subst (λ (o : Option Value). Contains (m.since d f.generation k ++ option_to_list o) (Bytes c.payload)) (sym gives)
+        (Contains-push (m.since d f.generation k) (Bytes c.payload))
 
 pub in-place-writes : (s d i k : ℕ) (X Y : Image) (x : Pointer) → find X d (path_of k) ≡ answer.Holds x → InPlace X Y x i → NameWrites s d i X Y
 in-place-writes s d i k X Y x held p = record {
@@ -64,7 +72,8 @@ in-place-writes s d i k X Y x held p = record {
     go b area false e = inl (p.blocks b area (λ eb. let t = eq-eqb b x.block eb in cc (e, t)))
 
 -- the directory's slots after a write in place
-module _ (s : ℕ) (X Y : Image) (d i k : ℕ) (x : Pointer) (apart : i ≢ d) (p : InPlace X Y x i) (range : k < slot_limit) (held : find X d (path_of k) ≡ answer.Holds x)
+module _ (s : ℕ) (X Y : Image) (d i k : ℕ) (x : Pointer) (apart : i ≢ d) (p : InPlace X Y x i) (range : k < slot_limit)
+    (held : find X d (path_of k) ≡ answer.Holds x)
     (live : is_live (inode X d) ≡ true) (owned : agreed (files_in X) d ≡ true) (old : OldPointers s X d) where
   record-stays : inode Y d ≡ inode X d
   record-stays = p.records d (λ e. apart (sym e))
@@ -99,20 +108,29 @@ module _ (s : ℕ) (X Y : Image) (d i k : ℕ) (x : Pointer) (apart : i ≢ d) (
       go answer.Lost e = ap (λ (q : PathAnswer). value_in Y q) (y ∙ e) ∙ sym (ap (λ (q : PathAnswer). value_in X q) e)
       go (answer.Holds z) e =
           let off = other-block (path_of l) z (path_of-slot l lt) e (λ ep. ne (sym (slot_of-path_of l lt) ∙ ap slot_of ep ∙ slot_of-path_of k range)) in
-          ap (λ (q : PathAnswer). value_in Y q) (y ∙ e) ∙ ap (λ (c : Cell). Bytes c.payload) (p.blocks z.block (find-held X d (path_of l) z e).agrees.area off) ∙ sym (ap (λ (q : PathAnswer). value_in X q) e)
+          ap (λ (q : PathAnswer). value_in Y q) (y ∙ e) ∙ ap (λ (c : Cell). Bytes c.payload)
+          (p.blocks z.block (find-held X d (path_of l) z e).agrees.area off) ∙ sym (ap (λ (q : PathAnswer). value_in X q) e)
 
   pub here-in-place : value Y d k ≡ Bytes (cell_at Y x.block).payload
   here-in-place = ap (λ (q : PathAnswer). value_in Y q) (find-in-place (path_of k) (path_of-slot k range) ∙ held)
 
 -- and so its file
-pub directory-in-place : (s : ℕ) (F : Files) (given : Given) (X Y : Image) (d i k : ℕ) (f : FileState) (x : Pointer) (v : Value) → FilesMatch F X → F d ≡ Some f → i ≢ d → k < slot_limit → OldPointers s X d
-    → GivesCell given d f.generation k v → find X d (path_of k) ≡ answer.Holds x → InPlace X Y x i → Bytes (cell_at Y x.block).payload ≡ v → SameFile (files_after F given d) (files_in Y d)
+pub directory-in-place : (s : ℕ) (F : Files) (given : Given) (X Y : Image) (d i k : ℕ) (f : FileState) (x : Pointer) (v : Value) → FilesMatch F X
+    → F d ≡ Some f → i ≢ d → k < slot_limit → OldPointers s X d
+    → GivesCell given d f.generation k v → find X d (path_of k) ≡ answer.Holds x → InPlace X Y x i → Bytes (cell_at Y x.block).payload ≡ v
+    → SameFile (files_after F given d) (files_in Y d)
 directory-in-place s F given X Y d i k f x v match is apart range old gives held p content =
     let own = matched-file F X d match (some-is (F d) f is) in
     let same : inode Y d ≡ inode X d = p.records d (λ e. apart (sym e)) in
     let found = find-in-place s X Y d i k x apart p range held own.live own.agreed old in
     directory-file F given X Y d k f v match is gives
-    (record { kind = ap (λ (r : Record). r.kind) same; generation = ap (λ (r : Record). r.generation) same; size = ap (λ (r : Record). r.size) same; links = ap (λ (r : Record). r.links) same })
+    (record {
+      kind = ap (λ (r : Record). r.kind) same;
+      generation = ap (λ (r : Record). r.generation) same;
+      size = ap (λ (r : Record). r.size) same;
+      links =
+          ap (λ (r : Record). r.links) same;
+    })
     (here-in-place s X Y d i k x apart p range held own.live own.agreed old ∙ content)
     (beside-in-place s X Y d i k x apart p range held own.live own.agreed old)
     (λ path slot above. let y = lies-held X d path (path_of k) x above held in ap node_in (found path slot ∙ y.1))
@@ -127,7 +145,8 @@ cell-gives d g k v metas none = record {
   metas = none;
 }
 
-pub cell-elsewhere : (d g k : ℕ) (v : Value) (metas : ℕ → ℕ → Option Meta) (j : ℕ) → j ≢ d → ((h : ℕ) → metas j h ≡ None) → GivesNothing (cell_given d g k v metas) j
+pub cell-elsewhere : (d g k : ℕ) (v : Value) (metas : ℕ → ℕ → Option Meta) (j : ℕ) → j ≢ d → ((h : ℕ) → metas j h ≡ None)
+    → GivesNothing (cell_given d g k v metas) j
 cell-elsewhere d g k v metas j ne none =
     let e : eqb d j ≡ false = ne_eqb d j (λ q. ne (sym q)) in record {
       born = refl;
@@ -142,7 +161,9 @@ unfolding inode
 no-zero X = refl
 
 pub no-file-zero : (F : Files) (X : Image) → FilesMatch F X → F 0 ≡ None
-no-file-zero F X match = go (F 0) (agreed (files_in X) 0) (subst (λ (o : Option FileState). SameFile (F 0) o) (agreed-files-is X 0 ∙ ap (λ (o : Option FileState). cond (agreed (files_in X) 0) o None) (ap (λ (r : Record). file_from X 0 r.kind) (no-zero X))) (match 0))
+no-file-zero F X match = go (F 0) (agreed (files_in X) 0) (subst (λ (o : Option FileState). SameFile (F 0) o)
+    (agreed-files-is X 0 ∙ ap (λ (o : Option FileState). cond (agreed (files_in X) 0) o None) (ap (λ (r : Record). file_from X 0 r.kind) (no-zero X)))
+    (match 0))
   where
     go : (o : Option FileState) (b : Bool) → SameFile o (cond b None None) → o ≡ None
     go None b h = refl

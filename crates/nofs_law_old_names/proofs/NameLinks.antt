@@ -1,5 +1,7 @@
 -- A step that writes one entry in place, and changes the links of one inode, or frees it: Drop, and Link in a slot that holds.
-use Rattle.std.proofs.Common.{◌≡◌, ◌≢◌, ℕ, ◌+◌, ◌-◌, ◌/◌, ◌%◌, ◌<◌, ◌⊎◌, inl, inr, Bool, true, false, cond, eqb, ltb, ◌&&◌, not, List, ◌++◌, length, option_to_list, Option, Some, None, is_some, unwrap_or, refl, sym, ap, ◌∙◌, subst, subst₂, arith, Contains, eqb-true, eq-eqb, ne_eqb}
+use Rattle.std.proofs.Common.{◌≡◌, ◌≢◌, ℕ, ◌+◌, ◌-◌, ◌/◌, ◌%◌, ◌<◌, ◌⊎◌, inl, inr, Bool, true, false, cond, eqb, ltb, ◌&&◌, not, List, ◌++◌, length}
+use Rattle.std.proofs.Common.{option_to_list, Option, Some, None, is_some, unwrap_or, refl, sym, ap, ◌∙◌, subst, subst₂, arith, Contains, eqb-true, eq-eqb}
+use Rattle.std.proofs.Common.{ne_eqb}
 use Rattle.std.proofs.lemmas.List.Elements.{Contains-push}
 use Rattle.nofs_dirent.specs.Entries.{entry_limit}
 use Rattle.nofs_ptrs.specs.Paths.{slot_limit}
@@ -23,13 +25,16 @@ use Rattle.nofs_machine.specs.Machine.{Given, filled, files_after, file_after, a
 use Rattle.nofs_machine.specs.History.{FilesMatch, SameFile}
 use Rattle.nofs_model.specs.Cells.{FileKind, BackLink, Entry, Pointer, Record, is_live, entry_of, record_at}
 use Rattle.nofs_inode.specs.declared.inode.FileKind.TheVariants.{Directory as Folder}
-use Rattle.nofs_model.specs.Image.{super_in, Image, cell_at, super_at, is_inode, is_data_block, inode, file_from, files_in, agreed, value, value_in, Path, InRecord, path_of, find, pointer, FileState, Files, is_folder, entry_held, entry_in_file, entry_at, pairs, names, is_a, is_pair, is_root, is_special, links_of, record_pointer, IsSlot}
+use Rattle.nofs_model.specs.Image.{super_in, Image, cell_at, super_at, is_inode, is_data_block, inode, file_from, files_in, agreed, value, value_in, Path}
+use Rattle.nofs_model.specs.Image.{InRecord, path_of, find, pointer, FileState, Files, is_folder, entry_held, entry_in_file, entry_at, pairs, names, is_a}
+use Rattle.nofs_model.specs.Image.{is_pair, is_root, is_special, links_of, record_pointer, IsSlot}
 use Rattle.nofs_model.specs.declared.value.Value.{Value}
 use Rattle.nofs_model.specs.declared.value.Value.TheVariants.{Bytes}
 use Rattle.nofs_machine.specs.Gives.{GivesNothing, GivesCell, GivesMeta}
 use Rattle.nofs_law_old_names.specs.Names.{InPlace, Relinked, NameWrites}
 
-pub pairs-like : (a b : FileState) (u v : Option FileState) (i : ℕ) (link : BackLink) → a.kind ≡ b.kind → a.generation ≡ b.generation → SameDirectory u v link.entry → pairs (Some a) u i link ≡ pairs (Some b) v i link
+pub pairs-like : (a b : FileState) (u v : Option FileState) (i : ℕ) (link : BackLink) → a.kind ≡ b.kind → a.generation ≡ b.generation
+    → SameDirectory u v link.entry → pairs (Some a) u i link ≡ pairs (Some b) v i link
 pairs-like a b u v i link kind generation dir = rw (kind, generation, dir.is link.generation, dir.names i b.generation) refl
 
 -- a pair leads to another inode
@@ -50,7 +55,8 @@ unfolding inode
 record-in Y j range = rw range refl
 
 -- a table cell is proper where its records are
-pub table-proper : (m : Mark) (X Y : Image) (i : ℕ) → super_at m.image ≡ super_at Y → is_data_block m.image (1 + (i - 1) / 4) ≡ false → ((j : ℕ) → j ≢ i → inode Y j ≡ inode X j) → RecordProper m X i (inode Y i) → Proper m X (1 + (i - 1) / 4) (cell_at Y (1 + (i - 1) / 4))
+pub table-proper : (m : Mark) (X Y : Image) (i : ℕ) → super_at m.image ≡ super_at Y → is_data_block m.image (1 + (i - 1) / 4) ≡ false
+    → ((j : ℕ) → j ≢ i → inode Y j ≡ inode X j) → RecordProper m X i (inode Y i) → Proper m X (1 + (i - 1) / 4) (cell_at Y (1 + (i - 1) / 4))
 table-proper m X Y i super area others own = OfTable (record {
   not_super = omega arith;
   area = area;
@@ -67,7 +73,8 @@ table-proper m X Y i super area others own = OfTable (record {
     go j false e = Unchanged (others j (λ q. let t = eq-eqb j i q in cc (e, t)))
 
 -- a record whose links alone change
-pub relinked-proper : (m : Mark) (given : Given) (F : Files) (X Y : Image) (i : ℕ) (h : FileState) (links : List BackLink) → FilesMatch F X → F i ≡ Some h → GivesMeta given i h.generation (Is h.kind h.size links) → Relinked X Y i links → RecordProper (during m given) X i (inode Y i)
+pub relinked-proper : (m : Mark) (given : Given) (F : Files) (X Y : Image) (i : ℕ) (h : FileState) (links : List BackLink) → FilesMatch F X → F i ≡ Some h
+    → GivesMeta given i h.generation (Is h.kind h.size links) → Relinked X Y i links → RecordProper (during m given) X i (inode Y i)
 relinked-proper m given F X Y i h links match is gives r =
     let own = matched-file F X i match (some-is (F i) h is) in
     let x = file-of F X i h match is in
@@ -75,14 +82,17 @@ relinked-proper m given F X Y i h links match is gives r =
     let meta : meta_of (inode Y i) ≡ Is h.kind h.size links = meta-is (inode Y i) h.kind h.size links (r.kind ∙ x.0) (r.size ∙ sym x.1.size) r.links in
     Changed own.live r.generation r.kind
     (subst₂ (λ (g : ℕ) (q : Meta). Contains ((during m given).metas i g) q) gen (sym meta)
-    (subst (λ (o : Option Meta). Contains (m.metas i h.generation ++ option_to_list o) (Is h.kind h.size links)) (sym gives.metas) (Contains-push (m.metas i h.generation) (Is h.kind h.size links))))
+    (subst (λ (o : Option Meta). Contains (m.metas i h.generation ++ option_to_list o) (Is h.kind h.size links)) (sym gives.metas)
+    (Contains-push (m.metas i h.generation) (Is h.kind h.size links))))
     (λ n lt. Same own.live (sym r.generation) tt (sym (r.pointers n lt)))
   where
-    meta-is : (r : Record) (kind : FileKind) (size : ℕ) (links : List BackLink) → r.kind ≡ Some kind → r.size ≡ size → r.links ≡ links → meta_of r ≡ Is kind size links
+    meta-is : (r : Record) (kind : FileKind) (size : ℕ) (links : List BackLink) → r.kind ≡ Some kind → r.size ≡ size → r.links ≡ links
+        → meta_of r ≡ Is kind size links
     meta-is r kind size links ek es el = rw (ek, es, el, meta_of) refl
 
 -- a record that becomes free
-pub freed-proper : (m : Mark) (given : Given) (X Y : Image) (i g : ℕ) → is_live (inode Y i) ≡ false → given.metas i g ≡ Some Gone → ((q : ℕ) → m.stands i q ≡ true → g ≡ q) → RecordProper (during m given) X i (inode Y i)
+pub freed-proper : (m : Mark) (given : Given) (X Y : Image) (i g : ℕ) → is_live (inode Y i) ≡ false → given.metas i g ≡ Some Gone
+    → ((q : ℕ) → m.stands i q ≡ true → g ≡ q) → RecordProper (during m given) X i (inode Y i)
 freed-proper m given X Y i g dead gone tracked = Freed dead (λ q. go q (m.stands i q) refl)
   where
     go : (q : ℕ) (b : Bool) → m.stands i q ≡ b → (m.stands i q && not (is_removal (given.metas i q))) ≡ false
@@ -90,7 +100,8 @@ freed-proper m given X Y i g dead gone tracked = Freed dead (λ q. go q (m.stand
     go q true e = let z : given.metas i q ≡ Some Gone = subst (λ (r : ℕ). given.metas i r ≡ Some Gone) (tracked q e) gone in rw (e, z) refl
 
 module _ (F : Files) (X Y : Image) (d g e i s : ℕ) (f h : FileState) (x : Pointer) (bytes : List ℕ) (meta : Meta) (given : Given)
-    (match : FilesMatch F X) (is : F d ≡ Some f) (gen : f.generation ≡ g) (folder : is_folder f.kind ≡ true) (is_i : F i ≡ Some h) (apart : i ≢ d) (range : e < entry_limit)
+    (match : FilesMatch F X) (is : F d ≡ Some f) (gen : f.generation ≡ g) (folder : is_folder f.kind ≡ true) (is_i : F i ≡ Some h) (apart : i ≢ d)
+    (range : e < entry_limit)
     (given_is : given ≡ entry_given F d g e bytes (meta_given i h.generation meta))
     (held : find X d (path_of (e / 16)) ≡ answer.Holds x) (whole : length (cell_at X x.block).payload ≡ 1024) (short : length bytes ≡ 64)
     (content : Bytes (cell_at Y x.block).payload ≡ with_entry (Bytes (cell_at X x.block).payload) e bytes)
@@ -124,7 +135,8 @@ module _ (F : Files) (X Y : Image) (d g e i s : ℕ) (f h : FileState) (x : Poin
       })
 
   pub gives-nothing : (j : ℕ) → j ≢ d → j ≢ i → GivesNothing given j
-  gives-nothing j nd ni = subst (λ (q : Given). GivesNothing q j) (sym given-at) (cell-elsewhere d g (e / 16) (with_entry (f.values (e / 16)) e bytes) (meta_given i h.generation meta) j nd (λ q. not-mine j q ni))
+  gives-nothing j nd ni = subst (λ (q : Given). GivesNothing q j) (sym given-at)
+      (cell-elsewhere d g (e / 16) (with_entry (f.values (e / 16)) e bytes) (meta_given i h.generation meta) j nd (λ q. not-mine j q ni))
 
   whole-at : length (bytes_in (f.values (e / 16))) ≡ 1024
   whole-at = ap (λ (u : Value). length (bytes_in u)) was ∙ whole
@@ -139,11 +151,13 @@ module _ (F : Files) (X Y : Image) (d g e i s : ℕ) (f h : FileState) (x : Poin
   all-writes = in-place-writes s d i (e / 16) X Y x held writes
 
   pub directory-new : SameFile (files_after F given d) (files_in Y d)
-  directory-new = directory-in-place s F given X Y d i (e / 16) f x (with_entry (f.values (e / 16)) e bytes) match is apart slot (old d (some-is (F d) f is)) gives-cell held writes content-at
+  directory-new = directory-in-place s F given X Y d i (e / 16) f x (with_entry (f.values (e / 16)) e bytes) match is apart slot (old d (some-is (F d) f is))
+      gives-cell held writes content-at
 
   -- the directory's cell is proper
   pub entry-proper : (m : Mark) → is_data_block m.image x.block ≡ true → Proper (during m given) X x.block (cell_at Y x.block)
-  entry-proper m area = cell-proper F X d (e / 16) f x m given (cell_at Y x.block) match is slot held area writes.tag (gives-cell.slots (e / 16) ∙ rw (eq-eqb (e / 16) (e / 16) refl) (ap Some (sym content-at)))
+  entry-proper m area = cell-proper F X d (e / 16) f x m given (cell_at Y x.block) match is slot held area writes.tag
+      (gives-cell.slots (e / 16) ∙ rw (eq-eqb (e / 16) (e / 16) refl) (ap Some (sym content-at)))
 
   -- The inode stays
   module _ (links : List BackLink) (stays : meta ≡ Is h.kind h.size links) (r : Relinked X Y i links) where
@@ -151,13 +165,24 @@ module _ (F : Files) (X Y : Image) (d g e i s : ℕ) (f h : FileState) (x : Poin
     gives-links = subst (λ (q : Meta). GivesMeta given i h.generation q) stays gives-meta
 
     abbrev pub made : FileState
-    made = record { generation = h.generation; kind = h.kind; size = h.size; links = links; values = (filled given i h).values; nodes = (filled given i h).nodes }
+    made = record {
+      generation = h.generation;
+      kind = h.kind;
+      size = h.size;
+      links =
+          links;
+      values = (filled given i h).values;
+      nodes = (filled given i h).nodes;
+    }
 
     pub file-now : files_after F given i ≡ Some made
-    file-now = ap (λ (o : Option ℕ). file_after given i (born_file o (F i))) gives-links.born ∙ ap (λ (o : Option FileState). file_after given i o) is_i ∙ ap (λ (o : Option Meta). after_meta o (filled given i h)) gives-links.metas
+    file-now = ap (λ (o : Option ℕ). file_after given i (born_file o (F i))) gives-links.born ∙ ap (λ (o : Option FileState). file_after given i o) is_i
+        ∙ ap (λ (o : Option Meta). after_meta o (filled given i h)) gives-links.metas
 
-    pub record-proper : (m : Mark) → super_at m.image ≡ super_at Y → is_data_block m.image (1 + (i - 1) / 4) ≡ false → Proper (during m given) X (1 + (i - 1) / 4) (cell_at Y (1 + (i - 1) / 4))
-    record-proper m super area = table-proper (during m given) X Y i super area writes.records (relinked-proper m given F X Y i h links match is_i gives-links r)
+    pub record-proper : (m : Mark) → super_at m.image ≡ super_at Y → is_data_block m.image (1 + (i - 1) / 4) ≡ false
+        → Proper (during m given) X (1 + (i - 1) / 4) (cell_at Y (1 + (i - 1) / 4))
+    record-proper m super area = table-proper (during m given) X Y i super area writes.records
+        (relinked-proper m given F X Y i h links match is_i gives-links r)
 
     own-file : SameFile (files_after F given i) (files_in Y i)
     own-file =
@@ -169,7 +194,8 @@ module _ (F : Files) (X Y : Image) (d g e i s : ℕ) (f h : FileState) (x : Poin
 
     entries-own : (k : ℕ) → entry_in_file (F i) k ≡ entry_in_file (files_after F given i) k
     entries-own k = ap (λ (o : Option FileState). entry_in_file o k) is_i
-        ∙ ap (λ (u : Value). cond (is_folder h.kind && ltb k entry_limit) (entry_held u k) None) (sym (ap (λ (o : Option Value). unwrap_or o (h.values (k / 16))) (gives-links.slots (k / 16))))
+        ∙ ap (λ (u : Value). cond (is_folder h.kind && ltb k entry_limit) (entry_held u k) None)
+        (sym (ap (λ (o : Option Value). unwrap_or o (h.values (k / 16))) (gives-links.slots (k / 16))))
         ∙ sym (ap (λ (o : Option FileState). entry_in_file o k) file-now)
 
     pub own-directory : (k : ℕ) → SameDirectory (F i) (files_after F given i) k
@@ -181,7 +207,9 @@ module _ (F : Files) (X Y : Image) (d g e i s : ℕ) (f h : FileState) (x : Poin
     -- a pair of this inode at another entry stays
     pub pair-kept : (l : BackLink) → is_pair F i l ≡ true → (l.directory ≡ d → l.entry ≡ e → ⊥) → is_pair (files_after F given) i l ≡ true
     pair-kept l pair off =
-        let dir = directory-after F given X Y d e i s f (with_entry (f.values (e / 16)) e bytes) match is apart gives-cell gives-nothing entries-stay all-writes old directory-new (λ some. own-file) l.directory l.entry (pair-apart F i l pair) off in
+        let dir = directory-after F given X Y d e i s f (with_entry (f.values (e / 16)) e bytes)
+        match is apart gives-cell gives-nothing entries-stay all-writes old directory-new (λ some. own-file) l.directory l.entry (pair-apart F i l pair)
+        off in
         ap (λ (o : Option FileState). pairs o (files_after F given l.directory) i l) file-now
         ∙ sym (pairs-like h made (F l.directory) (files_after F given l.directory) i l refl refl dir)
         ∙ sym (ap (λ (o : Option FileState). pairs o (F l.directory) i l) is_i) ∙ pair
@@ -189,15 +217,24 @@ module _ (F : Files) (X Y : Image) (d g e i s : ℕ) (f h : FileState) (x : Poin
     pub stays-match : ((j : ℕ) (link : BackLink) → j ≢ i → Contains (links_of F j) link → is_pair F j link ≡ true → link.directory ≡ d → link.entry ≡ e → ⊥)
         → ((j : ℕ) (link : BackLink) → j ≢ i → Contains (links_of F j) link → is_pair F j link ≡ true → link.directory ≢ i)
         → ((j q : ℕ) → j ≢ i → names (entry_of bytes) j q ≡ false)
-        → (is_root (files_after F given) i ≡ true) ⊎ ((link : BackLink) × (is_special i ≡ false) × Contains links link × (is_pair (files_after F given) i link ≡ true) × (link.directory ≢ i) × (is_some (F link.directory) ≡ true))
+        → (is_root (files_after F given) i ≡ true) ⊎ ((link : BackLink) × (is_special i ≡ false) × Contains links link ×
+        (is_pair (files_after F given) i link ≡ true) × (link.directory ≢ i) × (is_some (F link.directory) ≡ true))
         → FilesMatch (files_after F given) Y
-    stays-match away lone named home = match-names F given X Y d e i s f (with_entry (f.values (e / 16)) e bytes) match is apart gives-cell gives-nothing entries-stay all-writes old directory-new (λ some. own-file) folder range away lone
+    stays-match away lone named home = match-names F given X Y d e i s f (with_entry (f.values (e / 16)) e bytes)
+        match is apart gives-cell gives-nothing entries-stay all-writes old directory-new (λ some. own-file) folder range away lone
         (λ j q ni. ap (λ (o : Option Entry). names o j q) entry-comes ∙ named j q ni)
         (λ fi ei. own-directory)
         (λ none. absurd (let t = some-is (F i) h is_i in cc (t, none)))
         (λ some. elim home [
           | inl root ↦ inl root
-          | inr l ↦ inr (l.0, l.1, subst (λ (ls : List BackLink). Contains ls l.0) (sym (ap Rattle.nofs_model.specs.Image.links_in_file file-now)) l.2, l.3, l.4, l.5)
+          | inr l ↦ inr (
+            l.0,
+            l.1,
+            subst (λ (ls : List BackLink). Contains ls l.0) (sym (ap Rattle.nofs_model.specs.Image.links_in_file file-now)) l.2,
+            l.3,
+            l.4,
+            l.5,
+          )
         ])
         (λ none. absurd (let t = some-is (files_after F given i) made file-now in cc (t, none)))
 
@@ -209,8 +246,10 @@ module _ (F : Files) (X Y : Image) (d g e i s : ℕ) (f h : FileState) (x : Poin
     gone : files_after F given i ≡ None
     gone = gone-file F given i h is_i gives-gone
 
-    pub free-proper : (m : Mark) → super_at m.image ≡ super_at Y → is_data_block m.image (1 + (i - 1) / 4) ≡ false → ((q : ℕ) → m.stands i q ≡ true → h.generation ≡ q) → Proper (during m given) X (1 + (i - 1) / 4) (cell_at Y (1 + (i - 1) / 4))
-    free-proper m super area tracked = table-proper (during m given) X Y i super area writes.records (freed-proper m given X Y i h.generation (rw free refl) gives-gone.metas tracked)
+    pub free-proper : (m : Mark) → super_at m.image ≡ super_at Y → is_data_block m.image (1 + (i - 1) / 4) ≡ false
+        → ((q : ℕ) → m.stands i q ≡ true → h.generation ≡ q) → Proper (during m given) X (1 + (i - 1) / 4) (cell_at Y (1 + (i - 1) / 4))
+    free-proper m super area tracked = table-proper (during m given) X Y i super area writes.records
+        (freed-proper m given X Y i h.generation (rw free refl) gives-gone.metas tracked)
 
     not-there : is_some (files_after F given i) ≡ true → ⊥
     not-there some = none (files_after F given i) gone some
@@ -223,7 +262,8 @@ module _ (F : Files) (X Y : Image) (d g e i s : ℕ) (f h : FileState) (x : Poin
         → ((j : ℕ) (link : BackLink) → j ≢ i → Contains (links_of F j) link → is_pair F j link ≡ true → link.directory ≢ i)
         → ((j q : ℕ) → j ≢ i → names (entry_of bytes) j q ≡ false)
         → FilesMatch (files_after F given) Y
-    goes-match away lone named = match-names F given X Y d e i s f (with_entry (f.values (e / 16)) e bytes) match is apart gives-cell gives-nothing entries-stay all-writes old directory-new (λ some. absurd (not-there some)) folder range away lone
+    goes-match away lone named = match-names F given X Y d e i s f (with_entry (f.values (e / 16)) e bytes)
+        match is apart gives-cell gives-nothing entries-stay all-writes old directory-new (λ some. absurd (not-there some)) folder range away lone
         (λ j q ni. ap (λ (o : Option Entry). names o j q) entry-comes ∙ named j q ni)
         (λ fi ei. absurd (not-there ei))
         (λ none. absurd (let t = some-is (F i) h is_i in cc (t, none)))

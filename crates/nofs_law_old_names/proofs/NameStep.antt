@@ -1,5 +1,6 @@
 -- A step on names: the machine's files after it are those of the image, from what it writes and what it gives.
-use Rattle.std.proofs.Common.{◌≡◌, ◌≢◌, ℕ, ◌/◌, ◌%◌, ◌<◌, ◌⊎◌, inl, inr, Bool, true, false, cond, eqb, ltb, ◌&&◌, ◌||◌, not, Option, Some, None, is_some, unwrap_or, refl, sym, ap, ◌∙◌, subst, subst₂, arith, Contains, eqb-true, eq-eqb, ne_eqb, ltb-true, lt-ltb}
+use Rattle.std.proofs.Common.{◌≡◌, ◌≢◌, ℕ, ◌/◌, ◌%◌, ◌<◌, ◌⊎◌, inl, inr, Bool, true, false, cond, eqb, ltb, ◌&&◌, ◌||◌, not, Option, Some, None, is_some}
+use Rattle.std.proofs.Common.{unwrap_or, refl, sym, ap, ◌∙◌, subst, subst₂, arith, Contains, eqb-true, eq-eqb, ne_eqb, ltb-true, lt-ltb}
 use Rattle.std.specs.List.{list_any}
 use Rattle.nofs_dirent.specs.Entries.{entry_limit}
 use Rattle.nofs_law_untouched.specs.Frames.{OldPointers}
@@ -16,7 +17,8 @@ use Rattle.nofs_machine.specs.Machine.{Given, filled, files_after, file_after, b
 use Rattle.nofs_machine.specs.History.{FilesMatch, SameFile}
 use Rattle.nofs_model.specs.Cells.{FileKind, BackLink, Entry, Record}
 use Rattle.nofs_inode.specs.declared.inode.FileKind.TheVariants.{Directory as Folder}
-use Rattle.nofs_model.specs.Image.{Image, inode, file_from, files_in, FileState, Files, is_folder, entry_held, entry_in_file, pairs, names, is_a, is_pair, is_root, is_special, links_of}
+use Rattle.nofs_model.specs.Image.{Image, inode, file_from, files_in, FileState, Files, is_folder, entry_held, entry_in_file, pairs, names, is_a, is_pair}
+use Rattle.nofs_model.specs.Image.{is_root, is_special, links_of}
 use Rattle.nofs_model.specs.declared.value.Value.{Value}
 use Rattle.nofs_machine.specs.Gives.{GivesNothing, GivesCell}
 use Rattle.nofs_law_old_names.specs.Names.{NameWrites}
@@ -25,7 +27,8 @@ use Rattle.nofs_law_old_names.specs.Names.{NameWrites}
 pub pair-named : (o u : Option FileState) (i : ℕ) (link : BackLink) → pairs o u i link ≡ true → (g : ℕ) × (names (entry_in_file u link.entry) i g ≡ true)
 pair-named None u i link e = cc
 pair-named (Some f) u i link e =
-    let a = and-both (is_a Folder link.generation u) (names (entry_in_file u link.entry) i f.generation && (not (is_folder f.kind) || ltb link.generation f.generation)) e in
+    let a = and-both (is_a Folder link.generation u) (names (entry_in_file u link.entry) i f.generation
+    && (not (is_folder f.kind) || ltb link.generation f.generation)) e in
     (f.generation, (and-both (names (entry_in_file u link.entry) i f.generation) (not (is_folder f.kind) || ltb link.generation f.generation) a.1).0)
 
 -- no entry stands at 1,152 or above
@@ -69,22 +72,30 @@ pair-paired F j link has pair = go (entry_in_file (F link.directory) link.entry)
     go (Some entry) e =
         let n : names (Some entry) j named.0 ≡ true = subst (λ (o : Option Entry). names o j named.0 ≡ true) e named.1 in
         let ei : entry.inode ≡ j = eqb-true entry.inode j (and-both (eqb entry.inode j) (eqb entry.generation named.0) n).0 in
-        ap (λ (o : Option Entry). elim o [ None ↦ false | Some q ↦ list_any (λ l. same_link l (link_to link.directory link.entry (generation_of F link.directory)) && is_pair F q.inode l) (links_of F q.inode) ]) e
-        ∙ ap (λ (q : ℕ). list_any (λ l. same_link l (link_to link.directory link.entry (generation_of F link.directory)) && is_pair F q l) (links_of F q)) ei ∙ any
+        ap (λ (o : Option Entry). elim o [
+          | None ↦ false
+          | Some q ↦ list_any
+              (λ l. same_link l (link_to link.directory link.entry (generation_of F link.directory)) && is_pair F q.inode l) (links_of F q.inode)
+        ]) e
+        ∙ ap (λ (q : ℕ). list_any (λ l. same_link l (link_to link.directory link.entry (generation_of F link.directory)) && is_pair F q l) (links_of F q)) ei
+        ∙ any
 
 -- an entry that isn't paired has no pair: `away` for Make and Link, `lone` for Drop
-pub unpaired-away : (F : Files) (d e : ℕ) → is_paired F d e ≡ false → (j : ℕ) (link : BackLink) → Contains (links_of F j) link → is_pair F j link ≡ true → link.directory ≡ d → link.entry ≡ e → ⊥
+pub unpaired-away : (F : Files) (d e : ℕ) → is_paired F d e ≡ false → (j : ℕ) (link : BackLink) → Contains (links_of F j) link → is_pair F j link ≡ true
+    → link.directory ≡ d → link.entry ≡ e → ⊥
 unpaired-away F d e none j link has pair ed ee =
     let p : is_paired F d e ≡ true = subst₂ (λ (a b : ℕ). is_paired F a b ≡ true) ed ee (pair-paired F j link has pair) in cc (none, p)
 
 -- nothing leads below what has no paired entry
-pub empty-lone : (F : Files) (i : ℕ) → ((b : ℕ) → b < entry_limit → is_paired F i b ≡ false) → (j : ℕ) (link : BackLink) → Contains (links_of F j) link → is_pair F j link ≡ true → link.directory ≢ i
+pub empty-lone : (F : Files) (i : ℕ) → ((b : ℕ) → b < entry_limit → is_paired F i b ≡ false) → (j : ℕ) (link : BackLink) → Contains (links_of F j) link
+    → is_pair F j link ≡ true → link.directory ≢ i
 empty-lone F i none j link has pair ei =
     let n = pair-named (F j) (F link.directory) j link pair in
     unpaired-away F i link.entry (none link.entry (entry-range (F link.directory) link.entry j n.0 n.1)) j link has pair ei refl
 
 -- nothing leads below a file, or what is not there
-pub file-lone : (F : Files) (i : ℕ) → ((h : FileState) → F i ≡ Some h → is_folder h.kind ≡ false) → (j : ℕ) (link : BackLink) → is_pair F j link ≡ true → link.directory ≢ i
+pub file-lone : (F : Files) (i : ℕ) → ((h : FileState) → F i ≡ Some h → is_folder h.kind ≡ false) → (j : ℕ) (link : BackLink) → is_pair F j link ≡ true
+    → link.directory ≢ i
 file-lone F i file j link pair ei =
     let p = pair-of F j link pair in
     let z = file p.parent (subst (λ (q : ℕ). F q ≡ Some p.parent) ei p.parent_is) in
@@ -128,13 +139,16 @@ module _ (F : Files) (given : Given) (X Y : Image) (d e i s : ℕ) (f : FileStat
 
   pub kin-after : (j : ℕ) → j ≢ i → Kin (F j) (files_after F given j)
   kin-after j ni = elim (decide j d) [
-    | inl at ↦ subst (λ (q : ℕ). Kin (F q) (files_after F given q)) (sym at) (subst₂ (λ (o p : Option FileState). Kin o p) (sym is) (sym new-directory) (record { generation = refl; kind = refl; links = refl }))
+    | inl at ↦ subst (λ (q : ℕ). Kin (F q) (files_after F given q)) (sym at)
+        (subst₂ (λ (o p : Option FileState). Kin o p) (sym is) (sym new-directory) (record { generation = refl; kind = refl; links = refl }))
     | inr nd ↦ alike-kin (F j) (files_after F given j) (alike-there j nd ni)
   ]
 
   -- the directory's entries after the step
   pub entry-after : (l : ℕ) → l ≢ e → entry_in_file (files_after F given d) l ≡ entry_in_file (F d) l
-  entry-after l ne = ap (λ (o : Option FileState). entry_in_file o l) new-directory ∙ ap (λ (q : Option Entry). cond (is_folder f.kind && ltb l entry_limit) q None) (inside (eqb (e / 16) (l / 16)) refl) ∙ sym (ap (λ (o : Option FileState). entry_in_file o l) is)
+  entry-after l ne = ap (λ (o : Option FileState). entry_in_file o l) new-directory
+      ∙ ap (λ (q : Option Entry). cond (is_folder f.kind && ltb l entry_limit) q None) (inside (eqb (e / 16) (l / 16)) refl)
+      ∙ sym (ap (λ (o : Option FileState). entry_in_file o l) is)
     where
       slot : (filled given d f).values (l / 16) ≡ unwrap_or (cond (eqb (e / 16) (l / 16)) (Some v) None) (f.values (l / 16))
       slot = ap (λ (o : Option Value). unwrap_or o (f.values (l / 16))) (gives.slots (l / 16))
@@ -146,7 +160,8 @@ module _ (F : Files) (given : Given) (X Y : Image) (d e i s : ℕ) (f : FileStat
       inside false q = ap (λ (u : Value). entry_held u l) slot ∙ rw q refl
 
   pub entry-new : is_folder f.kind ≡ true → e < entry_limit → entry_in_file (files_after F given d) e ≡ entry_held v e
-  entry-new folder range = ap (λ (o : Option FileState). entry_in_file o e) new-directory ∙ rw (folder, lt-ltb e entry_limit range) (ap (λ (u : Value). entry_held u e) slot)
+  entry-new folder range = ap (λ (o : Option FileState). entry_in_file o e) new-directory
+      ∙ rw (folder, lt-ltb e entry_limit range) (ap (λ (u : Value). entry_held u e) slot)
     where
       slot : (filled given d f).values (e / 16) ≡ v
       slot = ap (λ (o : Option Value). unwrap_or o (f.values (e / 16))) (gives.slots (e / 16)) ∙ rw (eq-eqb (e / 16) (e / 16) refl) refl
@@ -156,14 +171,16 @@ module _ (F : Files) (given : Given) (X Y : Image) (d e i s : ℕ) (f : FileStat
 
   pub directory-after : (j k : ℕ) → j ≢ i → (j ≡ d → k ≡ e → ⊥) → SameDirectory (F j) (files_after F given j) k
   directory-after j k ni off = elim (decide j d) [
-    | inl at ↦ (let s : SameDirectory (F d) (files_after F given d) k = record { is = folder-after; names = λ q g. sym (ap (λ (o : Option Entry). names o q g) (entry-after k (λ ek. off at ek))) } in
+    | inl at ↦ (let s : SameDirectory (F d) (files_after F given d) k =
+        record { is = folder-after; names = λ q g. sym (ap (λ (o : Option Entry). names o q g) (entry-after k (λ ek. off at ek))) } in
         subst (λ (q : ℕ). SameDirectory (F q) (files_after F given q) k) (sym at) s)
     | inr nd ↦ alike-directory (F j) (files_after F given j) k (alike-there j nd ni)
   ]
 
   pub same-after : (j : ℕ) → is_some (files_after F given j) ≡ true → SameFile (files_after F given j) (files_in Y j)
   same-after j some = elim (decide j i) [
-    | inl at ↦ (subst (λ (q : ℕ). SameFile (files_after F given q) (files_in Y q)) (sym at) (own (subst (λ (q : ℕ). is_some (files_after F given q) ≡ true) at some)))
+    | inl at ↦ (subst (λ (q : ℕ). SameFile (files_after F given q) (files_in Y q)) (sym at)
+        (own (subst (λ (q : ℕ). is_some (files_after F given q) ≡ true) at some)))
     | inr ni ↦ elim (decide j d) [
       | inl at ↦ subst (λ (q : ℕ). SameFile (files_after F given q) (files_in Y q)) (sym at) directory
       | inr nd ↦ (
@@ -171,7 +188,8 @@ module _ (F : Files) (given : Given) (X Y : Image) (d e i s : ℕ) (f : FileStat
           let m = matched-file F X j match there in
           let off : (eqb j d || eqb j i) ≡ false = rw (ne_eqb j d nd, ne_eqb j i ni) refl in
           same-trans (files_after F given j) (F j) (files_in Y j) (elsewhere j nd ni)
-          (same-trans (F j) (files_in X j) (files_in Y j) (same-of F X j match m.agreed) (same-file s (λ q. eqb q d || eqb q i) X Y (touches-of s d i X Y w) j off m.agreed (old j there) m.live)))
+          (same-trans (F j) (files_in X j) (files_in Y j) (same-of F X j match m.agreed)
+          (same-file s (λ q. eqb q d || eqb q i) X Y (touches-of s d i X Y w) j off m.agreed (old j there) m.live)))
     ]
   ]
 
@@ -199,12 +217,15 @@ module _ (F : Files) (given : Given) (X Y : Image) (d e i s : ℕ) (f : FileStat
       → ((j g : ℕ) → j ≢ i → names (entry_held v e) j g ≡ false)
       → (is_some (F i) ≡ true → is_some (files_after F given i) ≡ true → (k : ℕ) → SameDirectory (F i) (files_after F given i) k)
       → (is_some (F i) ≡ false → (k j g : ℕ) → names (entry_in_file (files_after F given i) k) j g ≡ false)
-      → (is_some (files_after F given i) ≡ true → (is_root (files_after F given) i ≡ true) ⊎ ((link : BackLink) × (is_special i ≡ false) × Contains (links_of (files_after F given) i) link × (is_pair (files_after F given) i link ≡ true) × (link.directory ≢ i) × (is_some (F link.directory) ≡ true)))
+      → (is_some (files_after F given i) ≡ true → (is_root (files_after F given) i ≡ true) ⊎
+      ((link : BackLink) × (is_special i ≡ false) × Contains (links_of (files_after F given) i) link × (is_pair (files_after F given) i link ≡ true) ×
+      (link.directory ≢ i) × (is_some (F link.directory) ≡ true)))
       → (is_some (files_after F given i) ≡ false → files_in Y i ≡ None)
       → FilesMatch (files_after F given) Y
   match-names folder range away lone named own_dir empty home removed = match-entry F (files_after F given) X Y d e i match kin-after
       (λ j k fs es off. elim (decide j i) [
-        | inl at ↦ subst (λ (q : ℕ). SameDirectory (F q) (files_after F given q) k) (sym at) (own_dir (subst (λ (q : ℕ). is_some (F q) ≡ true) at fs) (subst (λ (q : ℕ). is_some (files_after F given q) ≡ true) at es) k)
+        | inl at ↦ subst (λ (q : ℕ). SameDirectory (F q) (files_after F given q) k) (sym at)
+            (own_dir (subst (λ (q : ℕ). is_some (F q) ≡ true) at fs) (subst (λ (q : ℕ). is_some (files_after F given q) ≡ true) at es) k)
         | inr ni ↦ directory-after j k ni off
       ])
       away lone

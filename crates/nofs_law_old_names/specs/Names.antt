@@ -3,7 +3,8 @@ use Rattle.std.specs.Prelude.{◌≡◌, ◌≢◌, ℕ, ◌+◌, ◌-◌, ◌/�
 use Rattle.nofs_dirent.specs.Entries.{entry_limit}
 use Rattle.nofs_dirent.specs.EntryLaws.{Spells}
 use Rattle.nofs_model.specs.Cells.{Tag, Pointer, BackLink, Entry, tag_of, spelled_entry}
-use Rattle.nofs_model.specs.Image.{Image, cell_at, super_at, is_data_block, inode, Path, path_of, find, record_pointer, FileState, Files, is_folder, entry_at, IsFree}
+use Rattle.nofs_model.specs.Image.{Image, cell_at, super_at, is_data_block, inode, Path, path_of, find, record_pointer, FileState, Files, is_folder, entry_at}
+use Rattle.nofs_model.specs.Image.{IsFree}
 use Rattle.nofs_model.specs.declared.path.PathAnswer.TheVariants as answer
 use Rattle.nofs_model.specs.declared.value.Value.TheVariants.{Bytes}
 use Rattle.nofs_machine.specs.Meta.{Gone, Is}
@@ -80,13 +81,17 @@ LawDropEntry = (F : Files) (X Y : Image) (d g n s : ℕ) (f h : FileState) (x : 
 -- Where the inode has another name: its record is proper, and the machine's files are those of the disk.
 abbrev pub LawDropName : Type 0
 LawDropName = (F : Files) (X Y : Image) (d g n s : ℕ) (f h : FileState) (x : Pointer) (entry : Entry) → DropLies F X Y d g n s f h x entry
-    → drop_meta F entry.inode (link_to d n g) ≡ Is h.kind h.size (without_link (link_to d n g) h.links) → Relinked X Y entry.inode (without_link (link_to d n g) h.links)
-    → ((L : Mark) → super_at L.image ≡ super_at Y → is_data_block L.image (1 + (entry.inode - 1) / 4) ≡ false → Proper (during L (drop_given F d g n)) X (1 + (entry.inode - 1) / 4) (cell_at Y (1 + (entry.inode - 1) / 4)))
+    → drop_meta F entry.inode (link_to d n g) ≡ Is h.kind h.size (without_link (link_to d n g) h.links)
+    → Relinked X Y entry.inode (without_link (link_to d n g) h.links)
+    → ((L : Mark) → super_at L.image ≡ super_at Y → is_data_block L.image (1 + (entry.inode - 1) / 4) ≡ false
+    → Proper (during L (drop_given F d g n)) X (1 + (entry.inode - 1) / 4) (cell_at Y (1 + (entry.inode - 1) / 4)))
     × FilesMatch (files_after F (drop_given F d g n)) Y
 
 -- Where it has none: so is its free record.
 abbrev pub LawDropFile : Type 0
 LawDropFile = (F : Files) (X Y : Image) (d g n s : ℕ) (f h : FileState) (x : Pointer) (entry : Entry) → DropLies F X Y d g n s f h x entry
     → drop_meta F entry.inode (link_to d n g) ≡ Gone → (inode Y entry.inode).kind ≡ None
-    → ((L : Mark) → super_at L.image ≡ super_at Y → is_data_block L.image (1 + (entry.inode - 1) / 4) ≡ false → ((q : ℕ) → L.stands entry.inode q ≡ true → h.generation ≡ q) → Proper (during L (drop_given F d g n)) X (1 + (entry.inode - 1) / 4) (cell_at Y (1 + (entry.inode - 1) / 4)))
+    → ((L : Mark) → super_at L.image ≡ super_at Y → is_data_block L.image (1 + (entry.inode - 1) / 4) ≡ false
+    → ((q : ℕ) → L.stands entry.inode q ≡ true → h.generation ≡ q)
+    → Proper (during L (drop_given F d g n)) X (1 + (entry.inode - 1) / 4) (cell_at Y (1 + (entry.inode - 1) / 4)))
     × FilesMatch (files_after F (drop_given F d g n)) Y

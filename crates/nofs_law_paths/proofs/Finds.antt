@@ -1,5 +1,6 @@
 -- A name that every version since the last flush has finds its file.
-use Rattle.std.proofs.Common.{◌≡◌, ℕ, suc, ◌/◌, ◌%◌, ◌<◌, inl, inr, Bool, true, false, eqb, lt-ltb, ◌&&◌, ◌||◌, List, length, get_or, Option, Some, None, is_some, refl, sym, ap, ◌∙◌, subst, arith, Contains, eq-eqb}
+use Rattle.std.proofs.Common.{◌≡◌, ℕ, suc, ◌/◌, ◌%◌, ◌<◌, inl, inr, Bool, true, false, eqb, lt-ltb, ◌&&◌, ◌||◌, List, length, get_or, Option, Some, None}
+use Rattle.std.proofs.Common.{is_some, refl, sym, ap, ◌∙◌, subst, arith, Contains, eq-eqb}
 use Rattle.std.proofs.lemmas.Bool.{cases_lt}
 use Rattle.std.proofs.lemmas.List.{get_or_past}
 use Rattle.nofs_dirent.specs.Entries.{entry_limit}
@@ -61,7 +62,9 @@ module _ (B : Image) (H : List Entry1) (m : ℕ) (X : Image) (a : IsAllowed B H 
     pub has-link : Contains (links_of (files_in X) i) link
     has-link = go (inode X i).kind refl (λ none. p.linked (meta_of (inode X i)) (meta-now i g p.file_stands) none) (a.versions.records i g p.file_stands).0
       where
-        go : (o : Option FileKind) → (inode X i).kind ≡ o → ((none : BackLink) → meta_link (elim o [ None ↦ Gone | Some kind ↦ Is kind (inode X i).size (inode X i).links ]) b none ≡ link) → is_some o ≡ true → Contains (links_of (files_in X) i) link
+        go : (o : Option FileKind) → (inode X i).kind ≡ o → ((none : BackLink)
+            → meta_link (elim o [ None ↦ Gone | Some kind ↦ Is kind (inode X i).size (inode X i).links ]) b none ≡ link) → is_some o ≡ true
+            → Contains (links_of (files_in X) i) link
         go None e h live = cc live
         go (Some kind) e h live = rw (e, files_in) (in-list (inode X i).links b link h)
 
@@ -77,7 +80,8 @@ module _ (B : Image) (H : List Entry1) (m : ℕ) (X : Image) (a : IsAllowed B H 
     cell = λ v c. let h = p.cell v c in (h.0, h.1, by-name h.0 h.2);
   }
     where
-      by-name : (content : List ℕ) → entry_in content (link.entry % 16) ≡ Some (record { inode = i; generation = g; name = name }) → names (entry_in content (link.entry % 16)) i g ≡ true
+      by-name : (content : List ℕ) → entry_in content (link.entry % 16) ≡ Some (record { inode = i; generation = g; name = name })
+          → names (entry_in content (link.entry % 16)) i g ≡ true
       by-name content e = rw e (λ j. eq-eqb i i refl j && eq-eqb g g refl j)
 
   module _ (i g b : ℕ) (link : BackLink) (name : List ℕ) (p : SureName B H m i g b link name) where
@@ -85,12 +89,17 @@ module _ (B : Image) (H : List Entry1) (m : ℕ) (X : Image) (a : IsAllowed B H 
     pub entry-now : entry_at (files_in X) link.directory link.entry ≡ Some (record { inode = i; generation = g; name = name })
     entry-now =
         let r = a.versions.records link.directory link.generation p.directory_stands in
-        let k = folder-kind (inode X link.directory) (p.folders (meta_of (inode X link.directory)) (meta-now link.directory link.generation p.directory_stands)) in
+        let k = folder-kind (inode X link.directory) (p.folders (meta_of (inode X link.directory))
+        (meta-now link.directory link.generation p.directory_stands)) in
         let slot : link.entry / 16 < slot_limit = let lt = p.range in omega (arith, lt) in
-        let sure = a.versions.sure link.directory link.generation (link.entry / 16) p.directory_stands slot (λ v c. bytes-are v (λ (content : List ℕ). entry_in content (link.entry % 16) ≡ Some (record { inode = i; generation = g; name = name })) (p.cell v c)) in
+        let sure = a.versions.sure link.directory link.generation (link.entry / 16) p.directory_stands slot
+        (λ v c. bytes-are v (λ (content : List ℕ). entry_in content (link.entry % 16) ≡ Some (record { inode = i; generation = g; name = name }))
+        (p.cell v c)) in
         let may : MayRead (since B H m link.directory link.generation (link.entry / 16)) (value X link.directory (link.entry / 16)) =
-        subst (λ (q : ℕ). MayRead (since B H m link.directory q (link.entry / 16)) (value X link.directory (link.entry / 16))) r.1 (a.versions.values link.directory (link.entry / 16) r.0 slot) in
-        let has : Contains (since B H m link.directory link.generation (link.entry / 16)) (value X link.directory (link.entry / 16)) = elim may [ inl l ↦ absurd (sure l) | inr c ↦ c ] in
+        subst (λ (q : ℕ). MayRead (since B H m link.directory q (link.entry / 16)) (value X link.directory (link.entry / 16))) r.1
+        (a.versions.values link.directory (link.entry / 16) r.0 slot) in
+        let has : Contains (since B H m link.directory link.generation (link.entry / 16)) (value X link.directory (link.entry / 16)) =
+        elim may [ inl l ↦ absurd (sure l) | inr c ↦ c ] in
         let h = p.cell (value X link.directory (link.entry / 16)) has in
         let v = h.1 in
         rw (k, files_in, entry_in_file) (rw (lt-ltb link.entry entry_limit p.range, v) h.2)

@@ -1,5 +1,6 @@
 -- The durable move: one of the file's two names finds it.
-use Rattle.std.proofs.Common.{◌≡◌, ◌≢◌, ℕ, zero, suc, ◌<◌, ◌≤◌, ◌⊎◌, inl, inr, Bool, true, false, cond, eqb, ltb, List, [], ◌∷◌, length, take, Some, is_some, refl, sym, ap, ◌∙◌, subst, arith, eqb-true, eq-eqb}
+use Rattle.std.proofs.Common.{◌≡◌, ◌≢◌, ℕ, zero, suc, ◌<◌, ◌≤◌, ◌⊎◌, inl, inr, Bool, true, false, cond, eqb, ltb, List, [], ◌∷◌, length, take, Some, is_some}
+use Rattle.std.proofs.Common.{refl, sym, ap, ◌∙◌, subst, arith, eqb-true, eq-eqb}
 use Rattle.std.specs.Prelude.{slice_get}
 use Rattle.std.proofs.lemmas.Bool.{cases_lt}
 use Rattle.nofs_model.specs.Cells.{Entry}
@@ -15,7 +16,8 @@ use Rattle.nofs_machine.specs.declared.steps.Step.TheVariants as step
 use Rattle.nofs_machine.specs.declared.replies.Reply.TheVariants as reply
 use Rattle.nofs_law_runs.proofs.Rooted.{directory-of, name-of}
 use Rattle.nofs_law_runs.specs.Runs.{files_before}
-use Rattle.nofs_law_runs.proofs.Runs.{Moment, files-after, run-order, run-time, begun-before, begun-reaches, mark-behind, MarkAt, Unmoved, Behind, mark-is, run-faultless}
+use Rattle.nofs_law_runs.proofs.Runs.{Moment, files-after, run-order, run-time, begun-before, begun-reaches, mark-behind, MarkAt, Unmoved, Behind, mark-is}
+use Rattle.nofs_law_runs.proofs.Runs.{run-faultless}
 use Rattle.nofs_law_runs.proofs.Links.{IsSane, Linked, linked-range, linked-paired, linked-filled}
 use Rattle.nofs_law_runs.proofs.Along.{Guard, SaneRun, moment-at, linked-along, stays-along}
 use Rattle.nofs_law_runs.proofs.Base.{sane-run}
@@ -39,7 +41,8 @@ flushed-is : (e : Entry1) → e.reply ≡ reply.Flushed → is_flushed e.reply �
 flushed-is e h = ap is_flushed h
 
 -- the mark of a moment by which an entry flushed: it lies behind that entry, and among what has begun
-module _ (B : Image) (H : List Entry1) (r : SaneRun B H) (m p : ℕ) (e : Entry1) (at : slice_get H p ≡ Some e) (flushed : is_flushed e.reply ≡ true) (by : e.to ≤ m) where
+module _ (B : Image) (H : List Entry1) (r : SaneRun B H) (m p : ℕ) (e : Entry1) (at : slice_get H p ≡ Some e) (flushed : is_flushed e.reply ≡ true)
+    (by : e.to ≤ m) where
   behind : p < mark H m
   behind = mark-behind H m p e at flushed by
 
@@ -65,7 +68,9 @@ module _ (B : Image) (H : List Entry1) (r : SaneRun B H) (m p : ℕ) (e : Entry1
 -- a name that stays from an entry on finds its file
 module _ (B : Image) (H : List Entry1) (r : SaneRun B H) (m s : ℕ) (within : MarkWithin B H m s (length (begun H m))) (d dg i g b p : ℕ) (name : List ℕ)
     (l : Linked (λ x. Only (named_entry i g name) x) (files_before B H s) i g b (link_to d p dg)) (agreed : Agreed (files_before B H s) d)
-    (each : (q : ℕ) (e : Entry1) → s ≤ q → q < length (begun H m) → slice_get H q ≡ Some e → (W V : World) → W.files ≡ files_before B H q → IsSane W → Next W e V → Linked (λ x. Only (named_entry i g name) x) W.files i g b (link_to d p dg) → Guard (λ x. Only (named_entry i g name) x) W e (link_to d p dg)) where
+    (each : (q : ℕ) (e : Entry1) → s ≤ q → q < length (begun H m) → slice_get H q ≡ Some e → (W V : World) → W.files ≡ files_before B H q → IsSane W
+    → Next W e V → Linked (λ x. Only (named_entry i g name) x) W.files i g b (link_to d p dg)
+    → Guard (λ x. Only (named_entry i g name) x) W e (link_to d p dg)) where
   reach : (q : ℕ) → q < length (begun H m) → (e : Entry1) × (slice_get H q ≡ Some e)
   reach q lt = begun-get H m q lt
 
@@ -77,7 +82,8 @@ module _ (B : Image) (H : List Entry1) (r : SaneRun B H) (m s : ℕ) (within : M
 
   pub stays-found : (X : Image) → IsAllowed B H m X → Finds X d dg name i g
   stays-found X allowed = law-sure-name B H m X i g b (link_to d p dg) name allowed
-      (chain-sure B H r m s (length (begun H m)) within reach d dg agreed (λ q low high. let k = along q low high in (k.parent, linked-filled (λ x. Only (named_entry i g name) x) (files_before B H q) i g b (link_to d p dg) k)))
+      (chain-sure B H r m s (length (begun H m)) within reach d dg agreed (λ q low high. let k =
+      along q low high in (k.parent, linked-filled (λ x. Only (named_entry i g name) x) (files_before B H q) i g b (link_to d p dg) k)))
       (sure-name B H m s (length (begun H m)) within (λ x. Only (named_entry i g name) x) i g b (link_to d p dg) (along (mark H m) within.low within.high)
       (stays-along B H r s (length (begun H m)) reach (λ x. Only (named_entry i g name) x) i g b (link_to d p dg) only l each) name (λ x e. e))
 
@@ -108,7 +114,8 @@ no-drop s d of name e plain = let z : is-plain s ≡ false = ap is-plain e in cc
 no-renaming : (s : Step) (d of : ℕ) (old new : List ℕ) (dir g : ℕ) (name : List ℕ) → s ≡ step.Rename d of old new → s ≡ step.Drop dir g name → ⊥
 no-renaming s d of old new dir g name a b = cc (a, b)
 
-module _ (B : Image) (H : List Entry1) (r : SaneRun B H) (d dg : ℕ) (name : List ℕ) (d2 dg2 : ℕ) (new : List ℕ) (i g : ℕ) (mv : IsMove B H d dg name d2 dg2 new i g) where
+module _ (B : Image) (H : List Entry1) (r : SaneRun B H) (d dg : ℕ) (name : List ℕ) (d2 dg2 : ℕ) (new : List ℕ) (i g : ℕ)
+    (mv : IsMove B H d dg name d2 dg2 new i g) where
   at-look : Moment (λ W. IsSane W) (agreed_files B) H mv.look mv.looked.entry
   at-look = moment-at B H r mv.look mv.looked.entry mv.looked.there
 
@@ -116,41 +123,51 @@ module _ (B : Image) (H : List Entry1) (r : SaneRun B H) (d dg : ℕ) (name : Li
   at-link = moment-at B H r mv.link mv.linking.entry mv.linking.there
 
   -- the old name, before Look
-  old : (b : ℕ) × Linked (λ x. Only (named_entry i g name) x) (files_before B H mv.look) i g b (link_to d mv.old_place dg) × (mv.old_entry ≡ named_entry i g name)
+  old : (b : ℕ) × Linked (λ x. Only (named_entry i g name) x) (files_before B H mv.look) i g b (link_to d mv.old_place dg) ×
+      (mv.old_entry ≡ named_entry i g name)
   old =
       let m = at-look in
       let k = look-linked m.before m.after mv.looked.entry d dg i g mv.old_place name mv.kind mv.old_entry m.next mv.looked.is mv.finds
-      (subst (λ (F : Files). found F d name ≡ Some mv.old_place) (sym m.files) mv.is_old) (subst (λ (F : Files). entry_at F d mv.old_place ≡ Some mv.old_entry) (sym m.files) mv.is_entry) in
+      (subst (λ (F : Files). found F d name ≡ Some mv.old_place) (sym m.files) mv.is_old)
+      (subst (λ (F : Files). entry_at F d mv.old_place ≡ Some mv.old_entry) (sym m.files) mv.is_entry) in
       (k.0, subst (λ (F : Files). Linked (λ x. Only (named_entry i g name) x) F i g k.0 (link_to d mv.old_place dg)) m.files k.1, k.2)
 
   -- it stays over each entry before Drop
-  old-guard : (b q : ℕ) (e : Entry1) → mv.look ≤ q → q ≤ mv.last → q < mv.drop → slice_get H q ≡ Some e → (W V : World) → W.files ≡ files_before B H q → IsSane W → Next W e V
-      → Linked (λ x. Only (named_entry i g name) x) W.files i g b (link_to d mv.old_place dg) → Guard (λ x. Only (named_entry i g name) x) W e (link_to d mv.old_place dg)
+  old-guard : (b q : ℕ) (e : Entry1) → mv.look ≤ q → q ≤ mv.last → q < mv.drop → slice_get H q ≡ Some e → (W V : World) → W.files ≡ files_before B H q
+      → IsSane W → Next W e V
+      → Linked (λ x. Only (named_entry i g name) x) W.files i g b (link_to d mv.old_place dg)
+      → Guard (λ x. Only (named_entry i g name) x) W e (link_to d mv.old_place dg)
   old-guard b q e low high nd at W V files sane next l = go (eqb q mv.look) refl (eqb q mv.link) refl
     where
       go : (x : Bool) → eqb q mv.look ≡ x → (y : Bool) → eqb q mv.link ≡ y → Guard (λ x. Only (named_entry i g name) x) W e (link_to d mv.old_place dg)
       go true ex y ey =
           let same = same-entry H q mv.look e mv.looked.entry (eqb-true q mv.look ex) at mv.looked.there in
           let es : e.step ≡ step.Look d dg name = ap (λ (z : Entry1). z.step) same ∙ mv.looked.is in
-          plain-guard (named_entry i g name) W V e i g b (link_to d mv.old_place dg) sane next l (λ of o n h f. no-rename (e.step) d of o n h (ap is-plain es)) (λ of n h f. no-drop (e.step) d of n h (ap is-plain es))
+          plain-guard (named_entry i g name) W V e i g b (link_to d mv.old_place dg) sane next l
+          (λ of o n h f. no-rename (e.step) d of o n h (ap is-plain es)) (λ of n h f. no-drop (e.step) d of n h (ap is-plain es))
       go false ex true ey =
           let same = same-entry H q mv.link e mv.linking.entry (eqb-true q mv.link ey) at mv.linking.there in
           let es : e.step ≡ step.Link d2 dg2 new i g = ap (λ (z : Entry1). z.step) same ∙ mv.linking.is in
-          plain-guard (named_entry i g name) W V e i g b (link_to d mv.old_place dg) sane next l (λ of o n h f. no-rename (e.step) d of o n h (ap is-plain es)) (λ of n h f. no-drop (e.step) d of n h (ap is-plain es))
+          plain-guard (named_entry i g name) W V e i g b (link_to d mv.old_place dg) sane next l
+          (λ of o n h f. no-rename (e.step) d of o n h (ap is-plain es)) (λ of n h f. no-drop (e.step) d of n h (ap is-plain es))
       go false ex false ey =
           let apart : q ≢ mv.look = λ h. let z = eq-eqb q mv.look h in cc (ex, z) in
           let elsewhere : q ≢ mv.link = λ h. let z = eq-eqb q mv.link h in cc (ey, z) in
           let kept = mv.old_stays q e (omega (arith, low, apart)) high elsewhere nd at in
           keeping-guard (named_entry i g name) W V e i g b (link_to d mv.old_place dg) sane l
-          (subst (λ (F : Files). KeepsEntry (given_by F e) d dg mv.old_place (named_entry i g name)) (sym files) (subst (λ (x : Entry). KeepsEntry (given_by (files_before B H q) e) d dg mv.old_place x) old.2 kept))
+          (subst (λ (F : Files). KeepsEntry (given_by F e) d dg mv.old_place (named_entry i g name)) (sym files)
+          (subst (λ (x : Entry). KeepsEntry (given_by (files_before B H q) e) d dg mv.old_place x) old.2 kept))
 
   -- the new name, after Link
-  fresh : (b : ℕ) × Linked (λ x. Only (named_entry i g new) x) (files_before B H (suc mv.link)) i g b (link_to d2 mv.new_place dg2) × (is_some (found (files_before B H mv.link) d2 new) ≡ false)
+  fresh : (b : ℕ) × Linked (λ x. Only (named_entry i g new) x) (files_before B H (suc mv.link)) i g b (link_to d2 mv.new_place dg2) ×
+      (is_some (found (files_before B H mv.link) d2 new) ≡ false)
   fresh =
       let m = at-link in
-      let k = link-linked m.before m.after mv.linking.entry d2 dg2 i g mv.new_place new m.sane m.next mv.linking.is mv.linked (subst (λ (F : Files). Rattle.nofs_machine.specs.Machine.place_for F d2 new ≡ Some mv.new_place) (sym m.files) mv.is_new) in (
+      let k = link-linked m.before m.after mv.linking.entry d2 dg2 i g mv.new_place new m.sane m.next mv.linking.is mv.linked
+      (subst (λ (F : Files). Rattle.nofs_machine.specs.Machine.place_for F d2 new ≡ Some mv.new_place) (sym m.files) mv.is_new) in (
         k.0,
-        subst (λ (F : Files). Linked (λ x. Only (named_entry i g new) x) F i g k.0 (link_to d2 mv.new_place dg2)) (files-after (λ W. IsSane W) r.keeps (agreed_files B) H mv.link mv.linking.entry mv.linking.there m) k.1,
+        subst (λ (F : Files). Linked (λ x. Only (named_entry i g new) x) F i g k.0 (link_to d2 mv.new_place dg2))
+            (files-after (λ W. IsSane W) r.keeps (agreed_files B) H mv.link mv.linking.entry mv.linking.there m) k.1,
         subst (λ (F : Files). is_some (found F d2 new) ≡ false) m.files k.2,
       )
 
@@ -161,18 +178,24 @@ module _ (B : Image) (H : List Entry1) (r : SaneRun B H) (d dg : ℕ) (name : Li
       let first = mv.flush_after in
       let second = mv.link_after in
       let by = mv.link_by_last in
-      let l = linked-along B H r mv.look mv.link reach (λ x. Only (named_entry i g name) x) i g old.0 (link_to d mv.old_place dg) (λ x e. (ap (λ (y : Entry). y.inode) e, ap (λ (y : Entry). y.generation) e)) old.1
-      (λ q e low high at W V files sane next l. old-guard old.0 q e low (omega (arith, high, by)) (omega (arith, high, before)) at W V files sane next l) mv.link (omega (arith, first, second)) (omega arith) in
+      let l = linked-along B H r mv.look mv.link reach (λ x. Only (named_entry i g name) x) i g old.0 (link_to d mv.old_place dg)
+      (λ x e. (ap (λ (y : Entry). y.inode) e, ap (λ (y : Entry). y.generation) e)) old.1
+      (λ q e low high at W V files sane next l. old-guard old.0 q e low (omega (arith, high, by)) (omega (arith, high, before)) at W V files sane next l)
+      mv.link (omega (arith, first, second)) (omega arith) in
       let paired = linked-paired (λ x. Only (named_entry i g name) x) (files_before B H mv.link) i g old.0 (link_to d mv.old_place dg) l in
-      let some = name-finds (files_before B H mv.link) d name mv.old_place l.entry l.there (ap (λ (x : Entry). x.name) l.passes) paired (linked-range (λ x. Only (named_entry i g name) x) (files_before B H mv.link) i g old.0 (link_to d mv.old_place dg) l) in
+      let some = name-finds (files_before B H mv.link) d name mv.old_place l.entry l.there (ap (λ (x : Entry). x.name) l.passes) paired
+      (linked-range (λ x. Only (named_entry i g name) x) (files_before B H mv.link) i g old.0 (link_to d mv.old_place dg) l) in
       let none = fresh.2 in
       let none' : is_some (found (files_before B H mv.link) d name) ≡ false =
-      subst (λ (x : ℕ). is_some (found (files_before B H mv.link) x name) ≡ false) qd (subst (λ (x : List ℕ). is_some (found (files_before B H mv.link) d2 x) ≡ false) qn none) in
+      subst (λ (x : ℕ). is_some (found (files_before B H mv.link) x name) ≡ false) qd
+      (subst (λ (x : List ℕ). is_some (found (files_before B H mv.link) d2 x) ≡ false) qn none) in
       cc (some, none')
 
   -- the new name stays over each entry after Link
-  new-guard : mv.link < mv.drop → (HasStep H mv.drop (step.Drop d dg name) ⊎ (mv.last < mv.drop)) → (b q : ℕ) (e : Entry1) → suc mv.link ≤ q → q ≤ mv.last → slice_get H q ≡ Some e → (W V : World) → W.files ≡ files_before B H q → IsSane W → Next W e V
-      → Linked (λ x. Only (named_entry i g new) x) W.files i g b (link_to d2 mv.new_place dg2) → Guard (λ x. Only (named_entry i g new) x) W e (link_to d2 mv.new_place dg2)
+  new-guard : mv.link < mv.drop → (HasStep H mv.drop (step.Drop d dg name) ⊎ (mv.last < mv.drop)) → (b q : ℕ) (e : Entry1) → suc mv.link ≤ q → q ≤ mv.last
+      → slice_get H q ≡ Some e → (W V : World) → W.files ≡ files_before B H q → IsSane W → Next W e V
+      → Linked (λ x. Only (named_entry i g new) x) W.files i g b (link_to d2 mv.new_place dg2)
+      → Guard (λ x. Only (named_entry i g new) x) W e (link_to d2 mv.new_place dg2)
   new-guard before dropping b q e low high at W V files sane next l = go (eqb q mv.drop) refl
     where
       other : q ≢ mv.drop → Guard (λ x. Only (named_entry i g new) x) W e (link_to d2 mv.new_place dg2)
@@ -210,7 +233,8 @@ module _ (B : Image) (H : List Entry1) (r : SaneRun B H) (d dg : ℕ) (name : Li
   ]
 
   -- while Drop has not begun the old name finds the file
-  find-old : (e : Entry1) → slice_get H mv.last ≡ Some e → (m : ℕ) → mv.flushed.entry.to ≤ m → m ≤ e.to → ((q : ℕ) → q < length (begun H m) → q < mv.drop) → (X : Image) → IsAllowed B H m X → Finds X d dg name i g
+  find-old : (e : Entry1) → slice_get H mv.last ≡ Some e → (m : ℕ) → mv.flushed.entry.to ≤ m → m ≤ e.to → ((q : ℕ) → q < length (begun H m) → q < mv.drop)
+      → (X : Image) → IsAllowed B H m X → Finds X d dg name i g
   find-old e at m from to undropped X allowed =
       let first = mv.flush_after in
       let w = within B H r m mv.flush mv.flushed.entry mv.flushed.there (flushed-is mv.flushed.entry mv.flushed.flushed) from mv.look (omega (arith, first)) in
@@ -221,19 +245,24 @@ module _ (B : Image) (H : List Entry1) (r : SaneRun B H) (d dg : ℕ) (name : Li
       (λ q h low lt there W V files sane next l. old-guard old.0 q h low (begun-last e at m to q lt) (undropped q lt) there W V files sane next l) X allowed
 
   -- from the end of the second flush on the new one does
-  find-new : (done : HasDrop H mv.link mv.drop d dg name) → (e : Entry1) → slice_get H mv.last ≡ Some e → (m : ℕ) → done.flushed.entry.to ≤ m → m ≤ e.to → (X : Image) → IsAllowed B H m X → Finds X d2 dg2 new i g
+  find-new : (done : HasDrop H mv.link mv.drop d dg name) → (e : Entry1) → slice_get H mv.last ≡ Some e → (m : ℕ) → done.flushed.entry.to ≤ m → m ≤ e.to
+      → (X : Image) → IsAllowed B H m X → Finds X d2 dg2 new i g
   find-new done e at m from to X allowed =
       let a = done.after_link in
       let c = done.before_drop in
-      let w = within B H r m done.second done.flushed.entry done.flushed.there (flushed-is done.flushed.entry done.flushed.flushed) from (suc mv.link) (omega (arith, a)) in
+      let w = within B H r m done.second done.flushed.entry done.flushed.there (flushed-is done.flushed.entry done.flushed.flushed) from (suc mv.link)
+      (omega (arith, a)) in
       let x = at-link in
       let same = files-after (λ W. IsSane W) r.keeps (agreed_files B) H mv.link mv.linking.entry mv.linking.there x in
       let agreed : Agreed (files_before B H (suc mv.link)) d2 =
-      subst (λ (F : Files). Agreed F d2) same (x.sane_after.rooted d2 fresh.1.parent.file (ap (λ (F : Files). F d2) same ∙ fresh.1.parent.is) fresh.1.parent.folder) in
+      subst (λ (F : Files). Agreed F d2) same (x.sane_after.rooted d2 fresh.1.parent.file (ap (λ (F : Files). F d2) same ∙ fresh.1.parent.is)
+      fresh.1.parent.folder) in
       stays-found B H r m (suc mv.link) w d2 dg2 i g fresh.0 mv.new_place new fresh.1 agreed
-      (λ q h low lt there W V files sane next l. new-guard (omega (arith, a, c)) (inl done.dropping) fresh.0 q h low (begun-last e at m to q lt) there W V files sane next l) X allowed
+      (λ q h low lt there W V files sane next l. new-guard (omega (arith, a, c)) (inl done.dropping) fresh.0 q h low (begun-last e at m to q lt)
+      there W V files sane next l) X allowed
 
-  find-one : DropIsLate H mv.link mv.drop mv.last d dg name → (e : Entry1) → slice_get H mv.last ≡ Some e → (m : ℕ) → mv.flushed.entry.to ≤ m → m ≤ e.to → (X : Image) → IsAllowed B H m X → Finds X d dg name i g ⊎ Finds X d2 dg2 new i g
+  find-one : DropIsLate H mv.link mv.drop mv.last d dg name → (e : Entry1) → slice_get H mv.last ≡ Some e → (m : ℕ) → mv.flushed.entry.to ≤ m → m ≤ e.to
+      → (X : Image) → IsAllowed B H m X → Finds X d dg name i g ⊎ Finds X d2 dg2 new i g
   find-one (inl late) e at m from to X allowed = inl (find-old e at m from to (λ q lt. let le = begun-last e at m to q lt in omega (arith, le, late)) X allowed)
   find-one (inr done) e at m from to X allowed = elim (cases_lt m done.flushed.entry.to) [
     | inr le ↦ inr (find-new done e at m le to X allowed)
@@ -249,7 +278,9 @@ module _ (B : Image) (H : List Entry1) (r : SaneRun B H) (d dg : ℕ) (name : Li
   ]
 
 pub law-move : LawMove
-law-move B H d dg name d2 dg2 new i g history mv late e at m from to X allowed = find-one B H.entries (sane-run B H history) d dg name d2 dg2 new i g mv late e at m from to X allowed
+law-move B H d dg name d2 dg2 new i g history mv late e at m from to X allowed =
+    find-one B H.entries (sane-run B H history) d dg name d2 dg2 new i g mv late e at m from to X allowed
 
 pub law-moved : LawMoved
-law-moved B H d dg name d2 dg2 new i g history mv done e at m from to X allowed = find-new B H.entries (sane-run B H history) d dg name d2 dg2 new i g mv done e at m from to X allowed
+law-moved B H d dg name d2 dg2 new i g history mv done e at m from to X allowed =
+    find-new B H.entries (sane-run B H history) d dg name d2 dg2 new i g mv done e at m from to X allowed

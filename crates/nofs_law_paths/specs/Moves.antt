@@ -66,8 +66,10 @@ pub record IsMove (B : Image) (H : List Entry1) (d dg : ℕ) (name : List ℕ) (
   -- up to the last, no other entry between Look and Drop gives a cell in which the found entry is changed, and none after Link one in
   -- which the new one is. (What an entry gives counts where it ended in WriteFault, too. Other names of i may come and go: they leave
   -- the places of these two names in its record.)
-  pub old_stays : (p : ℕ) (e : Entry1) → look < p → p ≤ last → p ≢ link → p < drop → slice_get H p ≡ Some e → KeepsEntry (given_by (files_before B H p) e) d dg old_place old_entry
-  pub new_stays : (p : ℕ) (e : Entry1) → link < p → p ≤ last → p ≢ drop → slice_get H p ≡ Some e → KeepsEntry (given_by (files_before B H p) e) d2 dg2 new_place (named_entry i g new)
+  pub old_stays : (p : ℕ) (e : Entry1) → look < p → p ≤ last → p ≢ link → p < drop → slice_get H p ≡ Some e
+      → KeepsEntry (given_by (files_before B H p) e) d dg old_place old_entry
+  pub new_stays : (p : ℕ) (e : Entry1) → link < p → p ≤ last → p ≢ drop → slice_get H p ≡ Some e
+      → KeepsEntry (given_by (files_before B H p) e) d2 dg2 new_place (named_entry i g new)
 
 -- the second flush succeeded, and Drop came after it, whatever it was answered
 pub record HasDrop (H : List Entry1) (link drop d dg : ℕ) (name : List ℕ) : Type 0 where

@@ -3,7 +3,8 @@ use Rattle.std.proofs.Common.{◌≡◌, ℕ, Bool, true, false, cond, not, ◌|
 use Rattle.nofs_model.specs.Cells.{Entry}
 use Rattle.nofs_model.specs.Image.{Files, FileState, entry_at}
 use Rattle.nofs_machine.specs.Search.{first_of}
-use Rattle.nofs_machine.specs.Machine.{Given, nothing, gives, at_place, found, drop_given, link_to, generation_of, file_after, files_after, is_refused, is_write_fault, may_give, given_by, files_by}
+use Rattle.nofs_machine.specs.Machine.{Given, nothing, gives, at_place, found, drop_given, link_to, generation_of, file_after, files_after, is_refused}
+use Rattle.nofs_machine.specs.Machine.{is_write_fault, may_give, given_by, files_by}
 use Rattle.nofs_machine.specs.World.{World}
 use Rattle.nofs_machine.specs.Refusals.{rows}
 use Rattle.nofs_machine.specs.Answers.{reply_of, dropped_entry, dropped_reply}
@@ -35,7 +36,8 @@ pub row-faultless : (W V : World) (s : Step) (why : Refusal) → first_of (rows 
 row-faultless W V s why e = faultless (reply.Refused why) (subst FaultFree e (first-free (rows W V s) (rows-free W V s)))
 
 refused-idle : (F : Files) (e : Entry1) (why : Refusal) → e.reply ≡ reply.Refused why → is_write_fault (reply.Refused why) ≡ false → given_by F e ≡ nothing
-refused-idle F e why r f = ap (λ (q : Reply). cond (may_give q) (gives F e.step e.claims) nothing) r ∙ ap (λ (b : Bool). cond b (gives F e.step e.claims) nothing) f
+refused-idle F e why r f = ap (λ (q : Reply). cond (may_give q) (gives F e.step e.claims) nothing) r
+    ∙ ap (λ (b : Bool). cond b (gives F e.step e.claims) nothing) f
 
 pub acts : (W V : World) (e : Entry1) → Next W e V → Acts W e
 acts W V e (AfterFault s r c same) = Idle (refused-idle W.files e refusal.Stopped r refl)
@@ -50,13 +52,16 @@ acts W V e (Done s row r claim fs hs se vs l) = go (may_give e.reply) refl
     go false q = Idle (ap (λ (b : Bool). cond b (gives W.files e.step e.claims) nothing) q)
 
 -- what accepts is done
-pub accepted-acts : (W V : World) (e : Entry1) → Next W e V → is_refused e.reply ≡ false → (first_of (rows W V e.step) ≡ None) × IsClaim W e.step e.claims × (e.reply ≡ reply_of W e.step e.claims) × (given_by W.files e ≡ gives W.files e.step e.claims)
+pub accepted-acts : (W V : World) (e : Entry1) → Next W e V → is_refused e.reply ≡ false
+    → (first_of (rows W V e.step) ≡ None) × IsClaim W e.step e.claims × (e.reply ≡ reply_of W e.step e.claims) ×
+    (given_by W.files e ≡ gives W.files e.step e.claims)
 accepted-acts W V e (AfterFault s r c same) ok = absurd (let z : is_refused e.reply ≡ true = ap is_refused r in cc (z, ok))
 accepted-acts W V e (ByRow why s row (inl r) c k t l) ok = absurd (let z : is_refused e.reply ≡ true = ap is_refused r in cc (z, ok))
 accepted-acts W V e (ByRow why s row (inr r) c k t l) ok = absurd (let z : is_refused e.reply ≡ true = ap is_refused r.0 in cc (z, ok))
 accepted-acts W V e (ByRead s row r c k t l) ok = absurd (let z : is_refused e.reply ≡ true = ap is_refused r in cc (z, ok))
 accepted-acts W V e (ByWrite s row m r claim k t l) ok = absurd (let z : is_refused e.reply ≡ true = ap is_refused r in cc (z, ok))
-accepted-acts W V e (Done s row r claim fs hs se vs l) ok = (row, claim, r, ap (λ (b : Bool). cond (not b || is_write_fault e.reply) (gives W.files e.step e.claims) nothing) ok)
+accepted-acts W V e (Done s row r claim fs hs se vs l) ok =
+    (row, claim, r, ap (λ (b : Bool). cond (not b || is_write_fault e.reply) (gives W.files e.step e.claims) nothing) ok)
 
 -- The files after an entry
 
@@ -69,7 +74,8 @@ refused-nothing W (step.Link d g name i of) c e = cc e
 refused-nothing W (step.Rename d g old new) c e = cc e
 refused-nothing W (step.Drop d g name) c e = go (found W.files d name) e
   where
-    entry : (p : ℕ) (o : Option Entry) → entry_at W.files d p ≡ o → is_refused (dropped_entry W.files (link_to d p (generation_of W.files d)) o) ≡ true → drop_given W.files d g p ≡ nothing
+    entry : (p : ℕ) (o : Option Entry) → entry_at W.files d p ≡ o → is_refused (dropped_entry W.files (link_to d p (generation_of W.files d)) o) ≡ true
+        → drop_given W.files d g p ≡ nothing
     entry p None eo q = rw (eo, drop_given) refl
     entry p (Some x) eo q = cc q
 
@@ -86,13 +92,19 @@ files-nothing F = λ j i. go i (F i) j
     go i (Some f) = refl
 
 pub files-next : (W V : World) (e : Entry1) → Next W e V → V.files ≡ files_by W.files e
-files-next W V e (AfterFault s r c same) = ap (λ (q : World). q.files) same ∙ sym (ap (λ (q : Reply). cond (is_refused q) W.files (files_after W.files (gives W.files e.step e.claims))) r)
-files-next W V e (ByRow why s row (inl r) c k t l) = k.files ∙ sym (ap (λ (q : Reply). cond (is_refused q) W.files (files_after W.files (gives W.files e.step e.claims))) r)
-files-next W V e (ByRow why s row (inr r) c k t l) = k.files ∙ sym (ap (λ (q : Reply). cond (is_refused q) W.files (files_after W.files (gives W.files e.step e.claims))) r.0)
-files-next W V e (ByRead s row r c k t l) = k.files ∙ sym (ap (λ (q : Reply). cond (is_refused q) W.files (files_after W.files (gives W.files e.step e.claims))) r)
-files-next W V e (ByWrite s row m r claim k t l) = k.files ∙ sym (ap (λ (q : Reply). cond (is_refused q) W.files (files_after W.files (gives W.files e.step e.claims))) r)
+files-next W V e (AfterFault s r c same) = ap (λ (q : World). q.files) same
+    ∙ sym (ap (λ (q : Reply). cond (is_refused q) W.files (files_after W.files (gives W.files e.step e.claims))) r)
+files-next W V e (ByRow why s row (inl r) c k t l) = k.files
+    ∙ sym (ap (λ (q : Reply). cond (is_refused q) W.files (files_after W.files (gives W.files e.step e.claims))) r)
+files-next W V e (ByRow why s row (inr r) c k t l) = k.files
+    ∙ sym (ap (λ (q : Reply). cond (is_refused q) W.files (files_after W.files (gives W.files e.step e.claims))) r.0)
+files-next W V e (ByRead s row r c k t l) = k.files ∙ sym (ap
+    (λ (q : Reply). cond (is_refused q) W.files (files_after W.files (gives W.files e.step e.claims))) r)
+files-next W V e (ByWrite s row m r claim k t l) = k.files ∙ sym
+    (ap (λ (q : Reply). cond (is_refused q) W.files (files_after W.files (gives W.files e.step e.claims))) r)
 files-next W V e (Done s row r claim fs hs se vs l) = fs ∙ go (is_refused e.reply) refl
   where
-    go : (b : Bool) → is_refused e.reply ≡ b → files_after W.files (gives W.files e.step e.claims) ≡ cond b W.files (files_after W.files (gives W.files e.step e.claims))
+    go : (b : Bool) → is_refused e.reply ≡ b → files_after W.files (gives W.files e.step e.claims) ≡ cond b W.files
+        (files_after W.files (gives W.files e.step e.claims))
     go false q = refl
     go true q = ap (λ (g : Given). files_after W.files g) (refused-nothing W e.step e.claims (sym (ap is_refused r) ∙ q)) ∙ files-nothing W.files

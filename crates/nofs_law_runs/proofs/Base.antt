@@ -33,16 +33,19 @@ keeps-sane W V k s = record {
   numbers = λ i f is. s.numbers i f (sym (ap (λ (F : Files). F i) k.files) ∙ is);
   young = λ i f is. subst (λ (n : ℕ). f.generation < n) (sym stamp) (s.young i f (sym (ap (λ (F : Files). F i) k.files) ∙ is));
   whole = λ i f is. s.whole i f (sym (ap (λ (F : Files). F i) k.files) ∙ is);
-  rooted = λ i f is dir. subst (λ (F : Files). Rattle.nofs_model.specs.Image.Agreed F i) (sym k.files) (s.rooted i f (sym (ap (λ (F : Files). F i) k.files) ∙ is) dir);
+  rooted = λ i f is dir. subst (λ (F : Files). Rattle.nofs_model.specs.Image.Agreed F i) (sym k.files)
+      (s.rooted i f (sym (ap (λ (F : Files). F i) k.files) ∙ is) dir);
 }
   where
     stamp : next_stamp V ≡ next_stamp W
     stamp = λ j. k.mount j * 2 ^ 40 + k.serial j
 
 module _ (W V : World) (e : Entry1) (sane : IsSane W) (next : Next W e V) (row : first_of (rows W V e.step) ≡ None) (claim : IsClaim W e.step e.claims)
-    (files : V.files ≡ files_after W.files (gives W.files e.step e.claims)) (serial : V.serial ≡ W.serial + inodes_needed e.step + blocks_needed W.files e.step) (inodes : V.inodes ≡ W.inodes) (mount : V.mount ≡ W.mount) where
+    (files : V.files ≡ files_after W.files (gives W.files e.step e.claims))
+    (serial : V.serial ≡ W.serial + inodes_needed e.step + blocks_needed W.files e.step) (inodes : V.inodes ≡ W.inodes) (mount : V.mount ≡ W.mount) where
   now : (i : ℕ) (h : FileState) → V.files i ≡ Some h → After W.files (gives W.files e.step e.claims) i h
-  now i h is = after W.files (gives W.files e.step e.claims) i h (gives-birth W.files e.step e.claims) (λ f at. given-kind W e.claims e.step claim i f at) (sym (ap (λ (F : Files). F i) files) ∙ is)
+  now i h is = after W.files (gives W.files e.step e.claims) i h (gives-birth W.files e.step e.claims) (λ f at. given-kind W e.claims e.step claim i f at)
+      (sym (ap (λ (F : Files). F i) files) ∙ is)
 
   later : next_stamp W ≤ next_stamp V
   later = let m : W.mount * 2 ^ 40 ≡ V.mount * 2 ^ 40 = ap (λ (n : ℕ). n * 2 ^ 40) (sym mount) in omega (arith, serial, m)
@@ -72,7 +75,8 @@ module _ (W V : World) (e : Entry1) (sane : IsSane W) (next : Next W e V) (row :
     rooted = λ i h is dir. rooted-next W V e sane next i h is dir;
   }
     where
-      numbers : (i : ℕ) (h : FileState) → V.files i ≡ Some h → After W.files (gives W.files e.step e.claims) i h → Spelled i h.generation × (h.generation < next_stamp V)
+      numbers : (i : ℕ) (h : FileState) → V.files i ≡ Some h → After W.files (gives W.files e.step e.claims) i h
+          → Spelled i h.generation × (h.generation < next_stamp V)
       numbers i h is (Old f at gen kind values alive) =
           let y = sane.young i f at in
           let l = later in
@@ -90,9 +94,11 @@ module _ (W V : World) (e : Entry1) (sane : IsSane W) (next : Next W e V) (row :
           by (Old f at gen kind values alive) = let b = sane.bottom in cc (at, b)
           by (New g born gen values metas) = let n = (new 0 g (made W e.step e.claims 0 g born)).0 in let z = n.some in omega (arith, z)
 
-      whole : (i : ℕ) (h : FileState) → is_folder h.kind ≡ true → (k : ℕ) → After W.files (gives W.files e.step e.claims) i h → length (bytes_in (h.values k)) ≡ 1024
+      whole : (i : ℕ) (h : FileState) → is_folder h.kind ≡ true → (k : ℕ) → After W.files (gives W.files e.step e.claims) i h
+          → length (bytes_in (h.values k)) ≡ 1024
       whole i h dir k (New g born gen values metas) = ap (λ (v : Value). length (bytes_in v)) (values k) ∙ length-replicate {A = ℕ} 1024 0
-      whole i h dir k (Old f at gen kind values alive) = ap (λ (v : Value). length (bytes_in v)) (values k) ∙ by ((gives W.files e.step e.claims).slots i f.generation k) refl
+      whole i h dir k (Old f at gen kind values alive) = ap (λ (v : Value). length (bytes_in v)) (values k)
+          ∙ by ((gives W.files e.step e.claims).slots i f.generation k) refl
         where
           folder : is_folder f.kind ≡ true
           folder = sym (ap is_folder kind) ∙ dir
@@ -112,4 +118,13 @@ next-sane W V e next s = by next
     by (Done t row r claim fs hs se vs l) = done-sane W V e s next row claim fs se vs.2 vs.3
 
 pub sane-run : (B : Image) (H : HistoryState) → IsHistory B H → SaneRun B H.entries
-sane-run B H h = record { start = H.start; first = world_of B h.first; last = h.world; run = h.run; files = files-start B h.first h.base; sane = sane-start B h.first h.base; keeps = λ W V e next s. next-sane W V e next s }
+sane-run B H h = record {
+  start = H.start;
+  first = world_of B h.first;
+  last = h.world;
+  run = h.run;
+  files = files-start B h.first h.base;
+  sane =
+      sane-start B h.first h.base;
+  keeps = λ W V e next s. next-sane W V e next s;
+}

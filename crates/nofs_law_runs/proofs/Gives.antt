@@ -1,5 +1,6 @@
 -- What a step that no row refuses gives to a directory, to a file, and to the slot of an entry that a back link leads to.
-use Rattle.std.proofs.Common.{◌≡◌, ◌≢◌, ℕ, zero, suc, Bool, true, false, cond, eqb, ◌&&◌, ◌||◌, not, List, [], ◌∷◌, Option, Some, None, is_some, refl, sym, ap, ◌∙◌, subst, arith, eqb-true, ne_eqb}
+use Rattle.std.proofs.Common.{◌≡◌, ◌≢◌, ℕ, zero, suc, Bool, true, false, cond, eqb, ◌&&◌, ◌||◌, not, List, [], ◌∷◌, Option, Some, None, is_some, refl, sym}
+use Rattle.std.proofs.Common.{ap, ◌∙◌, subst, arith, eqb-true, ne_eqb}
 use Rattle.std.specs.Prelude.{slice_get}
 use Rattle.std.specs.List.{list_any}
 use Rattle.nofs_dirent.specs.Entries.{entry_limit}
@@ -8,7 +9,8 @@ use Rattle.nofs_model.specs.Image.{Files, FileState, is_folder, entry_at, is_pai
 use Rattle.nofs_model.specs.declared.value.Value.{Value}
 use Rattle.nofs_machine.specs.Meta.{Meta, Gone, Is}
 use Rattle.nofs_machine.specs.Search.{least_from, first_of}
-use Rattle.nofs_machine.specs.Machine.{gives, at_place, found, place_for, link_place, make_given, link_given, drop_given, rename_given, meta_given, drop_meta, meta_with, link_to, set_link, without_link, is_paired, is_folder_at}
+use Rattle.nofs_machine.specs.Machine.{gives, at_place, found, place_for, link_place, make_given, link_given, drop_given, rename_given, meta_given, drop_meta}
+use Rattle.nofs_machine.specs.Machine.{meta_with, link_to, set_link, without_link, is_paired, is_folder_at}
 use Rattle.nofs_machine.specs.World.{World}
 use Rattle.nofs_machine.specs.Refusals.{row, rows, not_empty_at}
 use Rattle.nofs_machine.specs.Claims.{IsClaim, IsInodeClaim, ClaimedInode, next_stamp}
@@ -38,13 +40,16 @@ not-false false e = cc e
 
 module _ (W V : World) where
   pub put-file : (i g k at : ℕ) (bytes : List ℕ) → first_of (rows W V (step.Put i g k at bytes)) ≡ None → is_folder_at W.files i ≡ false
-  put-file i g k at bytes r = row-none (is_folder_at W.files i) refusal.IsDirectory (none-at (rows W V (step.Put i g k at bytes)) r 3 (row (is_folder_at W.files i) refusal.IsDirectory) refl)
+  put-file i g k at bytes r = row-none (is_folder_at W.files i) refusal.IsDirectory
+      (none-at (rows W V (step.Put i g k at bytes)) r 3 (row (is_folder_at W.files i) refusal.IsDirectory) refl)
 
   pub resize-file : (i g size : ℕ) → first_of (rows W V (step.Resize i g size)) ≡ None → is_folder_at W.files i ≡ false
-  resize-file i g size r = row-none (is_folder_at W.files i) refusal.IsDirectory (none-at (rows W V (step.Resize i g size)) r 2 (row (is_folder_at W.files i) refusal.IsDirectory) refl)
+  resize-file i g size r = row-none (is_folder_at W.files i) refusal.IsDirectory
+      (none-at (rows W V (step.Resize i g size)) r 2 (row (is_folder_at W.files i) refusal.IsDirectory) refl)
 
   pub link-file : (d g : ℕ) (name : List ℕ) (i of : ℕ) → first_of (rows W V (step.Link d g name i of)) ≡ None → is_folder_at W.files i ≡ false
-  link-file d g name i of r = row-none (is_folder_at W.files i) refusal.IsDirectory (none-at (rows W V (step.Link d g name i of)) r 4 (row (is_folder_at W.files i) refusal.IsDirectory) refl)
+  link-file d g name i of r = row-none (is_folder_at W.files i) refusal.IsDirectory
+      (none-at (rows W V (step.Link d g name i of)) r 4 (row (is_folder_at W.files i) refusal.IsDirectory) refl)
 
 -- Files
 
@@ -84,7 +89,8 @@ claimed-free W g c (ClaimedInode free low high gen) = go (W.known_inodes c.inode
     go true false (Some f) eo h = cc h
     go false b (Some f) eo h = cc h
 
-pub other-inode : (W : World) (d g : ℕ) (name : List ℕ) (kind : FileKind) (c : Claims) (j : ℕ) (f : FileState) → IsClaim W (step.Make d g name kind) c → W.files j ≡ Some f → j ≢ c.inode
+pub other-inode : (W : World) (d g : ℕ) (name : List ℕ) (kind : FileKind) (c : Claims) (j : ℕ) (f : FileState) → IsClaim W (step.Make d g name kind) c
+    → W.files j ≡ Some f → j ≢ c.inode
 other-inode W d g name kind c j f claim is e = let z = claimed-free W (next_stamp W) c claim.inode in cc (z, is, e)
 
 meta-elsewhere : (i g j h : ℕ) (meta : Meta) → (i ≡ j → ⊥) → meta_given i g meta j h ≡ None
@@ -99,7 +105,8 @@ is-filled F j (e, lt, p) = go (is_some (least_from (λ k. is_paired F j k) 0 ent
 
 module _ (W V : World) (c : Claims) where
   -- no step gives a meta to a directory, but for a Drop of one that is empty
-  pub folder-metas : (s : Step) → first_of (rows W V s) ≡ None → IsClaim W s c → (j : ℕ) (f : FileState) → W.files j ≡ Some f → is_folder f.kind ≡ true → (is_drop s ≡ true → Filled W.files j) → (gives W.files s c).metas j f.generation ≡ None
+  pub folder-metas : (s : Step) → first_of (rows W V s) ≡ None → IsClaim W s c → (j : ℕ) (f : FileState) → W.files j ≡ Some f → is_folder f.kind ≡ true
+      → (is_drop s ≡ true → Filled W.files j) → (gives W.files s c).metas j f.generation ≡ None
   unfolding gives
   folder-metas (step.Put i g k at bytes) r claim j f is dir filled =
       meta-elsewhere i g j f.generation _ (λ e. let z = put-file W V i g k at bytes r in let y = folder-at W.files j f is in cc (z, y, e, dir))
@@ -139,9 +146,12 @@ module _ (W V : World) (c : Claims) where
           let full = is-filled W.files j (filled refl) in
           let dir' : is_folder_at W.files j ≡ true = folder-at W.files j f is ∙ dir in
           let n : not_empty_at W d (Some e) ≡ None = subst (λ (o : Option ℕ). not_empty_at W d o ≡ None) ef rest in
-          let m : row (is_folder_at W.files x.inode && is_some (least_from (λ k. is_paired W.files x.inode k) 0 entry_limit)) refusal.NotEmpty ≡ None = rw (eo, not_empty_at) at n in
+          let m : row (is_folder_at W.files x.inode && is_some (least_from (λ k. is_paired W.files x.inode k) 0 entry_limit)) refusal.NotEmpty ≡ None =
+          rw (eo, not_empty_at) at n in
           let z = row-none _ refusal.NotEmpty m in
-          let y : (is_folder_at W.files x.inode && is_some (least_from (λ k. is_paired W.files x.inode k) 0 entry_limit)) ≡ true = subst (λ (i : ℕ). (is_folder_at W.files i && is_some (least_from (λ k. is_paired W.files i k) 0 entry_limit)) ≡ true) (sym q) (rw (dir', full) refl) in
+          let y : (is_folder_at W.files x.inode && is_some (least_from (λ k. is_paired W.files x.inode k) 0 entry_limit)) ≡ true =
+          subst (λ (i : ℕ). (is_folder_at W.files i && is_some (least_from (λ k. is_paired W.files i k) 0 entry_limit)) ≡ true) (sym q)
+          (rw (dir', full) refl) in
           cc (z, y)))
 
       go : (o : Option ℕ) → found W.files d name ≡ o → (at_place o (λ e. drop_given W.files d g e)).metas j f.generation ≡ None
@@ -209,7 +219,8 @@ of-kind : (kind other : FileKind) (size : ℕ) (links : List BackLink) (o : Opti
 of-kind kind other size links o h e = subst (λ (p : Option Meta). OfKind kind p) e h
 
 -- a change of size and links
-changed : (F : Files) (i g j h : ℕ) (size : FileState → ℕ) (links : FileState → List BackLink) (f : FileState) → F j ≡ Some f → OfKind f.kind (meta_given i g (meta_with F i (λ q. Is q.kind (size q) (links q))) j h)
+changed : (F : Files) (i g j h : ℕ) (size : FileState → ℕ) (links : FileState → List BackLink) (f : FileState) → F j ≡ Some f
+    → OfKind f.kind (meta_given i g (meta_with F i (λ q. Is q.kind (size q) (links q))) j h)
 changed F i g j h size links f is = go (eqb i j) refl (eqb g h)
   where
     here : (o : Option FileState) → o ≡ Some f → OfKind f.kind (Some (elim o [ None ↦ Gone | Some q ↦ Is q.kind (size q) (links q) ]))
@@ -228,12 +239,19 @@ dropped-kind F i link f is = here (F i) is
     either true q size links = tt
     either false q size links = refl
 
-    here : (o : Option FileState) → o ≡ Some f → OfKind f.kind (Some (elim o [ None ↦ Gone | Some q ↦ cond (not (is_special i) && not (list_any (λ l. is_pair F i l) (without_link link q.links))) Gone (Is q.kind q.size (without_link link q.links)) ]))
+    here : (o : Option FileState) → o ≡ Some f → OfKind f.kind
+        (Some (elim o [
+          | None ↦ Gone
+          | Some q ↦ cond (not (is_special i) && not (list_any (λ l. is_pair F i l) (without_link link q.links))) Gone
+              (Is q.kind q.size (without_link link q.links))
+        ]))
     here None e = tt
     here (Some q) e =
         let s : q ≡ f = cc e in
-        subst (λ (k : FileKind). OfKind k (Some (cond (not (is_special i) && not (list_any (λ l. is_pair F i l) (without_link link q.links))) Gone (Is q.kind q.size (without_link link q.links)))))
-        (ap (λ (p : FileState). p.kind) s) (either (not (is_special i) && not (list_any (λ l. is_pair F i l) (without_link link q.links))) q q.size (without_link link q.links))
+        subst (λ (k : FileKind). OfKind k (Some (cond (not (is_special i) && not (list_any (λ l. is_pair F i l) (without_link link q.links))) Gone
+        (Is q.kind q.size (without_link link q.links)))))
+        (ap (λ (p : FileState). p.kind) s) (either (not (is_special i) && not (list_any (λ l. is_pair F i l) (without_link link q.links))) q q.size
+        (without_link link q.links))
 
 module _ (W : World) (c : Claims) where
   pub given-kind : (s : Step) → IsClaim W s c → (j : ℕ) (f : FileState) → W.files j ≡ Some f → OfKind f.kind ((gives W.files s c).metas j f.generation)
@@ -262,7 +280,8 @@ module _ (W : World) (c : Claims) where
       go (Some e) = entry e (entry_at W.files d e) refl
   given-kind (step.Drop d g name) claim j f is = go (found W.files d name)
     where
-      here : (e : ℕ) (x : Entry) (a : Bool) → eqb x.inode j ≡ a → (b : Bool) → OfKind f.kind (cond (a && b) (Some (drop_meta W.files x.inode (link_to d e g))) None)
+      here : (e : ℕ) (x : Entry) (a : Bool) → eqb x.inode j ≡ a → (b : Bool)
+          → OfKind f.kind (cond (a && b) (Some (drop_meta W.files x.inode (link_to d e g))) None)
       here e x false q b = tt
       here e x true q false = tt
       here e x true q true = dropped-kind W.files x.inode (link_to d e g) f (ap W.files (eqb-true x.inode j q) ∙ is)
@@ -276,5 +295,6 @@ module _ (W : World) (c : Claims) where
       go (Some e) = entry e (entry_at W.files d e) refl
   given-kind _ claim j f is = tt
 
-  pub meta-kind : (s : Step) → IsClaim W s c → (j : ℕ) (f : FileState) → W.files j ≡ Some f → (kind : FileKind) (size : ℕ) (links : List BackLink) → (gives W.files s c).metas j f.generation ≡ Some (Is kind size links) → kind ≡ f.kind
+  pub meta-kind : (s : Step) → IsClaim W s c → (j : ℕ) (f : FileState) → W.files j ≡ Some f → (kind : FileKind) (size : ℕ) (links : List BackLink)
+      → (gives W.files s c).metas j f.generation ≡ Some (Is kind size links) → kind ≡ f.kind
   meta-kind s claim j f is kind size links h = of-kind f.kind kind size links ((gives W.files s c).metas j f.generation) (given-kind s claim j f is) h

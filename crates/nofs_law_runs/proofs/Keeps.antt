@@ -56,4 +56,5 @@ law-pair B H p e h at i g b link has undropped =
     let here : HasPair m.before.files i g b link = subst (λ (F : Files). HasPair F i g b link) (sym m.files) has in
     let l = pair-linked m.before.files i g b here.file link here.is here.generation here.at here.pair in
     subst (λ (F : Files). HasPair F i g b link) (after B H h p e at) (pair-now m.after.files i g b link (link-next m.before m.after e m.sane m.next i g b link l
-    (subst (λ (F : Files). (of : ℕ) (name : List ℕ) → e.step ≡ step.Drop link.directory of name → found F link.directory name ≡ Some link.entry → ⊥) (sym m.files) undropped)))
+    (subst (λ (F : Files). (of : ℕ) (name : List ℕ) → e.step ≡ step.Drop link.directory of name → found F link.directory name ≡ Some link.entry → ⊥)
+    (sym m.files) undropped)))

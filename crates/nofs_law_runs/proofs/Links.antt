@@ -1,5 +1,6 @@
 -- A back link that leads to an entry of a directory, over one entry of a run.
-use Rattle.std.proofs.Common.{◌≡◌, ℕ, ◌/◌, ◌^◌, ◌<◌, Bool, true, false, cond, eqb, ltb, ◌&&◌, ◌||◌, not, List, [], length, Option, Some, None, unwrap_or, refl, sym, ap, ◌∙◌, subst, eqb-true, eq-eqb, lt-ltb, Contains}
+use Rattle.std.proofs.Common.{◌≡◌, ℕ, ◌/◌, ◌^◌, ◌<◌, Bool, true, false, cond, eqb, ltb, ◌&&◌, ◌||◌, not, List, [], length, Option, Some, None, unwrap_or}
+use Rattle.std.proofs.Common.{refl, sym, ap, ◌∙◌, subst, eqb-true, eq-eqb, lt-ltb, Contains}
 use Rattle.nofs_dirent.specs.Entries.{entry_limit}
 use Rattle.nofs_model.specs.Cells.{FileKind, File, BackLink, Entry}
 use Rattle.nofs_inode.specs.declared.inode.FileKind.TheVariants.{Directory as Folder}
@@ -9,7 +10,8 @@ use Rattle.nofs_model.proofs.Find.{and-both}
 use Rattle.nofs_model.proofs.Chains.{PairOf, pair-of}
 use Rattle.nofs_machine.specs.Meta.{Meta, Gone, Is}
 use Rattle.nofs_machine.specs.Search.{first_of}
-use Rattle.nofs_machine.specs.Machine.{Given, nothing, gives, found, bytes_in, is_paired, filled, after_meta, born_file, file_after, files_after, is_refused, is_write_fault, given_by}
+use Rattle.nofs_machine.specs.Machine.{Given, nothing, gives, found, bytes_in, is_paired, filled, after_meta, born_file, file_after, files_after, is_refused}
+use Rattle.nofs_machine.specs.Machine.{is_write_fault, given_by}
 use Rattle.nofs_machine.specs.World.{World}
 use Rattle.nofs_machine.specs.Refusals.{rows}
 use Rattle.nofs_machine.specs.Claims.{IsClaim, next_stamp}
@@ -57,20 +59,23 @@ linked-pair E F i g b link l = rw l.is (rw (folder, named, last l.file.kind refl
     folder = let p = l.parent in let e = eq-eqb p.file.generation link.generation p.generation in let k = p.folder in rw p.is (rw (k, e) refl)
 
     named : names (entry_in_file (F link.directory) link.entry) i l.file.generation ≡ true
-    named = let a = eq-eqb l.entry.inode i l.names_inode in let c = eq-eqb l.entry.generation l.file.generation (l.names_generation ∙ sym l.generation) in rw l.there (rw (a, c) refl)
+    named = let a = eq-eqb l.entry.inode i l.names_inode in let c =
+        eq-eqb l.entry.generation l.file.generation (l.names_generation ∙ sym l.generation) in rw l.there (rw (a, c) refl)
 
     last : (kind : FileKind) → l.file.kind ≡ kind → (not (is_folder kind) || ltb link.generation l.file.generation) ≡ true
     last File e = refl
     last Folder e = rw l.generation (lt-ltb link.generation g (l.older (ap is_folder e)))
 
-pub pair-linked : (F : Files) (i g b : ℕ) (f : FileState) (link : BackLink) → F i ≡ Some f → f.generation ≡ g → HasAt f.links b link → is_pair F i link ≡ true → Linked (λ x. (x.inode ≡ i) × (x.generation ≡ g)) F i g b link
+pub pair-linked : (F : Files) (i g b : ℕ) (f : FileState) (link : BackLink) → F i ≡ Some f → f.generation ≡ g → HasAt f.links b link
+    → is_pair F i link ≡ true → Linked (λ x. (x.inode ≡ i) × (x.generation ≡ g)) F i g b link
 pair-linked F i g b f link is gen at pair = record {
   file = f;
   is = is;
   generation = gen;
   at = at;
   parent = record { file = p.parent; is = p.parent_is; generation = p.parent_generation; folder = p.parent_folder };
-  older = λ k. subst (λ (n : ℕ). link.generation < n) (ap (λ (q : FileState). q.generation) same ∙ gen) (p.older (ap (λ (q : FileState). is_folder q.kind) same ∙ k));
+  older = λ k. subst (λ (n : ℕ). link.generation < n) (ap (λ (q : FileState). q.generation) same ∙ gen)
+      (p.older (ap (λ (q : FileState). is_folder q.kind) same ∙ k));
   entry = n.0;
   there = n.1;
   passes = (n.2, n.3 ∙ gen);
@@ -85,7 +90,8 @@ pair-linked F i g b f link is gen at pair = record {
     same = let a = p.own_is in cc (a, is)
 
     named : names (entry_at F link.directory link.entry) i f.generation ≡ true
-    named = parts (is_a Folder link.generation (F link.directory)) (names (entry_at F link.directory link.entry) i f.generation) (not (is_folder f.kind) || ltb link.generation f.generation) (rw is at pair)
+    named = parts (is_a Folder link.generation (F link.directory)) (names (entry_at F link.directory link.entry) i f.generation)
+        (not (is_folder f.kind) || ltb link.generation f.generation) (rw is at pair)
       where
         parts : (x y z : Bool) → (x && (y && z)) ≡ true → y ≡ true
         parts true true z e = refl
@@ -95,13 +101,16 @@ pair-linked F i g b f link is gen at pair = record {
     n : (x : Entry) × (entry_at F link.directory link.entry ≡ Some x) × (x.inode ≡ i) × (x.generation ≡ f.generation)
     n = go (entry_at F link.directory link.entry) refl named
       where
-        go : (o : Option Entry) → entry_at F link.directory link.entry ≡ o → names o i f.generation ≡ true → (x : Entry) × (entry_at F link.directory link.entry ≡ Some x) × (x.inode ≡ i) × (x.generation ≡ f.generation)
+        go : (o : Option Entry) → entry_at F link.directory link.entry ≡ o → names o i f.generation ≡ true
+            → (x : Entry) × (entry_at F link.directory link.entry ≡ Some x) × (x.inode ≡ i) × (x.generation ≡ f.generation)
         go None eo e = cc e
-        go (Some x) eo e = let a = and-both (eqb x.inode i) (eqb x.generation f.generation) e in (x, eo, eqb-true x.inode i a.0, eqb-true x.generation f.generation a.1)
+        go (Some x) eo e = let a = and-both (eqb x.inode i) (eqb x.generation f.generation) e in
+            (x, eo, eqb-true x.inode i a.0, eqb-true x.generation f.generation a.1)
 
 -- its entry is the other half of the back link
 pub linked-paired : (E : Entry → Type 0) (F : Files) (i g b : ℕ) (link : BackLink) → Linked E F i g b link → is_paired F link.directory link.entry ≡ true
-linked-paired E F i g b link l = pair-paired F i link (subst (λ (ls : List BackLink). Contains ls link) (sym links) (at-contains l.file.links b link l.at)) (linked-pair E F i g b link l)
+linked-paired E F i g b link l = pair-paired F i link (subst (λ (ls : List BackLink). Contains ls link) (sym links) (at-contains l.file.links b link l.at))
+    (linked-pair E F i g b link l)
   where
     links : links_of F i ≡ l.file.links
     links = ap (λ (o : Option FileState). elim o [ None ↦ [] | Some q ↦ q.links ]) l.is
@@ -110,12 +119,17 @@ pub linked-range : (E : Entry → Type 0) (F : Files) (i g b : ℕ) (link : Back
 linked-range E F i g b link l = (entry-parts (F link.directory) l.parent.file link.entry l.entry l.parent.is l.there).1
 
 pub linked-filled : (E : Entry → Type 0) (F : Files) (i g b : ℕ) (link : BackLink) → Linked E F i g b link → Filled F link.directory
-linked-filled E F i g b link l = (link.entry, (entry-parts (F link.directory) l.parent.file link.entry l.entry l.parent.is l.there).1, linked-paired E F i g b link l)
+linked-filled E F i g b link l = (
+  link.entry,
+  (entry-parts (F link.directory) l.parent.file link.entry l.entry l.parent.is l.there).1,
+  linked-paired E F i g b link l,
+)
 
 -- What an entry gives to it, and leaves of it
 
 -- a file after what is given
-pub after-file : (F : Files) (given : Given) (i : ℕ) (f : FileState) → F i ≡ Some f → given.born i ≡ None → files_after F given i ≡ after_meta (given.metas i f.generation) (filled given i f)
+pub after-file : (F : Files) (given : Given) (i : ℕ) (f : FileState) → F i ≡ Some f → given.born i ≡ None
+    → files_after F given i ≡ after_meta (given.metas i f.generation) (filled given i f)
 after-file F given i f is born = ap (λ (o : Option ℕ). file_after given i (born_file o (F i))) born ∙ ap (λ (o : Option FileState). file_after given i o) is
 
 -- the directory gets no meta, the file one with the link, and the entry's slot a cell with an entry that passes
@@ -130,26 +144,32 @@ abbrev pub NamesOnly : (Entry → Type 0) → ℕ → ℕ → Type 0
 NamesOnly E i g = (x : Entry) → E x → (x.inode ≡ i) × (x.generation ≡ g)
 
 -- a directory that gets no meta stays one, with the same links
-pub directory-after : (F : Files) (given : Given) (d g : ℕ) (p : IsDirectory F d g) → given.born d ≡ None → given.metas d g ≡ None → files_after F given d ≡ Some (filled given d p.file)
+pub directory-after : (F : Files) (given : Given) (d g : ℕ) (p : IsDirectory F d g) → given.born d ≡ None → given.metas d g ≡ None
+    → files_after F given d ≡ Some (filled given d p.file)
 directory-after F given d g p born none =
     after-file F given d p.file p.is born ∙ ap (λ (o : Option Meta). after_meta o (filled given d p.file)) (ap (λ (q : ℕ). given.metas d q) p.generation ∙ none)
 
-module _ (E : Entry → Type 0) (F : Files) (given : Given) (i g b : ℕ) (link : BackLink) (only : NamesOnly E i g) (l : Linked E F i g b link) (stays : Stays E given i g b link)
+module _ (E : Entry → Type 0) (F : Files) (given : Given) (i g b : ℕ) (link : BackLink) (only : NamesOnly E i g) (l : Linked E F i g b link)
+    (stays : Stays E given i g b link)
     (own_born : given.born i ≡ None) (parent_born : given.born link.directory ≡ None) where
   file-after : (f : FileState) × (files_after F given i ≡ Some f) × (f.generation ≡ g) × HasAt f.links b link × (is_folder f.kind ≡ true → link.generation < g)
   file-after =
       let e = after-file F given i l.file l.is own_born ∙ ap (λ (q : ℕ). after_meta (given.metas i q) (filled given i l.file)) l.generation in
       go (given.metas i g) refl stays.metas e
     where
-      go : (o : Option Meta) → given.metas i g ≡ o → AtMeta b link o → files_after F given i ≡ after_meta o (filled given i l.file) → (f : FileState) × (files_after F given i ≡ Some f) × (f.generation ≡ g) × HasAt f.links b link × (is_folder f.kind ≡ true → link.generation < g)
+      go : (o : Option Meta) → given.metas i g ≡ o → AtMeta b link o → files_after F given i ≡ after_meta o (filled given i l.file)
+          → (f : FileState) × (files_after F given i ≡ Some f) × (f.generation ≡ g) × HasAt f.links b link × (is_folder f.kind ≡ true → link.generation < g)
       go None eo at e = (filled given i l.file, e, l.generation, l.at, l.older)
       go (Some Gone) eo at e = absurd at
       go (Some (Is kind size links)) eo at e = (_, e, l.generation, at, stays.older kind size links eo)
 
-  cell-after : (x : Entry) × (entry_held (unwrap_or (given.slots link.directory l.parent.file.generation (link.entry / 16)) (l.parent.file.values (link.entry / 16))) link.entry ≡ Some x) × E x
-  cell-after = go (given.slots link.directory l.parent.file.generation (link.entry / 16)) (ap (λ (q : ℕ). given.slots link.directory q (link.entry / 16)) l.parent.generation)
+  cell-after : (x : Entry) × (entry_held (unwrap_or (given.slots link.directory l.parent.file.generation (link.entry / 16))
+      (l.parent.file.values (link.entry / 16))) link.entry ≡ Some x) × E x
+  cell-after = go (given.slots link.directory l.parent.file.generation (link.entry / 16))
+      (ap (λ (q : ℕ). given.slots link.directory q (link.entry / 16)) l.parent.generation)
     where
-      go : (o : Option Value) → o ≡ given.slots link.directory link.generation (link.entry / 16) → (x : Entry) × (entry_held (unwrap_or o (l.parent.file.values (link.entry / 16))) link.entry ≡ Some x) × E x
+      go : (o : Option Value) → o ≡ given.slots link.directory link.generation (link.entry / 16)
+          → (x : Entry) × (entry_held (unwrap_or o (l.parent.file.values (link.entry / 16))) link.entry ≡ Some x) × E x
       go None e = (l.entry, (entry-parts (F link.directory) l.parent.file link.entry l.entry l.parent.is l.there).2, l.passes)
       go (Some v) e = stays.cell v (sym e)
 
@@ -175,27 +195,40 @@ module _ (E : Entry → Type 0) (F : Files) (given : Given) (i g b : ℕ) (link 
         names_generation = n.1;
       }
     where
-      inside : {y : Entry} → link.entry < entry_limit → entry_held ((filled given link.directory l.parent.file).values (link.entry / 16)) link.entry ≡ Some y → entry_in_file (Some (filled given link.directory l.parent.file)) link.entry ≡ Some y
+      inside : {y : Entry} → link.entry < entry_limit → entry_held ((filled given link.directory l.parent.file).values (link.entry / 16)) link.entry ≡ Some y
+          → entry_in_file (Some (filled given link.directory l.parent.file)) link.entry ≡ Some y
       inside lt h = let k = l.parent.folder in rw (k, lt-ltb link.entry entry_limit lt) h
 
-module _ (E : Entry → Type 0) (W V : World) (e : Entry1) (i g b : ℕ) (link : BackLink) (only : NamesOnly E i g) (sane : IsSane W) (next : Next W e V) (l : Linked E W.files i g b link)
+module _ (E : Entry → Type 0) (W V : World) (e : Entry1) (i g b : ℕ) (link : BackLink) (only : NamesOnly E i g) (sane : IsSane W) (next : Next W e V)
+    (l : Linked E W.files i g b link)
     -- no Drop of the entry is done, and where its slot gets a cell, the entry passes
-    (undropped : (V' : World) → given_by W.files e ≡ gives W.files e.step e.claims → first_of (rows W V' e.step) ≡ None → IsClaim W e.step e.claims → (of : ℕ) (name : List ℕ) → e.step ≡ step.Drop link.directory of name → found W.files link.directory name ≡ Some link.entry → ⊥)
-    (keeps : (v : Value) → (given_by W.files e).slots link.directory link.generation (link.entry / 16) ≡ Some v → (x : Entry) × (entry_held v link.entry ≡ Some x) × E x) where
+    (undropped : (V' : World) → given_by W.files e ≡ gives W.files e.step e.claims → first_of (rows W V' e.step) ≡ None → IsClaim W e.step e.claims
+    → (of : ℕ) (name : List ℕ) → e.step ≡ step.Drop link.directory of name → found W.files link.directory name ≡ Some link.entry → ⊥)
+    (keeps : (v : Value) → (given_by W.files e).slots link.directory link.generation (link.entry / 16) ≡ Some v
+    → (x : Entry) × (entry_held v link.entry ≡ Some x) × E x) where
   pair : is_pair W.files i link ≡ true
   pair = linked-pair E W.files i g b link l
 
-  acting : (V' : World) → given_by W.files e ≡ gives W.files e.step e.claims → first_of (rows W V' e.step) ≡ None → IsClaim W e.step e.claims → Stays E (given_by W.files e) i g b link
+  acting : (V' : World) → given_by W.files e ≡ gives W.files e.step e.claims → first_of (rows W V' e.step) ≡ None → IsClaim W e.step e.claims
+      → Stays E (given_by W.files e) i g b link
   acting V' same row claim = record {
-    metas = subst (λ (x : Given). AtMeta b link (x.metas i g)) (sym same) (subst (λ (q : ℕ). AtMeta b link ((gives W.files e.step e.claims).metas i q)) l.generation (link-kept W V' e.claims i b l.file link sane.bottom l.is l.at pair e.step row claim (undropped V' same row claim)));
+    metas = subst (λ (x : Given). AtMeta b link (x.metas i g)) (sym same)
+        (subst (λ (q : ℕ). AtMeta b link ((gives W.files e.step e.claims).metas i q)) l.generation
+        (link-kept W V' e.claims i b l.file link sane.bottom l.is l.at pair e.step row claim (undropped V' same row claim)));
     older = λ kind size links h folder.
-        let k : kind ≡ l.file.kind = of-kind kind size links ((given_by W.files e).metas i g) (subst (λ (x : Given). OfKind l.file.kind (x.metas i g)) (sym same) (subst (λ (q : ℕ). OfKind l.file.kind ((gives W.files e.step e.claims).metas i q)) l.generation (given-kind W e.claims e.step claim i l.file l.is))) h in
+        let k : kind ≡ l.file.kind = of-kind kind size links ((given_by W.files e).metas i g)
+        (subst (λ (x : Given). OfKind l.file.kind (x.metas i g)) (sym same)
+        (subst (λ (q : ℕ). OfKind l.file.kind ((gives W.files e.step e.claims).metas i q)) l.generation
+        (given-kind W e.claims e.step claim i l.file l.is))) h in
         l.older (ap is_folder (sym k) ∙ folder);
-    directory = ap (λ (x : Given). x.metas link.directory link.generation) same ∙ ap (λ (q : ℕ). (gives W.files e.step e.claims).metas link.directory q) (sym l.parent.generation) ∙ folder-metas W V' e.claims e.step row claim link.directory l.parent.file l.parent.is l.parent.folder (λ q. linked-filled E W.files i g b link l);
+    directory = ap (λ (x : Given). x.metas link.directory link.generation) same
+        ∙ ap (λ (q : ℕ). (gives W.files e.step e.claims).metas link.directory q) (sym l.parent.generation)
+        ∙ folder-metas W V' e.claims e.step row claim link.directory l.parent.file l.parent.is l.parent.folder (λ q. linked-filled E W.files i g b link l);
     cell = keeps;
   }
     where
-      of-kind : (other : FileKind) (size : ℕ) (links : List BackLink) (o : Option Meta) → OfKind l.file.kind o → o ≡ Some (Is other size links) → other ≡ l.file.kind
+      of-kind : (other : FileKind) (size : ℕ) (links : List BackLink) (o : Option Meta) → OfKind l.file.kind o → o ≡ Some (Is other size links)
+          → other ≡ l.file.kind
       of-kind other size links o h e = subst (λ (p : Option Meta). OfKind l.file.kind p) e h
 
   idle : given_by W.files e ≡ nothing → Stays E (given_by W.files e) i g b link

@@ -1,5 +1,6 @@
 -- Places of back links in a record, and entries of a history by their place.
-use Rattle.std.proofs.Common.{◌≡◌, ◌≢◌, ℕ, zero, suc, ◌+◌, ◌<◌, Bool, true, false, cond, List, [], ◌∷◌, ◌++◌, length, take, drop, get_or, Some, refl, ap, ◌∙◌, subst, arith, Contains}
+use Rattle.std.proofs.Common.{◌≡◌, ◌≢◌, ℕ, zero, suc, ◌+◌, ◌<◌, Bool, true, false, cond, List, [], ◌∷◌, ◌++◌, length, take, drop, get_or, Some, refl, ap, ◌∙◌}
+use Rattle.std.proofs.Common.{subst, arith, Contains}
 use Rattle.std.specs.Prelude.{slice_get}
 use Rattle.nofs_model.specs.Cells.{BackLink}
 use Rattle.nofs_machine.specs.Machine.{same_link, set_link, without_link, place_for_link}
@@ -39,17 +40,20 @@ set-beside (l ∷ ls) (suc b) zero link other ne h = h
 set-beside (l ∷ ls) (suc b) (suc c) link other ne h = set-beside ls b c link other (λ e. ne (ap suc e)) h
 
 -- a link that is cleared leaves the others where they are
-pub cleared-beside : (ls : List BackLink) (b : ℕ) (link other : BackLink) → same_link link other ≡ false → HasAt ls b link → HasAt (without_link other ls) b link
+pub cleared-beside : (ls : List BackLink) (b : ℕ) (link other : BackLink) → same_link link other ≡ false → HasAt ls b link
+    → HasAt (without_link other ls) b link
 cleared-beside [] b link other ne h = absurd h
 cleared-beside (l ∷ ls) zero link other ne h = rw h (rw ne refl)
 cleared-beside (l ∷ ls) (suc b) link other ne h = cleared-beside ls b link other ne h
 
 -- a place that was searched for has a link that passes
-pub place-passes : (test : BackLink → Bool) (ls : List BackLink) (at c : ℕ) → place_for_link test ls at ≡ Some c → (b : ℕ) × (c ≡ at + b) × ((link : BackLink) → HasAt ls b link → test link ≡ true)
+pub place-passes : (test : BackLink → Bool) (ls : List BackLink) (at c : ℕ) → place_for_link test ls at ≡ Some c
+    → (b : ℕ) × (c ≡ at + b) × ((link : BackLink) → HasAt ls b link → test link ≡ true)
 place-passes test [] at c e = cc
 place-passes test (l ∷ ls) at c e = go (test l) refl (λ q. place-passes test ls (suc at) c q) e
   where
-    go : (t : Bool) → test l ≡ t → (place_for_link test ls (suc at) ≡ Some c → (b : ℕ) × (c ≡ suc at + b) × ((link : BackLink) → HasAt ls b link → test link ≡ true))
+    go : (t : Bool) → test l ≡ t → (place_for_link test ls (suc at) ≡ Some c
+        → (b : ℕ) × (c ≡ suc at + b) × ((link : BackLink) → HasAt ls b link → test link ≡ true))
         → cond t (Some at) (place_for_link test ls (suc at)) ≡ Some c → (b : ℕ) × (c ≡ at + b) × ((link : BackLink) → HasAt (l ∷ ls) b link → test link ≡ true)
     go true et ih q = let s : at ≡ c = cc q in (0, omega (arith, s), λ link h. subst (λ (k : BackLink). test k ≡ true) h et)
     go false et ih q = let r = ih q in let s = r.1 in (suc r.0, omega (arith, s), λ link h. r.2 link h)
@@ -77,7 +81,8 @@ module _ {A : Type 0} where
   front-get (y ∷ xs) (suc n) (suc k) x e = let r = front-get xs n k x e in let lt = r.0 in (omega (arith, lt), r.1, ap (λ (zs : List A). y ∷ zs) r.2)
 
   -- an entry of a part, in the whole
-  pub part-get : (xs : List A) (q n k : ℕ) (x : A) → slice_get (drop q (take n xs)) k ≡ Some x → (q + k < n) × (slice_get xs (q + k) ≡ Some x) × (take q xs ++ take k (drop q (take n xs)) ≡ take (q + k) xs)
+  pub part-get : (xs : List A) (q n k : ℕ) (x : A) → slice_get (drop q (take n xs)) k ≡ Some x
+      → (q + k < n) × (slice_get xs (q + k) ≡ Some x) × (take q xs ++ take k (drop q (take n xs)) ≡ take (q + k) xs)
   part-get xs zero n k x e =
       let r = front-get xs n k x e in
       let z : k ≡ 0 + k = omega arith in

@@ -1,5 +1,6 @@
 -- The first world of a base that a mount leaves is sane.
-use Rattle.std.proofs.Common.{◌≡◌, ℕ, ◌+◌, ◌-◌, ◌*◌, ◌/◌, ◌%◌, ◌^◌, ◌<◌, ◌≤◌, Bool, true, false, cond, leb, ltb, leb-true, ltb-true, ◌&&◌, List, length, Option, Some, None, is_some, refl, sym, ap, ◌∙◌, subst, arith}
+use Rattle.std.proofs.Common.{◌≡◌, ℕ, ◌+◌, ◌-◌, ◌*◌, ◌/◌, ◌%◌, ◌^◌, ◌<◌, ◌≤◌, Bool, true, false, cond, leb, ltb, leb-true, ltb-true, ◌&&◌, List, length}
+use Rattle.std.proofs.Common.{Option, Some, None, is_some, refl, sym, ap, ◌∙◌, subst, arith}
 use Rattle.std.specs.List.{list_all}
 use Rattle.std.proofs.lemmas.List.{length-replicate}
 use Rattle.nofs_inode.specs.InodeRecords.{has_rest, allows_record, allows_kind, is_tidy_link, fields_in}
@@ -36,7 +37,9 @@ record-generation payload j live = go (fields_in (256 * j) payload) (has_rest (2
         let x = and-both (leb 1 r.generation && list_all is_tidy_link r.links) (allows_kind kind r) a in
         leb-true 1 r.generation (and-both (leb 1 r.generation) (list_all is_tidy_link r.links) x.0).0
 
-    spelled : (r : Record) (b : Bool) → allows_record r.kind r ≡ b → is_live (Rattle.nofs_inode.specs.InodeRecords.record_or_free (cond b (Some r) None)) ≡ true → 1 ≤ (Rattle.nofs_inode.specs.InodeRecords.record_or_free (cond b (Some r) None)).generation
+    spelled : (r : Record) (b : Bool) → allows_record r.kind r ≡ b
+        → is_live (Rattle.nofs_inode.specs.InodeRecords.record_or_free (cond b (Some r) None)) ≡ true
+        → 1 ≤ (Rattle.nofs_inode.specs.InodeRecords.record_or_free (cond b (Some r) None)).generation
     spelled r true e l = by-kind r r.kind refl l e
     spelled r false e l = cc l
 
@@ -75,9 +78,11 @@ module _ (B : Image) (first : ℕ) (base : IsBase B first) where
       let mount = base.mount in
       let serial = base.serial in
       let e = generation i f is in
-      let live : is_live (record_at (cell_at B (1 + (i - 1) / 4)).payload ((i - 1) % 4)) ≡ true = subst (λ (r : Record). is_live r ≡ true) st.same (matched i f is).live in
+      let live : is_live (record_at (cell_at B (1 + (i - 1) / 4)).payload ((i - 1) % 4)) ≡ true =
+      subst (λ (r : Record). is_live r ≡ true) st.same (matched i f is).live in
       let g = record-generation (cell_at B (1 + (i - 1) / 4)).payload ((i - 1) % 4) live in
-      let same : (inode B i).generation ≡ (record_at (cell_at B (1 + (i - 1) / 4)).payload ((i - 1) % 4)).generation = ap (λ (r : Record). r.generation) st.same in
+      let same : (inode B i).generation ≡ (record_at (cell_at B (1 + (i - 1) / 4)).payload ((i - 1) % 4)).generation =
+      ap (λ (r : Record). r.generation) st.same in
       record { some = low; small = omega (arith, high, most); from = omega (arith, g, same, e); below = omega (arith, y, mount, serial) }
 
   whole-value : (i k : ℕ) → length (bytes_in (value B i k)) ≡ 1024

@@ -1,5 +1,6 @@
 -- Agreement depends on kinds, generations, links and the cells of directories alone.
-use Rattle.std.proofs.Common.{◌≡◌, ℕ, ◌/◌, ◌<◌, Bool, true, false, cond, eqb, ltb, ◌&&◌, ◌||◌, List, Option, Some, None, is_some, refl, sym, ap, ◌∙◌, subst, arith, Contains, ltb-true, eqb-true}
+use Rattle.std.proofs.Common.{◌≡◌, ℕ, ◌/◌, ◌<◌, Bool, true, false, cond, eqb, ltb, ◌&&◌, ◌||◌, List, Option, Some, None, is_some, refl, sym, ap, ◌∙◌, subst}
+use Rattle.std.proofs.Common.{arith, Contains, ltb-true, eqb-true}
 use Rattle.nofs_dirent.specs.Entries.{entry_limit}
 use Rattle.nofs_model.proofs.Chains.{pair-of, agreed-holds, holds-agreed}
 use Rattle.nofs_law_untouched.proofs.Matching.{matched-file, matched-agreed, agreed-files-is}
@@ -7,7 +8,8 @@ use Rattle.nofs_law_untouched.proofs.Framing.{some-is, files-match}
 use Rattle.nofs_machine.specs.History.{agreed_files, FilesMatch, SameFile}
 use Rattle.nofs_model.specs.Cells.{FileKind, File, BackLink, is_live}
 use Rattle.nofs_inode.specs.declared.inode.FileKind.TheVariants.{Directory as Folder}
-use Rattle.nofs_model.specs.Image.{Image, inode, file_from, files_in, agreed, Agreed, root, linked, FileState, Files, is_folder, entry_held, entry_in_file, pairs, is_a, is_pair, links_in_file, links_of, is_root, is_special}
+use Rattle.nofs_model.specs.Image.{Image, inode, file_from, files_in, agreed, Agreed, root, linked, FileState, Files, is_folder, entry_held, entry_in_file}
+use Rattle.nofs_model.specs.Image.{pairs, is_a, is_pair, links_in_file, links_of, is_root, is_special}
 use Rattle.nofs_model.specs.declared.value.Value.{Value}
 
 -- two files that a pair can't tell apart
@@ -36,7 +38,13 @@ pub alike-sym : (o p : Option FileState) → Alike o p → Alike p o
 alike-sym None None h = tt
 alike-sym None (Some b) h = absurd h
 alike-sym (Some a) None h = absurd h
-alike-sym (Some a) (Some b) h = record { generation = sym h.generation; kind = sym h.kind; links = sym h.links; cells = λ d k lt. sym (h.cells (subst (λ (q : FileKind). is_folder q ≡ true) (sym h.kind) d) k lt) }
+alike-sym (Some a) (Some b) h = record {
+  generation = sym h.generation;
+  kind = sym h.kind;
+  links = sym h.links;
+  cells =
+      λ d k lt. sym (h.cells (subst (λ (q : FileKind). is_folder q ≡ true) (sym h.kind) d) k lt);
+}
 
 pub alike-trans : (o p q : Option FileState) → Alike o p → Alike p q → Alike o q
 alike-trans None None None h j = tt
@@ -44,7 +52,13 @@ alike-trans None None (Some c) h j = absurd j
 alike-trans None (Some b) q h j = absurd h
 alike-trans (Some a) None q h j = absurd h
 alike-trans (Some a) (Some b) None h j = absurd j
-alike-trans (Some a) (Some b) (Some c) h j = record { generation = h.generation ∙ j.generation; kind = h.kind ∙ j.kind; links = h.links ∙ j.links; cells = λ d k lt. h.cells d k lt ∙ j.cells (subst (λ (q : FileKind). is_folder q ≡ true) h.kind d) k lt }
+alike-trans (Some a) (Some b) (Some c) h j = record {
+  generation = h.generation ∙ j.generation;
+  kind = h.kind ∙ j.kind;
+  links = h.links ∙ j.links;
+  cells =
+      λ d k lt. h.cells d k lt ∙ j.cells (subst (λ (q : FileKind). is_folder q ≡ true) h.kind d) k lt;
+}
 
 pub entry-alike : (o p : Option FileState) (e : ℕ) → Alike o p → entry_in_file o e ≡ entry_in_file p e
 entry-alike None None e h = refl
@@ -52,7 +66,8 @@ entry-alike None (Some b) e h = absurd h
 entry-alike (Some a) None e h = absurd h
 entry-alike (Some a) (Some b) e h = rw (sym h.kind) (inside (is_folder a.kind) refl (ltb e entry_limit) refl)
   where
-    inside : (x : Bool) → is_folder a.kind ≡ x → (y : Bool) → ltb e entry_limit ≡ y → cond (x && y) (entry_held (a.values (e / 16)) e) None ≡ cond (x && y) (entry_held (b.values (e / 16)) e) None
+    inside : (x : Bool) → is_folder a.kind ≡ x → (y : Bool) → ltb e entry_limit ≡ y
+        → cond (x && y) (entry_held (a.values (e / 16)) e) None ≡ cond (x && y) (entry_held (b.values (e / 16)) e) None
     inside false ex y ey = refl
     inside true ex false ey = refl
     inside true ex true ey =
@@ -140,7 +155,8 @@ is-a-some q g (Some f) e = refl
 pub agreed-some : (F : Files) (i : ℕ) → Agreed F i → is_some (F i) ≡ true
 agreed-some F i (root r) = go (eqb i 1) refl (eqb i 2) refl (is_a Folder 1 (F 1)) refl (is_a File 2 (F 2)) refl r
   where
-    go : (p : Bool) → eqb i 1 ≡ p → (q : Bool) → eqb i 2 ≡ q → (a : Bool) → is_a Folder 1 (F 1) ≡ a → (b : Bool) → is_a File 2 (F 2) ≡ b → ((p && a) || (q && b)) ≡ true → is_some (F i) ≡ true
+    go : (p : Bool) → eqb i 1 ≡ p → (q : Bool) → eqb i 2 ≡ q → (a : Bool) → is_a Folder 1 (F 1) ≡ a → (b : Bool) → is_a File 2 (F 2) ≡ b
+        → ((p && a) || (q && b)) ≡ true → is_some (F i) ≡ true
     go true ep q eq true ea b eb e = subst (λ (j : ℕ). is_some (F j) ≡ true) (sym (eqb-true i 1 ep)) (is-a-some Folder 1 (F 1) ea)
     go true ep true eq false ea true eb e = subst (λ (j : ℕ). is_some (F j) ≡ true) (sym (eqb-true i 2 eq)) (is-a-some File 2 (F 2) eb)
     go true ep true eq false ea false eb e = cc
@@ -181,10 +197,12 @@ pub agreed-machine : (F : Files) (X : Image) → FilesMatch F X → (i : ℕ) �
 agreed-machine F X match i (root r) = root (go (eqb i 1) refl (eqb i 2) refl r)
   where
     first : eqb i 1 ≡ true → is_root (files_in X) i ≡ true → is_a Folder 1 (F 1) ≡ is_a Folder 1 (files_in X 1)
-    first e r = a-alike Folder (F 1) (files_in X 1) 1 (same-alike (F 1) (files_in X 1) (same-of F X 1 match (subst (λ (j : ℕ). agreed (files_in X) j ≡ true) (eqb-true i 1 e) (holds-agreed (files_in X) i (root r)))))
+    first e r = a-alike Folder (F 1) (files_in X 1) 1 (same-alike (F 1) (files_in X 1)
+        (same-of F X 1 match (subst (λ (j : ℕ). agreed (files_in X) j ≡ true) (eqb-true i 1 e) (holds-agreed (files_in X) i (root r)))))
 
     second : eqb i 2 ≡ true → is_root (files_in X) i ≡ true → is_a File 2 (F 2) ≡ is_a File 2 (files_in X 2)
-    second e r = a-alike File (F 2) (files_in X 2) 2 (same-alike (F 2) (files_in X 2) (same-of F X 2 match (subst (λ (j : ℕ). agreed (files_in X) j ≡ true) (eqb-true i 2 e) (holds-agreed (files_in X) i (root r)))))
+    second e r = a-alike File (F 2) (files_in X 2) 2 (same-alike (F 2) (files_in X 2)
+        (same-of F X 2 match (subst (λ (j : ℕ). agreed (files_in X) j ≡ true) (eqb-true i 2 e) (holds-agreed (files_in X) i (root r)))))
 
     go : (p : Bool) → eqb i 1 ≡ p → (q : Bool) → eqb i 2 ≡ q → is_root (files_in X) i ≡ true → is_root F i ≡ true
     go true ep true eq r = rw (first ep r, second eq r) r
@@ -194,7 +212,8 @@ agreed-machine F X match i (root r) = root (go (eqb i 1) refl (eqb i 2) refl r)
 agreed-machine F X match i (linked link plain has pair up) =
     let own = same-of F X i match (holds-agreed (files_in X) i (linked link plain has pair up)) in
     let parent = same-of F X link.directory match (holds-agreed (files_in X) link.directory up) in
-    let e = pairs-alike (F i) (files_in X i) (F link.directory) (files_in X link.directory) i link (same-alike (F i) (files_in X i) own) (same-alike (F link.directory) (files_in X link.directory) parent) in
+    let e = pairs-alike (F i) (files_in X i) (F link.directory) (files_in X link.directory) i link (same-alike (F i) (files_in X i) own)
+    (same-alike (F link.directory) (files_in X link.directory) parent) in
     let l = links-alike (F i) (files_in X i) (same-alike (F i) (files_in X i) own) in
     linked link plain (subst (λ (ls : List BackLink). Contains ls link) (sym l) has) (e ∙ pair) (agreed-machine F X match link.directory up)
 
@@ -237,7 +256,8 @@ module _ (F E : Files) (X Y : Image) (match : FilesMatch F X) (files : (i : ℕ)
           absurd (not-agreed i (back i e) (holds-agreed (files_in X) i (root r)))
       go true eb true ep true eq = absurd (let a = eqb-true i 1 ep in let b = eqb-true i 2 eq in omega (arith, a, b))
 
-  no-pair : (i : ℕ) (link : BackLink) → is_special i ≡ false → is_some (E i) ≡ false → is_some (E link.directory) ≡ true → Contains (links_of (files_in Y) i) link → is_pair (files_in Y) i link ≡ false
+  no-pair : (i : ℕ) (link : BackLink) → is_special i ≡ false → is_some (E i) ≡ false → is_some (E link.directory) ≡ true
+      → Contains (links_of (files_in Y) i) link → is_pair (files_in Y) i link ≡ false
   no-pair i link plain e d has = go (is_pair (files_in Y) i link) refl
     where
       go : (b : Bool) → is_pair (files_in Y) i link ≡ b → is_pair (files_in Y) i link ≡ false
@@ -246,12 +266,17 @@ module _ (F E : Files) (X Y : Image) (match : FilesMatch F X) (files : (i : ℕ)
           let k = rest i (back i e) in
           let fd : is_some (F link.directory) ≡ true = some-alike (F link.directory) (E link.directory) (files link.directory) ∙ d in
           let ad = in-image link.directory fd in
-          let x : Alike (files_in X link.directory) (F link.directory) = alike-sym (F link.directory) (files_in X link.directory) (same-alike (F link.directory) (files_in X link.directory) (same-of F X link.directory match ad)) in
+          let x : Alike (files_in X link.directory) (F link.directory) =
+          alike-sym (F link.directory) (files_in X link.directory)
+          (same-alike (F link.directory) (files_in X link.directory) (same-of F X link.directory match ad)) in
           let y : Alike (E link.directory) (files_in Y link.directory) = same-alike (E link.directory) (files_in Y link.directory) (same link.directory d) in
-          let xy : Alike (files_in X link.directory) (files_in Y link.directory) = alike-trans (files_in X link.directory) (F link.directory) (files_in Y link.directory) x (alike-trans (F link.directory) (E link.directory) (files_in Y link.directory) (files link.directory) y) in
+          let xy : Alike (files_in X link.directory) (files_in Y link.directory) =
+          alike-trans (files_in X link.directory) (F link.directory) (files_in Y link.directory) x
+          (alike-trans (F link.directory) (E link.directory) (files_in Y link.directory) (files link.directory) y) in
           let p = pairs-kin (files_in X i) (files_in Y i) (files_in X link.directory) (files_in Y link.directory) i link k xy in
           let l = links-kin (files_in X i) (files_in Y i) k in
-          let a : Agreed (files_in X) i = linked link plain (subst (λ (ls : List BackLink). Contains ls link) (sym l) has) (p ∙ eb) (agreed-holds (files_in X) link.directory ad) in
+          let a : Agreed (files_in X) i = linked link plain (subst (λ (ls : List BackLink). Contains ls link) (sym l) has) (p ∙ eb)
+          (agreed-holds (files_in X) link.directory ad) in
           absurd (not-agreed i (back i e) (holds-agreed (files_in X) i a))
 
   pub match-alike : FilesMatch E Y

@@ -3,11 +3,13 @@ use Rattle.nofs_ptrs.specs.Paths.{slot_limit}
 use Rattle.nofs_model.specs.declared.path.PathAnswer.{PathAnswer}
 use Rattle.nofs_model.specs.declared.path.PathAnswer.TheVariants as answer
 use Rattle.nofs_law_images.specs.Reasons.{Holes, ReadsSince}
-use Rattle.std.proofs.Common.{◌≡◌, ℕ, ◌<◌, ◌≤◌, ◌⊎◌, inl, inr, Bool, true, false, ◌||◌, ◌++◌, option_to_list, Option, Some, None, refl, sym, ap, ◌∙◌, subst, subst₂, arith, Contains, ne_eqb}
+use Rattle.std.proofs.Common.{◌≡◌, ℕ, ◌<◌, ◌≤◌, ◌⊎◌, inl, inr, Bool, true, false, ◌||◌, ◌++◌, option_to_list, Option, Some, None, refl, sym, ap, ◌∙◌, subst}
+use Rattle.std.proofs.Common.{subst₂, arith, Contains, ne_eqb}
 use Rattle.std.proofs.lemmas.List.Elements.{Contains-push}
 use Rattle.nofs_model.specs.Cells.{Cell, File, Content, Directory, Tag, Pointer, tag_of, is_null, is_live}
 use Rattle.nofs_inode.specs.declared.inode.FileKind.TheVariants.{Directory as Folder}
-use Rattle.nofs_model.specs.Image.{super_in, Image, cell_at, super_at, is_data_block, inode, kind_in, tag_for, Path, InRecord, Under, path_of, find, value, value_in, IsAbove}
+use Rattle.nofs_model.specs.Image.{super_in, Image, cell_at, super_at, is_data_block, inode, kind_in, tag_for, Path, InRecord, Under, path_of, find, value}
+use Rattle.nofs_model.specs.Image.{value_in, IsAbove}
 use Rattle.nofs_model.specs.declared.value.Value.{Value}
 use Rattle.nofs_model.specs.declared.value.Value.TheVariants.{Hole, Bytes}
 use Rattle.nofs_model.proofs.Paths.{below-null, above-refl, path_of-content, slot_of-path_of}
@@ -45,7 +47,8 @@ not-null X x area = let p = data-positive X x.block area in let z = ne_eqb x.blo
 stamp-of : (t u : Tag) → Some t ≡ Some u → t.stamp ≡ u.stamp
 stamp-of t u e = let s : t ≡ u = cc e in ap (λ (q : Tag). q.stamp) s
 
-pub fresh-tag : (s : ℕ) (X Y : Image) (d : ℕ) (path : Path) (x : Pointer) → ClaimedCell s X Y d path x → (t : Tag) → tag_of (cell_at Y x.block).tag ≡ Some t → s ≤ t.stamp
+pub fresh-tag : (s : ℕ) (X Y : Image) (d : ℕ) (path : Path) (x : Pointer) → ClaimedCell s X Y d path x → (t : Tag) → tag_of (cell_at Y x.block).tag ≡ Some t
+    → s ≤ t.stamp
 fresh-tag s X Y d path x c t e =
     let q : t.stamp ≡ x.stamp = stamp-of t (tag_for Y d path x.stamp) (sym e ∙ c.tag) in
     subst (λ (r : ℕ). s ≤ r) (sym q) c.fresh
@@ -55,7 +58,8 @@ unfolding super_at
 super-same X Y e = ap (λ (c : Cell). super_in c.payload) e
 
 -- a claimed cell of content is proper
-pub claimed-cell-proper : (s k : ℕ) (X Y : Image) (d g : ℕ) (x : Pointer) (m : Mark) (given : Given) → k < slot_limit → ClaimedCell s X Y d (path_of k) x → is_data_block m.image x.block ≡ true → (inode Y d).generation ≡ g
+pub claimed-cell-proper : (s k : ℕ) (X Y : Image) (d g : ℕ) (x : Pointer) (m : Mark) (given : Given) → k < slot_limit → ClaimedCell s X Y d (path_of k) x
+    → is_data_block m.image x.block ≡ true → (inode Y d).generation ≡ g
     → given.slots d g k ≡ Some (Bytes (cell_at Y x.block).payload) → Proper (during m given) X x.block (cell_at Y x.block)
 claimed-cell-proper s k X Y d g x m given range c area gen gives = OfContent (record {
   area = area;
@@ -68,14 +72,17 @@ claimed-cell-proper s k X Y d g x m given range c area gen gives = OfContent (re
   where
     is-content : IsContentKind (kind_in (inode Y d) (path_of k))
     is-content =
-        let e : kind_in (inode Y d) (path_of k) ≡ elim (inode Y d).kind [ None ↦ Content | Some kind ↦ elim kind [ File ↦ Content | Folder ↦ Directory ] ] = rw (path_of-content k range) refl in
+        let e : kind_in (inode Y d) (path_of k) ≡ elim (inode Y d).kind [ None ↦ Content | Some kind ↦ elim kind [ File ↦ Content | Folder ↦ Directory ] ] =
+        rw (path_of-content k range) refl in
         subst IsContentKind (sym e) (content-kind (inode Y d).kind)
 
     has : Contains ((during m given).since d g k) (Bytes (cell_at Y x.block).payload)
-    has = subst (λ (o : Option Value). Contains (m.since d g k ++ option_to_list o) (Bytes (cell_at Y x.block).payload)) (sym gives) (Contains-push (m.since d g k) (Bytes (cell_at Y x.block).payload))
+    has = subst (λ (o : Option Value). Contains (m.since d g k ++ option_to_list o) (Bytes (cell_at Y x.block).payload)) (sym gives)
+        (Contains-push (m.since d g k) (Bytes (cell_at Y x.block).payload))
 
 -- under a slot that is empty, holes may be read
-pub holes-under : (m : Mark) (X : Image) (i : ℕ) (b : Path) → ReadsSince m X → is_live (inode X i) ≡ true → find X i b ≡ answer.Hole → (q : ℕ) → Holes m i (inode X i).generation (Under b q)
+pub holes-under : (m : Mark) (X : Image) (i : ℕ) (b : Path) → ReadsSince m X → is_live (inode X i) ≡ true → find X i b ≡ answer.Hole → (q : ℕ)
+    → Holes m i (inode X i).generation (Under b q)
 holes-under m X i b reads live empty q k lt above = elim (reads.values i k live lt) [
   | inl lost ↦ absurd (let h : value X i k ≡ Hole = hole in cc (h, lost))
   | inr has ↦ subst (λ (v : Value). Contains (m.since i (inode X i).generation k) v) hole has

@@ -1,5 +1,6 @@
 -- A step that changes one entry of one directory, and the links of one inode: what is agreed after it is what the machine has.
-use Rattle.std.proofs.Common.{◌≡◌, ◌≢◌, ℕ, ◌⊎◌, inl, inr, Bool, true, false, eqb, ltb, ◌&&◌, ◌||◌, not, List, Option, Some, None, is_some, refl, sym, ap, ◌∙◌, subst, subst₂, arith, Contains, eqb-true, eq-eqb}
+use Rattle.std.proofs.Common.{◌≡◌, ◌≢◌, ℕ, ◌⊎◌, inl, inr, Bool, true, false, eqb, ltb, ◌&&◌, ◌||◌, not, List, Option, Some, None, is_some, refl, sym, ap, ◌∙◌}
+use Rattle.std.proofs.Common.{subst, subst₂, arith, Contains, eqb-true, eq-eqb}
 use Rattle.nofs_model.proofs.Chains.{pair-of, agreed-holds, holds-agreed}
 use Rattle.nofs_law_untouched.proofs.Matching.{matched-file, matched-agreed}
 use Rattle.nofs_law_untouched.proofs.Framing.{some-is, files-match}
@@ -7,7 +8,8 @@ use Rattle.nofs_law_untouched.proofs.Alike.{Alike, same-alike, Kin, same-of, agr
 use Rattle.nofs_machine.specs.History.{FilesMatch, SameFile}
 use Rattle.nofs_model.specs.Cells.{File, BackLink, Entry}
 use Rattle.nofs_inode.specs.declared.inode.FileKind.TheVariants.{Directory as Folder}
-use Rattle.nofs_model.specs.Image.{Image, files_in, agreed, Agreed, root, linked, FileState, Files, is_folder, entry_in_file, pairs, names, is_a, is_pair, links_of, is_root, is_special}
+use Rattle.nofs_model.specs.Image.{Image, files_in, agreed, Agreed, root, linked, FileState, Files, is_folder, entry_in_file, pairs, names, is_a, is_pair}
+use Rattle.nofs_model.specs.Image.{links_of, is_root, is_special}
 
 -- entry e of the two directories is the same, and so are their kinds and generations
 pub record SameDirectory (o p : Option FileState) (e : ℕ) : Type 0 where
@@ -39,7 +41,11 @@ kin-some (Some a) (Some b) h = refl
 -- the parts of a pair, as tests
 pair-names : (o u : Option FileState) (i : ℕ) (link : BackLink) → pairs o u i link ≡ true → (g : ℕ) × (names (entry_in_file u link.entry) i g ≡ true)
 pair-names None u i link e = cc
-pair-names (Some f) u i link e = (f.generation, both (is_a Folder link.generation u) (names (entry_in_file u link.entry) i f.generation) (not (is_folder f.kind) || ltb link.generation f.generation) e)
+pair-names (Some f) u i link e = (
+  f.generation,
+  both (is_a Folder link.generation u) (names (entry_in_file u link.entry) i f.generation)
+      (not (is_folder f.kind) || ltb link.generation f.generation) e,
+)
   where
     both : (a b c : Bool) → (a && (b && c)) ≡ true → b ≡ true
     both true true c e = refl
@@ -57,7 +63,8 @@ module _ (F E : Files) (X Y : Image) (d e i : ℕ) (match : FilesMatch F X)
     (named : (j g : ℕ) → j ≢ i → names (entry_in_file (E d) e) j g ≡ false)
     (empty : is_some (F i) ≡ false → (k j g : ℕ) → names (entry_in_file (E i) k) j g ≡ false)
     -- inode i, where it is still there, is a root or has a pair
-    (home : is_some (E i) ≡ true → (is_root E i ≡ true) ⊎ ((link : BackLink) × (is_special i ≡ false) × Contains (links_of E i) link × (is_pair E i link ≡ true) × (link.directory ≢ i) × (is_some (F link.directory) ≡ true)))
+    (home : is_some (E i) ≡ true → (is_root E i ≡ true) ⊎ ((link : BackLink) × (is_special i ≡ false) × Contains (links_of E i) link ×
+    (is_pair E i link ≡ true) × (link.directory ≢ i) × (is_some (F link.directory) ≡ true)))
     -- the image after the step
     (same : (j : ℕ) → is_some (E j) ≡ true → SameFile (E j) (files_in Y j))
     (rest : (j : ℕ) → j ≢ i → is_some (F j) ≡ false → Kin (files_in X j) (files_in Y j))
@@ -127,11 +134,13 @@ module _ (F E : Files) (X Y : Image) (d e i : ℕ) (match : FilesMatch F X)
       go : (b : Bool) → is_root (files_in Y) j ≡ b → is_root (files_in Y) j ≡ false
       go false q = q
       go true q = elim (decide j i) [
-        | inl at ↦ (let gone : files_in Y j ≡ None = subst (λ (k : ℕ). files_in Y k ≡ None) (sym at) (removed (subst (λ (k : ℕ). is_some (E k) ≡ false) at h)) in
+        | inl at ↦ (let gone : files_in Y j ≡ None = subst (λ (k : ℕ). files_in Y k ≡ None) (sym at)
+            (removed (subst (λ (k : ℕ). is_some (E k) ≡ false) at h)) in
             let some = agreed-some (files_in Y) j (root q) in absurd (none-some (files_in Y j) gone some))
         | inr ne ↦
             let fj : is_some (F j) ≡ false = kin-some (F j) (E j) (own j ne) ∙ h in
-            let r : is_root (files_in X) j ≡ true = root-kin (files_in Y) (files_in X) j (λ k s. subst (λ (t : ℕ). Kin (files_in Y t) (files_in X t)) s (kin-back (files_in X j) (files_in Y j) (rest j ne fj))) q in
+            let r : is_root (files_in X) j ≡ true = root-kin (files_in Y) (files_in X) j
+            (λ k s. subst (λ (t : ℕ). Kin (files_in Y t) (files_in X t)) s (kin-back (files_in X j) (files_in Y j) (rest j ne fj))) q in
             absurd (not-agreed j fj (root r))
       ]
         where
@@ -139,7 +148,8 @@ module _ (F E : Files) (X Y : Image) (d e i : ℕ) (match : FilesMatch F X)
           none-some None a b = cc
           none-some (Some f) a b = cc
 
-  no-pair : (j : ℕ) (link : BackLink) → is_special j ≡ false → is_some (E j) ≡ false → is_some (E link.directory) ≡ true → Contains (links_of (files_in Y) j) link → is_pair (files_in Y) j link ≡ false
+  no-pair : (j : ℕ) (link : BackLink) → is_special j ≡ false → is_some (E j) ≡ false → is_some (E link.directory) ≡ true
+      → Contains (links_of (files_in Y) j) link → is_pair (files_in Y) j link ≡ false
   no-pair j link plain h dir has = go (is_pair (files_in Y) j link) refl
     where
       gone-pair : files_in Y j ≡ None → is_pair (files_in Y) j link ≡ true → ⊥
@@ -160,7 +170,8 @@ module _ (F E : Files) (X Y : Image) (d e i : ℕ) (match : FilesMatch F X)
 
               -- in terms of the machine's directory
               dir_same : SameDirectory (E link.directory) (files_in Y link.directory) link.entry
-              dir_same = alike-directory (E link.directory) (files_in Y link.directory) link.entry (same-alike (E link.directory) (files_in Y link.directory) (same link.directory dir))
+              dir_same = alike-directory (E link.directory) (files_in Y link.directory) link.entry
+                  (same-alike (E link.directory) (files_in Y link.directory) (same link.directory dir))
 
               is-named : (g : ℕ) × (names (entry_in_file (E link.directory) link.entry) j g ≡ true)
               is-named = let n = pair-names (files_in Y j) (files_in Y link.directory) j link q in (n.0, dir_same.names j n.0 ∙ n.1)
@@ -168,13 +179,15 @@ module _ (F E : Files) (X Y : Image) (d e i : ℕ) (match : FilesMatch F X)
               at-directory : (b : Bool) → is_some (F link.directory) ≡ b → ⊥
               at-directory false fd = elim (decide link.directory i) [
                 | inl at ↦ (let z = empty (subst (λ (k : ℕ). is_some (F k) ≡ false) at fd) link.entry j is-named.0 in
-                    let n : names (entry_in_file (E i) link.entry) j is-named.0 ≡ true = subst (λ (k : ℕ). names (entry_in_file (E k) link.entry) j is-named.0 ≡ true) at is-named.1 in cc (z, n))
+                    let n : names (entry_in_file (E i) link.entry) j is-named.0 ≡ true =
+                    subst (λ (k : ℕ). names (entry_in_file (E k) link.entry) j is-named.0 ≡ true) at is-named.1 in cc (z, n))
                 | inr off ↦ (let z = kin-some (F link.directory) (E link.directory) (own link.directory off) in cc (fd, dir, z))
               ]
               at-directory true fd = elim (decide link.directory d) [
                 | inl at ↦ elim (decide link.entry e) [
                   | inl here ↦ (let z = named j is-named.0 ne in
-                      let n : names (entry_in_file (E d) e) j is-named.0 ≡ true = subst₂ (λ (k l : ℕ). names (entry_in_file (E k) l) j is-named.0 ≡ true) at here is-named.1 in cc (z, n))
+                      let n : names (entry_in_file (E d) e) j is-named.0 ≡ true =
+                      subst₂ (λ (k l : ℕ). names (entry_in_file (E k) l) j is-named.0 ≡ true) at here is-named.1 in cc (z, n))
                   | inr there ↦ was (λ a b. there b)
                 ]
                 | inr off ↦ was (λ a b. off a)
@@ -184,14 +197,18 @@ module _ (F E : Files) (X Y : Image) (d e i : ℕ) (match : FilesMatch F X)
                   was : (link.directory ≡ d → link.entry ≡ e → ⊥) → ⊥
                   was apart =
                       let ad = in-image link.directory fd in
-                      let x0 : SameDirectory (F link.directory) (files_in X link.directory) link.entry = alike-directory (F link.directory) (files_in X link.directory) link.entry (same-alike (F link.directory) (files_in X link.directory) (same-of F X link.directory match ad)) in
+                      let x0 : SameDirectory (F link.directory) (files_in X link.directory) link.entry =
+                      alike-directory (F link.directory) (files_in X link.directory) link.entry
+                      (same-alike (F link.directory) (files_in X link.directory) (same-of F X link.directory match ad)) in
                       let x1 = directory-sym (F link.directory) (files_in X link.directory) link.entry x0 in
-                      let x2 = directory-trans (files_in X link.directory) (F link.directory) (E link.directory) link.entry x1 (elsewhere link.directory link.entry fd dir apart) in
+                      let x2 = directory-trans (files_in X link.directory) (F link.directory) (E link.directory) link.entry x1
+                      (elsewhere link.directory link.entry fd dir apart) in
                       let x3 = directory-trans (files_in X link.directory) (E link.directory) (files_in Y link.directory) link.entry x2 dir_same in
                       let k = rest j ne fj in
                       let p = pairs-parts (files_in X j) (files_in Y j) (files_in X link.directory) (files_in Y link.directory) j link k x3 in
                       let l = links-kin (files_in X j) (files_in Y j) k in
-                      not-agreed j fj (linked link plain (subst (λ (ls : List BackLink). Contains ls link) (sym l) has) (p ∙ q) (agreed-holds (files_in X) link.directory ad))
+                      not-agreed j fj (linked link plain (subst (λ (ls : List BackLink). Contains ls link) (sym l) has) (p ∙ q)
+                      (agreed-holds (files_in X) link.directory ad))
 
   pub match-entry : FilesMatch E Y
   match-entry = files-match E Y same self no-root no-pair

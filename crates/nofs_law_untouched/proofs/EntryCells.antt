@@ -1,6 +1,7 @@
 -- A directory cell with one entry rewritten: that entry is the new one, and every other stays.
 use Rattle.std.proofs.Common.{◌≡◌, ◌≢◌, ℕ, ◌+◌, ◌-◌, ◌*◌, ◌%◌, ◌≤◌, inl, inr, List, ◌++◌, length, take, drop, replicate, None, refl, sym, ap, ◌∙◌, arith}
-use Rattle.std.proofs.lemmas.List.{length-take-le, length-append, take_at, drop_at, take-append-le, drop-append-le, take-append-drop, append_assoc, length-drop, length-replicate, replicate-append-replicate}
+use Rattle.std.proofs.lemmas.List.{length-take-le, length-append, take_at, drop_at, take-append-le, drop-append-le, take-append-drop, append_assoc}
+use Rattle.std.proofs.lemmas.List.{length-drop, length-replicate, replicate-append-replicate}
 use Rattle.std.proofs.lemmas.Bool.{cases_lt}
 use Rattle.std.proofs.lemmas.Slice.{drop-append-drop}
 use Rattle.nofs_machine.specs.Machine.{bytes_in, zeros, with_entry}
@@ -28,7 +29,8 @@ window-below xs ys a b le lt =
     ap (λ (l : List ℕ). take 64 (drop b l)) (append_assoc (take a xs) ys (drop (a + 64) xs)) ∙ below-cut (take a xs) (ys ++ drop (a + 64) xs) b lb
     ∙ sym (below-cut (take a xs) (drop a xs) b lb) ∙ ap (λ (l : List ℕ). take 64 (drop b l)) (take-append-drop a xs)
 
-window-above : (xs ys : List ℕ) (a b : ℕ) → a ≤ length xs → length ys ≡ 64 → a + 64 ≤ b → take 64 (drop b (take a xs ++ ys ++ drop (a + 64) xs)) ≡ take 64 (drop b xs)
+window-above : (xs ys : List ℕ) (a b : ℕ) → a ≤ length xs → length ys ≡ 64 → a + 64 ≤ b
+    → take 64 (drop b (take a xs ++ ys ++ drop (a + 64) xs)) ≡ take 64 (drop b xs)
 window-above xs ys a b le len lt =
     let la : length (take a xs) ≡ a = length-take-le a xs le in
     let lp : length (take a xs ++ ys) ≡ a + 64 = length-append (take a xs) ys ∙ omega (arith, la, len) in
@@ -61,10 +63,12 @@ module _ (old : Value) (e : ℕ) (bytes : List ℕ) (whole : length (bytes_in ol
   unfolding with_entry
   others l ne = elim (cases_lt (l % 16) (e % 16)) [
     | inl lt ↦ ap (λ (q : List ℕ). entry_of q) (window-below (bytes_in old) bytes (64 * (e % 16)) (64 * (l % 16)) (omega (arith, whole)) (omega (arith, lt)))
-    | inr le ↦ ap (λ (q : List ℕ). entry_of q) (window-above (bytes_in old) bytes (64 * (e % 16)) (64 * (l % 16)) (omega (arith, whole)) short (omega (arith, le, ne)))
+    | inr le ↦ ap (λ (q : List ℕ). entry_of q) (window-above (bytes_in old) bytes (64 * (e % 16)) (64 * (l % 16)) (omega (arith, whole)) short
+        (omega (arith, le, ne)))
   ]
 
-pub entry-there : (old : Value) (e l : ℕ) (bytes : List ℕ) (whole : length (bytes_in old) ≡ 1024) (short : length bytes ≡ 64) → old ≢ Lost → l % 16 ≢ e % 16 → entry_held (with_entry old e bytes) l ≡ entry_held old l
+pub entry-there : (old : Value) (e l : ℕ) (bytes : List ℕ) (whole : length (bytes_in old) ≡ 1024) (short : length bytes ≡ 64) → old ≢ Lost → l % 16 ≢ e % 16
+    → entry_held (with_entry old e bytes) l ≡ entry_held old l
 entry-there (Bytes c) e l bytes whole short ok ne = others (Bytes c) e bytes whole short l ne
 entry-there Lost e l bytes whole short ok ne = absurd (ok refl)
 entry-there Hole e l bytes whole short ok ne = others Hole e bytes whole short l ne ∙ no-entry-at 1024 (l % 16) (omega arith)

@@ -1,5 +1,6 @@
 -- What a step leaves as it was.
-use Rattle.std.proofs.Common.{◌≡◌, ℕ, ◌/◌, ◌<◌, ◌≤◌, inl, inr, Bool, true, false, cond, eqb, ltb, ◌&&◌, ◌||◌, List, Option, Some, None, is_some, refl, sym, ap, ◌∙◌, subst, arith, Contains, ltb-true}
+use Rattle.std.proofs.Common.{◌≡◌, ℕ, ◌/◌, ◌<◌, ◌≤◌, inl, inr, Bool, true, false, cond, eqb, ltb, ◌&&◌, ◌||◌, List, Option, Some, None, is_some, refl, sym}
+use Rattle.std.proofs.Common.{ap, ◌∙◌, subst, arith, Contains, ltb-true}
 use Rattle.nofs_dirent.specs.Entries.{entry_limit}
 use Rattle.nofs_ptrs.specs.Paths.{slot_limit}
 use Rattle.nofs_model.specs.declared.path.PathAnswer.{PathAnswer}
@@ -10,7 +11,9 @@ use Rattle.nofs_model.specs.declared.path.PathAnswer.TheVariants as answer
 use Rattle.nofs_machine.specs.History.{agreed_files, FilesMatch, SameFile}
 use Rattle.nofs_model.specs.Cells.{Cell, File, BackLink, Tag, Pointer, tag_of, is_null, pointer_at, is_live}
 use Rattle.nofs_inode.specs.declared.inode.FileKind.TheVariants.{Directory as Folder}
-use Rattle.nofs_model.specs.Image.{super_in, Image, cell_at, super_at, is_data_block, inode, files_in, agreed, Agreed, root, linked, Path, InRecord, Under, tag_for, is_tag, agrees, record_pointer, judged, find, pointer, FileState, Files, is_folder, entry_held, entry_in_file, pairs, is_a, is_pair, links_in_file, links_of, is_root, is_special, IsSlot, IsFree}
+use Rattle.nofs_model.specs.Image.{super_in, Image, cell_at, super_at, is_data_block, inode, files_in, agreed, Agreed, root, linked, Path, InRecord, Under}
+use Rattle.nofs_model.specs.Image.{tag_for, is_tag, agrees, record_pointer, judged, find, pointer, FileState, Files, is_folder, entry_held, entry_in_file}
+use Rattle.nofs_model.specs.Image.{pairs, is_a, is_pair, links_in_file, links_of, is_root, is_special, IsSlot, IsFree}
 use Rattle.nofs_model.specs.declared.value.Value.{Value}
 
 module _ (s : ℕ) (X Y : Image) (w : Rewrites s X Y) (i : ℕ) (owned : agreed (files_in X) i ≡ true) (same : SameIdentity X Y i) where
@@ -41,13 +44,16 @@ module _ (s : ℕ) (X Y : Image) (w : Rewrites s X Y) (i : ℕ) (owned : agreed 
   agrees-same : (a : Path) (x : Pointer) → IsSlot a → x.stamp < s → (agrees X i a x ≡ true → find X i a ≡ answer.Holds x) → agrees Y i a x ≡ agrees X i a x
   agrees-same a x slot old holds = go (is_data_block X x.block) refl
     where
-      tag-part : is_data_block X x.block ≡ true → is_tag (tag_of (cell_at Y x.block).tag) (tag_for X i a x.stamp) ≡ is_tag (tag_of (cell_at X x.block).tag) (tag_for X i a x.stamp)
+      tag-part : is_data_block X x.block ≡ true → is_tag (tag_of (cell_at Y x.block).tag) (tag_for X i a x.stamp) ≡ is_tag (tag_of (cell_at X x.block).tag)
+          (tag_for X i a x.stamp)
       tag-part area = elim (w.tags x.block area) [
         | inl e ↦ ap (λ (o : Option Tag). is_tag o (tag_for X i a x.stamp)) e
-        | inr f ↦ other-tag (tag_of (cell_at Y x.block).tag) (tag_for X i a x.stamp) f.1 old ∙ sym (was f.0 (is_tag (tag_of (cell_at X x.block).tag) (tag_for X i a x.stamp)) refl)
+        | inr f ↦ other-tag (tag_of (cell_at Y x.block).tag) (tag_for X i a x.stamp) f.1 old
+            ∙ sym (was f.0 (is_tag (tag_of (cell_at X x.block).tag) (tag_for X i a x.stamp)) refl)
       ]
         where
-          was : IsFree X x.block → (b : Bool) → is_tag (tag_of (cell_at X x.block).tag) (tag_for X i a x.stamp) ≡ b → is_tag (tag_of (cell_at X x.block).tag) (tag_for X i a x.stamp) ≡ false
+          was : IsFree X x.block → (b : Bool) → is_tag (tag_of (cell_at X x.block).tag) (tag_for X i a x.stamp) ≡ b
+              → is_tag (tag_of (cell_at X x.block).tag) (tag_for X i a x.stamp) ≡ false
           was free false e = e
           was free true e =
               let ok : agrees X i a x ≡ true = rw (same.live, area, e) in
@@ -96,7 +102,8 @@ entry-same None (Some b) e h = absurd h
 entry-same (Some a) None e h = absurd h
 entry-same (Some a) (Some b) e h = rw h.kind (inside (is_folder b.kind) (ltb e entry_limit) refl)
   where
-    inside : (x y : Bool) → ltb e entry_limit ≡ y → cond (x && y) (entry_held (a.values (e / 16)) e) None ≡ cond (x && y) (entry_held (b.values (e / 16)) e) None
+    inside : (x y : Bool) → ltb e entry_limit ≡ y → cond (x && y) (entry_held (a.values (e / 16)) e) None ≡ cond (x && y) (entry_held (b.values (e / 16)) e)
+        None
     inside false y ey = refl
     inside true false ey = refl
     inside true true ey =
@@ -139,7 +146,8 @@ module _ (F : Files) (Y : Image)
     (match : (i : ℕ) → is_some (F i) ≡ true → SameFile (F i) (files_in Y i))
     (self : (i : ℕ) → is_some (F i) ≡ true → Agreed F i)
     (no_root : (i : ℕ) → is_some (F i) ≡ false → is_root (files_in Y) i ≡ false)
-    (no_pair : (i : ℕ) (link : BackLink) → is_special i ≡ false → is_some (F i) ≡ false → is_some (F link.directory) ≡ true → Contains (links_of (files_in Y) i) link → is_pair (files_in Y) i link ≡ false) where
+    (no_pair : (i : ℕ) (link : BackLink) → is_special i ≡ false → is_some (F i) ≡ false → is_some (F link.directory) ≡ true
+    → Contains (links_of (files_in Y) i) link → is_pair (files_in Y) i link ≡ false) where
   root-same : (i : ℕ) → is_root F i ≡ true → is_root (files_in Y) i ≡ true
   root-same i e = go (eqb i 1) (eqb i 2) (is_a Folder 1 (F 1)) refl (is_a File 2 (F 2)) refl e
     where
@@ -157,7 +165,8 @@ module _ (F : Files) (Y : Image)
           has None e = cc
           has (Some f) e = refl
 
-      go : (p q a : Bool) → is_a Folder 1 (F 1) ≡ a → (b : Bool) → is_a File 2 (F 2) ≡ b → ((p && a) || (q && b)) ≡ true → ((p && is_a Folder 1 (files_in Y 1)) || (q && is_a File 2 (files_in Y 2))) ≡ true
+      go : (p q a : Bool) → is_a Folder 1 (F 1) ≡ a → (b : Bool) → is_a File 2 (F 2) ≡ b → ((p && a) || (q && b)) ≡ true
+          → ((p && is_a Folder 1 (files_in Y 1)) || (q && is_a File 2 (files_in Y 2))) ≡ true
       go true q true ea b eb e = rw (one ea) refl
       go true true false ea true eb e = rw (two eb) (any (is_a Folder 1 (files_in Y 1)))
         where

@@ -1,5 +1,6 @@
 -- What is given to a file, and small facts of blocks and slots that each step needs.
-use Rattle.std.proofs.Common.{◌≡◌, ℕ, ◌+◌, ◌<◌, ◌≤◌, inl, inr, Bool, true, false, ltb, ◌||◌, Option, Some, None, unwrap_or, refl, sym, ap, ◌∙◌, subst, arith, eq-eqb, leb, leb-true, ◌-◌, ◌/◌, ◌%◌}
+use Rattle.std.proofs.Common.{◌≡◌, ℕ, ◌+◌, ◌<◌, ◌≤◌, inl, inr, Bool, true, false, ltb, ◌||◌, Option, Some, None, unwrap_or, refl, sym, ap, ◌∙◌, subst, arith}
+use Rattle.std.proofs.Common.{eq-eqb, leb, leb-true, ◌-◌, ◌/◌, ◌%◌}
 use Rattle.nofs_law_images.specs.Proper.{IsContentKind}
 use Rattle.nofs_model.proofs.Find.{and-both, find-held}
 use Rattle.nofs_law_untouched.proofs.Growth.{same_path-true}
@@ -13,7 +14,8 @@ use Rattle.nofs_model.specs.Image.{Image, super_at, is_data_block, is_inode, Pat
 use Rattle.nofs_model.specs.declared.value.Value.{Value}
 
 -- a file to which nothing is given stays
-pub given-elsewhere : (F : Files) (given : Given) (j : ℕ) → given.born j ≡ None → ((g k : ℕ) → given.slots j g k ≡ None) → ((g : ℕ) (path : Path) → given.nodes j g path ≡ None) → ((g : ℕ) → given.metas j g ≡ None) → SameFile (files_after F given j) (F j)
+pub given-elsewhere : (F : Files) (given : Given) (j : ℕ) → given.born j ≡ None → ((g k : ℕ) → given.slots j g k ≡ None)
+    → ((g : ℕ) (path : Path) → given.nodes j g path ≡ None) → ((g : ℕ) → given.metas j g ≡ None) → SameFile (files_after F given j) (F j)
 given-elsewhere F given j born slots nodes metas = subst (λ (b : Option ℕ). SameFile (file_after given j (born_file b (F j))) (F j)) (sym born) (go (F j))
   where
     go : (o : Option FileState) → SameFile (file_after given j o) o
@@ -33,7 +35,15 @@ same-trans None None (Some c) h j = absurd j
 same-trans None (Some b) q h j = absurd h
 same-trans (Some a) None q h j = absurd h
 same-trans (Some a) (Some b) None h j = absurd j
-same-trans (Some a) (Some b) (Some c) h j = record { generation = h.generation ∙ j.generation; kind = h.kind ∙ j.kind; size = h.size ∙ j.size; links = h.links ∙ j.links; values = λ k lt. h.values k lt ∙ j.values k lt; nodes = λ path s p. h.nodes path s p ∙ j.nodes path s p }
+same-trans (Some a) (Some b) (Some c) h j = record {
+  generation = h.generation ∙ j.generation;
+  kind = h.kind ∙ j.kind;
+  size = h.size ∙ j.size;
+  links =
+      h.links ∙ j.links;
+  values = λ k lt. h.values k lt ∙ j.values k lt;
+  nodes = λ path s p. h.nodes path s p ∙ j.nodes path s p;
+}
 
 pub content-kind : (o : Option FileKind) → IsContentKind (elim o [ None ↦ Content | Some kind ↦ elim kind [ File ↦ Content | Folder ↦ Directory ] ])
 content-kind None = inl refl
@@ -58,14 +68,17 @@ not-table X b i q area range e =
     omega (arith, first, low, high, e, q)
 
 pub data-positive : (X : Image) (b : ℕ) → is_data_block X b ≡ true → 0 < b
-data-positive X b area = let first = leb-true (1 + (super_at X).inodes / 4) b (and-both (leb (1 + (super_at X).inodes / 4) b) (ltb b (super_at X).blocks) area).0 in omega (arith, first)
+data-positive X b area = let first = leb-true (1 + (super_at X).inodes / 4) b
+    (and-both (leb (1 + (super_at X).inodes / 4) b) (ltb b (super_at X).blocks) area).0 in omega (arith, first)
 
-pub lies-held : (X : Image) (i : ℕ) (a p : Path) (x : Pointer) → lies_above a p ≡ true → find X i p ≡ answer.Holds x → (y : Pointer) × (find X i a ≡ answer.Holds y)
+pub lies-held : (X : Image) (i : ℕ) (a p : Path) (x : Pointer) → lies_above a p ≡ true → find X i p ≡ answer.Holds x
+    → (y : Pointer) × (find X i a ≡ answer.Holds y)
 lies-held X i a (InRecord n) x e h = cc
 lies-held X i a (Under b n) x e h =
     let up = (find-held X i (Under b n) x h).above in
     go (same_path a b) refl (λ l. lies-held X i a b up.0 l up.1) up e
   where
-    go : (t : Bool) → same_path a b ≡ t → (lies_above a b ≡ true → (y : Pointer) × (find X i a ≡ answer.Holds y)) → (y : Pointer) × (find X i b ≡ answer.Holds y) → (t || lies_above a b) ≡ true → (y : Pointer) × (find X i a ≡ answer.Holds y)
+    go : (t : Bool) → same_path a b ≡ t → (lies_above a b ≡ true → (y : Pointer) × (find X i a ≡ answer.Holds y))
+        → (y : Pointer) × (find X i b ≡ answer.Holds y) → (t || lies_above a b) ≡ true → (y : Pointer) × (find X i a ≡ answer.Holds y)
     go true et ih up l = (up.0, subst (λ (q : Path). find X i q ≡ answer.Holds up.0) (sym (same_path-true a b et)) up.1)
     go false et ih up l = ih l

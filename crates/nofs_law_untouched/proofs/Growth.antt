@@ -9,7 +9,8 @@ use Rattle.nofs_law_untouched.proofs.Framing.{judged-same}
 use Rattle.nofs_model.specs.declared.path.PathAnswer.TheVariants as answer
 use Rattle.nofs_machine.specs.Machine.{same_path}
 use Rattle.nofs_model.specs.Cells.{Cell, Pointer, tag_of, is_null, pointer_at, is_live}
-use Rattle.nofs_model.specs.Image.{Image, cell_at, is_data_block, inode, files_in, agreed, value, value_in, Path, InRecord, Under, path_of, slot_of, is_pointer_slot, tag_for, judged, find, pointer, record_pointer, IsAbove, IsSlot}
+use Rattle.nofs_model.specs.Image.{Image, cell_at, is_data_block, inode, files_in, agreed, value, value_in, Path, InRecord, Under, path_of, slot_of}
+use Rattle.nofs_model.specs.Image.{is_pointer_slot, tag_for, judged, find, pointer, record_pointer, IsAbove, IsSlot}
 use Rattle.nofs_model.specs.declared.value.Value.TheVariants.{Bytes}
 use Rattle.nofs_law_untouched.specs.Grows.{IsPlaced}
 
@@ -59,8 +60,10 @@ pub one-way : (p b : Path) (q n : ℕ) → IsAbove (Under b q) p → IsAbove (Un
 one-way (InRecord m) b q n h l = cc h
 one-way (Under c m) b q n (inl e) (inl f) = under-place b b q n (e ∙ sym f)
 one-way (Under c m) b q n (inr h) (inr l) = one-way c b q n h l
-one-way (Under c m) b q n (inl e) (inr l) = let d : suc (depth b) ≡ suc (depth c) = ap depth e in let r = above-depth (Under b n) c l in absurd (omega (arith, d, r))
-one-way (Under c m) b q n (inr h) (inl f) = let d : suc (depth b) ≡ suc (depth c) = ap depth f in let r = above-depth (Under b q) c h in absurd (omega (arith, d, r))
+one-way (Under c m) b q n (inl e) (inr l) = let d : suc (depth b) ≡ suc (depth c) = ap depth e in let r =
+    above-depth (Under b n) c l in absurd (omega (arith, d, r))
+one-way (Under c m) b q n (inr h) (inl f) = let d : suc (depth b) ≡ suc (depth c) = ap depth f in let r =
+    above-depth (Under b q) c h in absurd (omega (arith, d, r))
 
 -- a slot above a content slot is that slot or has pointers
 above-content : (a p : Path) → IsSlot p → IsAbove a p → (a ≡ p) ⊎ (is_pointer_slot a ≡ true)
@@ -99,23 +102,28 @@ module _ (s : ℕ) (X Y : Image) (i : ℕ) (w : Rewrites s X Y) (owned : agreed 
   -- any other slot is found as before
   pub off-path : (a : Path) → IsSlot a → (IsAbove a p → ⊥) → find Y i a ≡ find X i a
   off-path (InRecord n) slot off =
-      ap (λ (x : Pointer). judged Y i (InRecord n) x) (record_stays n off) ∙ judged-same s X Y w i owned same (InRecord n) (record_pointer (inode X i) n) slot (old (InRecord n) slot) refl
+      ap (λ (x : Pointer). judged Y i (InRecord n) x) (record_stays n off)
+      ∙ judged-same s X Y w i owned same (InRecord n) (record_pointer (inode X i) n) slot (old (InRecord n) slot) refl
   off-path (Under b n) slot off = by-parent (above-or-not b p) (find X i b) refl (λ nb. off-path b slot.2 nb)
     where
       -- where both pointers are one under a slot that held and holds
-      one : (z : Pointer) → find X i b ≡ answer.Holds z → find Y i b ≡ answer.Holds z → pointer_at (cell_at Y z.block).payload n ≡ pointer_at (cell_at X z.block).payload n → find Y i (Under b n) ≡ find X i (Under b n)
+      one : (z : Pointer) → find X i b ≡ answer.Holds z → find Y i b ≡ answer.Holds z
+          → pointer_at (cell_at Y z.block).payload n ≡ pointer_at (cell_at X z.block).payload n → find Y i (Under b n) ≡ find X i (Under b n)
       one z ex ey q =
           let px : pointer X i (Under b n) ≡ pointer_at (cell_at X z.block).payload n = rw (ex, pointer) refl in
           let lt : (pointer_at (cell_at X z.block).payload n).stamp < s = subst (λ (r : Pointer). r.stamp < s) px (old (Under b n) slot) in
           let fx : judged X i (Under b n) (pointer_at (cell_at X z.block).payload n) ≡ find X i (Under b n) = rw (ex, find) refl in
-          rw (ex, ey, find) (ap (λ (x : Pointer). judged Y i (Under b n) x) q ∙ judged-same s X Y w i owned same (Under b n) (pointer_at (cell_at X z.block).payload n) slot lt fx)
+          rw (ex, ey, find) (ap (λ (x : Pointer). judged Y i (Under b n) x) q
+          ∙ judged-same s X Y w i owned same (Under b n) (pointer_at (cell_at X z.block).payload n) slot lt fx)
 
-      by-parent : IsAbove b p ⊎ (IsAbove b p → ⊥) → (f : PathAnswer) → find X i b ≡ f → ((IsAbove b p → ⊥) → find Y i b ≡ find X i b) → find Y i (Under b n) ≡ find X i (Under b n)
+      by-parent : IsAbove b p ⊎ (IsAbove b p → ⊥) → (f : PathAnswer) → find X i b ≡ f → ((IsAbove b p → ⊥) → find Y i b ≡ find X i b)
+          → find Y i (Under b n) ≡ find X i (Under b n)
       by-parent (inl hb) f e ih = elim (beside b n slot hb off) [
         | inl kept ↦ one (at b) kept.0 (on-path b hb) kept.1
         | inr new ↦
             let y = on-path b hb in
-            let yn : find Y i (Under b n) ≡ answer.Hole = rw (y, find) (judged-built-null Y i (Under b n) (pointer_at (cell_at Y (at b).block).payload n) new.1) in
+            let yn : find Y i (Under b n) ≡ answer.Hole = rw (y, find)
+            (judged-built-null Y i (Under b n) (pointer_at (cell_at Y (at b).block).payload n) new.1) in
             let x = new.0 in
             let xn : find X i (Under b n) ≡ answer.Hole = rw (x, find) refl in
             yn ∙ sym xn
@@ -142,7 +150,8 @@ module _ (s : ℕ) (X Y : Image) (i : ℕ) (w : Rewrites s X Y) (owned : agreed 
       go : (f : PathAnswer) → find X i (path_of l) ≡ f → value Y i l ≡ value X i l
       go answer.Hole e = ap (λ (q : PathAnswer). value_in Y q) (y ∙ e) ∙ sym (ap (λ (q : PathAnswer). value_in X q) e)
       go answer.Lost e = ap (λ (q : PathAnswer). value_in Y q) (y ∙ e) ∙ sym (ap (λ (q : PathAnswer). value_in X q) e)
-      go (answer.Holds z) e = ap (λ (q : PathAnswer). value_in Y q) (y ∙ e) ∙ ap (λ (c : Cell). Bytes c.payload) (apart (path_of l) z (path_of-slot l ltl) off e) ∙ sym (ap (λ (q : PathAnswer). value_in X q) e)
+      go (answer.Holds z) e = ap (λ (q : PathAnswer). value_in Y q) (y ∙ e)
+          ∙ ap (λ (c : Cell). Bytes c.payload) (apart (path_of l) z (path_of-slot l ltl) off e) ∙ sym (ap (λ (q : PathAnswer). value_in X q) e)
 
   -- and the value there
   pub value-on : (k : ℕ) → p ≡ path_of k → value Y i k ≡ Bytes (cell_at Y (at p).block).payload

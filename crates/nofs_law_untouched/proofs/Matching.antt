@@ -26,7 +26,8 @@ pub record Matched (F : Files) (X : Image) (i : ℕ) : Type 0 where
   pub links : file.links ≡ (inode X i).links
   pub values : (k : ℕ) → k < slot_limit → file.values k ≡ value X i k
 
-matched-from : (F : Files) (X : Image) (i : ℕ) → FilesMatch F X → (o : Option FileState) → F i ≡ o → (a : Bool) → agreed (files_in X) i ≡ a → (k : Option FileKind) → (inode X i).kind ≡ k
+matched-from : (F : Files) (X : Image) (i : ℕ) → FilesMatch F X → (o : Option FileState) → F i ≡ o → (a : Bool) → agreed (files_in X) i ≡ a
+    → (k : Option FileKind) → (inode X i).kind ≡ k
     → SameFile o (cond a (file_from X i k) None)
     → (is_some o ≡ true) ⊎ ((is_live (inode X i) ≡ true) × (a ≡ true)) → Matched F X i
 matched-from F X i match None eo false ea k ek same one = elim one [ inl e ↦ cc e | inr e ↦ cc e.1 ]
@@ -53,7 +54,9 @@ unfolding agreed_files
 agreed-file X i = refl
 
 pub matched-file : (F : Files) (X : Image) (i : ℕ) → FilesMatch F X → is_some (F i) ≡ true → Matched F X i
-matched-file F X i match e = matched-from F X i match (F i) refl (agreed (files_in X) i) refl (inode X i).kind refl (subst (λ (o : Option FileState). SameFile (F i) o) (agreed-file X i) (match i)) (inl e)
+matched-file F X i match e = matched-from F X i match (F i) refl (agreed (files_in X) i) refl (inode X i).kind refl
+    (subst (λ (o : Option FileState). SameFile (F i) o) (agreed-file X i) (match i)) (inl e)
 
 pub matched-agreed : (F : Files) (X : Image) (i : ℕ) → FilesMatch F X → is_live (inode X i) ≡ true → agreed (files_in X) i ≡ true → Matched F X i
-matched-agreed F X i match live a = matched-from F X i match (F i) refl (agreed (files_in X) i) refl (inode X i).kind refl (subst (λ (o : Option FileState). SameFile (F i) o) (agreed-file X i) (match i)) (inr (live, a))
+matched-agreed F X i match live a = matched-from F X i match (F i) refl (agreed (files_in X) i) refl (inode X i).kind refl
+    (subst (λ (o : Option FileState). SameFile (F i) o) (agreed-file X i) (match i)) (inr (live, a))

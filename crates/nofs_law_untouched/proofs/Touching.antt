@@ -9,18 +9,21 @@ use Rattle.nofs_law_untouched.proofs.Framing.{frame}
 use Rattle.nofs_model.specs.declared.path.PathAnswer.TheVariants as answer
 use Rattle.nofs_machine.specs.History.{SameFile}
 use Rattle.nofs_model.specs.Cells.{Cell, FileKind, Tag, Pointer, Record, tag_of, pointer_at, is_live}
-use Rattle.nofs_model.specs.Image.{Image, cell_at, inode, files_in, agreed, value, value_in, node_in, Path, InRecord, Under, path_of, slot_of, tag_for, find, IsSlot}
+use Rattle.nofs_model.specs.Image.{Image, cell_at, inode, files_in, agreed, value, value_in, node_in, Path, InRecord, Under, path_of, slot_of, tag_for, find}
+use Rattle.nofs_model.specs.Image.{IsSlot}
 use Rattle.nofs_model.specs.declared.value.Value.{Value}
 
 same-parts : (t u : Tag) → Some t ≡ Some u → (t.inode ≡ u.inode) × (t.slot ≡ u.slot)
 same-parts t u e = let s : t ≡ u = cc e in (ap (λ (q : Tag). q.inode) s, ap (λ (q : Tag). q.slot) s)
 
 -- a block has one owner
-pub one-owner : (X : Image) (i j : ℕ) (a c : Path) (x y : Pointer) → find X i a ≡ answer.Holds x → find X j c ≡ answer.Holds y → x.block ≡ y.block → (i ≡ j) × (slot_of a ≡ slot_of c)
+pub one-owner : (X : Image) (i j : ℕ) (a c : Path) (x y : Pointer) → find X i a ≡ answer.Holds x → find X j c ≡ answer.Holds y → x.block ≡ y.block
+    → (i ≡ j) × (slot_of a ≡ slot_of c)
 one-owner X i j a c x y ea ec same =
     let ta = (find-held X i a x ea).agrees.tag in
     let tc = (find-held X j c y ec).agrees.tag in
-    let ta' : tag_of (cell_at X y.block).tag ≡ Some (tag_for X i a x.stamp) = subst (λ (b : ℕ). tag_of (cell_at X b).tag ≡ Some (tag_for X i a x.stamp)) same ta in
+    let ta' : tag_of (cell_at X y.block).tag ≡ Some (tag_for X i a x.stamp) =
+    subst (λ (b : ℕ). tag_of (cell_at X b).tag ≡ Some (tag_for X i a x.stamp)) same ta in
     let e : Some (tag_for X i a x.stamp) ≡ Some (tag_for X j c y.stamp) = sym ta' ∙ tc in
     same-parts (tag_for X i a x.stamp) (tag_for X j c y.stamp) e
 
@@ -70,11 +73,14 @@ module _ (s : ℕ) (touched : ℕ → Bool) (X Y : Image) (w : Touches s touched
     same-value l k lt = go (find X j (path_of k)) refl
       where
         go : (f : PathAnswer) → find X j (path_of k) ≡ f → value Y j k ≡ value X j k
-        go answer.Hole e = let y : find Y j (path_of k) ≡ answer.Hole = same-find l (path_of k) (path_of-slot k lt) ∙ e in ap (λ (q : PathAnswer). value_in Y q) y ∙ sym (ap (λ (q : PathAnswer). value_in X q) e)
-        go answer.Lost e = let y : find Y j (path_of k) ≡ answer.Lost = same-find l (path_of k) (path_of-slot k lt) ∙ e in ap (λ (q : PathAnswer). value_in Y q) y ∙ sym (ap (λ (q : PathAnswer). value_in X q) e)
+        go answer.Hole e = let y : find Y j (path_of k) ≡ answer.Hole =
+            same-find l (path_of k) (path_of-slot k lt) ∙ e in ap (λ (q : PathAnswer). value_in Y q) y ∙ sym (ap (λ (q : PathAnswer). value_in X q) e)
+        go answer.Lost e = let y : find Y j (path_of k) ≡ answer.Lost =
+            same-find l (path_of k) (path_of-slot k lt) ∙ e in ap (λ (q : PathAnswer). value_in Y q) y ∙ sym (ap (λ (q : PathAnswer). value_in X q) e)
         go (answer.Holds z) e =
             let y : find Y j (path_of k) ≡ answer.Holds z = same-find l (path_of k) (path_of-slot k lt) ∙ e in
-            ap (λ (q : PathAnswer). value_in Y q) y ∙ ap (λ (c : Cell). Value.Bytes c.payload) (same-cell (path_of k) z (path_of-slot k lt) e) ∙ sym (ap (λ (q : PathAnswer). value_in X q) e)
+            ap (λ (q : PathAnswer). value_in Y q) y ∙ ap (λ (c : Cell). Value.Bytes c.payload) (same-cell (path_of k) z (path_of-slot k lt) e)
+            ∙ sym (ap (λ (q : PathAnswer). value_in X q) e)
 
     pub same-file : is_live (inode X j) ≡ true → SameFile (files_in X j) (files_in Y j)
     same-file l = go (inode X j).kind refl

@@ -7,7 +7,8 @@ use Rattle.nofs_model.specs.Image.{Image, cell_at, is_data_block, inode, Path, I
 -- each block keeps its tag, or was free and has a stamp of at least s
 pub record Rewrites (s : ℕ) (X Y : Image) : Type 0 where
   pub super : cell_at Y 0 ≡ cell_at X 0
-  pub tags : (b : ℕ) → is_data_block X b ≡ true → (tag_of (cell_at Y b).tag ≡ tag_of (cell_at X b).tag) ⊎ (IsFree X b × ((t : Tag) → tag_of (cell_at Y b).tag ≡ Some t → s ≤ t.stamp))
+  pub tags : (b : ℕ) → is_data_block X b ≡ true → (tag_of (cell_at Y b).tag ≡ tag_of (cell_at X b).tag) ⊎
+      (IsFree X b × ((t : Tag) → tag_of (cell_at Y b).tag ≡ Some t → s ≤ t.stamp))
 
 -- the inode keeps its kind and generation
 pub record SameIdentity (X Y : Image) (i : ℕ) : Type 0 where
@@ -18,7 +19,8 @@ pub record SameIdentity (X Y : Image) (i : ℕ) : Type 0 where
 -- the pointers of a slot and of those above it stay
 abbrev pub SamePointers : Image → Image → ℕ → Path → Type 0
 SamePointers X Y i (InRecord n) = record_pointer (inode Y i) n ≡ record_pointer (inode X i) n
-SamePointers X Y i (Under a n) = SamePointers X Y i a × ((y : Pointer) → find X i a ≡ answer.Holds y → pointer_at (cell_at Y y.block).payload n ≡ pointer_at (cell_at X y.block).payload n)
+SamePointers X Y i (Under a n) = SamePointers X Y i a × ((y : Pointer) → find X i a ≡ answer.Holds y
+    → pointer_at (cell_at Y y.block).payload n ≡ pointer_at (cell_at X y.block).payload n)
 
 -- every pointer of the image has a stamp below s
 abbrev pub OldPointers : ℕ → Image → ℕ → Type 0
@@ -30,7 +32,8 @@ pub record Touches (s : ℕ) (touched : ℕ → Bool) (X Y : Image) : Type 0 whe
   pub records : (j : ℕ) → touched j ≡ false → inode Y j ≡ inode X j
   pub blocks : (b : ℕ) → is_data_block X b ≡ true → (cell_at Y b ≡ cell_at X b)
       ⊎ ((IsFree X b × ((t : Tag) → tag_of (cell_at Y b).tag ≡ Some t → s ≤ t.stamp))
-      ⊎ ((tag_of (cell_at Y b).tag ≡ tag_of (cell_at X b).tag) × ((i : ℕ) × (path : Path) × (x : Pointer) × (touched i ≡ true) × (find X i path ≡ answer.Holds x) × (x.block ≡ b))))
+      ⊎ ((tag_of (cell_at Y b).tag ≡ tag_of (cell_at X b).tag) ×
+      ((i : ℕ) × (path : Path) × (x : Pointer) × (touched i ≡ true) × (find X i path ≡ answer.Holds x) × (x.block ≡ b))))
 
 -- kind, generation, size and links of an inode stay
 pub record SameMeta (X Y : Image) (j : ℕ) : Type 0 where

@@ -1,5 +1,6 @@
 -- What a claim's parts say together: how many blocks it has, that each is free, and its stamps.
-use Rattle.std.proofs.Common.{◌≡◌, ◌≢◌, ℕ, zero, suc, ◌+◌, ◌-◌, ◌*◌, ◌/◌, ◌%◌, ◌^◌, ◌<◌, ◌≤◌, Bool, true, false, cond, eqb, ltb, ◌&&◌, not, List, [], ◌∷◌, ◌++◌, length, Option, Some, None, refl, sym, ap, ◌∙◌, subst, arith, Contains, inl, inr, get_or, eqb-true}
+use Rattle.std.proofs.Common.{◌≡◌, ◌≢◌, ℕ, zero, suc, ◌+◌, ◌-◌, ◌*◌, ◌/◌, ◌%◌, ◌^◌, ◌<◌, ◌≤◌, Bool, true, false, cond, eqb, ltb, ◌&&◌, not, List, [], ◌∷◌}
+use Rattle.std.proofs.Common.{◌++◌, length, Option, Some, None, refl, sym, ap, ◌∙◌, subst, arith, Contains, inl, inr, get_or, eqb-true}
 use Rattle.std.proofs.lemmas.Bool.{le-leb}
 use Rattle.std.proofs.lemmas.List.Elements.{Contains-append_cases}
 use Rattle.nofs_ptrs.specs.Paths.{slot_limit}
@@ -38,7 +39,9 @@ two-above F i k = go (ltb k 8) (ltb k 72) (ltb k slot_limit) (ltb k (2 ^ 32 + 2)
     one-under : (n j : ℕ) → absent_above F i (Under (InRecord n) j) ≤ 1
     one-under n j = let one = one-at-most (node_of F i (InRecord n)) in omega (arith, one)
 
-    go : (a b c d : Bool) → absent_above F i (cond a (InRecord k) (cond b (Under (InRecord 8) (k - 8)) (cond c (Under (Under (InRecord 9) ((k - 72) / 64)) ((k - 72) % 64)) (cond d (InRecord (8 + (k - 2 ^ 32))) (Under (InRecord 9) (k - (2 ^ 32 + 2))))))) ≤ 2
+    go : (a b c d : Bool) → absent_above F i (cond a (InRecord k)
+        (cond b (Under (InRecord 8) (k - 8)) (cond c (Under (Under (InRecord 9) ((k - 72) / 64)) ((k - 72) % 64))
+        (cond d (InRecord (8 + (k - 2 ^ 32))) (Under (InRecord 9) (k - (2 ^ 32 + 2))))))) ≤ 2
     go true b c d = omega arith
     go false true c d = under (InRecord 8) (k - 8) (omega arith)
     go false false true d = under (Under (InRecord 9) ((k - 72) / 64)) ((k - 72) % 64) (one-under 9 ((k - 72) / 64))
@@ -121,11 +124,13 @@ module _ (W : World) (s : Step) (c : Claims) (claim : IsClaim W s c) where
       stamped : (t : ℕ) (x : Pointer) → IsBlockClaim W t x true → x.stamp ≡ t
       stamped t x (Claimed free range stamp) = stamp
 
-      go : (m : ℕ) → m ≤ 3 → IsBlockClaim W first c.cell (ltb 0 m) → IsBlockClaim W (first + 1) c.leaf (ltb 1 m) → IsBlockClaim W (first + 2) c.top (ltb 2 m) → CountsUp first (blocks (ltb 0 m) (ltb 1 m) (ltb 2 m))
+      go : (m : ℕ) → m ≤ 3 → IsBlockClaim W first c.cell (ltb 0 m) → IsBlockClaim W (first + 1) c.leaf (ltb 1 m) → IsBlockClaim W (first + 2) c.top (ltb 2 m)
+          → CountsUp first (blocks (ltb 0 m) (ltb 1 m) (ltb 2 m))
       go zero le x y z = tt
       go (suc zero) le x y z = (stamped first c.cell x, tt)
       go (suc (suc zero)) le x y z = let b = stamped (first + 1) c.leaf y in (stamped first c.cell x, (omega (arith, b), tt))
-      go (suc (suc (suc zero))) le x y z = let b = stamped (first + 1) c.leaf y in let t = stamped (first + 2) c.top z in (stamped first c.cell x, (omega (arith, b), (omega (arith, t), tt)))
+      go (suc (suc (suc zero))) le x y z = let b = stamped (first + 1) c.leaf y in let t =
+          stamped (first + 2) c.top z in (stamped first c.cell x, (omega (arith, b), (omega (arith, t), tt)))
       go (suc (suc (suc (suc m)))) le x y z = absurd (omega (arith, le))
 
   -- and each known and free
@@ -166,6 +171,7 @@ module _ (W : World) (s : Step) (c : Claims) (claim : IsClaim W s c) where
       one (step.Make d g name kind) e = refl
       one _ e = cc e
 
-      go : (s : Step) (wanted : Bool) → ltb 0 (inodes_needed s) ≡ wanted → IsInodeClaim W (next_stamp W) c wanted → (is_free_inode W c.inode ≡ true) × (c.inode ≤ W.inodes) × (c.generation ≡ W.mount * 2 ^ 40 + W.serial) × (inodes_needed s ≡ 1)
+      go : (s : Step) (wanted : Bool) → ltb 0 (inodes_needed s) ≡ wanted → IsInodeClaim W (next_stamp W) c wanted
+          → (is_free_inode W c.inode ≡ true) × (c.inode ≤ W.inodes) × (c.generation ≡ W.mount * 2 ^ 40 + W.serial) × (inodes_needed s ≡ 1)
       go s true e (ClaimedInode free some range is) = (free, range, is, one s e)
       go s false e (NoInode none zero_too) = absurd (ne none)

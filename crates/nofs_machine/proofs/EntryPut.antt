@@ -7,7 +7,8 @@ use Rattle.nofs_model.specs.declared.value.Value.TheVariants.{Bytes}
 use Rattle.nofs_machine.specs.Machine.{bytes_in, with_entry, zeros}
 
 -- the 64 bytes of an entry stand at its place
-pub with-entry-put : (old : Value) (e : ℕ) (bytes : List ℕ) → length bytes ≡ 64 → with_entry old e bytes ≡ Bytes (put_bytes (64 * (e % 16)) bytes (bytes_in old))
+pub with-entry-put : (old : Value) (e : ℕ) (bytes : List ℕ) → length bytes ≡ 64
+    → with_entry old e bytes ≡ Bytes (put_bytes (64 * (e % 16)) bytes (bytes_in old))
 unfolding with_entry put_bytes
 with-entry-put old e bytes short =
     let at : ℕ = 64 * (e % 16) in

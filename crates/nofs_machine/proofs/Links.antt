@@ -19,11 +19,14 @@ same-is a b e =
     λ j. record { directory = d j; entry = f j; generation = g j }
 
 -- among links, only the wanted one itself is asked for
-pub any_same : (p : BackLink → Bool) (wanted : BackLink) (links : List BackLink) → list_any (λ l. same_link l wanted && p l) links ≡ (list_any (λ l. same_link l wanted) links && p wanted)
+pub any_same : (p : BackLink → Bool) (wanted : BackLink) (links : List BackLink)
+    → list_any (λ l. same_link l wanted && p l) links ≡ (list_any (λ l. same_link l wanted) links && p wanted)
 any_same p wanted [] = refl
-any_same p wanted (x ∷ xs) = go (same_link x wanted) refl (p wanted) refl (list_any (λ l. same_link l wanted && p l) xs) (list_any (λ l. same_link l wanted) xs) (any_same p wanted xs)
+any_same p wanted (x ∷ xs) = go (same_link x wanted) refl (p wanted) refl (list_any (λ l. same_link l wanted && p l) xs)
+    (list_any (λ l. same_link l wanted) xs) (any_same p wanted xs)
   where
-    go : (b : Bool) → same_link x wanted ≡ b → (c : Bool) → p wanted ≡ c → (all some : Bool) → all ≡ (some && p wanted) → ((b && p x) || all) ≡ ((b || some) && p wanted)
+    go : (b : Bool) → same_link x wanted ≡ b → (c : Bool) → p wanted ≡ c → (all some : Bool) → all ≡ (some && p wanted)
+        → ((b && p x) || all) ≡ ((b || some) && p wanted)
     go false e c ec all some ih = ih
     go true e true ec all some ih = let px : p x ≡ true = ap p (same-is x wanted e) ∙ ec in rw (px, ec) refl
     go true e false ec all true ih = let px : p x ≡ false = ap p (same-is x wanted e) ∙ ec in rw (px, ec) (ih ∙ ec)

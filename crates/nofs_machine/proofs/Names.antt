@@ -1,5 +1,6 @@
 -- A name that every version since the mark agrees on is a pair in each image.
-use Rattle.std.proofs.Common.{◌≡◌, ℕ, ◌/◌, ◌%◌, ◌<◌, inl, inr, true, ltb, ◌||◌, not, List, Option, Some, None, is_some, refl, subst, arith, Contains, lt-ltb, eq-eqb}
+use Rattle.std.proofs.Common.{◌≡◌, ℕ, ◌/◌, ◌%◌, ◌<◌, inl, inr, true, ltb, ◌||◌, not, List, Option, Some, None, is_some, refl, subst, arith, Contains, lt-ltb}
+use Rattle.std.proofs.Common.{eq-eqb}
 use Rattle.nofs_dirent.specs.Entries.{entry_limit}
 use Rattle.nofs_ptrs.specs.Paths.{slot_limit}
 use Rattle.nofs_machine.specs.Meta.{Gone, Is, meta_of, is_bytes, MayRead}
@@ -52,16 +53,21 @@ pub names-stay : (B : Image) (H : List Entry1) (m : ℕ) (X : Image) → HasVers
 names-stay B H m X a i g b link sure =
     let ri = a.records i g sure.file_stands in
     let rd = a.records link.directory link.generation sure.directory_stands in
-    let mi : Contains (since_meta B H m i g) (meta_of (inode X i)) = subst (λ (q : ℕ). Contains (since_meta B H m i q) (meta_of (inode X i))) ri.1 (a.metas i ri.0) in
-    let md : Contains (since_meta B H m link.directory link.generation) (meta_of (inode X link.directory)) = subst (λ (q : ℕ). Contains (since_meta B H m link.directory q) (meta_of (inode X link.directory))) rd.1 (a.metas link.directory rd.0) in
+    let mi : Contains (since_meta B H m i g) (meta_of (inode X i)) =
+    subst (λ (q : ℕ). Contains (since_meta B H m i q) (meta_of (inode X i))) ri.1 (a.metas i ri.0) in
+    let md : Contains (since_meta B H m link.directory link.generation) (meta_of (inode X link.directory)) =
+    subst (λ (q : ℕ). Contains (since_meta B H m link.directory q) (meta_of (inode X link.directory))) rd.1 (a.metas link.directory rd.0) in
     let dk = folder-kind (inode X link.directory) (sure.folders (meta_of (inode X link.directory)) md) in
     let k : ℕ = link.entry / 16 in
     let lt = sure.range in
     let lk : link.entry / 16 < slot_limit = omega (arith, lt) in
-    let not_lost = a.sure link.directory link.generation (link.entry / 16) sure.directory_stands lk (λ v c. is-bytes-of v (λ (content : List ℕ). names (entry_in content (link.entry % 16)) i g ≡ true) (sure.cell v c)) in
+    let not_lost = a.sure link.directory link.generation (link.entry / 16) sure.directory_stands lk
+    (λ v c. is-bytes-of v (λ (content : List ℕ). names (entry_in content (link.entry % 16)) i g ≡ true) (sure.cell v c)) in
     let may0 = a.values link.directory (link.entry / 16) rd.0 lk in
-    let may : MayRead (since B H m link.directory link.generation (link.entry / 16)) (value X link.directory (link.entry / 16)) = subst (λ (q : ℕ). MayRead (since B H m link.directory q (link.entry / 16)) (value X link.directory (link.entry / 16))) rd.1 may0 in
-    let has : Contains (since B H m link.directory link.generation (link.entry / 16)) (value X link.directory (link.entry / 16)) = elim may [ inl l ↦ absurd (not_lost l) | inr c ↦ c ] in
+    let may : MayRead (since B H m link.directory link.generation (link.entry / 16)) (value X link.directory (link.entry / 16)) =
+    subst (λ (q : ℕ). MayRead (since B H m link.directory q (link.entry / 16)) (value X link.directory (link.entry / 16))) rd.1 may0 in
+    let has : Contains (since B H m link.directory link.generation (link.entry / 16)) (value X link.directory (link.entry / 16)) =
+    elim may [ inl l ↦ absurd (not_lost l) | inr c ↦ c ] in
     let (content, v, n) = sure.cell (value X link.directory (link.entry / 16)) has in (
       sure.linked (meta_of (inode X i)) mi,
       pair-built X i g link content ri.0 ri.1 dk rd.1 sure.range v n (λ e. sure.older (meta_of (inode X i)) mi (folder-meta (inode X i) e)),

@@ -1,5 +1,6 @@
 -- What a step claims, and where each used block belongs after it.
-use Rattle.std.specs.Prelude.{◌≡◌, ◌≢◌, ℕ, ◌+◌, ◌*◌, ◌/◌, ◌^◌, ◌<◌, ◌≤◌, Bool, true, false, ◌&&◌, not, List, [], ◌∷◌, ◌++◌, Option, Some, None, option_map, if◌then◌else◌, nat_lt, ◌==◌, Contains}
+use Rattle.std.specs.Prelude.{◌≡◌, ◌≢◌, ℕ, ◌+◌, ◌*◌, ◌/◌, ◌^◌, ◌<◌, ◌≤◌, Bool, true, false, ◌&&◌, not, List, [], ◌∷◌, ◌++◌, Option, Some, None, option_map}
+use Rattle.std.specs.Prelude.{if◌then◌else◌, nat_lt, ◌==◌, Contains}
 use Rattle.nofs_ptrs.specs.Paths.{slot_limit}
 use Rattle.nofs_model.specs.Cells.{Pointer, null}
 use Rattle.nofs_model.specs.Image.{Path, InRecord, Under, path_of, slot_of, NodeState, Absent, Present, Damaged, Files, Home, home_at}
@@ -22,7 +23,8 @@ is_claimed x = not (x.block == 0)
 
 -- the blocks that a claim names
 abbrev pub claimed_blocks : Claims → List Pointer
-claimed_blocks c = (if is_claimed c.cell then c.cell ∷ [] else []) ++ (if is_claimed c.leaf then c.leaf ∷ [] else []) ++ (if is_claimed c.top then c.top ∷ [] else [])
+claimed_blocks c = (if is_claimed c.cell then c.cell ∷ [] else []) ++ (if is_claimed c.leaf then c.leaf ∷ [] else []) ++
+    (if is_claimed c.top then c.top ∷ [] else [])
 
 -- blocks that differ
 abbrev pub Apart : List Pointer → Type 0

@@ -24,7 +24,8 @@ pub record IsGood (W : World) (verified_inodes free_inodes verified_blocks free_
 
 -- the worlds of a run have one verdict of what is not known at its end
 abbrev pub IsUnchanged : World → World → Type 0
-IsUnchanged W V = ((i : ℕ) → V.known_inodes i ≡ false → uses_inode V i ≡ uses_inode W i) × ((p : ℕ) → V.known_blocks p ≡ false → uses_block V p ≡ uses_block W p)
+IsUnchanged W V = ((i : ℕ) → V.known_inodes i ≡ false → uses_inode V i ≡ uses_inode W i) × ((p : ℕ) → V.known_blocks p ≡ false
+    → uses_block V p ≡ uses_block W p)
 
 -- every stamp in what a crash may leave is below the next one
 abbrev pub IsFresh : World → Image → (ℕ → List Cell) → Type 0

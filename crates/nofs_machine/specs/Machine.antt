@@ -1,11 +1,13 @@
 -- What each step gives, where it is accepted: values to slots, and what is known of files beside their content.
-use Rattle.std.specs.Prelude.{ℕ, zero, suc, ◌+◌, ◌-◌, ◌*◌, ◌/◌, ◌%◌, min, max, Bool, true, false, ◌&&◌, ◌||◌, not, List, [], ◌∷◌, ◌++◌, length, take, drop, replicate, map, Option, Some, None, is_some, option_map, if◌then◌else◌, nat_lt, nat_le, ◌==◌, bytes_eq, unwrap_or}
+use Rattle.std.specs.Prelude.{ℕ, zero, suc, ◌+◌, ◌-◌, ◌*◌, ◌/◌, ◌%◌, min, max, Bool, true, false, ◌&&◌, ◌||◌, not, List, [], ◌∷◌, ◌++◌, length, take, drop}
+use Rattle.std.specs.Prelude.{replicate, map, Option, Some, None, is_some, option_map, if◌then◌else◌, nat_lt, nat_le, ◌==◌, bytes_eq, unwrap_or}
 use Rattle.std.specs.List.{list_any}
 use Rattle.nofs_ptrs.specs.Paths.{slot_limit}
 use Rattle.nofs_disk.specs.Number.{put_bytes}
 use Rattle.nofs_dirent.specs.Entries.{spelled_entry, entry_limit}
 use Rattle.nofs_model.specs.Cells.{FileKind, File, BackLink, is_empty_link}
-use Rattle.nofs_model.specs.Image.{Path, InRecord, Under, path_of, NodeState, Absent, Present, FileState, Files, is_folder, entry_at, is_pair, links_of, is_special}
+use Rattle.nofs_model.specs.Image.{Path, InRecord, Under, path_of, NodeState, Absent, Present, FileState, Files, is_folder, entry_at, is_pair, links_of}
+use Rattle.nofs_model.specs.Image.{is_special}
 use Rattle.nofs_model.specs.declared.value.Value.{Value}
 use Rattle.nofs_model.specs.declared.value.Value.TheVariants.{Hole, Bytes, Lost}
 use Rattle.nofs_machine.specs.Meta.{Meta, Gone, Is, is_bytes}
@@ -97,7 +99,8 @@ place_for_link test [] b = None
 place_for_link test (link ∷ links) b = if test link then Some b else place_for_link test links (suc b)
 
 unfoldable pub link_place : Files → ℕ → Option ℕ
-link_place F i = if i == 2 then None else first_of (place_for_link is_empty_link (links_of F i) 0 ∷ place_for_link (λ link. not (is_pair F i link)) (links_of F i) 0 ∷ [])
+link_place F i = if i == 2 then None else first_of (place_for_link is_empty_link (links_of F i) 0 ∷ place_for_link (λ link. not (is_pair F i link))
+    (links_of F i) 0 ∷ [])
 
 -- Contents
 
@@ -221,7 +224,8 @@ make_given F d g name kind claims e =
       born = λ j. if j == claims.inode then Some claims.generation else None;
       slots = λ j h k. if is_at claims.inode claims.generation j h then Some Hole else base.slots j h k;
       nodes = base.nodes;
-      metas = λ j h. if j == claims.inode then Some (if h == claims.generation then Is kind 0 (link_to d e g ∷ link_to 0 0 0 ∷ link_to 0 0 0 ∷ link_to 0 0 0 ∷ []) else Gone) else None;
+      metas = λ j h. if j == claims.inode then Some (if h == claims.generation then Is kind 0
+          (link_to d e g ∷ link_to 0 0 0 ∷ link_to 0 0 0 ∷ link_to 0 0 0 ∷ []) else Gone) else None;
     }
 
 -- these links with another one in place b

@@ -63,23 +63,29 @@ pub record Learns (W : World) (step : Step) (seen : Bool) (V : World) : Type 0 w
   pub block_seen : seen ≡ true → (p : ℕ) → sees_block step p ≡ true → V.known_blocks p ≡ true
   pub inodes_why : (i : ℕ) → V.known_inodes i ≡ true
       → (W.known_inodes i ≡ true) ⊎ ((uses_inode V i ≡ true) ⊎ ((uses_inode V i ≢ uses_inode W i) ⊎ (names_inode step i ≡ true)))
-  pub blocks_why : (p : ℕ) → V.known_blocks p ≡ true → (W.known_blocks p ≡ true) ⊎ ((uses_block V p ≡ true) ⊎ ((uses_block V p ≢ uses_block W p) ⊎ ((seen ≡ true) × (sees_block step p ≡ true))))
+  pub blocks_why : (p : ℕ) → V.known_blocks p ≡ true → (W.known_blocks p ≡ true) ⊎
+      ((uses_block V p ≡ true) ⊎ ((uses_block V p ≢ uses_block W p) ⊎ ((seen ≡ true) × (sees_block step p ≡ true))))
 
 -- one step of the machine: this entry leads from W to V
 pub data Next (W : World) (e : Entry1) (V : World) : Type 0 where
   -- after a write fault nothing is done
   AfterFault : W.stopped ≡ true → e.reply ≡ reply.Refused refusal.Stopped → e.claims ≡ no_claims → V ≡ W → Next W e V
   -- a row comes, or a read failed on the way to it
-  ByRow : (why : Refusal) → W.stopped ≡ false → first_of (rows W V e.step) ≡ Some why → (e.reply ≡ reply.Refused why) ⊎ ((e.reply ≡ reply.Refused refusal.ReadFault) × (reads_nothing why ≡ false)) → e.claims ≡ no_claims → Keeps W V → V.stopped ≡ false → Learns W e.step false V → Next W e V
+  ByRow : (why : Refusal) → W.stopped ≡ false → first_of (rows W V e.step) ≡ Some why
+      → (e.reply ≡ reply.Refused why) ⊎ ((e.reply ≡ reply.Refused refusal.ReadFault) × (reads_nothing why ≡ false)) → e.claims ≡ no_claims → Keeps W V
+      → V.stopped ≡ false → Learns W e.step false V → Next W e V
   -- no row comes, and the step is done
   Done : W.stopped ≡ false → first_of (rows W V e.step) ≡ None → e.reply ≡ reply_of W e.step e.claims → IsClaim W e.step e.claims
       → V.files ≡ files_after W.files (gives W.files e.step e.claims) → V.homes ≡ homes_after W e.step e.claims V.files
       → V.serial ≡ W.serial + inodes_needed e.step + blocks_needed W.files e.step
-      → (V.version ≡ W.version) × (V.blocks ≡ W.blocks) × (V.inodes ≡ W.inodes) × (V.mount ≡ W.mount) × (V.stopped ≡ false) → Learns W e.step true V → Next W e V
+      → (V.version ≡ W.version) × (V.blocks ≡ W.blocks) × (V.inodes ≡ W.inodes) × (V.mount ≡ W.mount) × (V.stopped ≡ false) → Learns W e.step true V
+      → Next W e V
   -- no row comes, but a read failed
-  ByRead : W.stopped ≡ false → first_of (rows W V e.step) ≡ None → e.reply ≡ reply.Refused refusal.ReadFault → e.claims ≡ no_claims → Keeps W V → V.stopped ≡ false → Learns W e.step false V → Next W e V
+  ByRead : W.stopped ≡ false → first_of (rows W V e.step) ≡ None → e.reply ≡ reply.Refused refusal.ReadFault → e.claims ≡ no_claims → Keeps W V
+      → V.stopped ≡ false → Learns W e.step false V → Next W e V
   -- no row comes, but a write or a flush failed
-  ByWrite : W.stopped ≡ false → first_of (rows W V e.step) ≡ None → may_write e.step ≡ true → e.reply ≡ reply.Refused refusal.WriteFault → IsClaim W e.step e.claims → Keeps W V → V.stopped ≡ true → Learns W e.step false V → Next W e V
+  ByWrite : W.stopped ≡ false → first_of (rows W V e.step) ≡ None → may_write e.step ≡ true → e.reply ≡ reply.Refused refusal.WriteFault
+      → IsClaim W e.step e.claims → Keeps W V → V.stopped ≡ true → Learns W e.step false V → Next W e V
 
 -- A run, entry by entry, from a moment on
 

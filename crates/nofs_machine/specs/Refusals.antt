@@ -1,13 +1,16 @@
 -- Why a step is refused: a table for each step, tested from its top.
-use Rattle.std.specs.Prelude.{ℕ, ◌+◌, ◌-◌, ◌*◌, ◌/◌, ◌%◌, ◌^◌, min, Bool, true, false, ◌&&◌, ◌||◌, not, List, [], ◌∷◌, length, Option, Some, None, is_some, option_map, if◌then◌else◌, nat_lt, nat_le, ◌==◌}
+use Rattle.std.specs.Prelude.{ℕ, ◌+◌, ◌-◌, ◌*◌, ◌/◌, ◌%◌, ◌^◌, min, Bool, true, false, ◌&&◌, ◌||◌, not, List, [], ◌∷◌, length, Option, Some, None, is_some}
+use Rattle.std.specs.Prelude.{option_map, if◌then◌else◌, nat_lt, nat_le, ◌==◌}
 use Rattle.nofs_dirent.specs.Entries.{entry_limit}
 use Rattle.nofs_ptrs.specs.Paths.{slot_limit}
 use Rattle.nofs_model.specs.Cells.{Entry}
 use Rattle.nofs_model.specs.Image.{InRecord, Under, path_of, NodeState, Absent, Present, Damaged, entry_at}
 use Rattle.nofs_dirent.specs.Names.{is_name}
 use Rattle.nofs_machine.specs.Search.{least_from, first_of}
-use Rattle.nofs_machine.specs.Machine.{generation_of, value_of, size_of, node_of, is_folder_at, is_paired, found, first_dead, is_lost, first_lost_slot, place_for, link_place, slots_in, cut_of}
-use Rattle.nofs_machine.specs.World.{World, free_inodes, free_blocks, unverified_inodes, unverified_blocks, next_inode, next_block, damaged_above, blocks_needed, inodes_needed}
+use Rattle.nofs_machine.specs.Machine.{generation_of, value_of, size_of, node_of, is_folder_at, is_paired, found, first_dead, is_lost, first_lost_slot}
+use Rattle.nofs_machine.specs.Machine.{place_for, link_place, slots_in, cut_of}
+use Rattle.nofs_machine.specs.World.{World, free_inodes, free_blocks, unverified_inodes, unverified_blocks, next_inode, next_block, damaged_above}
+use Rattle.nofs_machine.specs.World.{blocks_needed, inodes_needed}
 use Rattle.nofs_machine.specs.declared.steps.Step.{Step}
 use Rattle.nofs_machine.specs.declared.steps.Step.TheVariants as step
 use Rattle.nofs_machine.specs.declared.replies.Refusal.{Refusal}
@@ -83,7 +86,8 @@ past_end W i k =
 abbrev pub lost_under : World → ℕ → ℕ → ℕ → List ℕ → Option Refusal
 lost_under W i k at bytes =
     let covered : Bool = (at == 0) && nat_le (cut_of (size_of W.files i) k) (length bytes) in
-    row (damaged_above W.files i (path_of k) || (is_lost (value_of W.files i k) && (nat_lt k (slots_in (size_of W.files i)) && not covered))) (refusal.LostSlot k)
+    row (damaged_above W.files i (path_of k) || (is_lost (value_of W.files i k) && (nat_lt k (slots_in (size_of W.files i)) && not covered)))
+    (refusal.LostSlot k)
 
 -- whether a block of pointers is damaged
 abbrev pub is_damaged : NodeState → Bool
@@ -108,7 +112,8 @@ inodes_full W after = row (free_inodes W == 0) (refusal.InodesFull (unverified_i
 
 -- fewer blocks than needed are; counts are those of the world after
 abbrev pub full : World → World → Step → Option Refusal
-full W after step = row (nat_lt (free_blocks W) (blocks_needed W.files step)) (refusal.Full (blocks_needed W.files step) (free_blocks after) (unverified_blocks after) (next_block after))
+full W after step = row (nat_lt (free_blocks W) (blocks_needed W.files step))
+    (refusal.Full (blocks_needed W.files step) (free_blocks after) (unverified_blocks after) (next_block after))
 
 -- fewer stamps than needed are left
 abbrev pub serials_spent : World → Step → Option Refusal

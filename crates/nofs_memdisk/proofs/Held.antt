@@ -17,7 +17,8 @@ unfolding held_after
 held_after-push base calls call = fold-append after_call (settled base) calls (call ∷ [])
 
 -- what a block may hold after a write that is taken or not
-write_may : (taken : Bool) (held : Held) (block : ℕ) (cell c : Cell) → Contains ((after_write taken held block cell).may block) c → Contains (held.may block) c ⊎ (c ≡ cell)
+write_may : (taken : Bool) (held : Held) (block : ℕ) (cell c : Cell) → Contains ((after_write taken held block cell).may block) c
+    → Contains (held.may block) c ⊎ (c ≡ cell)
 write_may true held block cell c has =
     let F : List Cell → Type 0 = λ l. Contains l c in
     elim (Contains-push_cases (held.may block) cell c (subst F (written_here held block cell) has)) [ inl before ↦ inl before | inr is ↦ inr (sym is) ]
@@ -27,7 +28,8 @@ pub write_others : (taken : Bool) (held : Held) (block b : ℕ) (cell : Cell) �
 write_others true held block b cell other = written_other held block b cell other
 write_others false held block b cell other = refl
 
-write_now : (taken : Bool) (held : Held) (block : ℕ) (cell : Cell) → ((after_write taken held block cell).now ≡ held.now) ⊎ ((after_write taken held block cell).now ≡ set held.now block cell)
+write_now : (taken : Bool) (held : Held) (block : ℕ) (cell : Cell)
+    → ((after_write taken held block cell).now ≡ held.now) ⊎ ((after_write taken held block cell).now ≡ set held.now block cell)
 write_now true held block cell = inr refl
 write_now false held block cell = inl refl
 
@@ -41,7 +43,8 @@ pub now_of : (base : List Cell) (calls : List Call) (block : ℕ) (cell : Cell) 
 now_of base calls block cell taken = ap (λ h. h.now) (held_after-push base calls (Write block cell taken))
 
 pub now_cases : (base : List Cell) (calls : List Call) (block : ℕ) (cell : Cell) (taken : Bool)
-    → ((held_after base (calls ++ Write block cell taken ∷ [])).now ≡ (held_after base calls).now) ⊎ ((held_after base (calls ++ Write block cell taken ∷ [])).now ≡ set (held_after base calls).now block cell)
+    → ((held_after base (calls ++ Write block cell taken ∷ [])).now ≡ (held_after base calls).now) ⊎
+    ((held_after base (calls ++ Write block cell taken ∷ [])).now ≡ set (held_after base calls).now block cell)
 now_cases base calls block cell taken = elim (write_now taken (held_after base calls) block cell) [
   | inl stays ↦ inl (now_of base calls block cell taken ∙ stays)
   | inr comes ↦ inr (now_of base calls block cell taken ∙ comes)
@@ -53,7 +56,8 @@ may_cases base calls block cell taken c has =
     let F : List Cell → Type 0 = λ l. Contains l c in
     write_may taken (held_after base calls) block cell c (subst F (may_of base calls block block cell taken) has)
 
-pub flush_of : (base : List Cell) (calls : List Call) (settles : Bool) → held_after base (calls ++ Flush settles ∷ []) ≡ after_flush settles (held_after base calls)
+pub flush_of : (base : List Cell) (calls : List Call) (settles : Bool)
+    → held_after base (calls ++ Flush settles ∷ []) ≡ after_flush settles (held_after base calls)
 flush_of base calls settles = held_after-push base calls (Flush settles)
 
 pub flush_now : (settles : Bool) (held : Held) → (after_flush settles held).now ≡ held.now
@@ -78,7 +82,8 @@ pub write_present : (base cells : List Cell) (calls : List Call) (block : ℕ) (
 write_present base cells calls block cell taken is =
     ap (λ l. put_if taken l block cell) is ∙ put_if_is taken (held_after base calls) block cell ∙ sym (now_of base calls block cell taken)
 
-pub flush_present : (base cells : List Cell) (calls : List Call) (settles : Bool) → cells ≡ (held_after base calls).now → cells ≡ (held_after base (calls ++ Flush settles ∷ [])).now
+pub flush_present : (base cells : List Cell) (calls : List Call) (settles : Bool) → cells ≡ (held_after base calls).now
+    → cells ≡ (held_after base (calls ++ Flush settles ∷ [])).now
 flush_present base cells calls settles is = is ∙ sym (flush_now settles (held_after base calls)) ∙ sym (ap (λ h. h.now) (flush_of base calls settles))
 
 -- no call was made

@@ -10,14 +10,22 @@ use Rattle.nofs_memdisk.specs.MemoryLaws.{picks_out}
 use Rattle.nofs_memdisk.proofs.Held.{held_after-push}
 
 -- at rest the disk may leave every image that picks
-pub leaves_rest : (start : ℕ) (base : List Cell) (calls : List Call) (image : List Cell) → Picks (within (length base) (held_after base calls).may) (length base) image
+pub leaves_rest : (start : ℕ) (base : List Cell) (calls : List Call) (image : List Cell)
+    → Picks (within (length base) (held_after base calls).may) (length base) image
     → MayLeave start base calls (start + 2 * length calls) image
 leaves_rest start base calls image picks =
     let F : List Call → Type 0 = λ l. Picks (held_after base l).may (length base) image in
-    inl (record { k = length calls; at = refl; made = omega arith; picks = subst F (sym (take_all (length calls) calls (omega arith))) (picks_out (length base) (held_after base calls).may image picks) })
+    inl (record {
+      k = length calls;
+      at = refl;
+      made = omega arith;
+      picks =
+          subst F (sym (take_all (length calls) calls (omega arith))) (picks_out (length base) (held_after base calls).may image picks);
+    })
 
 -- during the last call it may leave every image that picks
-leaves_last : (start : ℕ) (base : List Cell) (calls : List Call) (call : Call) (image : List Cell) → Picks (may_during (held_after base calls) call) (length base) image
+leaves_last : (start : ℕ) (base : List Cell) (calls : List Call) (call : Call) (image : List Cell)
+    → Picks (may_during (held_after base calls) call) (length base) image
     → MayLeave start base (calls ++ call ∷ []) (start + 2 * length calls + 1) image
 leaves_last start base calls call image picks =
     let F : List Call → Type 0 = λ l. Picks (may_during (held_after base l) (call_at (calls ++ call ∷ []) (length calls))) (length base) image in
@@ -35,9 +43,11 @@ pub leaves_write : (start : ℕ) (base : List Cell) (calls : List Call) (block :
 leaves_write start base calls block cell taken image picks =
     let F : (ℕ → List Cell) → Type 0 = λ may. Picks may (length base) image in
     leaves_last start base calls (Write block cell taken) image
-    (subst F (ap (λ h. h.may) (held_after-push base calls (Write block cell taken))) (picks_out (length base) (held_after base (calls ++ Write block cell taken ∷ [])).may image picks))
+    (subst F (ap (λ h. h.may) (held_after-push base calls (Write block cell taken)))
+    (picks_out (length base) (held_after base (calls ++ Write block cell taken ∷ [])).may image picks))
 
 pub leaves_flush : (start : ℕ) (base : List Cell) (calls : List Call) (settles : Bool) (image : List Cell)
     → Picks (within (length base) (held_after base calls).may) (length base) image
     → MayLeave start base (calls ++ Flush settles ∷ []) (start + 2 * length calls + 1) image
-leaves_flush start base calls settles image picks = leaves_last start base calls (Flush settles) image (picks_out (length base) (held_after base calls).may image picks)
+leaves_flush start base calls settles image picks = leaves_last start base calls (Flush settles) image
+    (picks_out (length base) (held_after base calls).may image picks)

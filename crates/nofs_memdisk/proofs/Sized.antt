@@ -14,7 +14,8 @@ use Rattle.nofs_memdisk.specs.MemoryLaws.{AreSized, held_after-held}
 use Rattle.nofs_memdisk.proofs.Held.{flush_of, may_cases, may_of, only_one, write_others}
 
 -- the cells that a disk may hold have the bytes of cells, call by call
-pub sized_write : (base : List Cell) (calls : List Call) (block : ℕ) (cell : Cell) (taken : Bool) → IsSizedCell cell → AreSized (length base) (held_after base calls).may
+pub sized_write : (base : List Cell) (calls : List Call) (block : ℕ) (cell : Cell) (taken : Bool) → IsSizedCell cell
+    → AreSized (length base) (held_after base calls).may
     → AreSized (length base) (held_after base (calls ++ Write block cell taken ∷ [])).may
 sized_write base calls block cell taken size sized = record {
   each = λ b c low has. elim (cases_eq b block) [
@@ -24,22 +25,28 @@ sized_write base calls block cell taken size sized = record {
           | inl before ↦ sized.each block c (omega arith) before
           | inr is ↦ subst (λ (x : Cell). IsSizedCell x) (sym is) size
         ]
-    | inr other ↦ sized.each b c low (subst (λ (l : List Cell). Contains l c) (may_of base calls block b cell taken ∙ write_others taken (held_after base calls) block b cell other) has)
+    | inr other ↦ sized.each b c low (subst (λ (l : List Cell). Contains l c)
+        (may_of base calls block b cell taken ∙ write_others taken (held_after base calls) block b cell other) has)
   ];
 }
 
-pub sized_now : (base : List Cell) (calls : List Call) → AreSized (length base) (held_after base calls).may → (b : ℕ) → b < length base → IsSizedCell (cell_at (held_after base calls).now b)
+pub sized_now : (base : List Cell) (calls : List Call) → AreSized (length base) (held_after base calls).may → (b : ℕ) → b < length base
+    → IsSizedCell (cell_at (held_after base calls).now b)
 sized_now base calls sized b low = sized.each b _ low ((held_after-held base calls).has_now b low)
 
 pub sized_flush : (base : List Cell) (calls : List Call) (settles : Bool) → AreSized (length base) (held_after base calls).may
     → AreSized (length base) (held_after base (calls ++ Flush settles ∷ [])).may
-sized_flush base calls settles sized = record { each = λ b c low has. go settles b c low (subst (λ (h : Held). Contains (h.may b) c) (flush_of base calls settles) has) }
+sized_flush base calls settles sized = record {
+  each = λ b c low has. go settles b c low
+      (subst (λ (h : Held). Contains (h.may b) c) (flush_of base calls settles) has);
+}
   where
     go : (t : Bool) (b : ℕ) (c : Cell) → b < length base → Contains ((after_flush t (held_after base calls)).may b) c → IsSizedCell c
     go true b c low has = subst (λ (x : Cell). IsSizedCell x) (sym (only_one _ c has)) (sized_now base calls sized b low)
     go false b c low has = sized.each b c low has
 
-pub sized_base : (base : List Cell) (calls : List Call) → calls ≡ [] → ((b : ℕ) → b < length base → IsSizedCell (cell_at base b)) → AreSized (length base) (held_after base calls).may
+pub sized_base : (base : List Cell) (calls : List Call) → calls ≡ [] → ((b : ℕ) → b < length base → IsSizedCell (cell_at base b))
+    → AreSized (length base) (held_after base calls).may
 unfolding held_after
 sized_base base calls none each = record {
   each = λ b c low has.
@@ -65,6 +72,7 @@ sized_zeros n b low =
     subst (λ (x : Cell). IsSizedCell x) (sym (get_or-replicate n b zero_cell no_cell (omega arith))) IsSizedCell-zero
 
 -- one of the cells that a block may hold has the bytes of a cell
-pub sized_version : (n : ℕ) (may : ℕ → List Cell) → AreSized n may → (b v : ℕ) (x : Cell) → b < n → v < length (may b) → x ≡ get_or (may b) v no_cell → IsSizedCell x
+pub sized_version : (n : ℕ) (may : ℕ → List Cell) → AreSized n may → (b v : ℕ) (x : Cell) → b < n → v < length (may b) → x ≡ get_or (may b) v no_cell
+    → IsSizedCell x
 sized_version n may sized b v x low has is =
     sized.each b x low (v, has, get_or_default (may b) v x no_cell has ∙ sym is)

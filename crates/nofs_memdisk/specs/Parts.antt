@@ -34,7 +34,18 @@ pub record Parts : Type 0 where
   pub flushes : ℕ
 
 abbrev pub parts_of : MemDisk → Parts
-parts_of d = record { start = d.start; base = d.base.items; calls = d.calls.items; spare = d.spare; faults = d.faults; fails = d.fails.items; reads = d.reads; writes = d.writes; flushes = d.flushes }
+parts_of d = record {
+  start = d.start;
+  base = d.base.items;
+  calls = d.calls.items;
+  spare = d.spare;
+  faults = d.faults;
+  fails = d.fails.items;
+  reads =
+      d.reads;
+  writes = d.writes;
+  flushes = d.flushes;
+}
 
 -- a disk that holds these cells as flushed content, at moment 0, that has had no calls, none of which is to fail
 abbrev pub fresh_parts : List Cell → Parts
@@ -68,8 +79,20 @@ has_read d = record d { reads = next d.reads; faults = faults_after_call (read_f
 
 -- a write was made: it is taken but where it fails and was named as not taken
 abbrev pub has_written : Parts → ℕ → Cell → Parts
-has_written d block cell = record d { calls = d.calls ++ Write block cell (unwrap_or (write_fault d) true) ∷ []; spare = d.spare - 1; writes = next d.writes; faults = faults_after_call (write_fault d) d.faults }
+has_written d block cell = record d {
+  calls = d.calls ++ Write block cell (unwrap_or (write_fault d) true) ∷ [];
+  spare = d.spare - 1;
+  writes =
+      next d.writes;
+  faults = faults_after_call (write_fault d) d.faults;
+}
 
 -- a flush was made: it settles all but where it fails
 abbrev pub has_flushed : Parts → Parts
-has_flushed d = record d { calls = d.calls ++ Flush (is_none (flush_fault d)) ∷ []; spare = d.spare - 1; flushes = next d.flushes; faults = faults_after_call (flush_fault d) d.faults }
+has_flushed d = record d {
+  calls = d.calls ++ Flush (is_none (flush_fault d)) ∷ [];
+  spare = d.spare - 1;
+  flushes = next d.flushes;
+  faults =
+      faults_after_call (flush_fault d) d.faults;
+}

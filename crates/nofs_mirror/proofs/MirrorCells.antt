@@ -59,7 +59,8 @@ told_put true xs c e has = has
 told_put false xs c e has = cc
 
 -- the mirror's cells where the list is another, but the same
-pub mirrored_same : (n : ℕ) (may may' : ℕ → List Cell) (now : List Cell) (lead_in other_in : Bool) (lead other : DiskState) → ((b : ℕ) → may' b ≡ may b) → IsMirrored n may now lead_in other_in lead other → IsMirrored n may' now lead_in other_in lead other
+pub mirrored_same : (n : ℕ) (may may' : ℕ → List Cell) (now : List Cell) (lead_in other_in : Bool) (lead other : DiskState) → ((b : ℕ) → may' b ≡ may b)
+    → IsMirrored n may now lead_in other_in lead other → IsMirrored n may' now lead_in other_in lead other
 mirrored_same n may may' now lead_in other_in lead other same k = record {
   lead = λ e. record { now = (k.lead e).now; covers = λ b c low has. to b c ((k.lead e).covers b c low has) };
   other = λ e. record { now = (k.other e).now; covers = λ b c low has. to b c ((k.other e).covers b c low has) };
@@ -99,7 +100,8 @@ flush_goes Done old new f = flushes_goes old new f
 flush_goes Fault old new f = flushes_goes old new f.1
 
 -- a side after a write or flush
-pub side_goes : (n s t : ℕ) (side : MirrorCall → Span) (opened : Span) (past : List MirrorCall) (call : MirrorCall) (old new : DiskState) → SideGoes old new → (side call).began ≡ old.moment → (side call).ended ≡ new.moment → t + 1 ≡ s
+pub side_goes : (n s t : ℕ) (side : MirrorCall → Span) (opened : Span) (past : List MirrorCall) (call : MirrorCall) (old new : DiskState) → SideGoes old new
+    → (side call).began ≡ old.moment → (side call).ended ≡ new.moment → t + 1 ≡ s
     → IsSide n s side opened past old → IsSide n t side opened (call ∷ past) new
 side_goes n s t side opened past call old new g began ended room is =
     let later = g.later in
@@ -115,7 +117,8 @@ abbrev pub LeavesFirst : ℕ → (ℕ → List Cell) → DiskState → DiskState
 LeavesFirst n may old new = (j : ℕ) (w : List Cell) → old.moment ≤ j → j ≤ new.moment → new.left j w → Picks may n (take n w)
 
 -- what is left at the present moment
-rests_at : (n : ℕ) (may : ℕ → List Cell) (old : DiskState) → IsDisk old → n ≤ old.blocks → Covers n may old.may → AtEach (λ m w. Picks may n (take n w)) old.moment old
+rests_at : (n : ℕ) (may : ℕ → List Cell) (old : DiskState) → IsDisk old → n ≤ old.blocks → Covers n may old.may
+    → AtEach (λ m w. Picks may n (take n w)) old.moment old
 rests_at n may old is fits covers = record {
   begun = omega arith;
   each = λ m w low high left.
@@ -124,7 +127,8 @@ rests_at n may old is fits covers = record {
       first_picks may n old.may old.blocks w fits covers (is.at_rest w (subst F e left));
 }
 
-pub write_leaves : (n : ℕ) (may : ℕ → List Cell) (old new : DiskState) (b : ℕ) (c : Cell) {result : Result (Unit {0}) Failed} → IsDisk old → IsDisk new → n ≤ old.blocks → Writes old new b c result → Covers n may old.may → Covers n may new.may → LeavesFirst n may old new
+pub write_leaves : (n : ℕ) (may : ℕ → List Cell) (old new : DiskState) (b : ℕ) (c : Cell) {result : Result (Unit {0}) Failed} → IsDisk old → IsDisk new
+    → n ≤ old.blocks → Writes old new b c result → Covers n may old.may → Covers n may new.may → LeavesFirst n may old new
 write_leaves n may old new b c is_old is_new fits w before after =
     let fits_new : n ≤ new.blocks = (let e = w.disk.blocks in omega arith) in
     let at = AtEach-writes (λ m whole. Picks may n (take n whole)) old.moment old new is_new w
@@ -132,7 +136,8 @@ write_leaves n may old new b c is_old is_new fits w before after =
     (rests_at n may old is_old fits before) in
     λ j whole low high left. at.each j whole low high left
 
-pub flush_leaves : (n : ℕ) (may : ℕ → List Cell) (old new : DiskState) {result : Result (Unit {0}) Failed} → IsDisk old → IsDisk new → n ≤ old.blocks → Flushes old new result → Covers n may old.may → LeavesFirst n may old new
+pub flush_leaves : (n : ℕ) (may : ℕ → List Cell) (old new : DiskState) {result : Result (Unit {0}) Failed} → IsDisk old → IsDisk new → n ≤ old.blocks
+    → Flushes old new result → Covers n may old.may → LeavesFirst n may old new
 flush_leaves n may old new is_old is_new fits f before =
     let fits_new : n ≤ new.blocks = (let e = f.disk.blocks in omega arith) in
     let at = AtEach-flushes (λ m whole. Picks may n (take n whole)) old.moment old new is_new f
@@ -142,7 +147,8 @@ flush_leaves n may old new is_old is_new fits f before =
     λ j whole low high left. at.each j whole low high left
 
 -- what a side that was in leaves during a call of the mirror
-pub side_during : (n : ℕ) (may : ℕ → List Cell) (old new : DiskState) (is_in : Bool) (from to : ℕ) (image : List Cell) → from ≡ old.moment → to ≡ new.moment → (IsTrue is_in → LeavesFirst n may old new)
+pub side_during : (n : ℕ) (may : ℕ → List Cell) (old new : DiskState) (is_in : Bool) (from to : ℕ) (image : List Cell) → from ≡ old.moment → to ≡ new.moment
+    → (IsTrue is_in → LeavesFirst n may old new)
     → LeftBy new.left n is_in from to image → Picks may n image
 side_during n may old new is_in from to image begins ends leaves left =
     let low = left.low in

@@ -17,7 +17,8 @@ use Rattle.nofs_mirror.specs.Mirror.{IsMirrored, IsServed, IsSide, LeftBy, SideL
 abbrev pub MirrorKeeps : DiskState → DiskState → DiskState → MirrorStart → List MirrorCall → Type 0
 MirrorKeeps lead other first opening past =
     IsTrue (both_tell lead other)
-    → IsMirrored opening.blocks (may_after lead.was other.was opening.blocks first.may past) (now_of (last_span (λ c. c.lead) opening.lead past).is_in opening.blocks lead.now other.now)
+    → IsMirrored opening.blocks (may_after lead.was other.was opening.blocks first.may past)
+    (now_of (last_span (λ c. c.lead) opening.lead past).is_in opening.blocks lead.now other.now)
     (last_span (λ c. c.lead) opening.lead past).is_in (last_span (λ c. c.other) opening.other past).is_in lead other
 
 -- what is told
@@ -45,7 +46,8 @@ first_picks may n under blocks whole fits covers picks = record {
 }
 
 -- nothing may be left at a moment that is not there yet
-pub SideLeft-later : (side : MirrorCall → Span) (leaves : ℕ → List Cell → Type 0) (n : ℕ) (opened : Span) (past : List MirrorCall) (to m : ℕ) (image : List Cell) → 2 * length past < m → SideLeft side leaves n opened past to m image → ⊥
+pub SideLeft-later : (side : MirrorCall → Span) (leaves : ℕ → List Cell → Type 0) (n : ℕ) (opened : Span) (past : List MirrorCall) (to m : ℕ)
+    (image : List Cell) → 2 * length past < m → SideLeft side leaves n opened past to m image → ⊥
 SideLeft-later side leaves n opened [] to m image later (at, left) = omega arith
 SideLeft-later side leaves n opened (call ∷ past) to m image later (inl (at, left)) = omega arith
 SideLeft-later side leaves n opened (call ∷ past) to m image later (inr (inl (at, left))) = omega arith
@@ -53,14 +55,17 @@ SideLeft-later side leaves n opened (call ∷ past) to m image later (inr (inr l
 
 -- what a side may leave at the present moment
 pub SideLeft-now : (side : MirrorCall → Span) (leaves : ℕ → List Cell → Type 0) (n : ℕ) (opened : Span) (past : List MirrorCall) (to : ℕ) (image : List Cell)
-    → SideLeft side leaves n opened past to (2 * length past) image → LeftBy leaves n (last_span side opened past).is_in (last_span side opened past).ended to image
+    → SideLeft side leaves n opened past to (2 * length past) image
+    → LeftBy leaves n (last_span side opened past).is_in (last_span side opened past).ended to image
 SideLeft-now side leaves n opened [] to image (at, left) = left
 SideLeft-now side leaves n opened (call ∷ past) to image (inl (at, left)) = left
 SideLeft-now side leaves n opened (call ∷ past) to image (inr (inl (at, left))) = absurd (omega arith)
-SideLeft-now side leaves n opened (call ∷ past) to image (inr (inr left)) = absurd (SideLeft-later side leaves n opened past _ (2 * length (call ∷ past)) image (omega arith) left)
+SideLeft-now side leaves n opened (call ∷ past) to image (inr (inr left)) =
+    absurd (SideLeft-later side leaves n opened past _ (2 * length (call ∷ past)) image (omega arith) left)
 
 -- what a side that is in leaves at the present moment picks from what the mirror may hold
-pub side_rests : (may : ℕ → List Cell) (now : List Cell) (n : ℕ) (is_in : Bool) (disk : DiskState) (from : ℕ) (image : List Cell) → IsDisk disk → n ≤ disk.blocks → from ≡ disk.moment
+pub side_rests : (may : ℕ → List Cell) (now : List Cell) (n : ℕ) (is_in : Bool) (disk : DiskState) (from : ℕ) (image : List Cell) → IsDisk disk
+    → n ≤ disk.blocks → from ≡ disk.moment
     → (IsTrue is_in → IsServed n may now disk) → LeftBy disk.left n is_in from disk.moment image → Picks may n image
 side_rests may now n is_in disk from image is fits ends serves left =
     let low = left.low in
@@ -68,10 +73,12 @@ side_rests may now n is_in disk from image is fits ends serves left =
     let at : left.at ≡ disk.moment = omega arith in
     let F : ℕ → Type 0 = λ k. disk.left k left.whole in
     let G : List Cell → Type 0 = λ x. Picks may n x in
-    subst G (sym left.first) (first_picks may n disk.may disk.blocks left.whole fits (serves left.in_then).covers (is.at_rest left.whole (subst F at left.left)))
+    subst G (sym left.first) (first_picks may n disk.may disk.blocks left.whole fits (serves left.in_then).covers
+    (is.at_rest left.whole (subst F at left.left)))
 
 -- each block may hold the cell that a side that is in gives
-pub side_has : (may : ℕ → List Cell) (now : List Cell) (n : ℕ) (disk : DiskState) → IsDisk disk → n ≤ disk.blocks → IsTrue disk.tells → IsServed n may now disk → (b : ℕ) → b < n → Contains (may b) (cell_at now b)
+pub side_has : (may : ℕ → List Cell) (now : List Cell) (n : ℕ) (disk : DiskState) → IsDisk disk → n ≤ disk.blocks → IsTrue disk.tells
+    → IsServed n may now disk → (b : ℕ) → b < n → Contains (may b) (cell_at now b)
 side_has may now n disk is fits tells s b low =
     let F : Cell → Type 0 = λ c. Contains (may b) c in
     let G : List Cell → Type 0 = λ l. Contains (may b) (cell_at l b) in
@@ -83,9 +90,11 @@ now_len true n a b low_a low_b = length-take-le n a low_a
 now_len false n a b low_a low_b = length-take-le n b low_b
 
 -- a mirror keeps every law of a disk
-pub mirror_is : (lead other first : DiskState) (opening : MirrorStart) (past : List MirrorCall) (spare faults : ℕ) {sides : Sides} {moment : ℕ} → IsDisk lead → IsDisk other
+pub mirror_is : (lead other first : DiskState) (opening : MirrorStart) (past : List MirrorCall) (spare faults : ℕ) {sides : Sides} {moment : ℕ} → IsDisk lead
+    → IsDisk other
     → IsSide opening.blocks spare (λ c. c.lead) opening.lead past lead → IsSide opening.blocks spare (λ c. c.other) opening.other past other
-    → sides.lead_in ≡ (last_span (λ c. c.lead) opening.lead past).is_in → sides.other_in ≡ (last_span (λ c. c.other) opening.other past).is_in → IsTrue (sides.lead_in || sides.other_in)
+    → sides.lead_in ≡ (last_span (λ c. c.lead) opening.lead past).is_in → sides.other_in ≡ (last_span (λ c. c.other) opening.other past).is_in
+    → IsTrue (sides.lead_in || sides.other_in)
     → moment ≡ 2 * length past → 2 * spare + moment < 2 ^ 64 → faults < 2 ^ 64 → ∥ MirrorKeeps lead other first opening past ∥₁
     → IsDisk (mirror_state lead other first opening past spare faults)
 mirror_is lead other first opening past spare faults {sides} {moment} is_lead is_other side_lead side_other lead_in other_in some made room low kept = record {
@@ -122,7 +131,8 @@ mirror_is lead other first opening past spare faults {sides} {moment} is_lead is
         let other_fits = side_other.fits in
         ap length (told-is tells now t) ∙ now_len lead_is_in n lead.now other.now (omega arith) (omega arith)
 
-    one_has : IsTrue tells → IsMirrored n may now lead_is_in (last_span (λ c. c.other) opening.other past).is_in lead other → (b : ℕ) → b < n → Contains (may b) (cell_at now b)
+    one_has : IsTrue tells → IsMirrored n may now lead_is_in (last_span (λ c. c.other) opening.other past).is_in lead other → (b : ℕ) → b < n
+        → Contains (may b) (cell_at now b)
     one_has t k b inside =
         let parts = and_parts lead.tells other.tells t in
         elim (or_cases sides.lead_in sides.other_in some) [
@@ -138,6 +148,9 @@ mirror_is lead other first opening past spare faults {sides} {moment} is_lead is
         subst G (sym (told-is tells now t)) (subst F (sym (told-is tells (may b) t)) has)
 
     rests : IsMirrored n may now lead_is_in (last_span (λ c. c.other) opening.other past).is_in lead other
-        → (image : List Cell) → SideLeft (λ c. c.lead) lead.left n opening.lead past lead.moment (2 * length past) image ⊎ SideLeft (λ c. c.other) other.left n opening.other past other.moment (2 * length past) image → Picks may n image
-    rests k image (inl left) = side_rests may now n lead_is_in lead _ image is_lead side_lead.fits side_lead.last k.lead (SideLeft-now (λ c. c.lead) lead.left n opening.lead past lead.moment image left)
-    rests k image (inr left) = side_rests may now n _ other _ image is_other side_other.fits side_other.last k.other (SideLeft-now (λ c. c.other) other.left n opening.other past other.moment image left)
+        → (image : List Cell) → SideLeft (λ c. c.lead) lead.left n opening.lead past lead.moment (2 * length past) image ⊎ SideLeft (λ c. c.other)
+        other.left n opening.other past other.moment (2 * length past) image → Picks may n image
+    rests k image (inl left) = side_rests may now n lead_is_in lead _ image is_lead side_lead.fits side_lead.last k.lead
+        (SideLeft-now (λ c. c.lead) lead.left n opening.lead past lead.moment image left)
+    rests k image (inr left) = side_rests may now n _ other _ image is_other side_other.fits side_other.last k.other
+        (SideLeft-now (λ c. c.other) other.left n opening.other past other.moment image left)

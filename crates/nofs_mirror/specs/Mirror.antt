@@ -1,5 +1,6 @@
 -- What a mirror holds, and what a crash may leave of it.
-use Rattle.std.specs.Prelude.{◌≡◌, ◌⊎◌, ℕ, ◌+◌, ◌*◌, ◌<◌, ◌≤◌, ◌==◌, nat_lt, if◌then◌else◌, Bool, true, false, ◌&&◌, ◌||◌, List, [], ◌∷◌, ◌++◌, length, take, slice_index_or, Contains, Result, OnOk, OnErr, IsTrue, IsFalse, ⊤}
+use Rattle.std.specs.Prelude.{◌≡◌, ◌⊎◌, ℕ, ◌+◌, ◌*◌, ◌<◌, ◌≤◌, ◌==◌, nat_lt, if◌then◌else◌, Bool, true, false, ◌&&◌, ◌||◌, List, [], ◌∷◌, ◌++◌, length, take}
+use Rattle.std.specs.Prelude.{slice_index_or, Contains, Result, OnOk, OnErr, IsTrue, IsFalse, ⊤}
 use Rattle.nofs_disk.specs.declared.Failed.{Failed}
 use Rattle.nofs_disk.specs.declared.tag.Cell.{Cell}
 use Rattle.nofs_disk.specs.Disk.{DiskState, IsSameDisk, IsSizedCell, KeepsCells, KeepsPast, Rose, StaysButFaults, cell_at}
@@ -43,7 +44,8 @@ flushed_cells lead other call = if call.lead.is_in then lead call.lead.ended els
 -- what a read gave at a moment at which a flush ended
 abbrev pub was_after : (ℕ → List Cell) → (ℕ → List Cell) → ℕ → List MirrorCall → ℕ → List Cell
 was_after lead other blocks [] m = []
-was_after lead other blocks (call ∷ past) m = if m == 2 * length (call ∷ past) then take blocks (flushed_cells lead other call) else was_after lead other blocks past m
+was_after lead other blocks (call ∷ past) m = if m == 2 * length (call ∷ past) then take blocks (flushed_cells lead other call)
+    else was_after lead other blocks past m
 
 -- this cell, where the block is there
 abbrev pub only_below : ℕ → List Cell → ℕ → List Cell
@@ -85,7 +87,8 @@ mirror_state lead other first opening past spare faults = record {
   may = λ b. if_told (both_tell lead other) (may_after lead.was other.was opening.blocks first.may past b);
   was = λ m. if_told (both_tell lead other) (was_after lead.was other.was opening.blocks past m);
   left = λ m image. IsTrue (both_tell lead other)
-      × (SideLeft (λ c. c.lead) lead.left opening.blocks opening.lead past lead.moment m image ⊎ SideLeft (λ c. c.other) other.left opening.blocks opening.other past other.moment m image);
+      × (SideLeft (λ c. c.lead) lead.left opening.blocks opening.lead past lead.moment m image ⊎ SideLeft (λ c. c.other)
+      other.left opening.blocks opening.other past other.moment m image);
   dirty = [];
   holds_back = false;
 }
@@ -166,7 +169,8 @@ abbrev pub IsFrom : Bool → DiskState → ℕ → Cell → Type 0
 IsFrom is_in disk block into = IsTrue is_in × (IsTrue disk.tells → into ≡ cell_at disk.now block)
 
 -- a read gives the cell of a side that is in, and changes no side
-pub record EitherReads (lead_old lead_new other_old other_new : DiskState) (sides : Sides) (block : ℕ) (into : Cell) (result : Result (Unit {0}) Failed) : Type 0 where
+pub record EitherReads (lead_old lead_new other_old other_new : DiskState) (sides : Sides) (block : ℕ) (into : Cell) (result : Result (Unit {0}) Failed)
+    : Type 0 where
   pub lead : StaysButFaults lead_old lead_new
   pub other : StaysButFaults other_old other_new
   pub cell : OnOk result (IsFrom sides.lead_in lead_old block into ⊎ IsFrom sides.other_in other_old block into)
@@ -190,8 +194,10 @@ pub record OpensMirror (lead_old other_old lead_new other_new mirror : DiskState
 -- what a refused opening leaves, and why it comes
 abbrev pub Refuses : MirrorCause → ℕ → DiskState → DiskState → DiskState → DiskState → Type 0
 Refuses (TooSmall a b) blocks lead other lead_new other_new = (a ≡ lead.blocks) × (b ≡ other.blocks) × ((lead.blocks < blocks) ⊎ (other.blocks < blocks))
-Refuses ReadFault blocks lead other lead_new other_new = (blocks ≤ lead.blocks) × (blocks ≤ other.blocks) × StaysButFaults lead lead_new × Rose lead.faults lead_new.faults × IsSameDisk other other_new × KeepsPast other other_new
-Refuses OutOfMemory blocks lead other lead_new other_new = (blocks ≤ lead.blocks) × (blocks ≤ other.blocks) × IsSameDisk other other_new × KeepsPast other other_new × KeepsCells other other_new
+Refuses ReadFault blocks lead other lead_new other_new = (blocks ≤ lead.blocks) × (blocks ≤ other.blocks)
+    × StaysButFaults lead lead_new × Rose lead.faults lead_new.faults × IsSameDisk other other_new × KeepsPast other other_new
+Refuses OutOfMemory blocks lead other lead_new other_new = (blocks ≤ lead.blocks) × (blocks ≤ other.blocks)
+    × IsSameDisk other other_new × KeepsPast other other_new × KeepsCells other other_new
 
 -- a disk is handed back as it was given, where the cause is not one that touches it
 abbrev pub LeadBack : {D : Type 0} → MirrorCause → D → D → Type 0

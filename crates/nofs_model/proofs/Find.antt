@@ -1,7 +1,8 @@
 -- What it means that a slot holds, is empty or is broken.
 use Rattle.std.proofs.Common.{◌≡◌, ℕ, ◌⊎◌, inl, inr, Bool, true, false, cond, eqb, ◌&&◌, Option, Some, None, refl, sym, ap, subst, arith, eqb-true}
 use Rattle.std.proofs.lemmas.Bool.Decides.{nat_tests}
-use Rattle.nofs_model.specs.Cells.{Kind, Nothing, Content, Directory, Leaf, Table, Super, Tag, Pointer, same_kind, same_tag, tag_of, is_null, pointer_at, is_live}
+use Rattle.nofs_model.specs.Cells.{Kind, Nothing, Content, Directory, Leaf, Table, Super, Tag, Pointer, same_kind, same_tag, tag_of, is_null, pointer_at}
+use Rattle.nofs_model.specs.Cells.{is_live}
 use Rattle.nofs_model.specs.declared.path.PathAnswer.{PathAnswer}
 use Rattle.nofs_model.specs.Image.{Image, cell_at, is_data_block, inode, Path, InRecord, Under, tag_for, is_tag, agrees, record_pointer, judged, find, pointer}
 use Rattle.nofs_model.specs.Image.{AboveHolds}
@@ -27,7 +28,8 @@ same_kind-true Super _ e = grind arith
 
 pub same_tag-true : (a b : Tag) → same_tag a b ≡ true → a ≡ b
 same_tag-true a b e =
-    let p = and-both (same_kind a.kind b.kind) ((eqb a.inode b.inode) && ((eqb a.generation b.generation) && ((eqb a.slot b.slot) && (eqb a.stamp b.stamp)))) e in
+    let p = and-both (same_kind a.kind b.kind) ((eqb a.inode b.inode) && ((eqb a.generation b.generation) && ((eqb a.slot b.slot) && (eqb a.stamp b.stamp))))
+    e in
     let q = and-both (eqb a.inode b.inode) ((eqb a.generation b.generation) && ((eqb a.slot b.slot) && (eqb a.stamp b.stamp))) p.1 in
     let r = and-both (eqb a.generation b.generation) ((eqb a.slot b.slot) && (eqb a.stamp b.stamp)) q.1 in
     let s = and-both (eqb a.slot b.slot) (eqb a.stamp b.stamp) r.1 in
@@ -57,7 +59,8 @@ agrees-true X i path x e =
 pub judged-held : (X : Image) (i : ℕ) (path : Path) (z x : Pointer) → judged X i path z ≡ answer.Holds x → (z ≡ x) × Agrees X i path x × (is_null x ≡ false)
 judged-held X i path z x e = go (is_null z) refl (agrees X i path z) refl e
   where
-    go : (n : Bool) → is_null z ≡ n → (a : Bool) → agrees X i path z ≡ a → cond n answer.Hole (cond a (answer.Holds z) answer.Lost) ≡ answer.Holds x → (z ≡ x) × Agrees X i path x × (is_null x ≡ false)
+    go : (n : Bool) → is_null z ≡ n → (a : Bool) → agrees X i path z ≡ a → cond n answer.Hole (cond a (answer.Holds z) answer.Lost) ≡ answer.Holds x
+        → (z ≡ x) × Agrees X i path x × (is_null x ≡ false)
     go true en a ea h = cc
     go false en true ea h =
         let s : z ≡ x = cc in
@@ -85,7 +88,12 @@ find-held X i (InRecord n) x e =
     record { above = tt; same = p.0; agrees = p.1; not_null = p.2 }
 find-held X i (Under a n) x e = go (find X i a) refl e
   where
-    go : (f : PathAnswer) → find X i a ≡ f → elim f [ answer.Hole ↦ answer.Hole | answer.Holds y ↦ judged X i (Under a n) (pointer_at (cell_at X y.block).payload n) | answer.Lost ↦ answer.Lost ] ≡ answer.Holds x → HoldsAt X i (Under a n) x
+    go : (f : PathAnswer) → find X i a ≡ f → elim f [
+      | answer.Hole ↦ answer.Hole
+      | answer.Holds y ↦ judged X i (Under a n)
+          (pointer_at (cell_at X y.block).payload n)
+      | answer.Lost ↦ answer.Lost
+    ] ≡ answer.Holds x → HoldsAt X i (Under a n) x
     go answer.Hole ef h = cc
     go answer.Lost ef h = cc
     go (answer.Holds y) ef h =
@@ -93,10 +101,17 @@ find-held X i (Under a n) x e = go (find X i a) refl e
         record { above = (y, ef); same = rw (ef, pointer) p.0; agrees = p.1; not_null = p.2 }
 
 -- a slot is empty where the one above it is, or where its pointer is null
-pub find-null : (X : Image) (i : ℕ) (a : Path) (n : ℕ) → find X i (Under a n) ≡ answer.Hole → (find X i a ≡ answer.Hole) ⊎ ((y : Pointer) × (find X i a ≡ answer.Holds y) × (is_null (pointer_at (cell_at X y.block).payload n) ≡ true))
+pub find-null : (X : Image) (i : ℕ) (a : Path) (n : ℕ) → find X i (Under a n) ≡ answer.Hole
+    → (find X i a ≡ answer.Hole) ⊎ ((y : Pointer) × (find X i a ≡ answer.Holds y) × (is_null (pointer_at (cell_at X y.block).payload n) ≡ true))
 find-null X i a n e = go (find X i a) refl e
   where
-    go : (f : PathAnswer) → find X i a ≡ f → elim f [ answer.Hole ↦ answer.Hole | answer.Holds y ↦ judged X i (Under a n) (pointer_at (cell_at X y.block).payload n) | answer.Lost ↦ answer.Lost ] ≡ answer.Hole → (find X i a ≡ answer.Hole) ⊎ ((y : Pointer) × (find X i a ≡ answer.Holds y) × (is_null (pointer_at (cell_at X y.block).payload n) ≡ true))
+    go : (f : PathAnswer) → find X i a ≡ f → elim f [
+      | answer.Hole ↦ answer.Hole
+      | answer.Holds y ↦ judged X i (Under a n)
+          (pointer_at (cell_at X y.block).payload n)
+      | answer.Lost ↦ answer.Lost
+    ] ≡ answer.Hole
+        → (find X i a ≡ answer.Hole) ⊎ ((y : Pointer) × (find X i a ≡ answer.Holds y) × (is_null (pointer_at (cell_at X y.block).payload n) ≡ true))
     go answer.Hole ef h = inl ef
     go answer.Lost ef h = cc
     go (answer.Holds y) ef h = inr (y, ef, judged-null X i (Under a n) (pointer_at (cell_at X y.block).payload n) h)
@@ -132,14 +147,17 @@ judged-built X i path z x e a n =
     go false eb true ec = ap answer.Holds e
     go false eb false ec = cc
 
-pub find-built : (X : Image) (i : ℕ) (path : Path) (x : Pointer) → AboveHolds X i path → pointer X i path ≡ x → agrees X i path x ≡ true → is_null x ≡ false → find X i path ≡ answer.Holds x
+pub find-built : (X : Image) (i : ℕ) (path : Path) (x : Pointer) → AboveHolds X i path → pointer X i path ≡ x → agrees X i path x ≡ true → is_null x ≡ false
+    → find X i path ≡ answer.Holds x
 find-built X i (InRecord n) x above e a z = judged-built X i (InRecord n) (record_pointer (inode X i) n) x e a z
-find-built X i (Under b n) x (y, eb) e a z = rw (eb, find) (judged-built X i (Under b n) (pointer_at (cell_at X y.block).payload n) x (rw (eb, pointer) at e) a z)
+find-built X i (Under b n) x (y, eb) e a z = rw (eb, find) (judged-built X i (Under b n) (pointer_at (cell_at X y.block).payload n) x (rw (eb, pointer) at e)
+    a z)
 
 pub judged-built-null : (X : Image) (i : ℕ) (path : Path) (z : Pointer) → is_null z ≡ true → judged X i path z ≡ answer.Hole
 judged-built-null X i path z e = rw e
 
-pub null-kept : (X : Image) (i : ℕ) (a : Path) (n : ℕ) → AboveHolds X i (Under a n) → is_null (pointer X i (Under a n)) ≡ true → find X i (Under a n) ≡ answer.Hole
+pub null-kept : (X : Image) (i : ℕ) (a : Path) (n : ℕ) → AboveHolds X i (Under a n) → is_null (pointer X i (Under a n)) ≡ true
+    → find X i (Under a n) ≡ answer.Hole
 null-kept X i a n (y, ea) z =
     let same : pointer X i (Under a n) ≡ pointer_at (cell_at X y.block).payload n = rw (ea, pointer) in
     let z' : is_null (pointer_at (cell_at X y.block).payload n) ≡ true = subst (λ (q : Pointer). is_null q ≡ true) same z in

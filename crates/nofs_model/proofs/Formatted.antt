@@ -7,7 +7,8 @@ use Rattle.nofs_disk.specs.OneSpelling.{SpellsTag-tag_bytes, tag_of-spells}
 use Rattle.nofs_super.specs.Spelling.{super_of-payload}
 use Rattle.nofs_super.specs.Format.{super_payload, super_cell, first_records, table_cell, fresh_super, formatted_cell}
 use Rattle.nofs_inode.specs.declared.inode.FileKind.TheVariants as file
-use Rattle.nofs_model.specs.Cells.{Cell, Kind, Nothing, Directory, Leaf, Table, Super, Tag, FileKind, Record, SuperBlock, number_at, tag_of, null, no_link, free_record, is_live, record_of, record_at, fields_in, link_in, pointer_in, pointer_at, entry_in}
+use Rattle.nofs_model.specs.Cells.{Cell, Kind, Nothing, Directory, Leaf, Table, Super, Tag, FileKind, Record, SuperBlock, number_at, tag_of, null, no_link}
+use Rattle.nofs_model.specs.Cells.{free_record, is_live, record_of, record_at, fields_in, link_in, pointer_in, pointer_at, entry_in}
 use Rattle.nofs_model.specs.Image.{Image, cell_at, super_at, super_in, is_super, record_pointer, TagBelow, RecordBelow, CellBelow}
 use Rattle.nofs_model.specs.Geometry.{IsGeometry}
 use Rattle.nofs_model.specs.Sound.{LawFormatted}
@@ -27,18 +28,22 @@ plain-below bound c t some e p =
     let s = p.stamp in
     record {
       own = subst (λ (o : Option Tag). IfSome o (λ t. (t.generation < bound) × (t.stamp < bound))) (sym e) (omega (arith, some, g), omega (arith, some, s));
-      entries = subst (λ (o : Option Tag). IfSome o (λ t. t.kind ≡ Directory → (j : ℕ) → j < 16 → IfSome (entry_in c.payload j) (λ e. e.generation < bound))) (sym e) (λ k. absurd (p.not_directory k));
-      pointers = subst (λ (o : Option Tag). IfSome o (λ t. t.kind ≡ Leaf → (j : ℕ) → j < 64 → (pointer_at c.payload j).stamp < bound)) (sym e) (λ k. absurd (p.not_leaf k));
+      entries = subst (λ (o : Option Tag). IfSome o (λ t. t.kind ≡ Directory → (j : ℕ) → j < 16 → IfSome (entry_in c.payload j) (λ e. e.generation < bound)))
+          (sym e) (λ k. absurd (p.not_directory k));
+      pointers = subst (λ (o : Option Tag). IfSome o (λ t. t.kind ≡ Leaf → (j : ℕ) → j < 64 → (pointer_at c.payload j).stamp < bound)) (sym e)
+          (λ k. absurd (p.not_leaf k));
     }
 
 abbrev tag_with : Kind → ℕ → Tag
 tag_with kind slot = record { kind = kind; inode = 0; generation = 0; slot = slot; stamp = 0 }
 
 super-tag : tag_of (tag_bytes (tag_with Super 0)) ≡ Some (tag_with Super 0)
-super-tag = tag_of-spells (tag_bytes (tag_with Super 0)) (tag_with Super 0) (SpellsTag-tag_bytes (tag_with Super 0) (record { inode = omega arith; generation = omega arith; slot = omega arith; stamp = omega arith }) tt)
+super-tag = tag_of-spells (tag_bytes (tag_with Super 0)) (tag_with Super 0)
+    (SpellsTag-tag_bytes (tag_with Super 0) (record { inode = omega arith; generation = omega arith; slot = omega arith; stamp = omega arith }) tt)
 
 table-tag : (b : ℕ) → b < 2 ^ 64 → tag_of (tag_bytes (tag_with Table b)) ≡ Some (tag_with Table b)
-table-tag b lt = tag_of-spells (tag_bytes (tag_with Table b)) (tag_with Table b) (SpellsTag-tag_bytes (tag_with Table b) (record { inode = omega arith; generation = omega arith; slot = lt; stamp = omega arith }) tt)
+table-tag b lt = tag_of-spells (tag_bytes (tag_with Table b)) (tag_with Table b)
+    (SpellsTag-tag_bytes (tag_with Table b) (record { inode = omega arith; generation = omega arith; slot = lt; stamp = omega arith }) tt)
 
 zero-tag : tag_of (zero_cell.tag) ≡ Some (tag_with Nothing 0)
 unfolding tag_of number_at zero_cell zeros
@@ -46,7 +51,16 @@ zero-tag = refl
 
 -- the records of a table
 abbrev new_record : ℕ → FileKind → Record
-new_record g kind = record { generation = g; kind = Some kind; links = no_link ∷ no_link ∷ no_link ∷ no_link ∷ []; size = 0; direct = null ∷ null ∷ null ∷ null ∷ null ∷ null ∷ null ∷ null ∷ []; leaf = null; top = null }
+new_record g kind = record {
+  generation = g;
+  kind = Some kind;
+  links = no_link ∷ no_link ∷ no_link ∷ no_link ∷ [];
+  size = 0;
+  direct =
+      null ∷ null ∷ null ∷ null ∷ null ∷ null ∷ null ∷ null ∷ [];
+  leaf = null;
+  top = null;
+}
 
 no-record : (j : ℕ) → j < 4 → record_at (zeros 1024) j ≡ free_record
 unfolding record_at record_of fields_in link_in pointer_in number_at zeros
@@ -121,21 +135,24 @@ table-below bound j b big lt live = go (eqb b 1) live
 super-below : (bound : ℕ) (X : Image) (it : SuperBlock) → 2 < bound → CellBelow bound X 0 (super_cell it)
 unfolding super_cell
 super-below bound X it big = record {
-  tag = plain-below bound (super_cell it) (tag_with Super 0) (omega (arith, big)) super-tag (record { generation = refl; stamp = refl; not_directory = λ e. cc e; not_leaf = λ e. cc e });
+  tag = plain-below bound (super_cell it) (tag_with Super 0) (omega (arith, big)) super-tag
+      (record { generation = refl; stamp = refl; not_directory = λ e. cc e; not_leaf = λ e. cc e });
   records = λ i range eb live. absurd (omega (arith, eb));
 }
 
 table-cell-below : (bound b : ℕ) (X : Image) → 2 < bound → b < 2 ^ 64 → CellBelow bound X b (table_cell b)
 unfolding table_cell
 table-cell-below bound b X big lt = record {
-  tag = plain-below bound (table_cell b) (tag_with Table b) (omega (arith, big)) (table-tag b lt) (record { generation = refl; stamp = refl; not_directory = λ e. cc e; not_leaf = λ e. cc e });
+  tag = plain-below bound (table_cell b) (tag_with Table b) (omega (arith, big)) (table-tag b lt)
+      (record { generation = refl; stamp = refl; not_directory = λ e. cc e; not_leaf = λ e. cc e });
   records = λ i range eb live. table-below bound ((i - 1) % 4) b big (omega arith) live;
 }
 
 zero-below : (bound b : ℕ) (X : Image) → 2 < bound → CellBelow bound X b zero_cell
 unfolding zero_cell
 zero-below bound b X big = record {
-  tag = plain-below bound zero_cell (tag_with Nothing 0) (omega (arith, big)) zero-tag (record { generation = refl; stamp = refl; not_directory = λ e. cc e; not_leaf = λ e. cc e });
+  tag = plain-below bound zero_cell (tag_with Nothing 0) (omega (arith, big)) zero-tag
+      (record { generation = refl; stamp = refl; not_directory = λ e. cc e; not_leaf = λ e. cc e });
   records = λ i range eb live. zeros-below bound ((i - 1) % 4) (omega arith) live;
 }
 
@@ -144,7 +161,8 @@ unfolding formatted_cell
 cell-below bound blocks inodes b X big lt = go (eqb b 0) refl (leb b (inodes / 4))
   where
     go : (z : Bool) → eqb b 0 ≡ z → (q : Bool) → CellBelow bound X b (cond z (super_cell (fresh_super blocks inodes)) (cond q (table_cell b) zero_cell))
-    go true e q = subst (λ (n : ℕ). CellBelow bound X n (super_cell (fresh_super blocks inodes))) (sym (eqb-true b 0 e)) (super-below bound X (fresh_super blocks inodes) big)
+    go true e q = subst (λ (n : ℕ). CellBelow bound X n (super_cell (fresh_super blocks inodes))) (sym (eqb-true b 0 e))
+        (super-below bound X (fresh_super blocks inodes) big)
     go false e true = table-cell-below bound b X big lt
     go false e false = zero-below bound b X big
 
@@ -161,14 +179,16 @@ unfolding super_at
 formatted-law X blocks inodes g cells =
     let some = g.some_blocks in let most = g.most_blocks in let few = g.most_inodes in
     let it : SuperBlock = fresh_super blocks inodes in
-    let payload : (cell_at X 0).payload ≡ super_payload it = ap (λ (c : Cell). c.payload) (cells 0 (omega arith) ∙ first-cell blocks inodes) ∙ super-payload blocks inodes in
+    let payload : (cell_at X 0).payload ≡ super_payload it =
+    ap (λ (c : Cell). c.payload) (cells 0 (omega arith) ∙ first-cell blocks inodes) ∙ super-payload blocks inodes in
     let s = spells (super_payload it) it (super_of-payload it (omega arith) (omega arith) (omega arith) (omega arith) refl) in
     let numbers : super_at X ≡ it = ap super_in payload ∙ s.numbers in
     let spelled : is_super (cell_at X 0).payload ≡ true = ap is_super payload ∙ s.spelled in
     let b_is : (super_at X).blocks ≡ blocks = ap (λ (q : SuperBlock). q.blocks) numbers in
     let i_is : (super_at X).inodes ≡ inodes = ap (λ (q : SuperBlock). q.inodes) numbers in
     let m_is : (super_at X).mount ≡ 0 = ap (λ (q : SuperBlock). q.mount) numbers in
-    let fits : IsGeometry (length X) (super_at X).blocks (super_at X).inodes = subst (λ (q : SuperBlock). IsGeometry (length X) q.blocks q.inodes) (sym numbers) g in
+    let fits : IsGeometry (length X) (super_at X).blocks (super_at X).inodes =
+    subst (λ (q : SuperBlock). IsGeometry (length X) q.blocks q.inodes) (sym numbers) g in
     record {
       mountable = (mountable-law X).0 (record { spelled = spelled; fits = fits });
       mount = omega (arith, m_is);

@@ -1,7 +1,9 @@
 -- A slot holds, is empty and has its value where the computing words say so.
-use Rattle.std.proofs.Common.{◌≡◌, ◌≢◌, ℕ, ◌<◌, ◌≤◌, inl, inr, Bool, true, false, eqb, leb, ltb, refl, sym, ap, ◌∙◌, subst, eqb-true, leb-true, ltb-true, le-leb, lt-ltb}
+use Rattle.std.proofs.Common.{◌≡◌, ◌≢◌, ℕ, ◌<◌, ◌≤◌, inl, inr, Bool, true, false, eqb, leb, ltb, refl, sym, ap, ◌∙◌, subst, eqb-true, leb-true, ltb-true}
+use Rattle.std.proofs.Common.{le-leb, lt-ltb}
 use Rattle.nofs_model.specs.Cells.{Pointer, null, is_null, pointer_at}
-use Rattle.nofs_model.specs.Image.{Image, cell_at, inode, first_data, is_data_block, super_at, Path, InRecord, Under, path_of, record_pointer, find, pointer, value, value_in}
+use Rattle.nofs_model.specs.Image.{Image, cell_at, inode, first_data, is_data_block, super_at, Path, InRecord, Under, path_of, record_pointer, find, pointer}
+use Rattle.nofs_model.specs.Image.{value, value_in}
 use Rattle.nofs_model.specs.Definitions.{TagFits, Holds, IsEmpty, IsValue, hole, bytes, lost, LawSlots}
 use Rattle.nofs_model.specs.declared.path.PathAnswer.{PathAnswer}
 use Rattle.nofs_model.specs.declared.path.PathAnswer.TheVariants as answer
@@ -39,10 +41,18 @@ fits-agrees X i path x f = record { live = f.live; area = area-is X x.block f.ab
 agrees-fits : (X : Image) (i : ℕ) (path : Path) (x : Pointer) → HoldsAt X i path x → TagFits X i path x
 agrees-fits X i path x h =
     let a = and-both (leb (first_data X) x.block) (ltb x.block (super_at X).blocks) h.agrees.area in
-    record { not_null = null-not x h.not_null; live = h.agrees.live; above = leb-true (first_data X) x.block a.0; below = ltb-true x.block (super_at X).blocks a.1; tag = h.agrees.tag }
+    record {
+      not_null = null-not x h.not_null;
+      live = h.agrees.live;
+      above = leb-true (first_data X) x.block a.0;
+      below =
+          ltb-true x.block (super_at X).blocks a.1;
+      tag = h.agrees.tag;
+    }
 
 pub holds-find : (X : Image) (i : ℕ) (path : Path) (x : Pointer) → Holds X i path x → find X i path ≡ answer.Holds x
-holds-find X i (InRecord n) x (e, f) = find-built X i (InRecord n) x tt (sym e) (agrees-built X i (InRecord n) x (fits-agrees X i (InRecord n) x f)) (not-null x f.not_null)
+holds-find X i (InRecord n) x (e, f) = find-built X i (InRecord n) x tt (sym e) (agrees-built X i (InRecord n) x (fits-agrees X i (InRecord n) x f))
+    (not-null x f.not_null)
 holds-find X i (Under a n) x (y, h, e, f) =
     let up = holds-find X i a y h in
     find-built X i (Under a n) x (y, up) (rw (up, pointer) (sym e)) (agrees-built X i (Under a n) x (fits-agrees X i (Under a n) x f)) (not-null x f.not_null)
@@ -58,7 +68,8 @@ find-holds X i (Under a n) x e =
 pub empty-find : (X : Image) (i : ℕ) (path : Path) → IsEmpty X i path → find X i path ≡ answer.Hole
 empty-find X i (InRecord n) e = judged-built-null X i (InRecord n) (record_pointer (inode X i) n) (null-is (record_pointer (inode X i) n) e)
 empty-find X i (Under a n) (inl up) = rw (empty-find X i a up, find) refl
-empty-find X i (Under a n) (inr (y, h, e)) = rw (holds-find X i a y h, find) (judged-built-null X i (Under a n) (pointer_at (cell_at X y.block).payload n) (null-is (pointer_at (cell_at X y.block).payload n) e))
+empty-find X i (Under a n) (inr (y, h, e)) = rw (holds-find X i a y h, find)
+    (judged-built-null X i (Under a n) (pointer_at (cell_at X y.block).payload n) (null-is (pointer_at (cell_at X y.block).payload n) e))
 
 pub find-empty : (X : Image) (i : ℕ) (path : Path) → find X i path ≡ answer.Hole → IsEmpty X i path
 find-empty X i (InRecord n) e = null-true (record_pointer (inode X i) n) (judged-null X i (InRecord n) (record_pointer (inode X i) n) e)

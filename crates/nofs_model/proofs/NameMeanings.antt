@@ -1,9 +1,11 @@
 -- An entry, a pair and an agreed inode are what the computing words say.
-use Rattle.std.proofs.Common.{◌≡◌, ◌≢◌, ℕ, ◌/◌, ◌<◌, ◌⊎◌, inl, inr, Bool, true, false, cond, eqb, ltb, ◌&&◌, ◌||◌, not, List, Option, Some, None, is_some, refl, sym, ap, ◌∙◌, subst, Contains, eqb-true, eq-eqb, ne_eqb, ltb-true, lt-ltb}
+use Rattle.std.proofs.Common.{◌≡◌, ◌≢◌, ℕ, ◌/◌, ◌<◌, ◌⊎◌, inl, inr, Bool, true, false, cond, eqb, ltb, ◌&&◌, ◌||◌, not, List, Option, Some, None, is_some}
+use Rattle.std.proofs.Common.{refl, sym, ap, ◌∙◌, subst, Contains, eqb-true, eq-eqb, ne_eqb, ltb-true, lt-ltb}
 use Rattle.nofs_dirent.specs.Entries.{entry_limit}
 use Rattle.nofs_inode.specs.declared.inode.FileKind.TheVariants.{File, Directory as Folder}
 use Rattle.nofs_model.specs.Cells.{FileKind, BackLink, Entry, is_live}
-use Rattle.nofs_model.specs.Image.{Image, cell_at, inode, path_of, find, value, value_in, FileState, file_from, files_in, is_folder, entry_held, entry_in_file, names, is_a, pairs, is_pair, links_of, links_in_file, is_root, is_special, agreed, Agreed, root, linked}
+use Rattle.nofs_model.specs.Image.{Image, cell_at, inode, path_of, find, value, value_in, FileState, file_from, files_in, is_folder, entry_held}
+use Rattle.nofs_model.specs.Image.{entry_in_file, names, is_a, pairs, is_pair, links_of, links_in_file, is_root, is_special, agreed, Agreed, root, linked}
 use Rattle.nofs_model.specs.Definitions.{bytes, IsEntry, IsPair, IsAgreed, the_root, the_label, named, LawPairs}
 use Rattle.nofs_model.specs.declared.path.PathAnswer.{PathAnswer}
 use Rattle.nofs_model.specs.declared.path.PathAnswer.TheVariants as answer
@@ -19,19 +21,22 @@ file-is X i k e = ap (file_from X i) e
 
 entry-fact : (X : Image) (d e : ℕ) (it : Entry) → IsEntry X d e it → entry_in_file (files_in X d) e ≡ Some it
 entry-fact X d e it h =
-    let v : value X d (e / 16) ≡ Bytes (cell_at X h.pointer.block).payload = fact-value X d (e / 16) (Bytes (cell_at X h.pointer.block).payload) (bytes h.pointer h.holds) in
+    let v : value X d (e / 16) ≡ Bytes (cell_at X h.pointer.block).payload =
+    fact-value X d (e / 16) (Bytes (cell_at X h.pointer.block).payload) (bytes h.pointer h.holds) in
     let inside : entry_in_file (file_from X d (Some Folder)) e ≡ entry_held (value X d (e / 16)) e = rw (lt-ltb e entry_limit h.range) refl in
     ap (λ (o : Option FileState). entry_in_file o e) (file-is X d (Some Folder) h.directory) ∙ inside ∙ ap (λ (q : Value). entry_held q e) v ∙ h.spelled
 
 fact-entry : (X : Image) (d e : ℕ) (it : Entry) → entry_in_file (files_in X d) e ≡ Some it → IsEntry X d e it
 fact-entry X d e it h = by-kind (inode X d).kind refl h
   where
-    by-find : (inode X d).kind ≡ Some Folder → e < entry_limit → (f : PathAnswer) → find X d (path_of (e / 16)) ≡ f → entry_held (value_in X f) e ≡ Some it → IsEntry X d e it
+    by-find : (inode X d).kind ≡ Some Folder → e < entry_limit → (f : PathAnswer) → find X d (path_of (e / 16)) ≡ f → entry_held (value_in X f) e ≡ Some it
+        → IsEntry X d e it
     by-find k lt answer.Hole ef q = cc
     by-find k lt answer.Lost ef q = cc
     by-find k lt (answer.Holds x) ef q = record { directory = k; range = lt; pointer = x; holds = find-holds X d (path_of (e / 16)) x ef; spelled = q }
 
-    by-range : (inode X d).kind ≡ Some Folder → (b : Bool) → ltb e entry_limit ≡ b → cond b (entry_held (value X d (e / 16)) e) None ≡ Some it → IsEntry X d e it
+    by-range : (inode X d).kind ≡ Some Folder → (b : Bool) → ltb e entry_limit ≡ b → cond b (entry_held (value X d (e / 16)) e) None ≡ Some it
+        → IsEntry X d e it
     by-range k true eb q = by-find k (ltb-true e entry_limit eb) (find X d (path_of (e / 16))) refl q
     by-range k false eb q = cc
 
@@ -64,11 +69,13 @@ pair-test X i link h = by-kind (inode X i).kind refl
         let own = file-is X i (Some k) ek in
         let parent = file-is X link.directory (Some Folder) h.there.directory in
         let named : names (entry_in_file (files_in X link.directory) link.entry) i (inode X i).generation ≡ true =
-        names-test (entry_in_file (files_in X link.directory) link.entry) h.entry i (inode X i).generation (entry-fact X link.directory link.entry h.entry h.there) h.names_inode h.names_generation in
+        names-test (entry_in_file (files_in X link.directory) link.entry) h.entry i (inode X i).generation
+        (entry-fact X link.directory link.entry h.entry h.there) h.names_inode h.names_generation in
         let named' : names (entry_in_file (file_from X link.directory (Some Folder)) link.entry) i (inode X i).generation ≡ true =
         subst (λ (o : Option FileState). names (entry_in_file o link.entry) i (inode X i).generation ≡ true) parent named in
         let older = older-test k link.generation (inode X i).generation (λ s. h.older (ek ∙ ap Some s)) in
-        let whole : pairs (file_from X i (Some k)) (file_from X link.directory (Some Folder)) i link ≡ true = rw (eq-eqb (inode X link.directory).generation link.generation h.generation, named', older) refl in
+        let whole : pairs (file_from X i (Some k)) (file_from X link.directory (Some Folder)) i link ≡ true =
+        rw (eq-eqb (inode X link.directory).generation link.generation h.generation, named', older) refl in
         ap (λ (o : Option FileState). pairs o (files_in X link.directory) i link) own
         ∙ ap (λ (o : Option FileState). pairs (file_from X i (Some k)) o i link) parent ∙ whole
 
@@ -82,12 +89,16 @@ named-by (Some it) i g e =
 pub test-pair : (X : Image) (i : ℕ) (link : BackLink) → is_pair (files_in X) i link ≡ true → IsPair X i link
 test-pair X i link h = by-own (inode X i).kind refl h
   where
-    by-parent : (k : FileKind) → (inode X i).kind ≡ Some k → (d : Option FileKind) → (inode X link.directory).kind ≡ d → pairs (file_from X i (Some k)) (file_from X link.directory d) i link ≡ true → IsPair X i link
+    by-parent : (k : FileKind) → (inode X i).kind ≡ Some k → (d : Option FileKind) → (inode X link.directory).kind ≡ d
+        → pairs (file_from X i (Some k)) (file_from X link.directory d) i link ≡ true → IsPair X i link
     by-parent k ek None ed q = cc
     by-parent k ek (Some File) ed q = cc
     by-parent k ek (Some Folder) ed q =
-        let a = and-both (eqb (inode X link.directory).generation link.generation) (names (entry_in_file (file_from X link.directory (Some Folder)) link.entry) i (inode X i).generation && (not (is_folder k) || ltb link.generation (inode X i).generation)) q in
-        let b = and-both (names (entry_in_file (file_from X link.directory (Some Folder)) link.entry) i (inode X i).generation) (not (is_folder k) || ltb link.generation (inode X i).generation) a.1 in
+        let a = and-both (eqb (inode X link.directory).generation link.generation)
+        (names (entry_in_file (file_from X link.directory (Some Folder)) link.entry) i (inode X i).generation
+        && (not (is_folder k) || ltb link.generation (inode X i).generation)) q in
+        let b = and-both (names (entry_in_file (file_from X link.directory (Some Folder)) link.entry) i (inode X i).generation)
+        (not (is_folder k) || ltb link.generation (inode X i).generation) a.1 in
         let (it, there, ei, eg) = named-by (entry_in_file (file_from X link.directory (Some Folder)) link.entry) i (inode X i).generation b.0 in
         let parent = file-is X link.directory (Some Folder) ed in
         record {
@@ -130,7 +141,8 @@ agreed-relation X _ (the_label k g) =
     let one : is_a File 2 (files_in X 2) ≡ true = ap (is_a File 2) (file-is X 2 (Some File) k) ∙ eq-eqb (inode X 2).generation 2 g in
     root one
 agreed-relation X i (named link a b there pair up) =
-    linked link (special-not i a b) (subst (λ (q : List BackLink). Contains q link) (sym (pair-live X i pair.live)) there) (pair-test X i link pair) (agreed-relation X link.directory up)
+    linked link (special-not i a b) (subst (λ (q : List BackLink). Contains q link) (sym (pair-live X i pair.live)) there) (pair-test X i link pair)
+    (agreed-relation X link.directory up)
 
 or-cases : (a b : Bool) → (a || b) ≡ true → (a ≡ true) ⊎ (b ≡ true)
 or-cases true b e = inl refl
@@ -139,7 +151,8 @@ or-cases false b e = inr e
 kind-of : (X : Image) (i : ℕ) (kind : FileKind) (g : ℕ) → is_a kind g (files_in X i) ≡ true → ((inode X i).kind ≡ Some kind) × ((inode X i).generation ≡ g)
 kind-of X i kind g e = go kind (inode X i).kind refl e
   where
-    go : (kind : FileKind) (k : Option FileKind) → (inode X i).kind ≡ k → is_a kind g (file_from X i k) ≡ true → ((inode X i).kind ≡ Some kind) × ((inode X i).generation ≡ g)
+    go : (kind : FileKind) (k : Option FileKind) → (inode X i).kind ≡ k → is_a kind g (file_from X i k) ≡ true
+        → ((inode X i).kind ≡ Some kind) × ((inode X i).generation ≡ g)
     go Folder None ek q = cc
     go File None ek q = cc
     go Folder (Some Folder) ek q = (ek, eqb-true (inode X i).generation g q)

@@ -1,5 +1,6 @@
 -- An owner, a used inode and a used block are what the computing words say.
-use Rattle.std.proofs.Common.{◌≡◌, ℕ, ◌/◌, ◌⊎◌, inl, inr, Bool, true, false, eqb, ◌||◌, Option, Some, None, is_some, refl, sym, ◌∙◌, subst₂, eqb-true, eq-eqb, leb-true, le-leb}
+use Rattle.std.proofs.Common.{◌≡◌, ℕ, ◌/◌, ◌⊎◌, inl, inr, Bool, true, false, eqb, ◌||◌, Option, Some, None, is_some, refl, sym, ◌∙◌, subst₂, eqb-true, eq-eqb}
+use Rattle.std.proofs.Common.{leb-true, le-leb}
 use Rattle.nofs_model.specs.Image.{Image, super_at, path_of, files_in, agreed, owner, Home, home_at, is_special, is_used_inode, is_fixed_block, is_used_block}
 use Rattle.nofs_model.specs.Definitions.{IsOwner, IsUsedInode, IsUsedBlock, LawOwners}
 use Rattle.nofs_model.proofs.Paths.{path_of-number}

@@ -3,22 +3,26 @@ use Rattle.std.proofs.Common.{◌≡◌, ℕ, ◌≤◌, [], length, Bool, true,
 use Rattle.std.proofs.lemmas.List.{get_or_past}
 use Rattle.nofs_disk.specs.Disk.{no_cell}
 use Rattle.nofs_model.specs.Cells.{Cell, Tag, Pointer, tag_of, number_at}
-use Rattle.nofs_model.specs.Image.{Image, cell_at, inode, files_in, agreed, Path, path_of, slot_of, IsSlot, is_slot, tag_for, find, owner_found, owner_by, owner, IsFree, Home, home_at}
+use Rattle.nofs_model.specs.Image.{Image, cell_at, inode, files_in, agreed, Path, path_of, slot_of, IsSlot, is_slot, tag_for, find, owner_found, owner_by}
+use Rattle.nofs_model.specs.Image.{owner, IsFree, Home, home_at}
 use Rattle.nofs_model.specs.declared.path.PathAnswer.{PathAnswer}
 use Rattle.nofs_model.specs.declared.path.PathAnswer.TheVariants as answer
 use Rattle.nofs_model.proofs.Find.{and-both, find-held}
 use Rattle.nofs_model.proofs.Paths.{path_of-slot_of, slot_of-slot}
 
 -- what an agreed slot holds is owned by it
-pub owner-of : (X : Image) (i : ℕ) (path : Path) (x : Pointer) → IsSlot path → agreed (files_in X) i ≡ true → find X i path ≡ answer.Holds x → owner X x.block ≡ Some (home_at i (slot_of path))
+pub owner-of : (X : Image) (i : ℕ) (path : Path) (x : Pointer) → IsSlot path → agreed (files_in X) i ≡ true → find X i path ≡ answer.Holds x
+    → owner X x.block ≡ Some (home_at i (slot_of path))
 unfolding owner
 owner-of X i path x slot a e =
     let t = (find-held X i path x e).agrees.tag in
     let p : path_of (slot_of path) ≡ path = path_of-slot_of path slot in
     let f : find X i (path_of (slot_of path)) ≡ answer.Holds x = ap (λ (q : Path). find X i q) p ∙ e in
     let s : is_slot (slot_of path) ≡ true = slot_of-slot path slot in
-    let by : owner_by X x.block (Some (tag_for X i path x.stamp)) ≡ owner_found X x.block (tag_for X i path x.stamp) (find X i (path_of (slot_of path))) = rw s refl in
-    ap (λ (o : Option Tag). owner_by X x.block o) t ∙ by ∙ ap (λ (q : PathAnswer). owner_found X x.block (tag_for X i path x.stamp) q) f ∙ rw (eq-eqb x.block x.block refl, a) refl
+    let by : owner_by X x.block (Some (tag_for X i path x.stamp)) ≡ owner_found X x.block (tag_for X i path x.stamp) (find X i (path_of (slot_of path))) =
+    rw s refl in
+    ap (λ (o : Option Tag). owner_by X x.block o) t ∙ by ∙ ap (λ (q : PathAnswer). owner_found X x.block (tag_for X i path x.stamp) q) f
+    ∙ rw (eq-eqb x.block x.block refl, a) refl
 
 pub same-home : (a b i k : ℕ) → Some (home_at a b) ≡ Some (home_at i k) → (a ≡ i) × (b ≡ k)
 same-home a b i k e = let s : home_at a b ≡ home_at i k = cc e in (ap (λ (q : Home). q.inode) s, ap (λ (q : Home). q.slot) s)
@@ -30,10 +34,12 @@ unowned-free X p none i path x slot a e eb =
     cc (none, o')
 
 -- the slot of an owner's tag, where it is one
-tag-slot : (X : Image) (p : ℕ) (t : Tag) (h : Home) → owner_by X p (Some t) ≡ Some h → (is_slot t.slot ≡ true) × (owner_found X p t (find X t.inode (path_of t.slot)) ≡ Some h)
+tag-slot : (X : Image) (p : ℕ) (t : Tag) (h : Home) → owner_by X p (Some t) ≡ Some h
+    → (is_slot t.slot ≡ true) × (owner_found X p t (find X t.inode (path_of t.slot)) ≡ Some h)
 tag-slot X p t h e = go (is_slot t.slot) refl e
   where
-    go : (b : Bool) → is_slot t.slot ≡ b → cond b (owner_found X p t (find X t.inode (path_of t.slot))) None ≡ Some h → (is_slot t.slot ≡ true) × (owner_found X p t (find X t.inode (path_of t.slot)) ≡ Some h)
+    go : (b : Bool) → is_slot t.slot ≡ b → cond b (owner_found X p t (find X t.inode (path_of t.slot))) None ≡ Some h
+        → (is_slot t.slot ≡ true) × (owner_found X p t (find X t.inode (path_of t.slot)) ≡ Some h)
     go true eb q = (eb, q)
     go false eb q = cc
 
@@ -49,12 +55,14 @@ found-owner : (X : Image) (p i k : ℕ) → owner X p ≡ Some (home_at i k) →
 unfolding owner
 found-owner X p i k e = by-tag (tag_of (cell_at X p).tag) e
   where
-    by-find : (t : Tag) (f : PathAnswer) → is_slot t.slot ≡ true → find X t.inode (path_of t.slot) ≡ f → owner_found X p t f ≡ Some (home_at i k) → IsFound X p i k
+    by-find : (t : Tag) (f : PathAnswer) → is_slot t.slot ≡ true → find X t.inode (path_of t.slot) ≡ f → owner_found X p t f ≡ Some (home_at i k)
+        → IsFound X p i k
     by-find t answer.Hole s ef h = cc
     by-find t answer.Lost s ef h = cc
     by-find t (answer.Holds x) s ef h = go ((eqb x.block p) && agreed (files_in X) t.inode) refl h
       where
-        go : (b : Bool) → ((eqb x.block p) && agreed (files_in X) t.inode) ≡ b → cond b (Some (home_at t.inode t.slot)) None ≡ Some (home_at i k) → IsFound X p i k
+        go : (b : Bool) → ((eqb x.block p) && agreed (files_in X) t.inode) ≡ b → cond b (Some (home_at t.inode t.slot)) None ≡ Some (home_at i k)
+            → IsFound X p i k
         go false eb h = cc
         go true eb h =
             let same = same-home t.inode t.slot i k h in
@@ -74,7 +82,8 @@ found-owner X p i k e = by-tag (tag_of (cell_at X p).tag) e
     by-tag (Some t) h = let s = tag-slot X p t (home_at i k) h in by-find t (find X t.inode (path_of t.slot)) s.0 refl s.1
 
 -- an owner is an agreed inode's slot that holds the block
-pub owner-holds : (X : Image) (p i k : ℕ) → owner X p ≡ Some (home_at i k) → (x : Pointer) × (agreed (files_in X) i ≡ true) × (find X i (path_of k) ≡ answer.Holds x) × (x.block ≡ p)
+pub owner-holds : (X : Image) (p i k : ℕ) → owner X p ≡ Some (home_at i k)
+    → (x : Pointer) × (agreed (files_in X) i ≡ true) × (find X i (path_of k) ≡ answer.Holds x) × (x.block ≡ p)
 owner-holds X p i k e = let f = found-owner X p i k e in (f.pointer, f.agreed, f.holds, f.names)
 
 pub owner-slot : (X : Image) (p i k : ℕ) → owner X p ≡ Some (home_at i k) → is_slot k ≡ true

@@ -1,12 +1,14 @@
 -- A directory has one back link at most, so the way up from it does not branch.
-use Rattle.std.proofs.Common.{◌≡◌, ℕ, zero, suc, ◌+◌, ◌-◌, ◌*◌, ◌/◌, ◌%◌, ◌<◌, ◌≤◌, Bool, true, false, cond, eqb, leb, ltb, ◌&&◌, ◌||◌, not, List, [], ◌∷◌, length, get_or, Option, Some, None, refl, sym, ap, ◌∙◌, subst, arith, leb-true, eqb-true, ltb-false}
+use Rattle.std.proofs.Common.{◌≡◌, ℕ, zero, suc, ◌+◌, ◌-◌, ◌*◌, ◌/◌, ◌%◌, ◌<◌, ◌≤◌, Bool, true, false, cond, eqb, leb, ltb, ◌&&◌, ◌||◌, not, List, [], ◌∷◌}
+use Rattle.std.proofs.Common.{length, get_or, Option, Some, None, refl, sym, ap, ◌∙◌, subst, arith, leb-true, eqb-true, ltb-false}
 use Rattle.std.specs.List.{list_any, list_all, count_by, position, position_or_len}
 use Rattle.std.proofs.lemmas.List.Folds.{list_any_none}
 use Rattle.std.proofs.lemmas.List.Sums.{fails_before_first, sum_by-cons}
 use Rattle.nofs_inode.specs.InodeRecords.{allows_kind, allows_record, is_tidy_link, link_count, has_rest, record_with, record_or_free}
 use Rattle.nofs_inode.specs.declared.inode.FileKind.TheVariants.{File, Directory as Folder}
 use Rattle.nofs_model.specs.Cells.{FileKind, BackLink, Record, is_null, is_empty_link, free_record, record_of, record_at, fields_in}
-use Rattle.nofs_model.specs.Image.{Image, cell_at, is_inode, inode, find, value, node_in, FileState, Files, file_from, files_in, is_folder, pairs, is_pair, agreed, links_of, links_in_file, is_root, is_special}
+use Rattle.nofs_model.specs.Image.{Image, cell_at, is_inode, inode, find, value, node_in, FileState, Files, file_from, files_in, is_folder, pairs, is_pair}
+use Rattle.nofs_model.specs.Image.{agreed, links_of, links_in_file, is_root, is_special}
 use Rattle.nofs_model.specs.Files.{has_agreed_link, IsParent}
 use Rattle.nofs_model.proofs.Find.{and-both}
 use Rattle.nofs_model.proofs.Chains.{pair-of, agreed-is}
@@ -73,17 +75,20 @@ module _ (P Q E : BackLink → Bool) (empty : (l : BackLink) → E l ≡ true �
 pub none-any : (P Q : BackLink → Bool) (links : List BackLink) → position P links ≡ None → list_any (λ l. P l && Q l) links ≡ false
 none-any P Q links e = go (ltb (position_or_len P links) (length links)) refl e
   where
-    go : (b : Bool) → ltb (position_or_len P links) (length links) ≡ b → cond b (Some (position_or_len P links)) None ≡ None → list_any (λ l. P l && Q l) links ≡ false
+    go : (b : Bool) → ltb (position_or_len P links) (length links) ≡ b → cond b (Some (position_or_len P links)) None ≡ None
+        → list_any (λ l. P l && Q l) links ≡ false
     go true eb h = cc
     go false eb h =
         let all : length links ≤ position_or_len P links = ltb-false (position_or_len P links) (length links) eb in
         list_any_none (λ l. P l && Q l) links (λ k d lt. rw (fails_before_first P links k d (omega (arith, lt, all))) refl)
 
 -- the record of a directory has one back link at most
-links-with : (at : ℕ) (bytes : List ℕ) (r : Record) → (record_or_free (record_with at bytes r)).kind ≡ Some Folder → link_count (record_or_free (record_with at bytes r)).links ≤ 1
+links-with : (at : ℕ) (bytes : List ℕ) (r : Record) → (record_or_free (record_with at bytes r)).kind ≡ Some Folder
+    → link_count (record_or_free (record_with at bytes r)).links ≤ 1
 links-with at bytes r e = go (has_rest at bytes r && allows_record r.kind r) refl e
   where
-    go : (b : Bool) → (has_rest at bytes r && allows_record r.kind r) ≡ b → (record_or_free (cond b (Some r) None)).kind ≡ Some Folder → link_count (record_or_free (cond b (Some r) None)).links ≤ 1
+    go : (b : Bool) → (has_rest at bytes r && allows_record r.kind r) ≡ b → (record_or_free (cond b (Some r) None)).kind ≡ Some Folder
+        → link_count (record_or_free (cond b (Some r) None)).links ≤ 1
     go true eb k =
         let allowed = (and-both (has_rest at bytes r) (allows_record r.kind r) eb).1 in
         let folder : allows_record (Some Folder) r ≡ true = subst (λ (q : Option FileKind). allows_record q r ≡ true) k allowed in
@@ -123,7 +128,15 @@ file-of X i f e = go (inode X i).kind refl e
     go : (k : Option FileKind) → (inode X i).kind ≡ k → file_from X i k ≡ Some f → IsFileOf X i f
     go None ek h = cc
     go (Some kind) ek h =
-        let same : record { generation = (inode X i).generation; kind = kind; size = (inode X i).size; links = (inode X i).links; values = value X i; nodes = λ path. node_in (find X i path) } ≡ f = some-same _ f h in
+        let same : record {
+          generation = (inode X i).generation;
+          kind = kind;
+          size = (inode X i).size;
+          links = (inode X i).links;
+          values = value X i;
+          nodes =
+              λ path. node_in (find X i path);
+        } ≡ f = some-same _ f h in
         record {
           kind = ek ∙ ap (λ (q : FileState). Some q.kind) same;
           generation = sym (ap (λ (q : FileState). q.generation) same);
@@ -148,7 +161,8 @@ empty-unpaired X i l e =
     ap (λ (o : Option FileState). pairs (files_in X i) o i l) none ∙ pairs-none (files_in X i) i l
 
 -- where the first back link that is a pair leads
-pub parent-is : (X : Image) (i : ℕ) → (inode X i).kind ≡ Some Folder → (k : ℕ) (d : BackLink) → position (λ link. is_pair (files_in X) i link) (inode X i).links ≡ Some k
+pub parent-is : (X : Image) (i : ℕ) → (inode X i).kind ≡ Some Folder → (k : ℕ) (d : BackLink)
+    → position (λ link. is_pair (files_in X) i link) (inode X i).links ≡ Some k
     → IsParent X i (get_or (inode X i).links k d).directory
 parent-is X i folder k d e =
     let at = position-Some (λ link. is_pair (files_in X) i link) (inode X i).links k d e in
@@ -166,10 +180,12 @@ parent-is X i folder k d e =
       directory = parent.kind ∙ ap Some (folder-kind p.parent.kind p.parent_folder);
       older = omega (arith, older, pg, og, dg);
       same = ap (λ (q : List BackLink). list_any (λ l. is_pair (files_in X) i l && agreed (files_in X) l.directory) q) (links-of X i folder)
-          ∙ lone-any (λ l. is_pair (files_in X) i l) (λ l. agreed (files_in X) l.directory) is_empty_link (empty-unpaired X i) (inode X i).links (few-links X i folder) k d at.0 pair;
+          ∙ lone-any (λ l. is_pair (files_in X) i l) (λ l. agreed (files_in X) l.directory) is_empty_link (empty-unpaired X i) (inode X i).links
+          (few-links X i folder) k d at.0 pair;
     }
 
-pub no-parent : (X : Image) (i : ℕ) → (inode X i).kind ≡ Some Folder → position (λ link. is_pair (files_in X) i link) (inode X i).links ≡ None → has_agreed_link (files_in X) i ≡ false
+pub no-parent : (X : Image) (i : ℕ) → (inode X i).kind ≡ Some Folder → position (λ link. is_pair (files_in X) i link) (inode X i).links ≡ None
+    → has_agreed_link (files_in X) i ≡ false
 no-parent X i folder e =
     ap (λ (q : List BackLink). list_any (λ l. is_pair (files_in X) i l && agreed (files_in X) l.directory) q) (links-of X i folder)
     ∙ none-any (λ l. is_pair (files_in X) i l) (λ l. agreed (files_in X) l.directory) (inode X i).links e
@@ -186,25 +202,33 @@ pub root-is : (F : Files) (i : ℕ) → is_root F i ≡ true → agreed F i ≡ 
 root-is F i r = agreed-is F i ∙ rw r refl
 
 -- the same with the record that was read
-pub parent-read : (X : Image) (i : ℕ) (r : Record) → inode X i ≡ r → (inode X i).kind ≡ Some Folder → (k : ℕ) (d : BackLink) → position (λ link. is_pair (files_in X) i link) r.links ≡ Some k
+pub parent-read : (X : Image) (i : ℕ) (r : Record) → inode X i ≡ r → (inode X i).kind ≡ Some Folder → (k : ℕ) (d : BackLink)
+    → position (λ link. is_pair (files_in X) i link) r.links ≡ Some k
     → IsParent X i (get_or r.links k d).directory
-parent-read X i r same folder k d = subst (λ (q : Record). position (λ link. is_pair (files_in X) i link) q.links ≡ Some k → IsParent X i (get_or q.links k d).directory) same (parent-is X i folder k d)
+parent-read X i r same folder k d = subst (λ (q : Record). position (λ link. is_pair (files_in X) i link) q.links ≡ Some k
+    → IsParent X i (get_or q.links k d).directory) same (parent-is X i folder k d)
 
-pub no-parent-read : (X : Image) (i : ℕ) (r : Record) → inode X i ≡ r → (inode X i).kind ≡ Some Folder → position (λ link. is_pair (files_in X) i link) r.links ≡ None → has_agreed_link (files_in X) i ≡ false
-no-parent-read X i r same folder = subst (λ (q : Record). position (λ link. is_pair (files_in X) i link) q.links ≡ None → has_agreed_link (files_in X) i ≡ false) same (no-parent X i folder)
+pub no-parent-read : (X : Image) (i : ℕ) (r : Record) → inode X i ≡ r → (inode X i).kind ≡ Some Folder
+    → position (λ link. is_pair (files_in X) i link) r.links ≡ None → has_agreed_link (files_in X) i ≡ false
+no-parent-read X i r same folder = subst (λ (q : Record). position (λ link. is_pair (files_in X) i link) q.links ≡ None
+    → has_agreed_link (files_in X) i ≡ false) same (no-parent X i folder)
 
 pairs-unlive : (d : Option FileState) (i : ℕ) (l : BackLink) → pairs None d i l ≡ false
 pairs-unlive d i l = refl
 
 -- the back links of a record decide, live or not
-pub any-links : (X : Image) (i : ℕ) (r : Record) → inode X i ≡ r → list_any (λ l. is_pair (files_in X) i l && agreed (files_in X) l.directory) r.links ≡ has_agreed_link (files_in X) i
-any-links X i r same = ap (λ (q : Record). list_any (λ l. is_pair (files_in X) i l && agreed (files_in X) l.directory) q.links) (sym same) ∙ go (inode X i).kind refl
+pub any-links : (X : Image) (i : ℕ) (r : Record) → inode X i ≡ r
+    → list_any (λ l. is_pair (files_in X) i l && agreed (files_in X) l.directory) r.links ≡ has_agreed_link (files_in X) i
+any-links X i r same = ap (λ (q : Record). list_any (λ l. is_pair (files_in X) i l && agreed (files_in X) l.directory) q.links) (sym same)
+    ∙ go (inode X i).kind refl
   where
-    go : (k : Option FileKind) → (inode X i).kind ≡ k → list_any (λ l. is_pair (files_in X) i l && agreed (files_in X) l.directory) (inode X i).links ≡ has_agreed_link (files_in X) i
+    go : (k : Option FileKind) → (inode X i).kind ≡ k → list_any (λ l. is_pair (files_in X) i l && agreed (files_in X) l.directory)
+        (inode X i).links ≡ has_agreed_link (files_in X) i
     go None e =
         let none : files_in X i ≡ None = ap (file_from X i) e in
         let off : (l : BackLink) → (is_pair (files_in X) i l && agreed (files_in X) l.directory) ≡ false =
         λ l. ap (λ (o : Option FileState). pairs o (files_in X l.directory) i l && agreed (files_in X) l.directory) none in
         list_any_none (λ l. is_pair (files_in X) i l && agreed (files_in X) l.directory) (inode X i).links (λ k d lt. off (get_or (inode X i).links k d))
         ∙ sym (ap (λ (o : Option FileState). list_any (λ l. is_pair (files_in X) i l && agreed (files_in X) l.directory) (links_in_file o)) none)
-    go (Some kind) e = sym (ap (λ (o : Option FileState). list_any (λ l. is_pair (files_in X) i l && agreed (files_in X) l.directory) (links_in_file o)) (ap (file_from X i) e))
+    go (Some kind) e = sym (ap (λ (o : Option FileState). list_any (λ l. is_pair (files_in X) i l && agreed (files_in X) l.directory) (links_in_file o))
+        (ap (file_from X i) e))

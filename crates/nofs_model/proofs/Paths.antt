@@ -1,5 +1,6 @@
 -- The numbers of slots, and which slot lies above which.
-use Rattle.std.proofs.Common.{◌≡◌, ℕ, ◌+◌, ◌-◌, ◌*◌, ◌^◌, ◌<◌, ◌≤◌, ◌⊎◌, inl, inr, Bool, true, false, leb, ltb, ◌&&◌, refl, sym, subst, arith, leb-true, ltb-true, lt-ltb, le-ltb, le-leb}
+use Rattle.std.proofs.Common.{◌≡◌, ℕ, ◌+◌, ◌-◌, ◌*◌, ◌^◌, ◌<◌, ◌≤◌, ◌⊎◌, inl, inr, Bool, true, false, leb, ltb, ◌&&◌, refl, sym, subst, arith, leb-true}
+use Rattle.std.proofs.Common.{ltb-true, lt-ltb, le-ltb, le-leb}
 use Rattle.std.proofs.lemmas.Bool.{cases_lt, false≢true}
 use Rattle.std.proofs.lemmas.Bool.Decides.{nat_tests}
 pub use Rattle.nofs_ptrs.specs.PathLaws.{path-direct, path-leaf, path-far, path_of-slot_of, slot_of-path_of, slot_of-path_of-node, path_of-slot}

@@ -14,10 +14,14 @@ if-some P Q (Some x) f h = f x h
 
 pub tag-below : (a b : ℕ) (c : Cell) → a ≤ b → TagBelow a c → TagBelow b c
 tag-below a b c le h = record {
-  own = if-some (λ t. (t.generation < a) × (t.stamp < a)) (λ t. (t.generation < b) × (t.stamp < b)) (tag_of c.tag) (λ t p. let x = p.0 in let y = p.1 in (omega (arith, x, le), omega (arith, y, le))) h.own;
-  entries = if-some (λ t. t.kind ≡ Directory → (j : ℕ) → j < 16 → IfSome (entry_in c.payload j) (λ e. e.generation < a)) (λ t. t.kind ≡ Directory → (j : ℕ) → j < 16 → IfSome (entry_in c.payload j) (λ e. e.generation < b)) (tag_of c.tag)
-      (λ t f k j lt. if-some (λ (e : Entry). e.generation < a) (λ (e : Entry). e.generation < b) (entry_in c.payload j) (λ e p. omega (arith, p, le)) (f k j lt)) h.entries;
-  pointers = if-some (λ t. t.kind ≡ Leaf → (j : ℕ) → j < 64 → (pointer_at c.payload j).stamp < a) (λ t. t.kind ≡ Leaf → (j : ℕ) → j < 64 → (pointer_at c.payload j).stamp < b) (tag_of c.tag)
+  own = if-some (λ t. (t.generation < a) × (t.stamp < a)) (λ t. (t.generation < b) × (t.stamp < b)) (tag_of c.tag) (λ t p. let x = p.0 in let y =
+      p.1 in (omega (arith, x, le), omega (arith, y, le))) h.own;
+  entries = if-some (λ t. t.kind ≡ Directory → (j : ℕ) → j < 16 → IfSome (entry_in c.payload j) (λ e. e.generation < a)) (λ t. t.kind ≡ Directory → (j : ℕ)
+      → j < 16 → IfSome (entry_in c.payload j) (λ e. e.generation < b)) (tag_of c.tag)
+      (λ t f k j lt. if-some (λ (e : Entry). e.generation < a) (λ (e : Entry). e.generation < b) (entry_in c.payload j) (λ e p. omega (arith, p, le))
+      (f k j lt)) h.entries;
+  pointers = if-some (λ t. t.kind ≡ Leaf → (j : ℕ) → j < 64 → (pointer_at c.payload j).stamp < a) (λ t. t.kind ≡ Leaf → (j : ℕ) → j < 64
+      → (pointer_at c.payload j).stamp < b) (tag_of c.tag)
       (λ t f k j lt. let p = f k j lt in omega (arith, p, le)) h.pointers;
 }
 
@@ -57,7 +61,8 @@ law-sound bound X Y may mountable mount le all len first picks =
       mount = subst (λ (n : ℕ). n < 2 ^ 24) (ap (λ (q : SuperBlock). q.mount) (sym e)) mount;
       below = λ b lt.
           let ltx : b < (super_at X).blocks = subst (λ (n : ℕ). b < n) (ap (λ (q : SuperBlock). q.blocks) e) lt in
-          let fits : (super_at X).blocks ≤ length X = (geometry-fits (length X) (super_at X).blocks (super_at X).inodes (and-both (is_super (cell_at X 0).payload) (is_geometry (length X) (super_at X).blocks (super_at X).inodes) mountable).1).0 in
+          let fits : (super_at X).blocks ≤ length X = (geometry-fits (length X) (super_at X).blocks (super_at X).inodes
+          (and-both (is_super (cell_at X 0).payload) (is_geometry (length X) (super_at X).blocks (super_at X).inodes) mountable).1).0 in
           let lty : b < length Y = omega (arith, ltx, fits, len) in
           let c = all b ltx (cell_at Y b) (picks b lty) in
           let le' : bound ≤ ((super_at Y).mount + 1) * 2 ^ 40 = subst (λ (n : ℕ). bound ≤ (n + 1) * 2 ^ 40) (ap (λ (q : SuperBlock). q.mount) (sym e)) le in

@@ -13,7 +13,8 @@ use Rattle.nofs_model.specs.Image.{super_in}
 abbrev pub z : ℕ → List ℕ
 z n = replicate n 0
 
-tag_vector : tag_of (1 ∷ 0 ∷ 0 ∷ 0 ∷ 2 ∷ 0 ∷ 0 ∷ 0 ∷ 2 ∷ z 7 ++ z 8 ++ z 5 ++ 1 ∷ 0 ∷ 0 ∷ []) ≡ Some (record { kind = Content; inode = 2; generation = 2; slot = 0; stamp = 2 ^ 40 })
+tag_vector : tag_of (1 ∷ 0 ∷ 0 ∷ 0 ∷ 2 ∷ 0 ∷ 0 ∷ 0 ∷ 2 ∷ z 7 ++ z 8 ++ z 5 ++ 1 ∷ 0 ∷ 0 ∷ []) ≡ Some
+    (record { kind = Content; inode = 2; generation = 2; slot = 0; stamp = 2 ^ 40 })
 unfolding tag_of number_at
 tag_vector = refl
 
@@ -21,7 +22,17 @@ pointer_vector : pointer_in 0 (5 ∷ z 7 ++ 9 ∷ z 4 ++ 1 ∷ 0 ∷ 0 ∷ []) �
 unfolding pointer_in number_at
 pointer_vector = refl
 
-record_vector : record_of 0 (2 ∷ z 7 ++ 1 ∷ z 3 ++ z 4 ++ 3 ∷ z 7 ++ z 8 ++ z 224) ≡ Some (record { generation = 2; kind = Some File; links = no_link ∷ no_link ∷ no_link ∷ no_link ∷ []; size = 3; direct = null ∷ null ∷ null ∷ null ∷ null ∷ null ∷ null ∷ null ∷ []; leaf = null; top = null })
+record_vector : record_of 0 (2 ∷ z 7 ++ 1 ∷ z 3 ++ z 4 ++ 3 ∷ z 7 ++ z 8 ++ z 224) ≡ Some
+    (record {
+      generation = 2;
+      kind = Some File;
+      links = no_link ∷ no_link ∷ no_link ∷ no_link ∷ [];
+      size = 3;
+      direct =
+          null ∷ null ∷ null ∷ null ∷ null ∷ null ∷ null ∷ null ∷ [];
+      leaf = null;
+      top = null;
+    })
 unfolding record_of record_at pointer_at number_at pointer_in link_in fields_in
 record_vector = refl
 
@@ -65,9 +76,11 @@ unfolding super_at super_in inode record_of record_at pointer_at tag_of slot_of 
 lost = refl
 
 named : agreed (files_in (image 2)) 3 ≡ true
-unfolding super_at super_in inode record_of record_at pointer_at tag_of slot_of path_of agreed entry_of entry_fields is_name number_at pointer_in link_in fields_in
+unfolding super_at super_in inode record_of record_at pointer_at tag_of slot_of path_of agreed entry_of entry_fields is_name number_at pointer_in link_in
+    fields_in
 named = refl
 
 owned : owner (image 2) 7 ≡ Some (home_at 3 0)
-unfolding super_at super_in inode record_of record_at pointer_at tag_of slot_of path_of agreed entry_of entry_fields is_name owner number_at pointer_in link_in fields_in
+unfolding super_at super_in inode record_of record_at pointer_at tag_of slot_of path_of agreed entry_of entry_fields is_name owner number_at pointer_in
+    link_in fields_in
 owned = refl

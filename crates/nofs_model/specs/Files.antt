@@ -1,7 +1,8 @@
 -- Files, the entries of directories, and which inodes are agreed.
 --
 -- What an image says of inodes is a function from inodes to files, without blocks and stamps: the machine has one, too.
-use Rattle.std.specs.Prelude.{◌≡◌, ℕ, zero, suc, ◌/◌, ◌%◌, ◌<◌, Bool, true, false, ◌&&◌, ◌||◌, not, List, [], Option, Some, None, if◌then◌else◌, nat_lt, ◌==◌, Contains}
+use Rattle.std.specs.Prelude.{◌≡◌, ℕ, zero, suc, ◌/◌, ◌%◌, ◌<◌, Bool, true, false, ◌&&◌, ◌||◌, not, List, [], Option, Some, None, if◌then◌else◌, nat_lt, ◌==◌}
+use Rattle.std.specs.Prelude.{Contains}
 use Rattle.std.specs.List.{list_any}
 use Rattle.nofs_dirent.specs.Entries.{entry_limit}
 use Rattle.nofs_model.specs.Cells.{FileKind, BackLink, Record, Entry, entry_in}
@@ -38,7 +39,15 @@ Files = ℕ → Option FileState
 
 abbrev pub file_from : Image → ℕ → Option FileKind → Option FileState
 file_from X i None = None
-file_from X i (Some kind) = Some (record { generation = (inode X i).generation; kind = kind; size = (inode X i).size; links = (inode X i).links; values = value X i; nodes = λ path. node_in (find X i path) })
+file_from X i (Some kind) = Some (record {
+  generation = (inode X i).generation;
+  kind = kind;
+  size = (inode X i).size;
+  links = (inode X i).links;
+  values =
+      value X i;
+  nodes = λ path. node_in (find X i path);
+})
 
 -- the live inodes of an image
 abbrev pub files_in : Image → Files
@@ -78,7 +87,8 @@ is_a File g (Some f) = not (is_folder f.kind) && (f.generation == g)
 -- the back link of inode i, whose file stands first, leads to an entry of the directory that names it
 abbrev pub pairs : Option FileState → Option FileState → ℕ → BackLink → Bool
 pairs None d i link = false
-pairs (Some f) d i link = is_a Folder link.generation d && (names (entry_in_file d link.entry) i f.generation && (not (is_folder f.kind) || nat_lt link.generation f.generation))
+pairs (Some f) d i link = is_a Folder link.generation d && (names (entry_in_file d link.entry) i f.generation
+    && (not (is_folder f.kind) || nat_lt link.generation f.generation))
 
 abbrev pub is_pair : Files → ℕ → BackLink → Bool
 is_pair F i link = pairs (F i) (F link.directory) i link

@@ -20,7 +20,8 @@ pub record RecordBelow (bound : ℕ) (r : Record) : Type 0 where
 -- every generation and stamp in a cell of block b is below the bound. The image gives the numbers of blocks and inodes
 pub record CellBelow (bound : ℕ) (X : Image) (b : ℕ) (c : Cell) : Type 0 where
   pub tag : TagBelow bound c
-  pub records : (i : ℕ) → is_inode X i ≡ true → 1 + (i - 1) / 4 ≡ b → is_live (record_at c.payload ((i - 1) % 4)) ≡ true → RecordBelow bound (record_at c.payload ((i - 1) % 4))
+  pub records : (i : ℕ) → is_inode X i ≡ true → 1 + (i - 1) / 4 ≡ b → is_live (record_at c.payload ((i - 1) % 4)) ≡ true
+      → RecordBelow bound (record_at c.payload ((i - 1) % 4))
 
 -- every generation and stamp that the image names is below the bound
 abbrev pub IsBelow : ℕ → Image → Type 0
@@ -40,4 +41,5 @@ LawSound = (bound : ℕ) (X Y : Image) (may : ℕ → List Cell) → is_mountabl
 
 -- what a format leaves is sound, on a device of any size that it accepts
 abbrev pub LawFormatted : Type 0
-LawFormatted = (X : Image) (blocks inodes : ℕ) → IsGeometry (length X) blocks inodes → ((b : ℕ) → b < blocks → cell_at X b ≡ formatted_cell blocks inodes b) → IsSound X
+LawFormatted = (X : Image) (blocks inodes : ℕ) → IsGeometry (length X) blocks inodes → ((b : ℕ) → b < blocks → cell_at X b ≡ formatted_cell blocks inodes b)
+    → IsSound X

@@ -21,7 +21,8 @@ use Rattle.nofs_client.specs.declared.progress.See.TheVariants as see
 use Rattle.nofs_client.specs.declared.task.Task.TheVariants as task
 use Rattle.nofs_client.specs.Asks.{task_asks}
 use Rattle.nofs_client.specs.Answers.{task_after}
-use Rattle.nofs_client.specs.Drive.{fresh_progress, step_before_repeat, asks_beside, asks, goes_on, step_answered, examines_block, examines_inode, after_refused, after_step, after_see, after_beside, progress_after}
+use Rattle.nofs_client.specs.Drive.{fresh_progress, step_before_repeat, asks_beside, asks, goes_on, step_answered, examines_block, examines_inode}
+use Rattle.nofs_client.specs.Drive.{after_refused, after_step, after_see, after_beside, progress_after}
 use Rattle.nofs_client.specs.Runs.{Asked, made_reply}
 use Rattle.nofs_move.specs.Linked.{only_looks, is_idle}
 
@@ -43,30 +44,38 @@ looks-idle m s e looks = ap (λ b. b || (is_refused m.1 && not (is_write_fault m
 -- What the step m leads to, where the task asks for s: the same task again, the end by a refusal, or what is next
 pub data Leads (c : Command) (p next : Progress) (s : Step) (m : Made) : Type 0 where
   Again : is_idle m ≡ true → next.task ≡ p.task → Leads c p next s m
-  Stops : (is_idle m ≡ true) ⊎ (m.0 ≡ s) → (why : Refusal) → m.1 ≡ reply.Refused why → next ≡ fresh_progress (task.Ended (line.Refused why)) → Leads c p next s m
+  Stops : (is_idle m ≡ true) ⊎ (m.0 ≡ s) → (why : Refusal) → m.1 ≡ reply.Refused why → next ≡ fresh_progress (task.Ended (line.Refused why))
+      → Leads c p next s m
   Answered : m.0 ≡ s → is_refused m.1 ≡ false → next ≡ fresh_progress (task_after c p.task m.1) → Leads c p next s m
 
 module _ (from to : Path) where
-  refused-leads : (p : Progress) (s x : Step) → x ≡ s → ((why : Refusal) → task_after (command.Move from to) p.task (reply.Refused why) ≡ task.Ended (line.Refused why))
+  refused-leads : (p : Progress) (s x : Step) → x ≡ s → ((why : Refusal)
+      → task_after (command.Move from to) p.task (reply.Refused why) ≡ task.Ended (line.Refused why))
       → (why : Refusal) → Leads (command.Move from to) p (after_refused (command.Move from to) p why) s (x, reply.Refused why)
   refused-leads p s x e ends (refusal.Full needed free unverified next) = go (goes_on unverified p.full)
     where
-      go : (b : Bool) → Leads (command.Move from to) p (cond b (examines_block p unverified next) (step_answered (command.Move from to) p (reply.Refused (refusal.Full needed free unverified next)))) s (x, reply.Refused (refusal.Full needed free unverified next))
+      go : (b : Bool) → Leads (command.Move from to) p (cond b (examines_block p unverified next)
+          (step_answered (command.Move from to) p (reply.Refused (refusal.Full needed free unverified next)))) s
+          (x, reply.Refused (refusal.Full needed free unverified next))
       go true = Again (or-true (only_looks x)) refl
       go false = Stops (inr e) (refusal.Full needed free unverified next) refl (ap fresh_progress (ends (refusal.Full needed free unverified next)))
   refused-leads p s x e ends (refusal.InodesFull unverified next) = go (goes_on unverified p.inodes)
     where
-      go : (b : Bool) → Leads (command.Move from to) p (cond b (examines_inode p unverified next) (step_answered (command.Move from to) p (reply.Refused (refusal.InodesFull unverified next)))) s (x, reply.Refused (refusal.InodesFull unverified next))
+      go : (b : Bool) → Leads (command.Move from to) p (cond b (examines_inode p unverified next)
+          (step_answered (command.Move from to) p (reply.Refused (refusal.InodesFull unverified next)))) s
+          (x, reply.Refused (refusal.InodesFull unverified next))
       go true = Again (or-true (only_looks x)) refl
       go false = Stops (inr e) (refusal.InodesFull unverified next) refl (ap fresh_progress (ends (refusal.InodesFull unverified next)))
   refused-leads p s x e ends why = Stops (inr e) why refl (ap fresh_progress (ends why))
 
-  step-leads : (p : Progress) (s x : Step) (r : Reply) → x ≡ s → ((why : Refusal) → task_after (command.Move from to) p.task (reply.Refused why) ≡ task.Ended (line.Refused why))
+  step-leads : (p : Progress) (s x : Step) (r : Reply) → x ≡ s
+      → ((why : Refusal) → task_after (command.Move from to) p.task (reply.Refused why) ≡ task.Ended (line.Refused why))
       → Leads (command.Move from to) p (after_step (command.Move from to) p r) s (x, r)
   step-leads p s x (reply.Refused why) e ends = refused-leads p s x e ends why
   step-leads p s x r e ends = Answered e refl refl
 
-  see-leads : (p : Progress) (s x : Step) (r : Reply) → ((q : Reply) → is_idle (x, q) ≡ true) → Leads (command.Move from to) p (after_see (command.Move from to) p r) s (x, r)
+  see-leads : (p : Progress) (s x : Step) (r : Reply) → ((q : Reply) → is_idle (x, q) ≡ true)
+      → Leads (command.Move from to) p (after_see (command.Move from to) p r) s (x, r)
   see-leads p s x (reply.Refused why) idle = Stops (inl (idle (reply.Refused why))) why refl refl
   see-leads p s x r idle = Again (idle r) refl
 
@@ -86,7 +95,8 @@ module _ (from to : Path) where
   Says p ms = asks (command.Move from to) (fold (progress_after (command.Move from to)) p (map made_reply ms)) ≡ Say line.Moved
 
   -- nothing comes after the end
-  pub ended : (p : Progress) (l : Line) → p ≡ fresh_progress (task.Ended l) → (ms : List Made) → Asked (command.Move from to) p ms → (ms ≡ []) × (Says p ms → Say l ≡ Say line.Moved)
+  pub ended : (p : Progress) (l : Line) → p ≡ fresh_progress (task.Ended l) → (ms : List Made) → Asked (command.Move from to) p ms
+      → (ms ≡ []) × (Says p ms → Say l ≡ Say line.Moved)
   ended p l e [] asked = (refl, λ says. sym (ap (asks (command.Move from to)) e) ∙ says)
   ended p l e (m ∷ ms) asked = absurd (let z : Say l ≡ Do m.0 = sym (ap (asks (command.Move from to)) e) ∙ asked.0 in cc z)
 

@@ -1,5 +1,6 @@
 -- The entries of a move in a history are one of which the laws of paths speak.
-use Rattle.std.proofs.Common.{◌≡◌, ◌≢◌, ℕ, zero, suc, ◌+◌, ◌-◌, ◌<◌, ◌≤◌, inl, inr, Bool, true, false, eqb, List, [], ◌∷◌, ◌++◌, length, Some, refl, sym, ap, ◌∙◌, subst, arith, eqb-true, eq-eqb}
+use Rattle.std.proofs.Common.{◌≡◌, ◌≢◌, ℕ, zero, suc, ◌+◌, ◌-◌, ◌<◌, ◌≤◌, inl, inr, Bool, true, false, eqb, List, [], ◌∷◌, ◌++◌, length, Some, refl, sym, ap}
+use Rattle.std.proofs.Common.{◌∙◌, subst, arith, eqb-true, eq-eqb}
 use Rattle.std.specs.Prelude.{slice_get}
 use Rattle.std.proofs.lemmas.Bool.{cases_lt}
 use Rattle.std.proofs.lemmas.Option.{slice_get_within}
@@ -53,7 +54,8 @@ module _ (c : ℕ) (moves : Command) (made : List Made) (H : List Entry1) (run :
   by-end k m h = go (eqb k (length made - 1)) refl
     where
       go : (b : Bool) → eqb k (length made - 1) ≡ b → place_in c moves made H run k ≤ end_of c moves made H run
-      go true q = let e : place_in c moves made H run k ≡ end_of c moves made H run = ap (place_in c moves made H run) (eqb-true k (length made - 1) q) in omega (arith, e)
+      go true q = let e : place_in c moves made H run k ≡ end_of c moves made H run =
+          ap (place_in c moves made H run) (eqb-true k (length made - 1) q) in omega (arith, e)
       go false q =
           let apart : k ≢ length made - 1 = λ e. let z = eq-eqb k (length made - 1) e in cc (q, z) in
           let within = slice_get_within made k m h in
@@ -68,7 +70,8 @@ module _ (c : ℕ) (moves : Command) (made : List Made) (H : List Entry1) (run :
     pub place : place_in c moves made H run number ≡ p
     pub there : slice_get made number ≡ Some (done_of e)
 
-  pub between : (low p : ℕ) (m : Made) (e : Entry1) → slice_get made low ≡ Some m → place_in c moves made H run low < p → p ≤ end_of c moves made H run → slice_get H p ≡ Some e → e.caller ≡ c → Between low p e
+  pub between : (low p : ℕ) (m : Made) (e : Entry1) → slice_get made low ≡ Some m → place_in c moves made H run low < p → p ≤ end_of c moves made H run
+      → slice_get H p ≡ Some e → e.caller ≡ c → Between low p e
   between low p m e at above by there mine = go (own-step c H p e there mine)
     where
       go : OwnStep c H p e → Between low p e
@@ -82,7 +85,8 @@ module _ (c : ℕ) (moves : Command) (made : List Made) (H : List Entry1) (run :
           ] in
           let low' : o.number ≤ length run.front + (length made - 1) = elim (cases_lt (length run.front + (length made - 1)) o.number) [
             | inr le ↦ le
-            | inl lt ↦ absurd (let r = own-rises c H (length run.front + (length made - 1)) o.number lt (slice_get_within (steps_by c H) o.number (done_of e) o.there) in omega (arith, r, is, by))
+            | inl lt ↦ absurd (let r = own-rises c H (length run.front + (length made - 1)) o.number lt
+                (slice_get_within (steps_by c H) o.number (done_of e) o.there) in omega (arith, r, is, by))
           ] in
           let same : length run.front + (o.number - length run.front) ≡ o.number = omega (arith, high) in
           record {

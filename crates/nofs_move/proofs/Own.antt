@@ -22,7 +22,8 @@ own-entry c (e ∷ es) zero m at = go (is_by c e) refl (λ h. own-entry c es zer
     go false q more h = let o = more h in record { entry = o.entry; there = rw q o.there; own = o.own; is = o.is }
 own-entry c (e ∷ es) (suc k) m at = go (is_by c e) refl (λ h. own-entry c es k m h) (λ h. own-entry c es (suc k) m h) at
   where
-    go : (b : Bool) → is_by c e ≡ b → (slice_get (steps_by c es) k ≡ Some m → OwnEntry c es k m) → (slice_get (steps_by c es) (suc k) ≡ Some m → OwnEntry c es (suc k) m)
+    go : (b : Bool) → is_by c e ≡ b → (slice_get (steps_by c es) k ≡ Some m → OwnEntry c es k m)
+        → (slice_get (steps_by c es) (suc k) ≡ Some m → OwnEntry c es (suc k) m)
         → slice_get (map done_of (cond b (e ∷ filter (is_by c) es) (filter (is_by c) es))) (suc k) ≡ Some m → OwnEntry c (e ∷ es) (suc k) m
     go true q here more h = let o = here h in record { entry = o.entry; there = rw q o.there; own = o.own; is = o.is }
     go false q here more h = let o = more h in record { entry = o.entry; there = rw q o.there; own = o.own; is = o.is }
@@ -62,7 +63,8 @@ own-rises c (e ∷ es) zero (suc k) lt within = go (is_by c e) refl (λ h. own-r
 own-rises c (e ∷ es) (suc j) (suc k) lt within =
     go (is_by c e) refl (λ h. own-rises c es j k (omega (arith, lt)) h) (λ h. own-rises c es (suc j) (suc k) lt h) within
   where
-    go : (b : Bool) → is_by c e ≡ b → (k < length (steps_by c es) → own_place c es j < own_place c es k) → (suc k < length (steps_by c es) → own_place c es (suc j) < own_place c es (suc k))
+    go : (b : Bool) → is_by c e ≡ b → (k < length (steps_by c es) → own_place c es j < own_place c es k)
+        → (suc k < length (steps_by c es) → own_place c es (suc j) < own_place c es (suc k))
         → suc k < length (map done_of (cond b (e ∷ filter (is_by c) es) (filter (is_by c) es))) → own_place c (e ∷ es) (suc j) < own_place c (e ∷ es) (suc k)
     go true q here more h = rw q (let o = here (omega (arith, h)) in omega (arith, o))
     go false q here more h = rw q (let o = more h in omega (arith, o))

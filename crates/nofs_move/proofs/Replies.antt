@@ -5,8 +5,10 @@ use Rattle.nofs_model.specs.Image.{Files, FileState, entry_at}
 use Rattle.nofs_model.specs.declared.value.Value.{Value}
 use Rattle.nofs_model.specs.declared.value.Value.TheVariants.{Hole, Bytes, Lost}
 use Rattle.nofs_machine.specs.Search.{least_from}
-use Rattle.nofs_machine.specs.Machine.{Given, nothing, gives, found, given_by, is_refused, is_write_fault, may_give, generation_of, link_to, value_of, is_hole, is_lost}
-use Rattle.nofs_machine.specs.Answers.{found_file, found_entry, found_reply, dropped_entry, dropped_reply, lines_in_slot, listed_reply, got_reply, stat_file, reply_of}
+use Rattle.nofs_machine.specs.Machine.{Given, nothing, gives, found, given_by, is_refused, is_write_fault, may_give, generation_of, link_to, value_of}
+use Rattle.nofs_machine.specs.Machine.{is_hole, is_lost}
+use Rattle.nofs_machine.specs.Answers.{found_file, found_entry, found_reply, dropped_entry, dropped_reply, lines_in_slot, listed_reply, got_reply, stat_file}
+use Rattle.nofs_machine.specs.Answers.{reply_of}
 use Rattle.nofs_machine.specs.World.{World}
 use Rattle.nofs_machine.specs.Next.{Next}
 use Rattle.nofs_machine.specs.declared.history.Claims.{Claims}
@@ -98,7 +100,8 @@ idle-gives F e idle = go (only_looks e.step) refl (is_refused e.reply) refl (is_
 
     go : (a : Bool) → only_looks e.step ≡ a → (b : Bool) → is_refused e.reply ≡ b → (c : Bool) → is_write_fault e.reply ≡ c → given_by F e ≡ nothing
     go true qa b qb c qc = ap (λ (x : Given). cond (may_give e.reply) x nothing) (looks-give F e.step e.claims qa) ∙ same (may_give e.reply)
-    go false qa true qb false qc = ap (λ b. cond b (gives F e.step e.claims) nothing) (let z : not (is_refused e.reply) || is_write_fault e.reply ≡ false = rw (qb, qc) refl in z)
+    go false qa true qb false qc = ap (λ b. cond b (gives F e.step e.claims) nothing) (let z : not (is_refused e.reply) || is_write_fault e.reply ≡ false =
+        rw (qb, qc) refl in z)
     go false qa true qb true qc = absurd (let z : is_idle (done_of e) ≡ false = rw (qa, qb, qc) refl in cc (z, idle))
     go false qa false qb c qc = absurd (let z : is_idle (done_of e) ≡ false = rw (qa, qb) refl in cc (z, idle))
 

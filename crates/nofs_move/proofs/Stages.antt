@@ -64,7 +64,9 @@ same-head x m ms h = cc h
 unlike : (j : ℕ) {k : ℕ} → suc k ≢ suc j → k ≢ j
 unlike j n e = n (ap suc e)
 
-later : (x : Made) (ms : List Made) → is_idle x ≡ true → (P : ℕ → Made → Type 0) → ((k : ℕ) (m : Made) → slice_get ms k ≡ Some m → P (suc k) m → is_idle m ≡ true) → (k : ℕ) (m : Made) → slice_get (x ∷ ms) k ≡ Some m → P k m → is_idle m ≡ true
+later : (x : Made) (ms : List Made) → is_idle x ≡ true → (P : ℕ → Made → Type 0)
+    → ((k : ℕ) (m : Made) → slice_get ms k ≡ Some m → P (suc k) m → is_idle m ≡ true) → (k : ℕ) (m : Made) → slice_get (x ∷ ms) k ≡ Some m → P k m
+    → is_idle m ≡ true
 later x ms idle P rest zero m h p = ap is_idle (sym (same-head x m ms h)) ∙ idle
 later x ms idle P rest (suc k) m h p = rest k m h p
 
@@ -89,7 +91,8 @@ module _ (S : Type 0) (D : Step) where
   pub record Flushing (F : Step) (ms : List Made) : Type 0 where
     pub second : ℕ
     pub drop : ℕ
-    pub ends : ((drop ≡ length ms) × (S → ⊥)) ⊎ ((second < drop) × (slice_get ms second ≡ Some (F, reply.Flushed)) × (r : Reply) × (slice_get ms drop ≡ Some (D, r)))
+    pub ends : ((drop ≡ length ms) × (S → ⊥)) ⊎ ((second < drop) × (slice_get ms second ≡ Some (F, reply.Flushed)) × (r : Reply) ×
+        (slice_get ms drop ≡ Some (D, r)))
     pub idle : (k : ℕ) (m : Made) → slice_get ms k ≡ Some m → k ≢ drop → is_idle m ≡ true
 
   pub no-flush : (F : Step) → (S → ⊥) → Flushing F []
@@ -117,7 +120,8 @@ module _ (S : Type 0) (D : Step) where
     pub second : ℕ
     pub drop : ℕ
     pub linked : slice_get ms link ≡ Some (L, reply.Linked)
-    pub ends : ((drop ≡ length ms) × (S → ⊥)) ⊎ ((link < second) × (second < drop) × (slice_get ms second ≡ Some (F, reply.Flushed)) × (r : Reply) × (slice_get ms drop ≡ Some (D, r)))
+    pub ends : ((drop ≡ length ms) × (S → ⊥)) ⊎ ((link < second) × (second < drop) × (slice_get ms second ≡ Some (F, reply.Flushed)) × (r : Reply) ×
+        (slice_get ms drop ≡ Some (D, r)))
     pub idle : (k : ℕ) (m : Made) → slice_get ms k ≡ Some m → (k ≢ link) × (k ≢ drop) → is_idle m ≡ true
 
   pub more-linking : (F L : Step) (x : Made) (ms : List Made) → is_idle x ≡ true → Linking F L ms → Linking F L (x ∷ ms)
@@ -153,7 +157,8 @@ module _ (S : Type 0) (D : Step) where
     pub flushed : slice_get ms flush ≡ Some (F, reply.Flushed)
     pub link_after : flush < link
     pub linked : slice_get ms link ≡ Some (L, reply.Linked)
-    pub ends : ((drop ≡ length ms) × (S → ⊥)) ⊎ ((link < second) × (second < drop) × (slice_get ms second ≡ Some (F, reply.Flushed)) × (r : Reply) × (slice_get ms drop ≡ Some (D, r)))
+    pub ends : ((drop ≡ length ms) × (S → ⊥)) ⊎ ((link < second) × (second < drop) × (slice_get ms second ≡ Some (F, reply.Flushed)) × (r : Reply) ×
+        (slice_get ms drop ≡ Some (D, r)))
     pub idle : (k : ℕ) (m : Made) → slice_get ms k ≡ Some m → (k ≢ link) × (k ≢ drop) → is_idle m ≡ true
 
   pub more-moving : (F L : Step) (x : Made) (ms : List Made) → is_idle x ≡ true → Moving F L ms → Moving F L (x ∷ ms)

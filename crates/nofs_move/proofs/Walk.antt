@@ -23,7 +23,9 @@ use Rattle.nofs_client.specs.Drive.{fresh_progress, progress_after}
 use Rattle.nofs_client.specs.Runs.{Asked}
 use Rattle.nofs_move.specs.Linked.{is_idle}
 use Rattle.nofs_move.proofs.Driver.{looks-idle, Again, Stops, Answered, leads, Says, ended, unsaid, none-in}
-use Rattle.nofs_move.proofs.Stages.{Told, AllTold, AnsweredLinked, idle-unlinked, told-flush, told-link, same-head, Dropping, no-drop, more-dropping, Flushing, no-flush, more-flushing, flushed-dropping, Linking, more-linking, linked-flushing, Moving, more-moving, flushed-linking}
+use Rattle.nofs_move.proofs.Stages.{Told, AllTold, AnsweredLinked, idle-unlinked, told-flush, told-link, same-head, Dropping, no-drop, more-dropping}
+use Rattle.nofs_move.proofs.Stages.{Flushing, no-flush, more-flushing, flushed-dropping, Linking, more-linking, linked-flushing, Moving, more-moving}
+use Rattle.nofs_move.proofs.Stages.{flushed-linking}
 
 -- the steps after the first
 pub after-told : (x : Made) (ms : List Made) → AllTold (x ∷ ms) → AllTold ms
@@ -38,23 +40,28 @@ module _ (from to : Path) where
   Goes p ms = AnsweredLinked ms ⊎ Says from to p ms
 
   -- a step that changed nothing was not the one
-  pub passes : (x : Made) (ms : List Made) (p : Progress) → AllTold (x ∷ ms) → is_idle x ≡ true → Goes p (x ∷ ms) → Goes (progress_after (command.Move from to) p x.1) ms
+  pub passes : (x : Made) (ms : List Made) (p : Progress) → AllTold (x ∷ ms) → is_idle x ≡ true → Goes p (x ∷ ms)
+      → Goes (progress_after (command.Move from to) p x.1) ms
   passes x ms p told idle (inr says) = inr says
-  passes x ms p told idle (inl (zero, s, h)) = absurd (idle-unlinked x.0 x.1 (first-told x ms told) idle (ap (λ (m : Made). m.1) (same-head x (s, reply.Linked) ms h)))
+  passes x ms p told idle (inl (zero, s, h)) = absurd (idle-unlinked x.0 x.1 (first-told x ms told) idle
+      (ap (λ (m : Made). m.1) (same-head x (s, reply.Linked) ms h)))
   passes x ms p told idle (inl (suc k, s, h)) = inl (k, s, h)
 
   -- nor was one with another reply
-  pub passes-other : (x : Made) (ms : List Made) (p : Progress) → (x.1 ≡ reply.Linked → ⊥) → Goes p (x ∷ ms) → Goes (progress_after (command.Move from to) p x.1) ms
+  pub passes-other : (x : Made) (ms : List Made) (p : Progress) → (x.1 ≡ reply.Linked → ⊥) → Goes p (x ∷ ms)
+      → Goes (progress_after (command.Move from to) p x.1) ms
   passes-other x ms p other (inr says) = inr says
   passes-other x ms p other (inl (zero, s, h)) = absurd (other (ap (λ (m : Made). m.1) (same-head x (s, reply.Linked) ms h)))
   passes-other x ms p other (inl (suc k, s, h)) = inl (k, s, h)
 
   -- a move that was refused has not linked after that
-  pub refused-ends : (p : Progress) (why : Refusal) → p ≡ fresh_progress (task.Ended (line.Refused why)) → (ms : List Made) → Asked (command.Move from to) p ms → Goes p ms → ⊥
+  pub refused-ends : (p : Progress) (why : Refusal) → p ≡ fresh_progress (task.Ended (line.Refused why)) → (ms : List Made)
+      → Asked (command.Move from to) p ms → Goes p ms → ⊥
   refused-ends p why e ms asked (inl (k, s, h)) = none-in ms k (s, reply.Linked) (ended from to p (line.Refused why) e ms asked).0 h
   refused-ends p why e ms asked (inr says) = let z = (ended from to p (line.Refused why) e ms asked).1 says in cc z
 
-  unsaid-refused : (p : Progress) (why : Refusal) → p ≡ fresh_progress (task.Ended (line.Refused why)) → (ms : List Made) → Asked (command.Move from to) p ms → Says from to p ms → ⊥
+  unsaid-refused : (p : Progress) (why : Refusal) → p ≡ fresh_progress (task.Ended (line.Refused why)) → (ms : List Made) → Asked (command.Move from to) p ms
+      → Says from to p ms → ⊥
   unsaid-refused p why e ms asked says = let z = (ended from to p (line.Refused why) e ms asked).1 says in cc z
 
   pub not-linked : (r : Reply) (why : Refusal) → r ≡ reply.Refused why → r ≡ reply.Linked → ⊥
@@ -82,16 +89,24 @@ module _ (from to : Path) where
     undropped : (x : Made) (ms : List Made) (S : Type 0) → ms ≡ [] → is_idle x ≡ true → (S → ⊥) → Dropping S drop-step (x ∷ ms)
     undropped x ms S none idle not_said = more-dropping S drop-step x ms idle (subst (λ l. Dropping S drop-step l) (sym none) (no-drop S drop-step not_said))
 
-    dropping : (ms : List Made) (p : Progress) → p.task ≡ task.Linking place into stage.Drop → Asked (command.Move from to) p ms → Dropping (Says from to p ms) drop-step ms
+    dropping : (ms : List Made) (p : Progress) → p.task ≡ task.Linking place into stage.Drop → Asked (command.Move from to) p ms
+        → Dropping (Says from to p ms) drop-step ms
     dropping [] p t asked = no-drop (Says from to p []) drop-step (λ says. unsaid from to p drop-step line.Moved (ap (task_asks (command.Move from to)) t) says)
     dropping (x ∷ ms) p t asked =
-        elim (leads from to p drop-step x (ap (task_asks (command.Move from to)) t) (λ why. ap (λ t. task_after (command.Move from to) t (reply.Refused why)) t) asked.0) [
-          | Again idle same ↦ more-dropping (Says from to p (x ∷ ms)) drop-step x ms idle (dropping ms (progress_after (command.Move from to) p x.1) (same ∙ t) asked.1)
+        elim (leads from to p drop-step x (ap (task_asks (command.Move from to)) t)
+        (λ why. ap (λ t. task_after (command.Move from to) t (reply.Refused why)) t) asked.0) [
+          | Again idle same ↦ more-dropping (Says from to p (x ∷ ms)) drop-step x ms idle
+              (dropping ms (progress_after (command.Move from to) p x.1) (same ∙ t) asked.1)
           | Stops by why r e ↦
               let end = ended from to (progress_after (command.Move from to) p x.1) (line.Refused why) e ms asked.1 in
-              elim by [ inl idle ↦ undropped x ms (Says from to p (x ∷ ms)) end.0 idle (λ says. let z = end.1 says in cc z) | inr is ↦ dropped x ms (Says from to p (x ∷ ms)) end.0 is ]
+              elim by [
+                | inl idle ↦ undropped x ms (Says from to p (x ∷ ms)) end.0 idle (λ says. let z = end.1 says in cc z)
+                | inr is ↦ dropped x ms
+                    (Says from to p (x ∷ ms)) end.0 is
+              ]
           | Answered is ok e ↦
-              let end = ended from to (progress_after (command.Move from to) p x.1) line.Moved (e ∙ ap fresh_progress (ap (λ t. task_after (command.Move from to) t x.1) t ∙ moved x.1 ok)) ms asked.1 in
+              let end = ended from to (progress_after (command.Move from to) p x.1) line.Moved
+              (e ∙ ap fresh_progress (ap (λ t. task_after (command.Move from to) t x.1) t ∙ moved x.1 ok)) ms asked.1 in
               dropped x ms (Says from to p (x ∷ ms)) end.0 is
         ]
       where
@@ -99,52 +114,67 @@ module _ (from to : Path) where
         moved (reply.Refused why) ok = cc ok
         moved _ ok = refl
 
-    flushing : (ms : List Made) (p : Progress) → p.task ≡ task.Linking place into stage.FlushAgain → AllTold ms → Asked (command.Move from to) p ms → Flushing (Says from to p ms) drop-step flush-step ms
-    flushing [] p t told asked = no-flush (Says from to p []) drop-step flush-step (λ says. unsaid from to p flush-step line.Moved (ap (task_asks (command.Move from to)) t) says)
+    flushing : (ms : List Made) (p : Progress) → p.task ≡ task.Linking place into stage.FlushAgain → AllTold ms → Asked (command.Move from to) p ms
+        → Flushing (Says from to p ms) drop-step flush-step ms
+    flushing [] p t told asked = no-flush (Says from to p []) drop-step flush-step
+        (λ says. unsaid from to p flush-step line.Moved (ap (task_asks (command.Move from to)) t) says)
     flushing (x ∷ ms) p t told asked =
-        elim (leads from to p flush-step x (ap (task_asks (command.Move from to)) t) (λ why. ap (λ t. task_after (command.Move from to) t (reply.Refused why)) t) asked.0) [
-          | Again idle same ↦ more-flushing (Says from to p (x ∷ ms)) drop-step flush-step x ms idle (flushing ms (progress_after (command.Move from to) p x.1) (same ∙ t) (after-told x ms told) asked.1)
+        elim (leads from to p flush-step x (ap (task_asks (command.Move from to)) t)
+        (λ why. ap (λ t. task_after (command.Move from to) t (reply.Refused why)) t) asked.0) [
+          | Again idle same ↦ more-flushing (Says from to p (x ∷ ms)) drop-step flush-step x ms idle
+              (flushing ms (progress_after (command.Move from to) p x.1) (same ∙ t) (after-told x ms told) asked.1)
           | Stops by why r e ↦
               let end = ended from to (progress_after (command.Move from to) p x.1) (line.Refused why) e ms asked.1 in
               more-flushing (Says from to p (x ∷ ms)) drop-step flush-step x ms (elim by [ inl idle ↦ idle | inr is ↦ looks-idle x flush-step is refl ])
-              (subst (λ l. Flushing (Says from to p (x ∷ ms)) drop-step flush-step l) (sym end.0) (no-flush (Says from to p (x ∷ ms)) drop-step flush-step (λ says. let z = end.1 says in cc z)))
+              (subst (λ l. Flushing (Says from to p (x ∷ ms)) drop-step flush-step l) (sym end.0)
+              (no-flush (Says from to p (x ∷ ms)) drop-step flush-step (λ says. let z = end.1 says in cc z)))
           | Answered is ok e ↦
               let answer = told-flush place.found.inode place.found.generation x.1 (subst (λ s. Told s x.1) is (first-told x ms told)) ok in
               flushed-dropping (Says from to p (x ∷ ms)) drop-step flush-step x ms (looks-idle x flush-step is refl) (λ j. (is j, answer j))
               (dropping ms (progress_after (command.Move from to) p x.1)
-              (ap (λ (q : Progress). q.task) e ∙ ap (λ t. task_after (command.Move from to) t x.1) t ∙ ap (λ r. task_after (command.Move from to) (task.Linking place into stage.FlushAgain) r) answer) asked.1)
+              (ap (λ (q : Progress). q.task) e ∙ ap (λ t. task_after (command.Move from to) t x.1) t
+              ∙ ap (λ r. task_after (command.Move from to) (task.Linking place into stage.FlushAgain) r) answer) asked.1)
         ]
 
-    linking : (ms : List Made) (p : Progress) → p.task ≡ task.Linking place into stage.Link → AllTold ms → Asked (command.Move from to) p ms → Goes p ms → Linking (Says from to p ms) drop-step flush-step link-it ms
+    linking : (ms : List Made) (p : Progress) → p.task ≡ task.Linking place into stage.Link → AllTold ms → Asked (command.Move from to) p ms → Goes p ms
+        → Linking (Says from to p ms) drop-step flush-step link-it ms
     linking [] p t told asked (inl (k, s, h)) = absurd (none-in [] k (s, reply.Linked) refl h)
     linking [] p t told asked (inr says) = absurd (unsaid from to p link-it line.Moved (ap (task_asks (command.Move from to)) t) says)
     linking (x ∷ ms) p t told asked goes =
-        elim (leads from to p link-it x (ap (task_asks (command.Move from to)) t) (λ why. ap (λ t. task_after (command.Move from to) t (reply.Refused why)) t) asked.0) [
+        elim (leads from to p link-it x (ap (task_asks (command.Move from to)) t)
+        (λ why. ap (λ t. task_after (command.Move from to) t (reply.Refused why)) t) asked.0) [
           | Again idle same ↦
               more-linking (Says from to p (x ∷ ms)) drop-step flush-step link-it x ms idle
               (linking ms (progress_after (command.Move from to) p x.1) (same ∙ t) (after-told x ms told) asked.1 (passes x ms p told idle goes))
-          | Stops by why r e ↦ absurd (refused-ends (progress_after (command.Move from to) p x.1) why e ms asked.1 (passes-other x ms p (not-linked x.1 why r) goes))
+          | Stops by why r e ↦ absurd (refused-ends (progress_after (command.Move from to) p x.1) why e ms asked.1
+              (passes-other x ms p (not-linked x.1 why r) goes))
           | Answered is ok e ↦
-              let answer = told-link into.inode into.generation (last_name to) place.found.inode place.found.generation x.1 (subst (λ s. Told s x.1) is (first-told x ms told)) ok in
+              let answer = told-link into.inode into.generation (last_name to) place.found.inode place.found.generation x.1
+              (subst (λ s. Told s x.1) is (first-told x ms told)) ok in
               linked-flushing (Says from to p (x ∷ ms)) drop-step flush-step link-it x ms (λ j. (is j, answer j))
               (flushing ms (progress_after (command.Move from to) p x.1)
-              (ap (λ (q : Progress). q.task) e ∙ ap (λ t. task_after (command.Move from to) t x.1) t ∙ ap (λ r. task_after (command.Move from to) (task.Linking place into stage.Link) r) answer) (after-told x ms told) asked.1)
+              (ap (λ (q : Progress). q.task) e ∙ ap (λ t. task_after (command.Move from to) t x.1) t
+              ∙ ap (λ r. task_after (command.Move from to) (task.Linking place into stage.Link) r) answer) (after-told x ms told) asked.1)
         ]
 
-    pub moving : (ms : List Made) (p : Progress) → p.task ≡ task.Linking place into stage.Flush → AllTold ms → Asked (command.Move from to) p ms → Goes p ms → Moving (Says from to p ms) drop-step flush-step link-it ms
+    pub moving : (ms : List Made) (p : Progress) → p.task ≡ task.Linking place into stage.Flush → AllTold ms → Asked (command.Move from to) p ms → Goes p ms
+        → Moving (Says from to p ms) drop-step flush-step link-it ms
     moving [] p t told asked (inl (k, s, h)) = absurd (none-in [] k (s, reply.Linked) refl h)
     moving [] p t told asked (inr says) = absurd (unsaid from to p flush-step line.Moved (ap (task_asks (command.Move from to)) t) says)
     moving (x ∷ ms) p t told asked goes =
-        elim (leads from to p flush-step x (ap (task_asks (command.Move from to)) t) (λ why. ap (λ t. task_after (command.Move from to) t (reply.Refused why)) t) asked.0) [
+        elim (leads from to p flush-step x (ap (task_asks (command.Move from to)) t)
+        (λ why. ap (λ t. task_after (command.Move from to) t (reply.Refused why)) t) asked.0) [
           | Again idle same ↦
               more-moving (Says from to p (x ∷ ms)) drop-step flush-step link-it x ms idle
               (moving ms (progress_after (command.Move from to) p x.1) (same ∙ t) (after-told x ms told) asked.1 (passes x ms p told idle goes))
-          | Stops by why r e ↦ absurd (refused-ends (progress_after (command.Move from to) p x.1) why e ms asked.1 (passes-other x ms p (not-linked x.1 why r) goes))
+          | Stops by why r e ↦ absurd (refused-ends (progress_after (command.Move from to) p x.1) why e ms asked.1
+              (passes-other x ms p (not-linked x.1 why r) goes))
           | Answered is ok e ↦
               let answer = told-flush place.found.inode place.found.generation x.1 (subst (λ s. Told s x.1) is (first-told x ms told)) ok in
               let idle = looks-idle x flush-step is refl in
               flushed-linking (Says from to p (x ∷ ms)) drop-step flush-step link-it x ms idle (λ j. (is j, answer j))
               (linking ms (progress_after (command.Move from to) p x.1)
-              (ap (λ (q : Progress). q.task) e ∙ ap (λ t. task_after (command.Move from to) t x.1) t ∙ ap (λ r. task_after (command.Move from to) (task.Linking place into stage.Flush) r) answer) (after-told x ms told) asked.1
+              (ap (λ (q : Progress). q.task) e ∙ ap (λ t. task_after (command.Move from to) t x.1) t
+              ∙ ap (λ r. task_after (command.Move from to) (task.Linking place into stage.Flush) r) answer) (after-told x ms told) asked.1
               (passes x ms p told idle goes))
         ]

@@ -1,5 +1,6 @@
 -- A step that claims blocks for one slot, or none, and no inode: what was claimed is used, and known to be.
-use Rattle.std.proofs.Common.{◌≡◌, ◌≢◌, ℕ, ◌+◌, ◌-◌, ◌<◌, ◌≤◌, Bool, true, false, cond, ◌&&◌, ◌||◌, not, Option, Some, None, is_some, inl, inr, refl, sym, ap, ◌∙◌, subst, arith}
+use Rattle.std.proofs.Common.{◌≡◌, ◌≢◌, ℕ, ◌+◌, ◌-◌, ◌<◌, ◌≤◌, Bool, true, false, cond, ◌&&◌, ◌||◌, not, Option, Some, None, is_some, inl, inr, refl, sym, ap}
+use Rattle.std.proofs.Common.{◌∙◌, subst, arith}
 use Rattle.nofs_agree.specs.Chains.{told}
 use Rattle.nofs_bits.specs.Bits.{is_set}
 use Rattle.nofs_model.specs.Cells.{Pointer, SuperBlock}

@@ -1,5 +1,6 @@
 -- The disk after one cell of the data area was written.
-use Rattle.std.proofs.Common.{◌≡◌, ◌≢◌, ℕ, ◌+◌, ◌-◌, ◌/◌, ◌%◌, ◌<◌, ◌≤◌, Bool, true, false, leb, ltb, ltb-true, leb-true, ◌&&◌, [], ◌∷◌, length, refl, sym, ap, ◌∙◌, arith}
+use Rattle.std.proofs.Common.{◌≡◌, ◌≢◌, ℕ, ◌+◌, ◌-◌, ◌/◌, ◌%◌, ◌<◌, ◌≤◌, Bool, true, false, leb, ltb, ltb-true, leb-true, ◌&&◌, [], ◌∷◌, length, refl, sym}
+use Rattle.std.proofs.Common.{ap, ◌∙◌, arith}
 use Rattle.std.proofs.lemmas.List.{get_or-set_same, get_or-set_other}
 use Rattle.nofs_disk.specs.Disk.{cell_at, no_cell}
 use Rattle.nofs_model.specs.Cells.{Cell, Pointer, SuperBlock, record_at, free_record}
@@ -16,7 +17,8 @@ outside : (X : Image) (j : ℕ) → is_inode X j ≡ false → inode X j ≡ fre
 unfolding inode
 outside X j e = rw e refl
 
-module _ (X : Image) (x : Pointer) (c : Cell) (whole : (super_at X).blocks ≤ length X) (quarters : (super_at X).inodes % 4 ≡ 0) (area : is_data_block X x.block ≡ true) where
+module _ (X : Image) (x : Pointer) (c : Cell) (whole : (super_at X).blocks ≤ length X) (quarters : (super_at X).inodes % 4 ≡ 0)
+    (area : is_data_block X x.block ≡ true) where
   abbrev pub after : Image
   after = image_after ((x.block, c) ∷ []) X
 
@@ -50,4 +52,5 @@ module _ (X : Image) (x : Pointer) (c : Cell) (whole : (super_at X).blocks ≤ l
           let b = and-both (leb 1 j) (leb j (super_at X).inodes) e in
           let one = leb-true 1 j b.0 in
           let most = leb-true j (super_at X).inodes b.1 in
-          in-table after j (range ∙ e) ∙ ap (λ (q : Cell). record_at q.payload ((j - 1) % 4)) (elsewhere (1 + (j - 1) / 4) (λ n. let a = above in let q = quarters in omega (arith, a, one, most, q, n))) ∙ sym (in-table X j e)
+          in-table after j (range ∙ e) ∙ ap (λ (q : Cell). record_at q.payload ((j - 1) % 4))
+          (elsewhere (1 + (j - 1) / 4) (λ n. let a = above in let q = quarters in omega (arith, a, one, most, q, n))) ∙ sym (in-table X j e)

@@ -242,7 +242,8 @@ module _ (X : Image) (k l : Books) (W : World) (s : Step) (c : Claims) (m : ℕ)
           ∙ (λ q. block-known n q && not (sym (V-other n home) q))
     ];
     agreement = λ j a t. elim (cases_eq j c.inode) [
-      | inl here ↦ V-file j ∙ ap (λ (n : ℕ). is_some (G n)) here ∙ taking.made ∙ is-true a (taken.agreed_here a (subst (λ (n : ℕ). told l.agreement n ≡ Some a) here t))
+      | inl here ↦ V-file j ∙ ap (λ (n : ℕ). is_some (G n)) here ∙ taking.made
+          ∙ is-true a (taken.agreed_here a (subst (λ (n : ℕ). told l.agreement n ≡ Some a) here t))
       | inr other ↦ V-file j ∙ taking.used j other ∙ says.agreement j a (sym (taken.agreed j other) ∙ t)
     ];
   }

@@ -1,5 +1,6 @@
 -- Drop: the directory's cell and the record of the inode are written. The inode has another name, or it goes.
-use Rattle.std.proofs.Common.{◌≡◌, ◌≢◌, ℕ, ◌+◌, ◌-◌, ◌*◌, ◌/◌, ◌%◌, ◌<◌, ◌⊎◌, inl, inr, Bool, true, false, cond, eqb, eqb-true, eq-eqb, leb, leb-true, ltb, ◌&&◌, ◌||◌, not, List, [], ◌∷◌, ◌++◌, length, Option, Some, None, is_some, IsTrue, Ok, refl, sym, ap, ◌∙◌, subst, subst₂, arith}
+use Rattle.std.proofs.Common.{◌≡◌, ◌≢◌, ℕ, ◌+◌, ◌-◌, ◌*◌, ◌/◌, ◌%◌, ◌<◌, ◌⊎◌, inl, inr, Bool, true, false, cond, eqb, eqb-true, eq-eqb, leb, leb-true, ltb}
+use Rattle.std.proofs.Common.{◌&&◌, ◌||◌, not, List, [], ◌∷◌, ◌++◌, length, Option, Some, None, is_some, IsTrue, Ok, refl, sym, ap, ◌∙◌, subst, subst₂, arith}
 use Rattle.std.proofs.lemmas.Bool.{cases_lt}
 use Rattle.std.proofs.lemmas.Bool.Decides.{nat_tests}
 use Rattle.std.specs.List.{list_any}
@@ -11,7 +12,8 @@ use Rattle.nofs_disk.specs.Adds.{Adds}
 use Rattle.nofs_super.specs.Geometry.{IsGeometry}
 use Rattle.nofs_inode.specs.declared.inode.FileKind.TheVariants.{Directory as Folder}
 use Rattle.nofs_model.specs.Cells.{Cell, BackLink, Entry, Pointer, Record, SuperBlock, tag_of, is_live}
-use Rattle.nofs_model.specs.Image.{Image, super_at, is_data_block, inode, path_of, find, record_pointer, files_in, agreed, is_folder, is_special, FileState, Files, Home, is_pair, IsBelow}
+use Rattle.nofs_model.specs.Image.{Image, super_at, is_data_block, inode, path_of, find, record_pointer, files_in, agreed, is_folder, is_special, FileState}
+use Rattle.nofs_model.specs.Image.{Files, Home, is_pair, IsBelow}
 use Rattle.nofs_model.specs.declared.path.PathAnswer.TheVariants as answer
 use Rattle.nofs_model.specs.declared.value.Value.{Value}
 use Rattle.nofs_model.specs.declared.value.Value.TheVariants.{Bytes}
@@ -26,7 +28,8 @@ use Rattle.nofs_machine.specs.Meta.{Meta, Gone, Is, is_bytes, is_gone}
 use Rattle.nofs_machine.specs.Marks.{Mark}
 use Rattle.nofs_machine.specs.Search.{first_of}
 use Rattle.nofs_machine.specs.Machine as machine
-use Rattle.nofs_machine.specs.Machine.{Given, gives, given_by, drop_given, drop_meta, entry_given, meta_given, is_at, without_link, link_to, zeros, at_place, files_after, value_of, with_entry, found, is_paired, is_refused, nothing}
+use Rattle.nofs_machine.specs.Machine.{Given, gives, given_by, drop_given, drop_meta, entry_given, meta_given, is_at, without_link, link_to, zeros, at_place}
+use Rattle.nofs_machine.specs.Machine.{files_after, value_of, with_entry, found, is_paired, is_refused, nothing}
 use Rattle.nofs_machine.specs.World.{World, is_fixed}
 use Rattle.nofs_machine.specs.Claims.{no_claims, next_stamp, IsClaim, has_block}
 use Rattle.nofs_machine.specs.Refusals.{rows}
@@ -98,10 +101,16 @@ keeps-else : (i g : ℕ) (m : Meta) (j : ℕ) → j ≢ i → (h : ℕ) → Keep
 keeps-else i g m j ne h = subst KeepsFile (sym (meta-else i g m j ne h)) tt
 
 abbrev given_for : Files → ℕ → ℕ → ℕ → Option Entry → Given
-given_for F d g e o = elim o [ None ↦ nothing | Some entry ↦ entry_given F d g e (zeros 64) (meta_given entry.inode entry.generation (drop_meta F entry.inode (link_to d e g))) ]
+given_for F d g e o = elim o [
+  | None ↦ nothing
+  | Some entry ↦ entry_given F d g e (zeros 64)
+      (meta_given entry.inode entry.generation (drop_meta F entry.inode (link_to d e g)))
+]
 
-module _ (old new : DiskState) (k : Books) (H : List Entry1) (p : Past) (d g : ℕ) (name : List ℕ) (r : Record) (x : Pointer) (c1 c2 : Cell) (q : Paired) (r' : Record) (is_old : IsDisk old) (tells : IsTrue old.tells) (o : IsOpen old k H p)
-    (rec : inode old.now d ≡ r) (kind : r.kind ≡ Some Folder) (gen : r.generation ≡ g) (agrees : agreed (files_in old.now) d ≡ true) (pair : IsFoundEntry p.world.files old.now d name q)
+module _ (old new : DiskState) (k : Books) (H : List Entry1) (p : Past) (d g : ℕ) (name : List ℕ) (r : Record) (x : Pointer) (c1 c2 : Cell) (q : Paired)
+    (r' : Record) (is_old : IsDisk old) (tells : IsTrue old.tells) (o : IsOpen old k H p)
+    (rec : inode old.now d ≡ r) (kind : r.kind ≡ Some Folder) (gen : r.generation ≡ g) (agrees : agreed (files_in old.now) d ≡ true)
+    (pair : IsFoundEntry p.world.files old.now d name q)
     (held : find old.now d (path_of (q.entry / 16)) ≡ answer.Holds x) (whole : length (cell_at old.now x.block).payload ≡ 1024)
     (payload : c1.payload ≡ put_bytes (64 * (q.entry % 16)) (number.zeros 64) (cell_at old.now x.block).payload) (tag : c1.tag ≡ (cell_at old.now x.block).tag)
     (has : HasRecord old.now q.inode r' c2) (table-tag : tag_of c2.tag ≡ Some (table_tag (table_block q.inode)))
@@ -146,7 +155,8 @@ module _ (old new : DiskState) (k : Books) (H : List Entry1) (p : Past) (d g : �
   named = ap W.files same ∙ its.is
 
   all-below : IsBelow (next_stamp W) X
-  all-below b lt = o.stage.ready.fresh b (cell_at X b) lt (is_old.has_now b tells (let w = is_old.whole tells in let h = geometry.fits in omega (arith, lt, w, h)))
+  all-below b lt = o.stage.ready.fresh b (cell_at X b) lt (is_old.has_now b tells (let w = is_old.whole tells in let h =
+      geometry.fits in omega (arith, lt, w, h)))
 
   old-numbers : OldNumbers W X
   old-numbers = record { positive = o.stage.ready.positive; mountable = o.mountable; below = all-below }
@@ -185,7 +195,8 @@ module _ (old new : DiskState) (k : Books) (H : List Entry1) (p : Past) (d g : �
     no_names = λ e b low. ap (λ (i : ℕ). is_paired W.files i b) same ∙ no_names (folder-at e) b low;
     held = held;
     whole = whole;
-    content = ap (λ (z : Cell). Bytes z.payload) in-slot ∙ ap Bytes (payload ∙ ap (λ (z : List ℕ). put_bytes (64 * (q.entry % 16)) z (cell_at X x.block).payload) (sym (zeros-are 64)))
+    content = ap (λ (z : Cell). Bytes z.payload) in-slot ∙ ap Bytes
+        (payload ∙ ap (λ (z : List ℕ). put_bytes (64 * (q.entry % 16)) z (cell_at X x.block).payload) (sym (zeros-are 64)))
         ∙ sym (with-entry-put (Bytes (cell_at X x.block).payload) q.entry (zeros 64) refl);
     writes = in-place;
     old = λ j some. old-pointers j (matched-file W.files X j match some).live;
@@ -212,7 +223,8 @@ module _ (old new : DiskState) (k : Books) (H : List Entry1) (p : Past) (d g : �
   abbrev v : Value
   v = with_entry (value_of W.files d (q.entry / 16)) q.entry (zeros 64)
 
-  cell-is : drop_given W.files d g q.entry ≡ machine.cell_given d g (q.entry / 16) (with_entry (value_of W.files d (q.entry / 16)) q.entry (zeros 64)) (meta_given it.inode it.generation (drop_meta W.files it.inode (link_to d q.entry g)))
+  cell-is : drop_given W.files d g q.entry ≡ machine.cell_given d g (q.entry / 16) (with_entry (value_of W.files d (q.entry / 16)) q.entry (zeros 64))
+      (meta_given it.inode it.generation (drop_meta W.files it.inode (link_to d q.entry g)))
   cell-is = ap (given_for W.files d g q.entry) pair.pair.at
 
   -- The writes are proper
@@ -231,7 +243,9 @@ module _ (old new : DiskState) (k : Books) (H : List Entry1) (p : Past) (d g : �
 
   mark-table : is_data_block p.mark (table_block q.inode) ≡ false
   mark-table = ap (λ (z : SuperBlock). leb (1 + z.inodes / 4) (table_block q.inode) && ltb (table_block q.inode) z.blocks) mark-super
-      ∙ (let t : leb (1 + (super_at X).inodes / 4) (table_block q.inode) ≡ false = not-leb (1 + (super_at X).inodes / 4) (table_block q.inode) (let l = write.table-low X q.inode x c1 c2 r' geometry.fits geometry.table geometry.multiple area has in omega (arith, l)) in rw t refl)
+      ∙ (let t : leb (1 + (super_at X).inodes / 4) (table_block q.inode) ≡ false =
+      not-leb (1 + (super_at X).inodes / 4) (table_block q.inode) (let l =
+      write.table-low X q.inode x c1 c2 r' geometry.fits geometry.table geometry.multiple area has in omega (arith, l)) in rw t refl)
 
   super-after : super_at p.mark ≡ super_at Y
   super-after = mark-super ∙ sym (supers X Y in-place.super)
@@ -251,20 +265,26 @@ module _ (old new : DiskState) (k : Books) (H : List Entry1) (p : Past) (d g : �
     pub owned : is_live (inode Y it.inode) ≡ true → is_some (files_after W.files (drop_given W.files d g q.entry) it.inode) ≡ true
 
   module _ (w : EndsWell) where
-    pub proper-one : (G' : Given) → G' ≡ drop_given W.files d g q.entry → (b : ℕ) (cell : Cell) → OneOf ((x.block, c1) ∷ (table_block q.inode, c2) ∷ []) b cell → Proper (during (mark_at p.base H (old.moment + 1) p.mark p.stamps) G') X b cell
+    pub proper-one : (G' : Given) → G' ≡ drop_given W.files d g q.entry → (b : ℕ) (cell : Cell)
+        → OneOf ((x.block, c1) ∷ (table_block q.inode, c2) ∷ []) b cell → Proper (during (mark_at p.base H (old.moment + 1) p.mark p.stamps) G') X b cell
     proper-one G' ge b cell one = subst (λ (z : Given). Proper (during (mark_at p.base H (old.moment + 1) p.mark p.stamps) z) X b cell) (sym ge) (go one)
       where
-        go : OneOf ((x.block, c1) ∷ (table_block q.inode, c2) ∷ []) b cell → Proper (during (mark_at p.base H (old.moment + 1) p.mark p.stamps) (drop_given W.files d g q.entry)) X b cell
-        go (inl one) = subst₂ (λ (n : ℕ) (z : Cell). Proper (during (mark_at p.base H (old.moment + 1) p.mark p.stamps) (drop_given W.files d g q.entry)) X n z) (sym one.0) (sym one.1) cell-proper
-        go (inr (inl one)) = subst₂ (λ (n : ℕ) (z : Cell). Proper (during (mark_at p.base H (old.moment + 1) p.mark p.stamps) (drop_given W.files d g q.entry)) X n z) (sym one.0) (sym one.1) w.table
+        go : OneOf ((x.block, c1) ∷ (table_block q.inode, c2) ∷ []) b cell
+            → Proper (during (mark_at p.base H (old.moment + 1) p.mark p.stamps) (drop_given W.files d g q.entry)) X b cell
+        go (inl one) = subst₂ (λ (n : ℕ) (z : Cell). Proper (during (mark_at p.base H (old.moment + 1) p.mark p.stamps) (drop_given W.files d g q.entry))
+            X n z) (sym one.0) (sym one.1) cell-proper
+        go (inr (inl one)) = subst₂ (λ (n : ℕ) (z : Cell). Proper
+            (during (mark_at p.base H (old.moment + 1) p.mark p.stamps) (drop_given W.files d g q.entry)) X n z) (sym one.0) (sym one.1) w.table
         go (inr (inr none)) = absurd none
 
     numbers : (b : ℕ) (cell : Cell) → OneOf ((x.block, c1) ∷ (table_block q.inode, c2) ∷ []) b cell → CellNumbers (Numbered W no_claims) X b cell
     numbers b cell (inl one) = subst₂ (λ (n : ℕ) (z : Cell). CellNumbers (Numbered W no_claims) X n z) (sym one.0) (sym one.1)
-        (subst (λ (z : Cell). CellNumbers (Numbered W no_claims) X x.block z) in-slot (law-drop-numbers W X Y d g q.entry (next_stamp W) own.file its.file x it no_claims old-numbers lies).0)
+        (subst (λ (z : Cell). CellNumbers (Numbered W no_claims) X x.block z) in-slot
+        (law-drop-numbers W X Y d g q.entry (next_stamp W) own.file its.file x it no_claims old-numbers lies).0)
     numbers b cell (inr (inl one)) = subst₂ (λ (n : ℕ) (z : Cell). CellNumbers (Numbered W no_claims) X n z) (sym one.0) (sym one.1)
         (law-table-numbers W no_claims X (table_block q.inode) c2 old-numbers table-tag (λ j e s. elim (table-records X q.inode r' c2 has j e s) [
-          | inl new ↦ subst (λ (z : Record). RecordWritten W no_claims X j z) (sym (new.1 ∙ sym here ∙ ap (inode Y) (sym new.0))) ((law-drop-numbers W X Y d g q.entry (next_stamp W) own.file its.file x it no_claims old-numbers lies).1 w.numbered j)
+          | inl new ↦ subst (λ (z : Record). RecordWritten W no_claims X j z) (sym (new.1 ∙ sym here ∙ ap (inode Y) (sym new.0)))
+              ((law-drop-numbers W X Y d g q.entry (next_stamp W) own.file its.file x it no_claims old-numbers lies).1 w.numbered j)
           | inr was ↦ AsBefore was
         ]))
     numbers b cell (inr (inr none)) = absurd none
@@ -276,7 +296,9 @@ module _ (old new : DiskState) (k : Books) (H : List Entry1) (p : Past) (d g : �
 
     nothing-else : (j : ℕ) → j ≢ d → j ≢ it.inode → GivesNothing (drop_given W.files d g q.entry) j
     nothing-else j nd ni = subst (λ (z : Given). GivesNothing z j) (sym cell-is)
-        (cell-elsewhere d g (q.entry / 16) (with_entry (value_of W.files d (q.entry / 16)) q.entry (zeros 64)) (meta_given it.inode it.generation (drop_meta W.files it.inode (link_to d q.entry g))) j nd (λ h. meta-else it.inode it.generation (drop_meta W.files it.inode (link_to d q.entry g)) j ni h))
+        (cell-elsewhere d g (q.entry / 16) (with_entry (value_of W.files d (q.entry / 16)) q.entry (zeros 64))
+        (meta_given it.inode it.generation (drop_meta W.files it.inode (link_to d q.entry g))) j nd
+        (λ h. meta-else it.inode it.generation (drop_meta W.files it.inode (link_to d q.entry g)) j ni h))
 
     not-eq : (j n : ℕ) → eqb j n ≡ false → j ≢ n
     not-eq j n t e = let b = eq-eqb j n e in cc (t, b)
@@ -288,14 +310,21 @@ module _ (old new : DiskState) (k : Books) (H : List Entry1) (p : Past) (d g : �
       touches = touches-of (next_stamp W) d it.inode X Y (in-place-writes (next_stamp W) d it.inode (q.entry / 16) X Y x held in-place);
       old = old-pointers;
       owned = λ j t live. owned-case j (eqb j it.inode) refl t live;
-      stays = λ j t some. let a = or-false (eqb j d) (eqb j it.inode) t in w.others j (not-eq j it.inode a.1) ∙ ap (λ (F : Files). is_some (F j)) o.files ∙ some;
-      no_value = λ j h l t some. let a = or-false (eqb j d) (eqb j it.inode) t in (λ z. (ge z).slots j h l) ∙ (nothing-else j (not-eq j d a.0) (not-eq j it.inode a.1)).slots h l;
-      no_meta = λ j h t some. let a = or-false (eqb j d) (eqb j it.inode) t in (λ z. (ge z).metas j h) ∙ (nothing-else j (not-eq j d a.0) (not-eq j it.inode a.1)).metas h;
+      stays = λ j t some. let a = or-false (eqb j d) (eqb j it.inode) t in w.others j (not-eq j it.inode a.1) ∙ ap (λ (F : Files). is_some (F j)) o.files
+          ∙ some;
+      no_value = λ j h l t some. let a = or-false (eqb j d) (eqb j it.inode) t in (λ z. (ge z).slots j h l)
+          ∙ (nothing-else j (not-eq j d a.0) (not-eq j it.inode a.1)).slots h l;
+      no_meta = λ j h t some. let a = or-false (eqb j d) (eqb j it.inode) t in (λ z. (ge z).metas j h)
+          ∙ (nothing-else j (not-eq j d a.0) (not-eq j it.inode a.1)).metas h;
     })
       where
-        owned-case : (j : ℕ) (b : Bool) → eqb j it.inode ≡ b → (eqb j d || eqb j it.inode) ≡ true → is_live (inode Y j) ≡ true → is_some (files_after W.files (drop_given W.files d g q.entry) j) ≡ true
-        owned-case j true e t live = let s = eqb-true j it.inode e in subst (λ (n : ℕ). is_some (files_after W.files (drop_given W.files d g q.entry) n) ≡ true) (sym s) (w.owned (subst (λ (n : ℕ). is_live (inode Y n) ≡ true) s live))
-        owned-case j false e t live = w.others j (not-eq j it.inode e) ∙ subst (λ (n : ℕ). is_some (W.files n) ≡ true) (sym (eqb-true j d (only (eqb j d) (eqb j it.inode) e t))) (ap is_some own.is)
+        owned-case : (j : ℕ) (b : Bool) → eqb j it.inode ≡ b → (eqb j d || eqb j it.inode) ≡ true → is_live (inode Y j) ≡ true
+            → is_some (files_after W.files (drop_given W.files d g q.entry) j) ≡ true
+        owned-case j true e t live = let s = eqb-true j it.inode e in subst
+            (λ (n : ℕ). is_some (files_after W.files (drop_given W.files d g q.entry) n) ≡ true) (sym s)
+            (w.owned (subst (λ (n : ℕ). is_live (inode Y n) ≡ true) s live))
+        owned-case j false e t live = w.others j (not-eq j it.inode e)
+            ∙ subst (λ (n : ℕ). is_some (W.files n) ≡ true) (sym (eqb-true j d (only (eqb j d) (eqb j it.inode) e t))) (ap is_some own.is)
           where
             only : (a b : Bool) → b ≡ false → (a || b) ≡ true → a ≡ true
             only true b eb h = refl
@@ -304,8 +333,10 @@ module _ (old new : DiskState) (k : Books) (H : List Entry1) (p : Past) (d g : �
     pub drop-numbered : Adds (OneOf ((x.block, c1) ∷ (table_block q.inode, c2) ∷ [])) old new → AddsNumbered W no_claims old new
     drop-numbered = Adds-map (OneOf ((x.block, c1) ∷ (table_block q.inode, c2) ∷ [])) (λ n cell. CellNumbers (Numbered W no_claims) X n cell) old new numbers
 
-    pub drop-proper : (e : Entry1) → given_by (files_along (agreed_files p.base) H) e ≡ gives (files_along (agreed_files p.base) H) (step.Drop d g name) no_claims → Adds (OneOf ((x.block, c1) ∷ (table_block q.inode, c2) ∷ [])) old new → AddsProper p.base H e p.mark p.stamps old new
-    drop-proper e ge adds = Adds-map (OneOf ((x.block, c1) ∷ (table_block q.inode, c2) ∷ [])) (Proper (during (mark_at p.base H (old.moment + 1) p.mark p.stamps) (given_by (files_along (agreed_files p.base) H) e)) old.now) old new
+    pub drop-proper : (e : Entry1) → given_by (files_along (agreed_files p.base) H) e ≡ gives (files_along (agreed_files p.base) H) (step.Drop d g name)
+        no_claims → Adds (OneOf ((x.block, c1) ∷ (table_block q.inode, c2) ∷ [])) old new → AddsProper p.base H e p.mark p.stamps old new
+    drop-proper e ge adds = Adds-map (OneOf ((x.block, c1) ∷ (table_block q.inode, c2) ∷ []))
+        (Proper (during (mark_at p.base H (old.moment + 1) p.mark p.stamps) (given_by (files_along (agreed_files p.base) H) e)) old.now) old new
         (λ b cell one. proper-one (given_by (files_along (agreed_files p.base) H) e) (ge ∙ given-is) b cell one) adds
 
     answer-is : reply.Dropped (is_gone (drop_meta W.files it.inode (link_to d q.entry g))) ≡ dropped_reply W.files d (found W.files d name)
@@ -316,8 +347,11 @@ module _ (old new : DiskState) (k : Books) (H : List Entry1) (p : Past) (d g : �
         generation-is = (let s = own.is in rw (s, machine.generation_of) refl) ∙ lies.generation
 
     -- the step is done, with these maps after it
-    pub drop-done : (l : Books) (removed : Bool) → l.at ≡ k.at → l.history ≡ k.history → l.stopped ≡ false → is_gone (drop_meta W.files it.inode (link_to d q.entry g)) ≡ removed → Learns W (step.Drop d g name) true (after_world W (step.Drop d g name) no_claims l) → Says l (after_world W (step.Drop d g name) no_claims l)
-        → WritesAll old new ((x.block, c1) ∷ (table_block q.inode, c2) ∷ []) (Ok tt) → ((U : World) → first_of (rows W U (step.Drop d g name)) ≡ None) → IsDone old new k l H p (step.Drop d g name) no_claims (reply.Dropped removed) ((x.block, c1) ∷ (table_block q.inode, c2) ∷ [])
+    pub drop-done : (l : Books) (removed : Bool) → l.at ≡ k.at → l.history ≡ k.history → l.stopped ≡ false
+        → is_gone (drop_meta W.files it.inode (link_to d q.entry g)) ≡ removed
+        → Learns W (step.Drop d g name) true (after_world W (step.Drop d g name) no_claims l) → Says l (after_world W (step.Drop d g name) no_claims l)
+        → WritesAll old new ((x.block, c1) ∷ (table_block q.inode, c2) ∷ []) (Ok tt) → ((U : World) → first_of (rows W U (step.Drop d g name)) ≡ None)
+        → IsDone old new k l H p (step.Drop d g name) no_claims (reply.Dropped removed) ((x.block, c1) ∷ (table_block q.inode, c2) ∷ [])
     drop-done l removed at history going er learns says writes none = record {
       adds = writes.adds;
       later = writes.later;
@@ -346,19 +380,28 @@ module _ (old new : DiskState) (k : Books) (H : List Entry1) (p : Past) (d g : �
   to-table P h = subst (λ (z : Cell). P (table_block q.inode) z) in-table (subst (λ (i : ℕ). P (1 + (i - 1) / 4) (cell_at Y (1 + (i - 1) / 4))) same h)
 
   after-as : (meta : Meta) → drop_meta W.files it.inode (link_to d q.entry g) ≡ meta
-      → drop_given W.files d g q.entry ≡ machine.cell_given d g (q.entry / 16) (with_entry (value_of W.files d (q.entry / 16)) q.entry (zeros 64)) (meta_given it.inode it.generation meta)
-  after-as meta e = cell-is ∙ (λ j. machine.cell_given d g (q.entry / 16) (with_entry (value_of W.files d (q.entry / 16)) q.entry (zeros 64)) (meta_given it.inode it.generation (e j)))
+      → drop_given W.files d g q.entry ≡ machine.cell_given d g (q.entry / 16) (with_entry (value_of W.files d (q.entry / 16)) q.entry (zeros 64))
+      (meta_given it.inode it.generation meta)
+  after-as meta e = cell-is ∙ (λ j. machine.cell_given d g (q.entry / 16) (with_entry (value_of W.files d (q.entry / 16)) q.entry (zeros 64))
+      (meta_given it.inode it.generation (e j)))
 
-  used-as : (meta : Meta) → drop_meta W.files it.inode (link_to d q.entry g) ≡ meta → (j : ℕ) → ((h : ℕ) → KeepsFile (meta_given it.inode it.generation meta j h)) → is_some (files_after W.files (drop_given W.files d g q.entry) j) ≡ is_some (W.files j)
+  used-as : (meta : Meta) → drop_meta W.files it.inode (link_to d q.entry g) ≡ meta → (j : ℕ)
+      → ((h : ℕ) → KeepsFile (meta_given it.inode it.generation meta j h))
+      → is_some (files_after W.files (drop_given W.files d g q.entry) j) ≡ is_some (W.files j)
   used-as meta e j keeps = (λ z. is_some (files_after W.files (after-as meta e z) j))
-      ∙ file-used W.files d g (q.entry / 16) (with_entry (value_of W.files d (q.entry / 16)) q.entry (zeros 64)) (meta_given it.inode it.generation meta) j keeps
+      ∙ file-used W.files d g (q.entry / 16) (with_entry (value_of W.files d (q.entry / 16)) q.entry (zeros 64)) (meta_given it.inode it.generation meta)
+      j keeps
 
-  blocks-as : (meta : Meta) → drop_meta W.files it.inode (link_to d q.entry g) ≡ meta → (home : Home) → ((h : ℕ) → KeepsFile (meta_given it.inode it.generation meta home.inode h)) → has_block W.files home ≡ true → has_block (files_after W.files (drop_given W.files d g q.entry)) home ≡ true
+  blocks-as : (meta : Meta) → drop_meta W.files it.inode (link_to d q.entry g) ≡ meta → (home : Home)
+      → ((h : ℕ) → KeepsFile (meta_given it.inode it.generation meta home.inode h)) → has_block W.files home ≡ true
+      → has_block (files_after W.files (drop_given W.files d g q.entry)) home ≡ true
   blocks-as meta e home keeps h = subst (λ (z : Given). has_block (files_after W.files z) home ≡ true) (sym (after-as meta e))
-      (file-blocks W.files d g (q.entry / 16) (with_entry (value_of W.files d (q.entry / 16)) q.entry (zeros 64)) (meta_given it.inode it.generation meta) home.inode keeps home.slot (entry-bytes (value_of W.files d (q.entry / 16)) q.entry (zeros 64)) h)
+      (file-blocks W.files d g (q.entry / 16) (with_entry (value_of W.files d (q.entry / 16)) q.entry (zeros 64)) (meta_given it.inode it.generation meta)
+      home.inode keeps home.slot (entry-bytes (value_of W.files d (q.entry / 16)) q.entry (zeros 64)) h)
 
   module _ (rec-q : inode old.now q.inode ≡ q.record) where
-    module _ (keep : drop_meta W.files it.inode (link_to d q.entry g) ≡ Is its.file.kind its.file.size (without_link (link_to d q.entry g) its.file.links)) (changed : r' ≡ record q.record { links = without_link (link_to d q.entry g) q.record.links }) where
+    module _ (keep : drop_meta W.files it.inode (link_to d q.entry g) ≡ Is its.file.kind its.file.size (without_link (link_to d q.entry g) its.file.links))
+        (changed : r' ≡ record q.record { links = without_link (link_to d q.entry g) q.record.links }) where
       new-record : inode Y it.inode ≡ record (inode X it.inode) { links = without_link (link_to d q.entry g) its.file.links }
       new-record = ap (inode Y) same ∙ here ∙ changed ∙ (λ j. record (rec-i j) { links = without_link (link_to d q.entry g) (links-i j) })
         where
@@ -383,7 +426,8 @@ module _ (old new : DiskState) (k : Books) (H : List Entry1) (p : Past) (d g : �
       keeps : (j h : ℕ) → KeepsFile (meta_given it.inode it.generation (Is its.file.kind its.file.size (without_link (link_to d q.entry g) its.file.links)) j h)
       keeps j h = keeps-meta it.inode it.generation (Is its.file.kind its.file.size (without_link (link_to d q.entry g) its.file.links)) refl j h
 
-      law-name : ((m : Mark) → super_at m.image ≡ super_at Y → is_data_block m.image (1 + (it.inode - 1) / 4) ≡ false → Proper (during m (drop_given W.files d g q.entry)) X (1 + (it.inode - 1) / 4) (cell_at Y (1 + (it.inode - 1) / 4)))
+      law-name : ((m : Mark) → super_at m.image ≡ super_at Y → is_data_block m.image (1 + (it.inode - 1) / 4) ≡ false
+          → Proper (during m (drop_given W.files d g q.entry)) X (1 + (it.inode - 1) / 4) (cell_at Y (1 + (it.inode - 1) / 4)))
           × FilesMatch (files_after W.files (drop_given W.files d g q.entry)) Y
       law-name = law-drop-name W.files X Y d g q.entry (next_stamp W) own.file its.file x it lies keep relinked
 
@@ -406,7 +450,8 @@ module _ (old new : DiskState) (k : Books) (H : List Entry1) (p : Past) (d g : �
       kept-ends = record {
         numbered = inl relinked;
         table = to-table (λ b z. Proper (during (mark_at p.base H (old.moment + 1) p.mark p.stamps) (drop_given W.files d g q.entry)) X b z)
-            (law-name.0 (mark_at p.base H (old.moment + 1) p.mark p.stamps) super-after (ap (λ (i : ℕ). is_data_block p.mark (1 + (i - 1) / 4)) same ∙ mark-table));
+            (law-name.0 (mark_at p.base H (old.moment + 1) p.mark p.stamps) super-after
+            (ap (λ (i : ℕ). is_data_block p.mark (1 + (i - 1) / 4)) same ∙ mark-table));
         files = law-name.1;
         claim = kept-claim;
         move = law-drop-name-homes W X Y d g q.entry (next_stamp W) name own.file its.file x it no_claims lies keep relinked kept-claim;
@@ -414,7 +459,9 @@ module _ (old new : DiskState) (k : Books) (H : List Entry1) (p : Past) (d g : �
         owned = λ live. quiet.used it.inode ∙ ap is_some named;
       }
 
-      pub kept-done : WritesAll old new ((x.block, c1) ∷ (table_block q.inode, c2) ∷ []) (Ok tt) → ((U : World) → first_of (rows W U (step.Drop d g name)) ≡ None) → IsDone old new k k H p (step.Drop d g name) no_claims (reply.Dropped false) ((x.block, c1) ∷ (table_block q.inode, c2) ∷ [])
+      pub kept-done : WritesAll old new ((x.block, c1) ∷ (table_block q.inode, c2) ∷ []) (Ok tt)
+          → ((U : World) → first_of (rows W U (step.Drop d g name)) ≡ None)
+          → IsDone old new k k H p (step.Drop d g name) no_claims (reply.Dropped false) ((x.block, c1) ∷ (table_block q.inode, c2) ∷ [])
       kept-done = drop-done kept-ends k false refl refl o.going (ap is_gone keep)
           (quiet-learns X k W (step.Drop d g name) (files_after W.files (drop_given W.files d g q.entry)) o.says match o.homes o.homes_past quiet)
           (quiet-says X k W (step.Drop d g name) (files_after W.files (drop_given W.files d g q.entry)) o.says match o.homes o.homes_past quiet)
@@ -432,7 +479,8 @@ module _ (old new : DiskState) (k : Books) (H : List Entry1) (p : Past) (d g : �
       stood : (n : ℕ) → (mark_at p.base H (old.moment + 1) p.mark p.stamps).stands it.inode n ≡ true → its.file.generation ≡ n
       stood n st = its.generation ∙ ap (λ (i : ℕ). (inode X i).generation) (sym same) ∙ (survives.keeps.records it.inode n st).1
 
-      law-file : ((m : Mark) → super_at m.image ≡ super_at Y → is_data_block m.image (1 + (it.inode - 1) / 4) ≡ false → ((n : ℕ) → m.stands it.inode n ≡ true → its.file.generation ≡ n)
+      law-file : ((m : Mark) → super_at m.image ≡ super_at Y → is_data_block m.image (1 + (it.inode - 1) / 4) ≡ false
+          → ((n : ℕ) → m.stands it.inode n ≡ true → its.file.generation ≡ n)
           → Proper (during m (drop_given W.files d g q.entry)) X (1 + (it.inode - 1) / 4) (cell_at Y (1 + (it.inode - 1) / 4)))
           × FilesMatch (files_after W.files (drop_given W.files d g q.entry)) Y
       law-file = law-drop-file W.files X Y d g q.entry (next_stamp W) own.file its.file x it lies goes no-kind
@@ -442,15 +490,23 @@ module _ (old new : DiskState) (k : Books) (H : List Entry1) (p : Past) (d g : �
       plain = go (is_special it.inode) refl (sym (ap (λ (z : Option FileState). meta_of_file z) named) ∙ goes)
         where
           meta_of_file : Option FileState → Meta
-          meta_of_file z = elim z [ None ↦ Gone | Some f ↦ (cond (not (is_special it.inode) && not (list_any (λ l. is_pair W.files it.inode l) (without_link (link_to d q.entry g) f.links))) Gone (Is f.kind f.size (without_link (link_to d q.entry g) f.links))) ]
+          meta_of_file z = elim z [
+            | None ↦ Gone
+            | Some f ↦ (cond
+                (not (is_special it.inode) && not (list_any (λ l. is_pair W.files it.inode l) (without_link (link_to d q.entry g) f.links))) Gone
+                (Is f.kind f.size (without_link (link_to d q.entry g) f.links)))
+          ]
 
           go : (b : Bool) → is_special it.inode ≡ b → meta_of_file (Some its.file) ≡ Gone → is_special it.inode ≡ false
           go false e h = e
-          go true e h = absurd (let z : meta_of_file (Some its.file) ≡ Is its.file.kind its.file.size (without_link (link_to d q.entry g) its.file.links) = rw e refl in let w = ap is_gone (sym z ∙ h) in cc w)
+          go true e h = absurd (let z : meta_of_file (Some its.file) ≡ Is its.file.kind its.file.size (without_link (link_to d q.entry g) its.file.links) =
+              rw e refl in let w = ap is_gone (sym z ∙ h) in cc w)
 
       gone-file-is : files_after W.files (drop_given W.files d g q.entry) it.inode ≡ None
       gone-file-is = (λ z. files_after W.files (after-as Gone goes z) it.inode)
-          ∙ ap (λ (z : Option FileState). machine.file_after (machine.cell_given d g (q.entry / 16) (with_entry (value_of W.files d (q.entry / 16)) q.entry (zeros 64)) (meta_given it.inode it.generation Gone)) it.inode z) named
+          ∙ ap (λ (z : Option FileState). machine.file_after
+          (machine.cell_given d g (q.entry / 16) (with_entry (value_of W.files d (q.entry / 16)) q.entry (zeros 64))
+          (meta_given it.inode it.generation Gone)) it.inode z) named
           ∙ (let a = eq-eqb it.inode it.inode refl in let b = eq-eqb it.generation its.file.generation generation-is in rw (a, b) refl)
 
       leaving : IsLeaving W (step.Drop d g name) (files_after W.files (drop_given W.files d g q.entry)) it.inode
@@ -477,7 +533,8 @@ module _ (old new : DiskState) (k : Books) (H : List Entry1) (p : Past) (d g : �
           moving b (Some home) e t = elim (cases_lt b W.blocks) [
             | inl low ↦
                 let w = owner-holds X b home.inode home.slot (sym (o.homes b low) ∙ e) in
-                let a = and-both (leb (1 + (super_at X).inodes / 4) w.0.block) (ltb w.0.block (super_at X).blocks) (find-held X home.inode (path_of home.slot) w.0 w.2).agrees.area in
+                let a = and-both (leb (1 + (super_at X).inodes / 4) w.0.block) (ltb w.0.block (super_at X).blocks)
+                (find-held X home.inode (path_of home.slot) w.0 w.2).agrees.area in
                 let above = leb-true (1 + (super_at X).inodes / 4) w.0.block a.0 in
                 let s = w.3 in
                 let i = inodes-are in
@@ -492,7 +549,8 @@ module _ (old new : DiskState) (k : Books) (H : List Entry1) (p : Past) (d g : �
       gone-ends = record {
         numbered = inr no-kind;
         table = to-table (λ b z. Proper (during (mark_at p.base H (old.moment + 1) p.mark p.stamps) (drop_given W.files d g q.entry)) X b z)
-            (law-file.0 (mark_at p.base H (old.moment + 1) p.mark p.stamps) super-after (ap (λ (i : ℕ). is_data_block p.mark (1 + (i - 1) / 4)) same ∙ mark-table) stood);
+            (law-file.0 (mark_at p.base H (old.moment + 1) p.mark p.stamps) super-after
+            (ap (λ (i : ℕ). is_data_block p.mark (1 + (i - 1) / 4)) same ∙ mark-table) stood);
         files = law-file.1;
         claim = gone-claim;
         move = law-drop-file-homes W X Y d g q.entry (next_stamp W) name own.file its.file x it no_claims lies goes no-kind gone-claim;
@@ -500,8 +558,11 @@ module _ (old new : DiskState) (k : Books) (H : List Entry1) (p : Past) (d g : �
         owned = λ live. absurd (let z : is_live (inode Y it.inode) ≡ false = let n = no-kind in rw n refl in cc (z, live));
       }
 
-      pub gone-done : (l : Books) → Freed k l it.inode (λ b. is_of it.inode (W.homes b)) → l.at ≡ k.at → l.history ≡ k.history → l.stopped ≡ false → WritesAll old new ((x.block, c1) ∷ (table_block q.inode, c2) ∷ []) (Ok tt) → ((U : World) → first_of (rows W U (step.Drop d g name)) ≡ None)
+      pub gone-done : (l : Books) → Freed k l it.inode (λ b. is_of it.inode (W.homes b)) → l.at ≡ k.at → l.history ≡ k.history → l.stopped ≡ false
+          → WritesAll old new ((x.block, c1) ∷ (table_block q.inode, c2) ∷ []) (Ok tt) → ((U : World) → first_of (rows W U (step.Drop d g name)) ≡ None)
           → IsDone old new k l H p (step.Drop d g name) no_claims (reply.Dropped true) ((x.block, c1) ∷ (table_block q.inode, c2) ∷ [])
       gone-done l freed at history going = drop-done gone-ends l true at history going (ap is_gone goes)
-          (leaving-learns X k l W (step.Drop d g name) (files_after W.files (drop_given W.files d g q.entry)) it.inode o.says match o.homes o.homes_past leaving freed)
-          (leaving-says X k l W (step.Drop d g name) (files_after W.files (drop_given W.files d g q.entry)) it.inode o.says match o.homes o.homes_past leaving freed)
+          (leaving-learns X k l W (step.Drop d g name) (files_after W.files (drop_given W.files d g q.entry))
+          it.inode o.says match o.homes o.homes_past leaving freed)
+          (leaving-says X k l W (step.Drop d g name) (files_after W.files (drop_given W.files d g q.entry))
+          it.inode o.says match o.homes o.homes_past leaving freed)

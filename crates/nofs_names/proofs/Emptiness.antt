@@ -1,5 +1,6 @@
 -- Whether what Drop finds may go.
-use Rattle.std.proofs.Common.{◌≡◌, ◌≢◌, zero, suc, cond, ℕ, ◌+◌, ◌<◌, ◌≤◌, Bool, true, false, Option, Some, None, is_some, inl, inr, Ok, Err, refl, ap, ◌∙◌, arith}
+use Rattle.std.proofs.Common.{◌≡◌, ◌≢◌, zero, suc, cond, ℕ, ◌+◌, ◌<◌, ◌≤◌, Bool, true, false, Option, Some, None, is_some, inl, inr, Ok, Err, refl, ap, ◌∙◌}
+use Rattle.std.proofs.Common.{arith}
 use Rattle.std.proofs.lemmas.Bool.{cases_lt}
 use Rattle.nofs_dirent.specs.Entries.{entry_limit}
 use Rattle.nofs_disk.specs.Disk.{DiskState}
@@ -45,7 +46,8 @@ module _ (old : DiskState) (at : SuperBlock) (q : Paired) (known : KnowsPaired o
   pub a-file : q.kind ≡ File → FindsEmpty old old q.inode (Ok tt)
   a-file e = record {
     stays = StaysButFaults-refl old;
-    none = λ t F match f b low. absurd (let z = folder-at F old.now q.inode q.record q.kind match (there-of F old.now q.inode match f) (known.0.same t) known.1 ∙ ap is_folder e in cc (z, f));
+    none = λ t F match f b low. absurd (let z = folder-at F old.now q.inode q.record q.kind match (there-of F old.now q.inode match f) (known.0.same t)
+        known.1 ∙ ap is_folder e in cc (z, f));
     refused = tt;
   }
 

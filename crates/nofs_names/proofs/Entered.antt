@@ -1,5 +1,6 @@
 -- The disk after a new entry was written: its slot, what was claimed for it, and the records.
-use Rattle.std.proofs.Common.{◌≡◌, ◌≢◌, ℕ, ◌+◌, ◌-◌, ◌*◌, ◌/◌, ◌%◌, ◌^◌, ◌<◌, ◌≤◌, ◌⊎◌, inl, inr, Bool, true, false, cond, eqb, eqb-true, leb, leb-true, ◌&&◌, List, [], ◌∷◌, length, get_or, Some, None, refl, sym, ap, ◌∙◌, subst, arith}
+use Rattle.std.proofs.Common.{◌≡◌, ◌≢◌, ℕ, ◌+◌, ◌-◌, ◌*◌, ◌/◌, ◌%◌, ◌^◌, ◌<◌, ◌≤◌, ◌⊎◌, inl, inr, Bool, true, false, cond, eqb, eqb-true, leb, leb-true, ◌&&◌}
+use Rattle.std.proofs.Common.{List, [], ◌∷◌, length, get_or, Some, None, refl, sym, ap, ◌∙◌, subst, arith}
 use Rattle.std.specs.Prelude.{slice_set}
 use Rattle.std.proofs.lemmas.Bool.{cases_eq, cases_lt}
 use Rattle.std.proofs.lemmas.Bool.Decides.{nat_tests}
@@ -8,7 +9,8 @@ use Rattle.nofs_disk.specs.Disk.{cell_at, no_cell}
 use Rattle.nofs_disk.specs.Number.{zeros}
 use Rattle.nofs_inode.specs.InodeRecords.{record_or_free}
 use Rattle.nofs_inode.specs.declared.inode.FileKind.TheVariants.{Directory as Folder}
-use Rattle.nofs_model.specs.Cells.{Cell, Directory, Entry, Leaf, Pointer, Record, null, SuperBlock, tag_of, record_at, record_of, fields_in, free_record, spelled_entry}
+use Rattle.nofs_model.specs.Cells.{Cell, Directory, Entry, Leaf, Pointer, Record, null, SuperBlock, tag_of, record_at, record_of, fields_in, free_record}
+use Rattle.nofs_model.specs.Cells.{spelled_entry}
 use Rattle.nofs_model.specs.Image.{Image, super_at, is_inode, inode, InRecord, leaf, path_of, tag_for, kind_in, slot_of, is_pointer_slot, record_pointer}
 use Rattle.nofs_model.specs.declared.value.Value.TheVariants.{Bytes, Hole}
 use Rattle.nofs_model.proofs.Find.{and-both}

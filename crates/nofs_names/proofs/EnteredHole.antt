@@ -1,5 +1,6 @@
 -- The disk after a new entry was written into a hole: its block, the leaf above it, and the records.
-use Rattle.std.proofs.Common.{◌≡◌, ◌≢◌, ℕ, ◌+◌, ◌-◌, ◌/◌, ◌%◌, ◌<◌, ◌≤◌, ◌⊎◌, inl, inr, true, leb, leb-true, ltb, ltb-true, [], ◌∷◌, length, Some, sym, ap, ◌∙◌, arith}
+use Rattle.std.proofs.Common.{◌≡◌, ◌≢◌, ℕ, ◌+◌, ◌-◌, ◌/◌, ◌%◌, ◌<◌, ◌≤◌, ◌⊎◌, inl, inr, true, leb, leb-true, ltb, ltb-true, [], ◌∷◌, length, Some, sym, ap}
+use Rattle.std.proofs.Common.{◌∙◌, arith}
 use Rattle.std.specs.Prelude.{slice_set}
 use Rattle.std.proofs.lemmas.Bool.{cases_eq, cases_lt}
 use Rattle.std.proofs.lemmas.List.{get_or-set_same, get_or-set_other, length-set}
@@ -18,7 +19,8 @@ use Rattle.nofs_state.specs.Writing.{OneOf, image_after}
 use Rattle.nofs_state.proofs.Tables.{HasRecord, record-here, record-other}
 use Rattle.nofs_names.specs.Entering.{AreTables, IsMoreLeaf, IsNewCell, IsNewLeaf, IsTable, with_direct, with_leaf, table_block}
 use Rattle.nofs_names.specs.declared.entering.Tables.{Tables}
-use Rattle.nofs_names.proofs.Entered.{written-apart, written-here, record-of-directory, record-of-inode, records-beside, tables-tagged, pointed-here, pointed-other, rooted-other, content-new, new-cell-tag, new-leaf-tag}
+use Rattle.nofs_names.proofs.Entered.{written-apart, written-here, record-of-directory, record-of-inode, records-beside, tables-tagged, pointed-here}
+use Rattle.nofs_names.proofs.Entered.{pointed-other, rooted-other, content-new, new-cell-tag, new-leaf-tag}
 use Rattle.nofs_names.proofs.ZeroPointers.{past-null, past-same}
 
 -- what holds of the disk before: its numbers, the directory and the inode
@@ -111,7 +113,8 @@ module _ (X : Image) (d i e : ℕ) (dr : Record) (ready : IsReady X d i e dr) wh
     len1 = length-set X x.block c
 
     other1 : (b : ℕ) → b ≢ x.block → b ≢ table_block d → b ≢ table_block i → cell_at Y1 b ≡ cell_at X b
-    other1 b nx nd ni = last-other before after (with_direct dr (e / 16) x) r tables (slice_set X x.block c) len1 b nd ni ∙ get_or-set_other X x.block b c no_cell
+    other1 b nx nd ni = last-other before after (with_direct dr (e / 16) x) r tables (slice_set X x.block c) len1 b nd ni
+        ∙ get_or-set_other X x.block b c no_cell
         nx
 
     cell1 : cell_at Y1 x.block ≡ c

@@ -1,5 +1,6 @@
 -- Whether a directory has a name of a file, place by place and slot by slot.
-use Rattle.std.proofs.Common.{◌≡◌, ℕ, ◌+◌, ◌*◌, ◌<◌, inl, inr, Bool, true, false, List, [], Option, Some, None, IsTrue, Result, Ok, Err, refl, sym, ap, ◌∙◌, subst, arith, le_refl}
+use Rattle.std.proofs.Common.{◌≡◌, ℕ, ◌+◌, ◌*◌, ◌<◌, inl, inr, Bool, true, false, List, [], Option, Some, None, IsTrue, Result, Ok, Err, refl, sym, ap, ◌∙◌}
+use Rattle.std.proofs.Common.{subst, arith, le_refl}
 use Rattle.std.specs.Prelude.{IfOk, OnErr}
 use Rattle.std.proofs.lemmas.Bool.{cases_lt}
 use Rattle.nofs_disk.specs.Disk.{DiskState, StaysButFaults, Rose}
@@ -22,7 +23,8 @@ use Rattle.nofs_names.specs.Filled.{pair_in, TellsPair, NoPairs, NamesAre, Names
 use Rattle.nofs_names.proofs.PairTests.{paired-is}
 use Rattle.nofs_names.proofs.Passing.{entry-is, held-at}
 
-pub names-after : (old mid new : DiskState) (d n m : ℕ) (last : LastRead) (res : Result Bool Failed) → StaysButFaults old mid → NamesOn mid new d n m last res → NamesOn old new d n m last res
+pub names-after : (old mid new : DiskState) (d n m : ℕ) (last : LastRead) (res : Result Bool Failed) → StaysButFaults old mid
+    → NamesOn mid new d n m last res → NamesOn old new d n m last res
 names-after old mid new d n m last res stays s = record {
   stays = StaysButFaults-trans old mid new stays s.stays;
   names = on-ok res s.names;
@@ -30,9 +32,11 @@ names-after old mid new d n m last res stays s = record {
   cause = on-err res s.cause;
 }
   where
-    on-ok : (r : Result Bool Failed) → IfOk r (λ b. IsTrue mid.tells → IsThere d mid.now → (F : Files) → FilesMatch F mid.now → NoPairs F d n → NamesAre F d m b) → IfOk r (λ b. IsTrue old.tells → IsThere d old.now → (F : Files) → FilesMatch F old.now → NoPairs F d n → NamesAre F d m b)
+    on-ok : (r : Result Bool Failed) → IfOk r (λ b. IsTrue mid.tells → IsThere d mid.now → (F : Files) → FilesMatch F mid.now → NoPairs F d n
+        → NamesAre F d m b) → IfOk r (λ b. IsTrue old.tells → IsThere d old.now → (F : Files) → FilesMatch F old.now → NoPairs F d n → NamesAre F d m b)
     on-ok (Err e) h = tt
-    on-ok (Ok b) h = λ t. subst (λ (X : Image). IsThere d X → (F : Files) → FilesMatch F X → NoPairs F d n → NamesAre F d m b) stays.cells.now (h (told-on old mid stays t))
+    on-ok (Ok b) h = λ t. subst (λ (X : Image). IsThere d X → (F : Files) → FilesMatch F X → NoPairs F d n → NamesAre F d m b) stays.cells.now
+        (h (told-on old mid stays t))
 
     on-err : (r : Result Bool Failed) → OnErr r (Rose mid.faults new.faults) → OnErr r (Rose old.faults new.faults)
     on-err (Err e) h = Rose-within old.faults mid.faults new.faults new.faults stays.disk.faults h (le_refl new.faults)
@@ -49,10 +53,21 @@ emptying-begins old d n m last kept e = record { stays = StaysButFaults-refl old
 -- a search of the next entries goes on from here
 module _ (old now new : DiskState) (d n m q : ℕ) (last next : LastRead) (g : Emptying old now d n m last) where
   pub emptying-on : NamesOn now new d m q next (Ok false) → Emptying old new d n q next
-  emptying-on s = let r = names-after old now new d m q next (Ok false) g.stays s in record { stays = r.stays; kept = r.kept; none = λ t a F w p. r.names t a F w (g.none t a F w p) }
+  emptying-on s = let r = names-after old now new d m q next (Ok false) g.stays s in record {
+    stays = r.stays;
+    kept = r.kept;
+    none =
+        λ t a F w p. r.names t a F w (g.none t a F w p);
+  }
 
   pub emptying-found : (z : ℕ) → NamesOn now new d m q next (Ok true) → NamesOn old new d n z next (Ok true)
-  emptying-found z s = let r = names-after old now new d m q next (Ok true) g.stays s in record { stays = r.stays; names = λ t a F w p. r.names t a F w (g.none t a F w p); kept = r.kept; cause = tt }
+  emptying-found z s = let r = names-after old now new d m q next (Ok true) g.stays s in record {
+    stays = r.stays;
+    names =
+        λ t a F w p. r.names t a F w (g.none t a F w p);
+    kept = r.kept;
+    cause = tt;
+  }
 
   pub emptying-failed : (z : ℕ) (e : Failed) → NamesOn now new d m q next (Err e) → NamesOn old new d n z next (Err e)
   emptying-failed z e s = let r = names-after old now new d m q next (Err e) g.stays s in record { stays = r.stays; names = tt; kept = tt; cause = r.cause }
@@ -62,15 +77,19 @@ emptying-ends old now d n m q last g e = record { stays = g.stays; names = λ t 
 
 -- one place
 
-module _ (old : DiskState) (at : SuperBlock) (d : ℕ) (dr : Record) (slot : ℕ) (payload : List ℕ) (known : KnowsDirectory old at d dr.generation dr) (low : slot < 72) (cell : IsTrue old.tells → value old.now d slot ≡ Bytes payload) where
+module _ (old : DiskState) (at : SuperBlock) (d : ℕ) (dr : Record) (slot : ℕ) (payload : List ℕ) (known : KnowsDirectory old at d dr.generation dr)
+    (low : slot < 72) (cell : IsTrue old.tells → value old.now d slot ≡ Bytes payload) where
   -- what the test says of an entry is what the machine says
-  pair-as : IsTrue old.tells → IsThere d old.now → (F : Files) → FilesMatch F old.now → (place : ℕ) → place < 16 → pair_in old.now (link_to d (16 * slot + place) dr.generation) (named_in (entry_in payload place)) ≡ is_paired F d (16 * slot + place)
+  pair-as : IsTrue old.tells → IsThere d old.now → (F : Files) → FilesMatch F old.now → (place : ℕ) → place < 16
+      → pair_in old.now (link_to d (16 * slot + place) dr.generation) (named_in (entry_in payload place)) ≡ is_paired F d (16 * slot + place)
   pair-as t a F match place small = go (entry_in payload place) refl
     where
       there : entry_at F d (16 * slot + place) ≡ entry_in payload place
-      there = entry-is F old.now d dr match a (known.known.same t) known.kind (16 * slot + place) slot place payload [] low (omega (arith, small)) (omega (arith, small)) (cell t)
+      there = entry-is F old.now d dr match a (known.known.same t) known.kind (16 * slot + place) slot place payload [] low (omega (arith, small))
+          (omega (arith, small)) (cell t)
 
-      go : (o : Option Entry) → entry_in payload place ≡ o → pair_in old.now (link_to d (16 * slot + place) dr.generation) (named_in o) ≡ is_paired F d (16 * slot + place)
+      go : (o : Option Entry) → entry_in payload place ≡ o → pair_in old.now (link_to d (16 * slot + place) dr.generation) (named_in o) ≡ is_paired F d
+          (16 * slot + place)
       go None e = let n = there ∙ e in sym (rw (n, is_paired) refl)
       go (Some it) e = paired-is F old.now d (16 * slot + place) dr match a (known.known.same t) known.kind it (there ∙ e) (inode old.now it.inode) refl
 
@@ -78,12 +97,16 @@ module _ (old : DiskState) (at : SuperBlock) (d : ℕ) (dr : Record) (slot : ℕ
     told : IsTrue old.tells → IsTrue now.tells
     told t = told-on old now g.stays t
 
-    pair-is : (b : Bool) → TellsPair now new (link_to d (16 * slot + place) dr.generation) payload place next (Ok b) → IsTrue old.tells → IsThere d old.now → (F : Files) → FilesMatch F old.now → b ≡ is_paired F d (16 * slot + place)
-    pair-is b s t a F match = subst (λ (X : Image). b ≡ pair_in X (link_to d (16 * slot + place) dr.generation) (named_in (entry_in payload place))) g.stays.cells.now (s.found (told t)) ∙ pair-as t a F match place small
+    pair-is : (b : Bool) → TellsPair now new (link_to d (16 * slot + place) dr.generation) payload place next (Ok b) → IsTrue old.tells → IsThere d old.now
+        → (F : Files) → FilesMatch F old.now → b ≡ is_paired F d (16 * slot + place)
+    pair-is b s t a F match = subst (λ (X : Image). b ≡ pair_in X (link_to d (16 * slot + place) dr.generation) (named_in (entry_in payload place)))
+        g.stays.cells.now (s.found (told t)) ∙ pair-as t a F match place small
 
-    pub place-on : (res : Result Bool Failed) → TellsPair now new (link_to d (16 * slot + place) dr.generation) payload place next res → res ≡ Ok false → Emptying old new d (16 * slot) (16 * slot + (place + 1)) next
+    pub place-on : (res : Result Bool Failed) → TellsPair now new (link_to d (16 * slot + place) dr.generation) payload place next res → res ≡ Ok false
+        → Emptying old new d (16 * slot) (16 * slot + (place + 1)) next
     place-on res tells e =
-        let s : TellsPair now new (link_to d (16 * slot + place) dr.generation) payload place next (Ok false) = subst (λ (r : Result Bool Failed). TellsPair now new (link_to d (16 * slot + place) dr.generation) payload place next r) e tells in
+        let s : TellsPair now new (link_to d (16 * slot + place) dr.generation) payload place next (Ok false) =
+        subst (λ (r : Result Bool Failed). TellsPair now new (link_to d (16 * slot + place) dr.generation) payload place next r) e tells in
         record {
           stays = StaysButFaults-trans old now new g.stays s.stays;
           kept = s.kept;
@@ -93,9 +116,11 @@ module _ (old : DiskState) (at : SuperBlock) (d : ℕ) (dr : Record) (slot : ℕ
           ];
         }
 
-    pub place-found : (z : ℕ) (res : Result Bool Failed) → TellsPair now new (link_to d (16 * slot + place) dr.generation) payload place next res → res ≡ Ok true → NamesOn old new d (16 * slot) z next (Ok true)
+    pub place-found : (z : ℕ) (res : Result Bool Failed) → TellsPair now new (link_to d (16 * slot + place) dr.generation) payload place next res
+        → res ≡ Ok true → NamesOn old new d (16 * slot) z next (Ok true)
     place-found z res tells e =
-        let s : TellsPair now new (link_to d (16 * slot + place) dr.generation) payload place next (Ok true) = subst (λ (r : Result Bool Failed). TellsPair now new (link_to d (16 * slot + place) dr.generation) payload place next r) e tells in
+        let s : TellsPair now new (link_to d (16 * slot + place) dr.generation) payload place next (Ok true) =
+        subst (λ (r : Result Bool Failed). TellsPair now new (link_to d (16 * slot + place) dr.generation) payload place next r) e tells in
         record {
           stays = StaysButFaults-trans old now new g.stays s.stays;
           names = λ t a F match p. (16 * slot + place, omega (arith, small, low), sym (pair-is true s t a F match));
@@ -104,16 +129,21 @@ module _ (old : DiskState) (at : SuperBlock) (d : ℕ) (dr : Record) (slot : ℕ
         }
 
 -- a slot without bytes
-pub slot-empty : (old mid : DiskState) (at : SuperBlock) (d : ℕ) (dr : Record) (slot : ℕ) (path : Path) (names last : LastRead) (res : Result PathAnswer Failed) (b c : PathAnswer) → KnowsDirectory old at d dr.generation dr → slot < 72 → path ≡ path_of slot → IsLast old last
-    → FindsSlot old mid at (λ X. find X d path) names res → res ≡ Ok b → b ≡ c → ((e : ℕ) (X : Image) → entry_held (value_in X c) e ≡ None) → NamesOn old mid d (16 * slot) (16 * (slot + 1)) last (Ok false)
+pub slot-empty : (old mid : DiskState) (at : SuperBlock) (d : ℕ) (dr : Record) (slot : ℕ) (path : Path) (names last : LastRead)
+    (res : Result PathAnswer Failed) (b c : PathAnswer) → KnowsDirectory old at d dr.generation dr → slot < 72 → path ≡ path_of slot → IsLast old last
+    → FindsSlot old mid at (λ X. find X d path) names res → res ≡ Ok b → b ≡ c → ((e : ℕ) (X : Image) → entry_held (value_in X c) e ≡ None)
+    → NamesOn old mid d (16 * slot) (16 * (slot + 1)) last (Ok false)
 slot-empty old mid at d dr slot path names last res b c known low path-is kept finds eb ec none = record {
   stays = finds.stays;
   names = λ t a F match p n high. elim (cases_lt n (16 * slot)) [
     | inl before ↦ p n before
     | inr here ↦
-        let f : FindsSlot old mid at (λ X. find X d path) names (Ok c) = subst (λ (r : Result PathAnswer Failed). FindsSlot old mid at (λ X. find X d path) names r) (eb ∙ ap Ok ec) finds in
-        let v : value old.now d slot ≡ value_in old.now c = sym (λ j. value_in old.now (find old.now d (path-is j))) ∙ ap (value_in old.now) (sym (f.found t)) in
-        let h : entry_at F d n ≡ None = held-at F old.now d dr match a (known.known.same t) known.kind n slot (value_in old.now c) low (omega (arith, here, high)) v ∙ none n old.now in
+        let f : FindsSlot old mid at (λ X. find X d path) names (Ok c) =
+        subst (λ (r : Result PathAnswer Failed). FindsSlot old mid at (λ X. find X d path) names r) (eb ∙ ap Ok ec) finds in
+        let v : value old.now d slot ≡ value_in old.now c =
+        sym (λ j. value_in old.now (find old.now d (path-is j))) ∙ ap (value_in old.now) (sym (f.found t)) in
+        let h : entry_at F d n ≡ None = held-at F old.now d dr match a (known.known.same t) known.kind n slot (value_in old.now c) low
+        (omega (arith, here, high)) v ∙ none n old.now in
         rw (h, is_paired) refl
   ];
   kept = IsLast-on old mid last finds.stays kept;

@@ -21,7 +21,8 @@ pub none-left : (old now : DiskState) (known : List (Option Bool)) (i : ℕ) (r 
     → TellsAgreed old now known (λ X. list_any (is_agreed_link (files_in X) i) r.links) last (Ok false)
 none-left old now known i r last place four p all = record {
   stays = p.stays;
-  found = λ t a. sym (list_any_none (is_agreed_link (files_in old.now) i) r.links (λ k d low. ap (is_agreed_link (files_in old.now) i) (get_or_default r.links k d no_link low) ∙ p.none t a k (omega (arith, low, four, all))));
+  found = λ t a. sym (list_any_none (is_agreed_link (files_in old.now) i) r.links
+      (λ k d low. ap (is_agreed_link (files_in old.now) i) (get_or_default r.links k d no_link low) ∙ p.none t a k (omega (arith, low, four, all))));
   kept = p.kept;
   cause = tt;
 }
@@ -33,7 +34,11 @@ keeps-is F X i f link b match a e eb =
     let same : list_any (is_agreed_link (files_in X) i) (without_link link f.links) ≡ list_any (λ l. is_pair F i l) (without_link link f.links) =
     any-same (λ l. is_agreed_link (files_in X) i l) (λ l. is_pair F i l) (without_link link f.links) (λ l. sym (machine-pair F X i l match a)) in
     let eb2 : b ≡ (is_special i || list_any (λ l. is_pair F i l) (without_link link f.links)) = eb ∙ (λ j. is_special i || same j) in
-    ap (λ (o : Option FileState). is_gone (elim o [ None ↦ Gone | Some q ↦ cond (not (is_special i) && not (list_any (λ l. is_pair F i l) (without_link link q.links))) Gone (Is q.kind q.size (without_link link q.links)) ])) e
+    ap (λ (o : Option FileState). is_gone (elim o [
+      | None ↦ Gone
+      | Some q ↦ cond
+          (not (is_special i) && not (list_any (λ l. is_pair F i l) (without_link link q.links))) Gone (Is q.kind q.size (without_link link q.links))
+    ])) e
     ∙ go (is_special i) (list_any (λ l. is_pair F i l) (without_link link f.links)) ∙ ap not (sym eb2)
   where
     go : (s p : Bool) → is_gone (cond (not s && not p) Gone (Is f.kind f.size (without_link link f.links))) ≡ not (s || p)

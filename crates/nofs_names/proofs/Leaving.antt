@@ -1,5 +1,6 @@
 -- A step with which one inode goes: what it used is free, and known to be.
-use Rattle.std.proofs.Common.{◌≡◌, ◌≢◌, ℕ, ◌+◌, ◌-◌, ◌<◌, ◌≤◌, ◌⊎◌, Bool, true, false, cond, ltb, eqb, eqb-true, eq-eqb, ◌&&◌, ◌||◌, not, Option, Some, None, is_some, inl, inr, refl, sym, ap, ◌∙◌, subst, arith}
+use Rattle.std.proofs.Common.{◌≡◌, ◌≢◌, ℕ, ◌+◌, ◌-◌, ◌<◌, ◌≤◌, ◌⊎◌, Bool, true, false, cond, ltb, eqb, eqb-true, eq-eqb, ◌&&◌, ◌||◌, not, Option, Some, None}
+use Rattle.std.proofs.Common.{is_some, inl, inr, refl, sym, ap, ◌∙◌, subst, arith}
 use Rattle.nofs_agree.specs.Chains.{told}
 use Rattle.std.proofs.lemmas.Bool.{cases_eq}
 use Rattle.nofs_ptrs.specs.Paths.{slot_limit}
@@ -71,7 +72,8 @@ leaving-claim W s G i leaving = record {
   apart = tt;
 }
 
-module _ (X : Image) (k l : Books) (W : World) (s : Step) (G : Files) (i : ℕ) (says : Says k W) (match : FilesMatch W.files X) (homes : HomesMatch W X) (past : (b : ℕ) → W.blocks ≤ b → W.homes b ≡ None)
+module _ (X : Image) (k l : Books) (W : World) (s : Step) (G : Files) (i : ℕ) (says : Says k W) (match : FilesMatch W.files X) (homes : HomesMatch W X)
+    (past : (b : ℕ) → W.blocks ≤ b → W.homes b ≡ None)
     (leaving : IsLeaving W s G i) (freed : Freed k l i (λ q. is_of i (W.homes q))) where
   abbrev V : World
   V = after_world W s no_claims l
@@ -85,7 +87,8 @@ module _ (X : Image) (k l : Books) (W : World) (s : Step) (G : Files) (i : ℕ) 
   file-gone = V-file i ∙ ap is_some leaving.gone
 
   no-block : (home : Home) → home.inode ≡ i → has_block V.files home ≡ false
-  no-block home e = (λ q. has_block (leaving.files q) home) ∙ subst (λ (o : Option FileState). block_in o home.slot ≡ false) (sym (ap G e ∙ leaving.gone)) (both (ltb home.slot slot_limit))
+  no-block home e = (λ q. has_block (leaving.files q) home)
+      ∙ subst (λ (o : Option FileState). block_in o home.slot ≡ false) (sym (ap G e ∙ leaving.gone)) (both (ltb home.slot slot_limit))
     where
       both : (b : Bool) → cond b false false ≡ false
       both true = refl
@@ -98,12 +101,14 @@ module _ (X : Image) (k l : Books) (W : World) (s : Step) (G : Files) (i : ℕ) 
           → cond (has_block V.files home) (Some home) None ≡ cond (eqb home.inode i) None (Some home)
       at home e (inl own) = let b = no-block home own in let t = eq-eqb home.inode i own in rw (b, t) refl
       at home e (inr other) =
-          let b : has_block V.files home ≡ true = subst (λ (F : Files). has_block F home ≡ true) (sym leaving.files) (leaving.blocks home other (home-has W X match homes past q home e)) in
+          let b : has_block V.files home ≡ true = subst (λ (F : Files). has_block F home ≡ true) (sym leaving.files)
+          (leaving.blocks home other (home-has W X match homes past q home e)) in
           let t : eqb home.inode i ≡ false = not-eqb home.inode i other in
           rw (b, t) refl
 
       go : (h : Option Home) → W.homes q ≡ h
-          → (elim h as (λ (_ : Option Home). Option Home) [ None ↦ None | Some home ↦ cond (has_block V.files home) (Some home) None ]) ≡ cond (is_of i h) None h
+          → (elim h as (λ (_ : Option Home). Option Home) [ None ↦ None | Some home ↦ cond (has_block V.files home) (Some home) None ]) ≡ cond (is_of i h)
+          None h
       go None e = refl
       go (Some home) e = at home e (cases_eq home.inode i)
 
@@ -146,7 +151,8 @@ module _ (X : Image) (k l : Books) (W : World) (s : Step) (G : Files) (i : ℕ) 
     inode_seen = λ t j e. absurd (let z = leaving.sees_no_inode j in cc (e, z));
     block_seen = λ t q e. absurd (let z = leaving.sees_no_block q in cc (e, z));
     inodes_why = λ j kn. elim (cases_eq j i) [
-      | inl here ↦ inr (inr (inl (subst (λ (n : ℕ). uses_inode V n ≢ uses_inode W n) (sym here) (differ (uses_inode V i) (uses_inode W i) inode-gone inode-was))))
+      | inl here ↦ inr (inr (inl (subst (λ (n : ℕ). uses_inode V n ≢ uses_inode W n) (sym here)
+          (differ (uses_inode V i) (uses_inode W i) inode-gone inode-was))))
       | inr other ↦ inl (says.known_inodes j ∙ sym (freed.known_inodes j ∙ (λ n. knows_inode k j || not-eqb j i other n) ∙ or-false (knows_inode k j)) ∙ kn)
     ];
     blocks_why = λ q kn. why-case q (is_of i (W.homes q)) refl kn;
@@ -173,11 +179,15 @@ module _ (X : Image) (k l : Books) (W : World) (s : Step) (G : Files) (i : ℕ) 
     known_blocks = λ q. refl;
     free_inodes = λ j a b. let top : j ≤ k.at.inodes = subst (λ (n : ℕ). j ≤ n) (ap (λ (q : SuperBlock). q.inodes) freed.at) b in elim (cases_eq j i) [
       | inl here ↦ freed.free_inodes j a top ∙ (λ n. is_set k.free_inodes (j - 1) || eq-eqb j i here n) ∙ or-true (is_set k.free_inodes (j - 1))
-          ∙ sym ((λ n. (freed.known_inodes j ∙ (λ m. knows_inode k j || eq-eqb j i here m) ∙ or-true (knows_inode k j)) n && not (uses_inode V (here n))) ∙ ap not inode-gone)
-      | inr other ↦ freed.free_inodes j a top ∙ (λ n. is_set k.free_inodes (j - 1) || not-eqb j i other n) ∙ or-false (is_set k.free_inodes (j - 1)) ∙ says.free_inodes j a top
-          ∙ (λ n. (says.known_inodes j ∙ sym (freed.known_inodes j ∙ (λ m. knows_inode k j || not-eqb j i other m) ∙ or-false (knows_inode k j))) n && not (sym (inode-same j other) n))
+          ∙ sym ((λ n. (freed.known_inodes j ∙ (λ m. knows_inode k j || eq-eqb j i here m) ∙ or-true (knows_inode k j)) n && not (uses_inode V (here n)))
+          ∙ ap not inode-gone)
+      | inr other ↦ freed.free_inodes j a top ∙ (λ n. is_set k.free_inodes (j - 1) || not-eqb j i other n) ∙ or-false (is_set k.free_inodes (j - 1))
+          ∙ says.free_inodes j a top
+          ∙ (λ n. (says.known_inodes j ∙ sym (freed.known_inodes j ∙ (λ m. knows_inode k j || not-eqb j i other m) ∙ or-false (knows_inode k j))) n
+          && not (sym (inode-same j other) n))
     ];
-    free_blocks = λ q lt. let low : q < k.at.blocks = subst (λ (n : ℕ). q < n) (ap (λ (q : SuperBlock). q.blocks) freed.at) lt in free-case q low (is_of i (W.homes q)) refl;
+    free_blocks = λ q lt. let low : q < k.at.blocks = subst (λ (n : ℕ). q < n) (ap (λ (q : SuperBlock). q.blocks) freed.at) lt in free-case q low
+        (is_of i (W.homes q)) refl;
     agreement = λ j a t. let g = freed.agreement j a t in V-file j ∙ leaving.used j g.0 ∙ says.agreement j a g.1;
   }
     where
@@ -185,4 +195,5 @@ module _ (X : Image) (k l : Books) (W : World) (s : Step) (G : Files) (i : ℕ) 
       free-case q low true o = freed.free_blocks q low ∙ (λ n. is_set k.free_blocks q || o n) ∙ or-true (is_set k.free_blocks q)
           ∙ sym ((λ n. (freed.known_blocks q ∙ (λ m. knows_block k q || o m) ∙ or-true (knows_block k q)) n && not (block-gone q o n)))
       free-case q low false o = freed.free_blocks q low ∙ (λ n. is_set k.free_blocks q || o n) ∙ or-false (is_set k.free_blocks q) ∙ says.free_blocks q low
-          ∙ (λ n. (says.known_blocks q ∙ sym (freed.known_blocks q ∙ (λ m. knows_block k q || o m) ∙ or-false (knows_block k q))) n && not (sym (block-same q o) n))
+          ∙ (λ n. (says.known_blocks q ∙ sym (freed.known_blocks q ∙ (λ m. knows_block k q || o m) ∙ or-false (knows_block k q))) n
+          && not (sym (block-same q o) n))

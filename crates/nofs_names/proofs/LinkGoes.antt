@@ -1,5 +1,6 @@
 -- The refusals of Link, part by part.
-use Rattle.std.proofs.Common.{◌≡◌, ℕ, zero, suc, ◌+◌, ◌/◌, ◌^◌, ◌<◌, inl, inr, Bool, true, false, cond, not, eqb, ◌&&◌, is_some, ltb, List, [], ◌∷◌, ◌++◌, Option, Some, None, IsTrue, Result, Ok, Err, IfErr, refl, sym, ap, ◌∙◌, subst, arith}
+use Rattle.std.proofs.Common.{◌≡◌, ℕ, zero, suc, ◌+◌, ◌/◌, ◌^◌, ◌<◌, inl, inr, Bool, true, false, cond, not, eqb, ◌&&◌, is_some, ltb, List, [], ◌∷◌, ◌++◌}
+use Rattle.std.proofs.Common.{Option, Some, None, IsTrue, Result, Ok, Err, IfErr, refl, sym, ap, ◌∙◌, subst, arith}
 use Rattle.std.specs.Prelude.{IfSome}
 use Rattle.nofs_dirent.specs.Entries.{entry_limit}
 use Rattle.nofs_disk.specs.Disk.{DiskState, IsDisk, StaysButFaults, Rose}
@@ -41,8 +42,10 @@ use Rattle.nofs_names.specs.Entering.{Enters, MayEnter, ReadsTables, table_block
 use Rattle.nofs_names.specs.declared.ending.Ended.{Ended}
 use Rattle.nofs_names.specs.declared.entering.EntryPlace.{EntryPlace}
 use Rattle.nofs_names.specs.declared.entering.Tables.{Tables}
-use Rattle.nofs_names.specs.Placing.{FindsEntrySlot, FitsSlot, IsEntrySlot, IsSlotCell, IsPlaceOf, LiesInside, SlotFails, TakesBlocks, slot_blocks, place_or_full, room_rows}
-use Rattle.nofs_names.specs.Linking.{AreBoth, FindsLinkPlace, IsKnown, Leads, MayLink, OpensBoth, PlaceIs, SpotIs, StandsLink, block_rows, both_rows, with_link, many_rows, named_rows, new_rows, place_rows}
+use Rattle.nofs_names.specs.Placing.{FindsEntrySlot, FitsSlot, IsEntrySlot, IsSlotCell, IsPlaceOf, LiesInside, SlotFails, TakesBlocks, slot_blocks}
+use Rattle.nofs_names.specs.Placing.{place_or_full, room_rows}
+use Rattle.nofs_names.specs.Linking.{AreBoth, FindsLinkPlace, IsKnown, Leads, MayLink, OpensBoth, PlaceIs, SpotIs, StandsLink, block_rows, both_rows}
+use Rattle.nofs_names.specs.Linking.{with_link, many_rows, named_rows, new_rows, place_rows}
 use Rattle.nofs_names.specs.declared.links.Both.{Both}
 use Rattle.nofs_names.specs.declared.placing.EntryBlocks.{EntryBlocks}
 use Rattle.nofs_names.specs.declared.placing.EntrySlot.{EntrySlot}
@@ -70,7 +73,12 @@ inside test n None h = tt
 inside test n (Some e) h = let l = least-in test 0 n e h in omega (arith, l)
 
 pub passed-inside : (F : Files) (d : ℕ) (name : List ℕ) (u : Unfound) → Passed F d name entry_limit 72 u → LiesInside u
-passed-inside F d name u p = record { dead = inside _ entry_limit u.dead p.dead; empty = inside _ entry_limit u.empty p.empty; hole = inside _ 72 u.hole p.hole }
+passed-inside F d name u p = record {
+  dead = inside _ entry_limit u.dead p.dead;
+  empty = inside _ entry_limit u.empty p.empty;
+  hole =
+      inside _ 72 u.hole p.hole;
+}
 
 -- the directory and the file are still there
 pub both-on : (old new : DiskState) (k : Books) (d g i of : ℕ) (b : Both) → StaysButFaults old new → AreBoth old k.at d g i of b → AreBoth new k.at d g i of b

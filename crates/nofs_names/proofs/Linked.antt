@@ -1,5 +1,6 @@
 -- The contract of the writes of Link.
-use Rattle.std.proofs.Common.{◌≡◌, ◌≢◌, ℕ, ◌+◌, ◌*◌, ◌/◌, ◌^◌, ◌<◌, ◌≤◌, inl, inr, true, false, ne_eqb, List, [], ◌∷◌, length, Some, IsTrue, Result, Ok, Err, refl, sym, ap, ◌∙◌, subst, subst₂, arith}
+use Rattle.std.proofs.Common.{◌≡◌, ◌≢◌, ℕ, ◌+◌, ◌*◌, ◌/◌, ◌^◌, ◌<◌, ◌≤◌, inl, inr, true, false, ne_eqb, List, [], ◌∷◌, length, Some, IsTrue, Result, Ok, Err}
+use Rattle.std.proofs.Common.{refl, sym, ap, ◌∙◌, subst, subst₂, arith}
 use Rattle.nofs_bits.specs.Bits.{is_set}
 use Rattle.nofs_disk.specs.Disk.{DiskState, IsDisk, cell_at}
 use Rattle.nofs_super.specs.Geometry.{IsGeometry}
@@ -45,8 +46,10 @@ use Rattle.nofs_names.specs.declared.placing.EntrySlot.{EntrySlot}
 use Rattle.nofs_names.specs.declared.placing.EntrySlot.TheVariants as slots
 use Rattle.nofs_names.proofs.BlockClaims.{TakenBlocks}
 use Rattle.nofs_names.proofs.Entered.{content-held, eight-direct}
-use Rattle.nofs_names.proofs.EnteredHole.{IsReady, IsNewBlock, direct-inode, direct-enters, direct-each, under-inode, under-enters, under-each, with-inode, with-enters, with-each}
-use Rattle.nofs_names.proofs.LinkClaims.{slot-needs, claims_of, claimed-first, claimed-second, claim-none, claim-cell, claim-both, new-block, taken-none, taken-cell, taken-both}
+use Rattle.nofs_names.proofs.EnteredHole.{IsReady, IsNewBlock, direct-inode, direct-enters, direct-each, under-inode, under-enters, under-each, with-inode}
+use Rattle.nofs_names.proofs.EnteredHole.{with-enters, with-each}
+use Rattle.nofs_names.proofs.LinkClaims.{slot-needs, claims_of, claimed-first, claimed-second, claim-none, claim-cell, claim-both, new-block, taken-none}
+use Rattle.nofs_names.proofs.LinkClaims.{taken-cell, taken-both}
 use Rattle.nofs_names.proofs.LinkSafe.{claim-safe}
 use Rattle.nofs_names.proofs.Linking.{Links, EndsWell, in-place-ends, in-hole-ends, link-done, link-proper, link-numbered}
 use Rattle.nofs_names.proofs.NameWrite as write

@@ -1,5 +1,7 @@
 -- Link: a new entry and the record of the file are written, in a slot that holds or in a hole.
-use Rattle.std.proofs.Common.{◌≡◌, ◌≢◌, ℕ, zero, suc, ◌+◌, ◌-◌, ◌/◌, ◌%◌, ◌<◌, ◌≤◌, ◌⊎◌, inl, inr, Bool, true, false, cond, eqb, eqb-true, eq-eqb, ne_eqb, leb, leb-true, ltb, ◌&&◌, ◌||◌, List, [], ◌∷◌, ◌++◌, length, Option, Some, None, is_some, IsTrue, Ok, refl, sym, ap, ◌∙◌, subst, subst₂, arith, Contains}
+use Rattle.std.proofs.Common.{◌≡◌, ◌≢◌, ℕ, zero, suc, ◌+◌, ◌-◌, ◌/◌, ◌%◌, ◌<◌, ◌≤◌, ◌⊎◌, inl, inr, Bool, true, false, cond, eqb, eqb-true, eq-eqb, ne_eqb}
+use Rattle.std.proofs.Common.{leb, leb-true, ltb, ◌&&◌, ◌||◌, List, [], ◌∷◌, ◌++◌, length, Option, Some, None, is_some, IsTrue, Ok, refl, sym, ap, ◌∙◌, subst}
+use Rattle.std.proofs.Common.{subst₂, arith, Contains}
 use Rattle.std.specs.Prelude.{slice_set}
 use Rattle.std.proofs.lemmas.Bool.Decides.{nat_tests}
 use Rattle.nofs_dirent.specs.Entries.{entry_limit}
@@ -9,7 +11,8 @@ use Rattle.nofs_dirent.specs.EntryLaws.{Spells}
 use Rattle.nofs_super.specs.Geometry.{IsGeometry}
 use Rattle.nofs_inode.specs.declared.inode.FileKind.TheVariants.{Directory as Folder, File}
 use Rattle.nofs_model.specs.Cells.{BackLink, Cell, FileKind, Pointer, Record, SuperBlock, tag_of, is_live, record_at, spelled_entry}
-use Rattle.nofs_model.specs.Image.{Image, super_at, is_data_block, is_inode, inode, leaf, path_of, find, files_in, agreed, is_folder, FileState, Files, Home, home_at, links_of, links_in_file, record_pointer, IsBelow}
+use Rattle.nofs_model.specs.Image.{Image, super_at, is_data_block, is_inode, inode, leaf, path_of, find, files_in, agreed, is_folder, FileState, Files, Home}
+use Rattle.nofs_model.specs.Image.{home_at, links_of, links_in_file, record_pointer, IsBelow}
 use Rattle.nofs_model.specs.declared.path.PathAnswer.TheVariants as answer
 use Rattle.nofs_model.specs.declared.value.Value.{Value}
 use Rattle.nofs_model.proofs.Find.{and-both, find-held}
@@ -21,7 +24,8 @@ use Rattle.nofs_crashlaw.proofs.Histories.{now-picks}
 use Rattle.nofs_machine.specs.Marks.{Mark}
 use Rattle.nofs_machine.specs.Meta.{Meta, Gone, Is, is_bytes, meta_of}
 use Rattle.nofs_machine.specs.Search.{first_of}
-use Rattle.nofs_machine.specs.Machine.{Given, gives, given_by, link_given, link_place, link_to, set_link, cell_given, entry_given, meta_given, files_after, is_at, is_paired, value_of, with_entry, place_for}
+use Rattle.nofs_machine.specs.Machine.{Given, gives, given_by, link_given, link_place, link_to, set_link, cell_given, entry_given, meta_given, files_after}
+use Rattle.nofs_machine.specs.Machine.{is_at, is_paired, value_of, with_entry, place_for}
 use Rattle.nofs_machine.specs.World.{World, blocks_needed}
 use Rattle.nofs_machine.specs.Claims.{has_block, next_stamp, IsClaim}
 use Rattle.nofs_machine.specs.Refusals.{rows}

@@ -25,13 +25,15 @@ pub record Seeking (old now : DiskState) (d from slot : ℕ) (last : LastRead) :
 pub seeking-begins : (old : DiskState) (d from : ℕ) (last : LastRead) → IsLast old last → Seeking old old d from from last
 seeking-begins old d from last kept = record { stays = StaysButFaults-refl old; kept = kept; holes = λ t k low high. absurd (omega (arith, low, high)) }
 
-module _ (old now new : DiskState) (at : SuperBlock) (d from slot : ℕ) (path : Path) (last next : LastRead) (res : Result PathAnswer Failed) (path-is : path ≡ path_of slot) (s : Seeking old now d from slot last) (f : FindsSlot now new at (λ X. find X d path) next res) where
+module _ (old now new : DiskState) (at : SuperBlock) (d from slot : ℕ) (path : Path) (last next : LastRead) (res : Result PathAnswer Failed)
+    (path-is : path ≡ path_of slot) (s : Seeking old now d from slot last) (f : FindsSlot now new at (λ X. find X d path) next res) where
   stays : StaysButFaults old new
   stays = StaysButFaults-trans old now new s.stays f.stays
 
   value-here : (a b : PathAnswer) → res ≡ Ok a → a ≡ b → IsTrue old.tells → value old.now d slot ≡ value_in old.now b
   value-here a b e ab t =
-      let q : FindsSlot now new at (λ X. find X d path) next (Ok b) = subst (λ (r : Result PathAnswer Failed). FindsSlot now new at (λ X. find X d path) next r) (e ∙ ap Ok ab) f in
+      let q : FindsSlot now new at (λ X. find X d path) next (Ok b) =
+      subst (λ (r : Result PathAnswer Failed). FindsSlot now new at (λ X. find X d path) next r) (e ∙ ap Ok ab) f in
       let h : b ≡ find old.now d path = subst (λ (X : Image). b ≡ find X d path) s.stays.cells.now (q.found (told-on old now s.stays t)) in
       sym (λ j. value_in old.now (find old.now d (path-is j))) ∙ ap (value_in old.now) (sym h)
 
@@ -49,15 +51,32 @@ module _ (old now new : DiskState) (at : SuperBlock) (d from slot : ℕ) (path :
       go t k low (inl before) high = s.holes t k low before
       go t k low (inr here) high = let e1 : k ≡ slot = omega (arith, here, high) in ap (value old.now d) e1 ∙ value-here a answer.Hole e h t
 
-  pub seeking-lost : (a : PathAnswer) (low : slot < 72) (mine : from ≤ slot) → res ≡ Ok a → a ≡ answer.Lost → FindsListed old new d from next (Ok (found.Lost slot))
-  seeking-lost a low mine e h = record { stays = stays; range = low; found = λ t. (s.holes t, mine, value-here a answer.Lost e h t); kept = kept-here a e; cause = tt }
+  pub seeking-lost : (a : PathAnswer) (low : slot < 72) (mine : from ≤ slot) → res ≡ Ok a → a ≡ answer.Lost
+      → FindsListed old new d from next (Ok (found.Lost slot))
+  seeking-lost a low mine e h = record {
+    stays = stays;
+    range = low;
+    found = λ t. (s.holes t, mine, value-here a answer.Lost e h t);
+    kept =
+        kept-here a e;
+    cause = tt;
+  }
 
-  pub seeking-holds : (a : PathAnswer) (x : Pointer) (low : slot < 72) (mine : from ≤ slot) → res ≡ Ok a → a ≡ answer.Holds x → FindsListed old new d from next (Ok (found.Holds slot))
-  seeking-holds a x low mine e h = record { stays = stays; range = low; found = λ t. (s.holes t, mine, value-here a (answer.Holds x) e h t ∙ ap (λ (c : Cell). Bytes c.payload) (sym (cell t))); kept = kept-here a e; cause = tt }
+  pub seeking-holds : (a : PathAnswer) (x : Pointer) (low : slot < 72) (mine : from ≤ slot) → res ≡ Ok a → a ≡ answer.Holds x
+      → FindsListed old new d from next (Ok (found.Holds slot))
+  seeking-holds a x low mine e h = record {
+    stays = stays;
+    range = low;
+    found =
+        λ t. (s.holes t, mine, value-here a (answer.Holds x) e h t ∙ ap (λ (c : Cell). Bytes c.payload) (sym (cell t)));
+    kept = kept-here a e;
+    cause = tt;
+  }
     where
       cell : IsTrue old.tells → next.cell ≡ cell_at old.now x.block
       cell t =
-          let q : FindsSlot now new at (λ X. find X d path) next (Ok (answer.Holds x)) = subst (λ (r : Result PathAnswer Failed). FindsSlot now new at (λ X. find X d path) next r) (e ∙ ap Ok h) f in
+          let q : FindsSlot now new at (λ X. find X d path) next (Ok (answer.Holds x)) =
+          subst (λ (r : Result PathAnswer Failed). FindsSlot now new at (λ X. find X d path) next r) (e ∙ ap Ok h) f in
           subst (λ (X : Image). next.cell ≡ cell_at X x.block) s.stays.cells.now (q.cell (told-on old now s.stays t))
 
   pub seeking-failed : (x : Failed) → res ≡ Err x → FindsListed old new d from next (Err x)
@@ -66,8 +85,17 @@ module _ (old now new : DiskState) (at : SuperBlock) (d from slot : ℕ) (path :
     range = tt;
     found = tt;
     kept = tt;
-    cause = Rose-within old.faults now.faults new.faults new.faults s.stays.disk.faults (subst (λ (r : Result PathAnswer Failed). OnErr r (Rose now.faults new.faults)) e f.cause) (le_refl new.faults);
+    cause = Rose-within old.faults now.faults new.faults new.faults s.stays.disk.faults
+        (subst (λ (r : Result PathAnswer Failed). OnErr r (Rose now.faults new.faults)) e f.cause) (le_refl new.faults);
   }
 
-pub seeking-ends : (old now : DiskState) (d from slot : ℕ) (last : LastRead) → Seeking old now d from slot last → 72 ≤ slot → FindsListed old now d from last (Ok found.NoMore)
-seeking-ends old now d from slot last s all = record { stays = s.stays; range = tt; found = λ t k low high. s.holes t k low (omega (arith, high, all)); kept = s.kept; cause = tt }
+pub seeking-ends : (old now : DiskState) (d from slot : ℕ) (last : LastRead) → Seeking old now d from slot last → 72 ≤ slot
+    → FindsListed old now d from last (Ok found.NoMore)
+seeking-ends old now d from slot last s all = record {
+  stays = s.stays;
+  range = tt;
+  found =
+      λ t k low high. s.holes t k low (omega (arith, high, all));
+  kept = s.kept;
+  cause = tt;
+}

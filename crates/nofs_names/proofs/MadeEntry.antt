@@ -120,7 +120,8 @@ module _ (b : DiskState) (k : Books) (H : List Entry1) (p : Past) (d g : ℕ) (n
 
   -- The slot holds
 
-  module _ (new : DiskState) (is_b : IsDisk b) (x : Pointer) (slot-is : place.slot ≡ entry.Held x) (whole : length place.cell.payload ≡ 1024) (cell table before : Cell)
+  module _ (new : DiskState) (is_b : IsDisk b) (x : Pointer) (slot-is : place.slot ≡ entry.Held x) (whole : length place.cell.payload ≡ 1024)
+      (cell table before : Cell)
       (payload : cell.payload ≡ entered place.cell.payload place.entry (record { inode = i; generation = next_of k; name = name }))
       (tag : cell.tag ≡ place.cell.tag)
       (was : before ≡ cell_at b.now (table_block i)) (written-table : IsTable before i (made_record kind (next_of k) (link_to d place.entry g)) table) where
@@ -158,7 +159,8 @@ module _ (b : DiskState) (k : Books) (H : List Entry1) (p : Past) (d g : ℕ) (n
         (claims-none p.world d g name kind i (next_of k) inode-claim (needs-are ∙ ap slot_blocks slot-is))
         (write.record-new b.now i x cell table _ geometry.fits geometry.table geometry.multiple area has)
 
-    writes-held : WritesInPlace b.now (image_after ((x.block, cell) ∷ (table_block i, table) ∷ []) b.now) d place.entry (make_claims i (next_of k) null null) name x
+    writes-held : WritesInPlace b.now (image_after ((x.block, cell) ∷ (table_block i, table) ∷ []) b.now) d place.entry (make_claims i (next_of k) null null)
+        name x
         ((x.block, cell) ∷ (table_block i, table) ∷ [])
     writes-held = record {
       entry = record {

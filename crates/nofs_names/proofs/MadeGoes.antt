@@ -70,7 +70,8 @@ module _ (b new : DiskState) (k l : Books) (d g : ℕ) (name : List ℕ) (kind :
   entered-goes (entry.Held x) is w = subst IsEnd (sym w.claims)
       (made-goes b new k (made_books k i) l d g name kind place.entry _ _ 0 ended.result is_b is_new safe first-safe going
       (in-data k.at x (subst (λ (q : EntrySlot). FitsSlot k.at (place.entry / 16) q) is may.fits), (no-table i, tt)) (taken-none k i (next_of k) may.above high)
-      (λ tells H p o. held-made b k H p d g name kind dr place i tells safe o may new is_b x is w.whole w.cell w.table t.inode w.payload w.tag (was_i tells) w.written)
+      (λ tells H p o. held-made b k H p d g name kind dr place i tells safe o may new is_b x is w.whole w.cell w.table t.inode w.payload w.tag (was_i tells)
+      w.written)
       pass w.stores)
   entered-goes entry.Direct is w = subst IsEnd (sym w.claims)
       (made-goes b new k (claimed_books (made_books k i) place.blocks.cell) l d g name kind place.entry _ _ 1 ended.result is_b is_new safe

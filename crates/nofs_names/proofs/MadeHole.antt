@@ -192,7 +192,8 @@ module _ (b : DiskState) (k : Books) (H : List Entry1) (p : Past) (d g : ℕ) (n
           (empty-slot entry.Direct slot-is) short (claimed_pointer (made_books k i) place.blocks.cell)
 
       makes1 : Makes b.now (image_after ws1 b.now) p.world d g name kind place.entry C1
-      makes1 = makes-from b k H p d g name kind dr place i tells safe o may (image_after ws1 b.now) (claimed_pointer (made_books k i) place.blocks.cell) null claim1
+      makes1 = makes-from b k H p d g name kind dr place i tells safe o may (image_after ws1 b.now) (claimed_pointer (made_books k i) place.blocks.cell)
+          null claim1
           (direct-inode b.now d i place.entry dr ready (next_stamp p.world) (claimed_pointer (made_books k i) place.blocks.cell) block1 cell before after R N
           (fits-slot entry.Direct slot-is) filled tables was_d was_i)
 
@@ -257,7 +258,8 @@ module _ (b : DiskState) (k : Books) (H : List Entry1) (p : Past) (d g : ℕ) (n
           (fits-slot (entry.UnderLeaf y) slot-is).0 filled more leaf-was table was_i (empty-slot (entry.UnderLeaf y) slot-is).0 short
 
       makes2 : Makes b.now (image_after ws2 b.now) p.world d g name kind place.entry C2
-      makes2 = makes-from b k H p d g name kind dr place i tells safe o may (image_after ws2 b.now) (claimed_pointer (made_books k i) place.blocks.cell) null claim2
+      makes2 = makes-from b k H p d g name kind dr place i tells safe o may (image_after ws2 b.now) (claimed_pointer (made_books k i) place.blocks.cell)
+          null claim2
           (under-inode b.now d i place.entry dr ready (next_stamp p.world)
           (claimed_pointer (made_books k i) place.blocks.cell) y block2 agrees-here held2 cell u t place.cell before R N
           (fits-slot (entry.UnderLeaf y) slot-is).0 filled more leaf-was table was_i)
@@ -346,7 +348,8 @@ module _ (b : DiskState) (k : Books) (H : List Entry1) (p : Past) (d g : ℕ) (n
           (fits-slot entry.WithLeaf slot-is) filled leafed tables was_d was_i (empty-slot entry.WithLeaf slot-is).0 short
 
       makes3 : Makes b.now (image_after ws3 b.now) p.world d g name kind place.entry C3
-      makes3 = makes-from b k H p d g name kind dr place i tells safe o may (image_after ws3 b.now) (claimed_pointer (made_books k i) place.blocks.cell) y claim3
+      makes3 = makes-from b k H p d g name kind dr place i tells safe o may (image_after ws3 b.now) (claimed_pointer (made_books k i) place.blocks.cell)
+          y claim3
           (with-inode b.now d i place.entry dr ready (next_stamp p.world)
           (claimed_pointer (made_books k i) place.blocks.cell) y block3 leaf-block differ none3 cell u before after R N
           (fits-slot entry.WithLeaf slot-is) filled leafed tables was_d was_i)

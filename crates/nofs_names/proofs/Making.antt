@@ -116,7 +116,8 @@ block-stays F G j slot born metas values nodes h = subst (λ (o : Option ℕ). b
 
     go : (o : Option FileState) → block_in o slot ≡ true → block_in (file_after G j o) slot ≡ true
     go None e = e
-    go (Some f) e = subst (λ (m : Option Meta). block_in (after_meta m (filled G j f)) slot ≡ true) (sym (metas f.generation)) (inside f (ltb slot slot_limit) e)
+    go (Some f) e = subst (λ (m : Option Meta). block_in (after_meta m (filled G j f)) slot ≡ true) (sym (metas f.generation))
+        (inside f (ltb slot slot_limit) e)
 
 -- what a Make stands on: its directory, the place of the entry, what was claimed, and the new record
 pub record Makes (X Y : Image) (W : World) (d g : ℕ) (name : List ℕ) (kind : FileKind) (e : ℕ) (c : Claims) : Type 0 where

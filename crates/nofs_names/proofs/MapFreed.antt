@@ -1,5 +1,6 @@
 -- What the maps say after an inode and its blocks were freed.
-use Rattle.std.proofs.Common.{◌≡◌, ◌≢◌, ℕ, ◌-◌, ◌<◌, ◌≤◌, ◌⊎◌, inl, inr, Bool, true, false, leb, ltb, eqb, eqb-true, eq-eqb, lt-ltb, ◌&&◌, ◌||◌, not, List, length, refl, sym, ap, ◌∙◌, arith, Option, None, Some, subst}
+use Rattle.std.proofs.Common.{◌≡◌, ◌≢◌, ℕ, ◌-◌, ◌<◌, ◌≤◌, ◌⊎◌, inl, inr, Bool, true, false, leb, ltb, eqb, eqb-true, eq-eqb, lt-ltb, ◌&&◌, ◌||◌, not, List}
+use Rattle.std.proofs.Common.{length, refl, sym, ap, ◌∙◌, arith, Option, None, Some, subst}
 use Rattle.nofs_agree.proofs.Learning.{told-other, told-set}
 use Rattle.nofs_agree.specs.Chains.{told}
 use Rattle.std.specs.Prelude.{slice_set}
@@ -42,7 +43,8 @@ known-bit true false = refl
 known-bit false true = refl
 known-bit false false = refl
 
-module _ (k l : Books) (i : ℕ) (freed : List Bool) (owned : ℕ → Bool) (sizes : HasSizes k) (above : 1 ≤ i) (below : i ≤ k.at.inodes) (a : FreedAs k l i freed) (same : (q : ℕ) → q < k.at.blocks → is_set freed q ≡ owned q) (beyond : (q : ℕ) → k.at.blocks ≤ q → owned q ≡ false) where
+module _ (k l : Books) (i : ℕ) (freed : List Bool) (owned : ℕ → Bool) (sizes : HasSizes k) (above : 1 ≤ i) (below : i ≤ k.at.inodes)
+    (a : FreedAs k l i freed) (same : (q : ℕ) → q < k.at.blocks → is_set freed q ≡ owned q) (beyond : (q : ℕ) → k.at.blocks ≤ q → owned q ≡ false) where
   place : i - 1 < k.at.inodes
   place = omega (arith, above, below)
 
@@ -59,7 +61,8 @@ module _ (k l : Books) (i : ℕ) (freed : List Bool) (owned : ℕ → Bool) (siz
       go : (j ≡ i) ⊎ (j ≢ i) → (j < 1) ⊎ (1 ≤ j)
           → (leb 1 j && (leb j k.at.inodes && not (is_set (slice_set k.unknown_inodes (i - 1) false) (j - 1)))) ≡ (knows_inode k j || eqb j i)
       go (inl here) low =
-          let b : is_set (slice_set k.unknown_inodes (i - 1) false) (j - 1) ≡ false = ap (λ (n : ℕ). is_set (slice_set k.unknown_inodes (i - 1) false) (n - 1)) here ∙ bit-here k.unknown_inodes false sizes.unknown_inodes in
+          let b : is_set (slice_set k.unknown_inodes (i - 1) false) (j - 1) ≡ false =
+          ap (λ (n : ℕ). is_set (slice_set k.unknown_inodes (i - 1) false) (n - 1)) here ∙ bit-here k.unknown_inodes false sizes.unknown_inodes in
           let t : eqb j i ≡ true = eq-eqb j i here in
           let one : leb 1 j ≡ true = ap (leb 1) here ∙ first in
           let most : leb j k.at.inodes ≡ true = ap (λ (n : ℕ). leb n k.at.inodes) here ∙ last in
@@ -76,7 +79,8 @@ module _ (k l : Books) (i : ℕ) (freed : List Bool) (owned : ℕ → Bool) (siz
       go (inr other) (inl zero) =
           let n : leb 1 j ≡ false = none j zero in
           let t : eqb j i ≡ false = not-eqb j i other in
-          (λ z. n z && (leb j k.at.inodes && not (is_set (slice_set k.unknown_inodes (i - 1) false) (j - 1)))) ∙ sym ((λ z. (n z && (leb j k.at.inodes && not (is_set k.unknown_inodes (j - 1)))) || t z))
+          (λ z. n z && (leb j k.at.inodes && not (is_set (slice_set k.unknown_inodes (i - 1) false) (j - 1))))
+          ∙ sym ((λ z. (n z && (leb j k.at.inodes && not (is_set k.unknown_inodes (j - 1)))) || t z))
         where
           none : (j : ℕ) → j < 1 → leb 1 j ≡ false
           none j h = grind (arith, nat_tests)
@@ -91,7 +95,8 @@ module _ (k l : Books) (i : ℕ) (freed : List Bool) (owned : ℕ → Bool) (siz
       go : (q < k.at.blocks) ⊎ (k.at.blocks ≤ q) → (ltb q k.at.blocks && not (is_set l.unknown_blocks q)) ≡ (knows_block k q || owned q)
       go (inl low) =
           let t = lt-ltb q k.at.blocks low in
-          (λ z. t z && not ((a.blocks.knowing q low ∙ (λ j. is_set k.unknown_blocks q && not (same q low j))) z)) ∙ known-bit (is_set k.unknown_blocks q) (owned q) ∙ sym (λ z. (t z && not (is_set k.unknown_blocks q)) || owned q)
+          (λ z. t z && not ((a.blocks.knowing q low ∙ (λ j. is_set k.unknown_blocks q && not (same q low j))) z))
+          ∙ known-bit (is_set k.unknown_blocks q) (owned q) ∙ sym (λ z. (t z && not (is_set k.unknown_blocks q)) || owned q)
       go (inr high) =
           let t = high-none q k.at.blocks high in
           let o = beyond q high in
@@ -105,8 +110,10 @@ module _ (k l : Books) (i : ℕ) (freed : List Bool) (owned : ℕ → Bool) (siz
     known_inodes = known-inode;
     known_blocks = known-block;
     free_inodes = λ j one most. ap (λ (bits : List Bool). is_set bits (j - 1)) a.free_inodes ∙ (elim (cases_eq j i) [
-      | inl here ↦ ap (λ (n : ℕ). is_set (slice_set k.free_inodes (i - 1) true) (n - 1)) here ∙ bit-here k.free_inodes true sizes.free_inodes ∙ sym ((λ z. is_set k.free_inodes (j - 1) || eq-eqb j i here z) ∙ or-true (is_set k.free_inodes (j - 1)))
-      | inr other ↦ bit-other k.free_inodes true j one other ∙ sym ((λ z. is_set k.free_inodes (j - 1) || not-eqb j i other z) ∙ or-false (is_set k.free_inodes (j - 1)))
+      | inl here ↦ ap (λ (n : ℕ). is_set (slice_set k.free_inodes (i - 1) true) (n - 1)) here ∙ bit-here k.free_inodes true sizes.free_inodes
+          ∙ sym ((λ z. is_set k.free_inodes (j - 1) || eq-eqb j i here z) ∙ or-true (is_set k.free_inodes (j - 1)))
+      | inr other ↦ bit-other k.free_inodes true j one other
+          ∙ sym ((λ z. is_set k.free_inodes (j - 1) || not-eqb j i other z) ∙ or-false (is_set k.free_inodes (j - 1)))
     ]);
     free_blocks = λ q low. a.blocks.freeing q low ∙ (λ z. is_set k.free_blocks q || same q low z);
     agreement = λ j v t. elim (cases_eq j i) [

@@ -1,5 +1,6 @@
 -- The disk after a cell of the data area and a record of the table were written, and what a step on names gives to files.
-use Rattle.std.proofs.Common.{◌≡◌, ◌≢◌, ℕ, ◌+◌, ◌/◌, ◌%◌, ◌<◌, ◌≤◌, Bool, true, false, cond, leb, ltb, ltb-true, leb-true, [], ◌∷◌, length, Option, Some, None, is_some, unwrap_or, refl, ◌∙◌, arith}
+use Rattle.std.proofs.Common.{◌≡◌, ◌≢◌, ℕ, ◌+◌, ◌/◌, ◌%◌, ◌<◌, ◌≤◌, Bool, true, false, cond, leb, ltb, ltb-true, leb-true, [], ◌∷◌, length, Option, Some}
+use Rattle.std.proofs.Common.{None, is_some, unwrap_or, refl, ◌∙◌, arith}
 use Rattle.std.specs.Prelude.{slice_set}
 use Rattle.std.proofs.lemmas.List.{get_or-set_same, get_or-set_other, length-set}
 use Rattle.nofs_ptrs.specs.Paths.{slot_limit}
@@ -15,7 +16,8 @@ use Rattle.nofs_state.specs.Writing.{image_after}
 use Rattle.nofs_state.proofs.Tables.{HasRecord, table_block, record-here, record-other}
 use Rattle.nofs_names.proofs.Quiet.{block_in}
 
-module _ (X : Image) (i : ℕ) (x : Pointer) (c1 c2 : Cell) (r' : Record) (whole : (super_at X).blocks ≤ length X) (table : 2 + (super_at X).inodes / 4 ≤ (super_at X).blocks) (quarters : (super_at X).inodes % 4 ≡ 0)
+module _ (X : Image) (i : ℕ) (x : Pointer) (c1 c2 : Cell) (r' : Record) (whole : (super_at X).blocks ≤ length X)
+    (table : 2 + (super_at X).inodes / 4 ≤ (super_at X).blocks) (quarters : (super_at X).inodes % 4 ≡ 0)
     (area : is_data_block X x.block ≡ true) (has : HasRecord X i r' c2) where
   abbrev pub after : Image
   after = image_after ((x.block, c1) ∷ (table_block i, c2) ∷ []) X
@@ -36,13 +38,15 @@ module _ (X : Image) (i : ℕ) (x : Pointer) (c1 c2 : Cell) (r' : Record) (whole
   table-low = let a = inside in let q = quarters in omega (arith, a, q)
 
   pub in-table : cell_at after (table_block i) ≡ c2
-  in-table = get_or-set_same (slice_set X x.block c1) (table_block i) c2 no_cell (let l = length-set X x.block c1 in let a = table-low in let t = table in let w = whole in omega (arith, l, a, t, w))
+  in-table = get_or-set_same (slice_set X x.block c1) (table_block i) c2 no_cell (let l = length-set X x.block c1 in let a = table-low in let t =
+      table in let w = whole in omega (arith, l, a, t, w))
 
   pub elsewhere : (b : ℕ) → b ≢ x.block → b ≢ table_block i → cell_at after b ≡ cell_at X b
   elsewhere b n m = get_or-set_other (slice_set X x.block c1) (table_block i) b c2 no_cell m ∙ get_or-set_other X x.block b c1 no_cell n
 
   pub in-slot : cell_at after x.block ≡ c1
-  in-slot = get_or-set_other (slice_set X x.block c1) (table_block i) x.block c2 no_cell (λ e. let a = above in let b = table-low in omega (arith, a, b, e)) ∙ get_or-set_same X x.block c1 no_cell (let b = below in let w = whole in omega (arith, b, w))
+  in-slot = get_or-set_other (slice_set X x.block c1) (table_block i) x.block c2 no_cell (λ e. let a = above in let b = table-low in omega (arith, a, b, e))
+      ∙ get_or-set_same X x.block c1 no_cell (let b = below in let w = whole in omega (arith, b, w))
 
   pub super-stays : cell_at after 0 ≡ cell_at X 0
   super-stays = elsewhere 0 (λ e. let a = above in omega (arith, a, e)) (λ e. omega (arith, e))
@@ -98,7 +102,8 @@ module _ (F : Files) (d g k : ℕ) (v : Value) (metas : ℕ → ℕ → Option M
   file-blocks slot ev = go (F j)
     where
       inside' : (f : FileState) (b : Bool) → cond b (is_bytes (f.values slot)) (is_present (f.nodes (path_of slot))) ≡ true
-          → cond b (is_bytes ((filled (cell_given d g k v metas) j f).values slot)) (is_present ((filled (cell_given d g k v metas) j f).nodes (path_of slot))) ≡ true
+          → cond b (is_bytes ((filled (cell_given d g k v metas) j f).values slot))
+          (is_present ((filled (cell_given d g k v metas) j f).nodes (path_of slot))) ≡ true
       inside' f true e = kept-bytes _ v (f.values slot) ev e
       inside' f false e = kept-node _ (f.nodes (path_of slot)) e
 

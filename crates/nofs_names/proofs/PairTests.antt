@@ -1,12 +1,14 @@
 -- The test of an entry on the disk is that of the machine.
-use Rattle.std.proofs.Common.{◌≡◌, ℕ, Bool, true, false, cond, eqb, ltb, ◌&&◌, ◌||◌, not, Option, Some, None, is_some, Contains, refl, sym, ap, ◌∙◌, subst, arith, eqb-true, eq-eqb}
+use Rattle.std.proofs.Common.{◌≡◌, ℕ, Bool, true, false, cond, eqb, ltb, ◌&&◌, ◌||◌, not, Option, Some, None, is_some, Contains, refl, sym, ap, ◌∙◌, subst}
+use Rattle.std.proofs.Common.{arith, eqb-true, eq-eqb}
 use Rattle.std.specs.List.{list_any}
 use Rattle.std.proofs.lemmas.Bool.{and_parts}
 use Rattle.std.proofs.lemmas.Bool.Decides.{nat_tests}
 use Rattle.nofs_inode.specs.declared.inode.FileKind.TheVariants.{File, Directory as Folder}
 use Rattle.nofs_model.specs.Cells.{BackLink, Entry, FileKind, Record}
 use Rattle.nofs_model.specs.Files.{is_record}
-use Rattle.nofs_model.specs.Image.{Image, inode, file_from, files_in, agreed, Agreed, root, linked, FileState, Files, is_folder, entry_at, entry_in_file, names, pairs, is_pair, links_in_file, links_of, is_root, is_special, is_a, value, find, node_in}
+use Rattle.nofs_model.specs.Image.{Image, inode, file_from, files_in, agreed, Agreed, root, linked, FileState, Files, is_folder, entry_at, entry_in_file}
+use Rattle.nofs_model.specs.Image.{names, pairs, is_pair, links_in_file, links_of, is_root, is_special, is_a, value, find, node_in}
 use Rattle.nofs_model.proofs.Chains.{agreed-holds, holds-agreed, any-true}
 use Rattle.nofs_machine.specs.Machine.{same_link, link_to, generation_of, is_paired}
 use Rattle.nofs_machine.specs.History.{FilesMatch, SameFile}
@@ -71,7 +73,8 @@ allowed-record X i r e a = go (is_special i) refl (agreed-holds (files_in X) i a
 pairs-are : (f fd : FileState) (i d e g : ℕ) (it : Entry) → is_folder fd.kind ≡ true → fd.generation ≡ g → entry_in_file (Some fd) e ≡ Some it → it.inode ≡ i
     → pairs (Some f) (Some fd) i (link_to d e g) ≡ (eqb it.generation f.generation && (not (is_folder f.kind) || ltb g f.generation))
 pairs-are f fd i d e g it folder gen entry names_it =
-    let n : names (entry_in_file (Some fd) e) i f.generation ≡ eqb it.generation f.generation = ap (λ (o : Option Entry). names o i f.generation) entry ∙ rw (eq-eqb it.inode i names_it) refl in
+    let n : names (entry_in_file (Some fd) e) i f.generation ≡ eqb it.generation f.generation =
+    ap (λ (o : Option Entry). names o i f.generation) entry ∙ rw (eq-eqb it.inode i names_it) refl in
     let a : (is_folder fd.kind && eqb fd.generation g) ≡ true = (λ j. folder j && eq-eqb fd.generation g gen j) in
     (λ j. a j && (n j && (not (is_folder f.kind) || ltb g f.generation)))
 
@@ -108,7 +111,15 @@ kind-of F X i f match a e = go (inode X i).kind (subst (λ (o : Option FileState
     go (Some k) s = ap Some (sym s.kind)
 
 abbrev file_of : Image → ℕ → FileKind → FileState
-file_of X i kind = record { generation = (inode X i).generation; kind = kind; size = (inode X i).size; links = (inode X i).links; values = value X i; nodes = λ path. node_in (find X i path) }
+file_of X i kind = record {
+  generation = (inode X i).generation;
+  kind = kind;
+  size = (inode X i).size;
+  links = (inode X i).links;
+  values = value X i;
+  nodes =
+      λ path. node_in (find X i path);
+}
 
 same-none : (o : Option FileState) → SameFile o None → o ≡ None
 same-none None s = refl
@@ -121,9 +132,14 @@ abbrev by_kind : Record → Named → BackLink → Option FileKind → Option Fi
 by_kind r named link o = elim o [ None ↦ None | Some k ↦ cond (answers r k named link) (Some k) None ]
 
 abbrev paired_by : Files → ℕ → ℕ → Option Entry → Bool
-paired_by F d e o = elim o [ None ↦ false | Some entry ↦ list_any (λ link. same_link link (link_to d e (generation_of F d)) && is_pair F entry.inode link) (links_of F entry.inode) ]
+paired_by F d e o = elim o [
+  | None ↦ false
+  | Some entry ↦ list_any (λ link. same_link link (link_to d e (generation_of F d)) && is_pair F entry.inode link)
+      (links_of F entry.inode)
+]
 
-module _ (F : Files) (X : Image) (d e : ℕ) (dr : Record) (match : FilesMatch F X) (a : agreed (files_in X) d ≡ true) (same : inode X d ≡ dr) (folder : dr.kind ≡ Some Folder) where
+module _ (F : Files) (X : Image) (d e : ℕ) (dr : Record) (match : FilesMatch F X) (a : agreed (files_in X) d ≡ true) (same : inode X d ≡ dr)
+    (folder : dr.kind ≡ Some Folder) where
   abbrev pub dir-file : FileState
   dir-file = (matched-agreed F X d match (agreed-live X d a) a).file
 
@@ -165,33 +181,41 @@ module _ (F : Files) (X : Image) (d e : ℕ) (dr : Record) (match : FilesMatch F
         let ls : links_of F i ≡ r.links = ap links_in_file m.is ∙ m.links ∙ ap (λ (q : Record). q.links) er in
         let p : is_pair F i link ≡ (eqb it.generation f.generation && (not (is_folder f.kind) || ltb dr.generation f.generation)) =
         (λ j. pairs (m.is j) (dir-is j) i link) ∙ pairs-are f dir-file i d e dr.generation it dir-folder dir-generation entry-in-file refl in
-        let right : is_some (paired_kind r (named_by it) link) ≡ answers r f.kind (named_by it) link = ap (λ (o : Option FileKind). is_some (by_kind r (named_by it) link o)) k ∙ some-if (answers r f.kind (named_by it) link) f.kind in
+        let right : is_some (paired_kind r (named_by it) link) ≡ answers r f.kind (named_by it) link =
+        ap (λ (o : Option FileKind). is_some (by_kind r (named_by it) link o)) k ∙ some-if (answers r f.kind (named_by it) link) f.kind in
         let allowed : is_root_record i r ≡ true = allowed-record X i r er ai in
         let gens : eqb it.generation f.generation ≡ eqb r.generation it.generation = ap (eqb it.generation) g ∙ eqb-turn it.generation r.generation in
         right
-        ∙ ap (λ (b : Bool). eqb r.generation it.generation && ((not (is_folder f.kind) || ltb dr.generation r.generation) && (list_any (λ l. same_link l link) r.links && b))) allowed
+        ∙ ap (λ (b : Bool). eqb r.generation it.generation &&
+        ((not (is_folder f.kind) || ltb dr.generation r.generation) && (list_any (λ l. same_link l link) r.links && b))) allowed
         ∙ sym (shuffle (list_any (λ l. same_link l link) r.links) (eqb r.generation it.generation) (not (is_folder f.kind) || ltb dr.generation r.generation))
-        ∙ sym (tested ∙ (λ j. list_any (λ l. same_link l link) (ls j) && p j) ∙ (λ j. list_any (λ l. same_link l link) r.links && (gens j && (not (is_folder f.kind) || ltb dr.generation (g j)))))
+        ∙ sym (tested ∙ (λ j. list_any (λ l. same_link l link) (ls j) && p j)
+        ∙ (λ j. list_any (λ l. same_link l link) r.links && (gens j && (not (is_folder f.kind) || ltb dr.generation (g j)))))
 
-    kinded : (r : Record) (o : Option FileKind) → r.kind ≡ o → is_some (by_kind r (named_by it) link o) ≡ true → (k : FileKind) × (r.kind ≡ Some k) × (answers r k (named_by it) link ≡ true)
+    kinded : (r : Record) (o : Option FileKind) → r.kind ≡ o → is_some (by_kind r (named_by it) link o) ≡ true
+        → (k : FileKind) × (r.kind ≡ Some k) × (answers r k (named_by it) link ≡ true)
     kinded r None eo e = cc
     kinded r (Some k) eo e = (k, eo, sym (some-if (answers r k (named_by it) link) k) ∙ e)
 
     -- a record that answers is that of an agreed inode
     agrees : (r : Record) → inode X i ≡ r → (k : FileKind) → r.kind ≡ Some k → answers r k (named_by it) link ≡ true → agreed (files_in X) i ≡ true
     agrees r er k ek t =
-        let p = and_parts (eqb r.generation it.generation) ((not (is_folder k) || ltb dr.generation r.generation) && (list_any (λ l. same_link l link) r.links && is_root_record i r)) t in
+        let p = and_parts (eqb r.generation it.generation) ((not (is_folder k) || ltb dr.generation r.generation)
+        && (list_any (λ l. same_link l link) r.links && is_root_record i r)) t in
         let q = and_parts (not (is_folder k) || ltb dr.generation r.generation) (list_any (λ l. same_link l link) r.links && is_root_record i r) p.1 in
         let w = and_parts (list_any (λ l. same_link l link) r.links) (is_root_record i r) q.1 in
         let (l, has, same_l) = any-true (λ l. same_link l link) r.links w.0 in
-        let there : Contains (inode X i).links link = subst (λ (x : BackLink). Contains (inode X i).links x) (same-is l link same_l) (subst (λ (x : Record). Contains x.links l) (sym er) has) in
+        let there : Contains (inode X i).links link = subst (λ (x : BackLink). Contains (inode X i).links x) (same-is l link same_l)
+        (subst (λ (x : Record). Contains x.links l) (sym er) has) in
         let own : files_in X i ≡ Some (file_of X i k) = ap (file_from X i) (ap (λ (x : Record). x.kind) er ∙ ek) in
         let parent : files_in X d ≡ Some (file_of X d Folder) = ap (file_from X d) (ap (λ (x : Record). x.kind) same ∙ folder) in
         let entry : entry_in_file (Some (file_of X d Folder)) e ≡ Some it =
-        ap (λ (o : Option FileState). entry_in_file o e) (sym parent) ∙ sym (entry-alike (F d) (files_in X d) e (same-alike (F d) (files_in X d) (same-of F X d match a))) ∙ at in
+        ap (λ (o : Option FileState). entry_in_file o e) (sym parent)
+        ∙ sym (entry-alike (F d) (files_in X d) e (same-alike (F d) (files_in X d) (same-of F X d match a))) ∙ at in
         let gen : (inode X d).generation ≡ dr.generation = ap (λ (x : Record). x.generation) same in
         let gi : (inode X i).generation ≡ r.generation = ap (λ (x : Record). x.generation) er in
-        let value : is_pair (files_in X) i link ≡ (eqb it.generation (inode X i).generation && (not (is_folder k) || ltb dr.generation (inode X i).generation)) =
+        let value : is_pair (files_in X) i link ≡ (eqb it.generation (inode X i).generation
+        && (not (is_folder k) || ltb dr.generation (inode X i).generation)) =
         (λ j. pairs (own j) (parent j) i link) ∙ pairs-are (file_of X i k) (file_of X d Folder) i d e dr.generation it refl gen entry refl in
         let g : eqb it.generation (inode X i).generation ≡ true = ap (eqb it.generation) gi ∙ eqb-turn it.generation r.generation ∙ p.0 in
         let o : (not (is_folder k) || ltb dr.generation (inode X i).generation) ≡ true = ap (λ (n : ℕ). not (is_folder k) || ltb dr.generation n) gi ∙ q.0 in
@@ -199,7 +223,8 @@ module _ (F : Files) (X : Image) (d e : ℕ) (dr : Record) (match : FilesMatch F
         let has_links : Contains (links_of (files_in X) i) link = subst (λ (o : Option FileState). Contains (links_in_file o) link) (sym own) there in
         by-special (is_special i) refl w.1 has_links pair
       where
-        by-special : (b : Bool) → is_special i ≡ b → is_root_record i r ≡ true → Contains (links_of (files_in X) i) link → is_pair (files_in X) i link ≡ true → agreed (files_in X) i ≡ true
+        by-special : (b : Bool) → is_special i ≡ b → is_root_record i r ≡ true → Contains (links_of (files_in X) i) link → is_pair (files_in X) i link ≡ true
+            → agreed (files_in X) i ≡ true
         by-special true es rr has pair = holds-agreed (files_in X) i (root (root-record X i r er es ∙ rr))
         by-special false es rr has pair = holds-agreed (files_in X) i (linked link es has pair (agreed-holds (files_in X) d a))
 
@@ -222,9 +247,11 @@ module _ (F : Files) (X : Image) (d e : ℕ) (dr : Record) (match : FilesMatch F
         go false na = by-dead na r er
 
     -- and the inode of a pair is agreed
-    pub paired-agreed : (r : Record) (k : FileKind) → inode X i ≡ r → paired_kind r (named_by it) link ≡ Some k → (agreed (files_in X) i ≡ true) × (r.kind ≡ Some k) × (it.generation ≡ r.generation)
+    pub paired-agreed : (r : Record) (k : FileKind) → inode X i ≡ r → paired_kind r (named_by it) link ≡ Some k
+        → (agreed (files_in X) i ≡ true) × (r.kind ≡ Some k) × (it.generation ≡ r.generation)
     paired-agreed r k er e =
         let (q, ek, t) = kinded r r.kind refl (ap is_some e) in
         let s : Some q ≡ Some k = sym (ap (by_kind r (named_by it) link) ek ∙ (λ j. cond (t j) (Some q) None)) ∙ e in
-        let g = and_parts (eqb r.generation it.generation) ((not (is_folder q) || ltb dr.generation r.generation) && (list_any (λ l. same_link l link) r.links && is_root_record i r)) t in
+        let g = and_parts (eqb r.generation it.generation) ((not (is_folder q) || ltb dr.generation r.generation)
+        && (list_any (λ l. same_link l link) r.links && is_root_record i r)) t in
         (agrees r er q ek t, ek ∙ s, sym (eqb-true r.generation it.generation g.0))

@@ -37,7 +37,8 @@ pub fails-after : (old mid new : DiskState) (given : Image → Type 0) (part : W
     → Fails mid new given part why → Fails old new given part why
 fails-after old mid new given part why stays (ByRow plain range comes) = ByRow plain range (λ t.
     subst (λ (X : Image). given X → (W : World) → FilesMatch W.files X → first_of (part W) ≡ Some why) stays.cells.now (comes (told-on old mid stays t)))
-fails-after old mid new given part why stays (ByRead is rose) = ByRead is (Rose-within old.faults mid.faults new.faults new.faults stays.disk.faults rose (le_refl new.faults))
+fails-after old mid new given part why stays (ByRead is rose) =
+    ByRead is (Rose-within old.faults mid.faults new.faults new.faults stays.disk.faults rose (le_refl new.faults))
 
 -- what is given for one part follows from what is given for the step
 pub fails-given : (old new : DiskState) (given first : Image → Type 0) (part : World → List (Option Refusal)) (why : Refusal)
@@ -51,6 +52,7 @@ pub goes-fails : (old new : DiskState) (k : Books) (s : Step) (part : World → 
     → (IsTrue old.tells → (H : List Entry1) (p : Past) → IsOpen old k H p → first_of (part p.world) ≡ Some why → first_of (rows p.world p.world s) ≡ Some why)
     → ((W : World) → IsLate (first_of (rows W W s))) → Goes old k new k s no_claims (reply.Refused why)
 goes-fails old new k s part why is safe going stays (ByRow plain range comes) row-is late =
-    goes-row old new k s is safe stays why plain range going (λ t H p o. row-is t H p o (comes t (are-agreed old k H p safe o) p.world (open-files old k H p o)))
+    goes-row old new k s is safe stays why plain range going
+    (λ t H p o. row-is t H p o (comes t (are-agreed old k H p safe o) p.world (open-files old k H p o)))
 goes-fails old new k s part why is safe going stays (ByRead e rose) row-is late =
     subst (λ (w : Refusal). Goes old k new k s no_claims (reply.Refused w)) (sym e) (goes-read old new k s is safe stays going rose (λ t H p o. late p.world))

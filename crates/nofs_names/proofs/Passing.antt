@@ -1,5 +1,6 @@
 -- How a search of a directory goes on, place by place and slot by slot.
-use Rattle.std.proofs.Common.{◌≡◌, ℕ, ◌+◌, ◌*◌, ◌/◌, ◌%◌, ◌<◌, ◌≤◌, Bool, true, false, cond, ltb, ◌&&◌, not, List, Option, Some, None, is_some, refl, sym, ap, ◌∙◌, subst, arith, lt-ltb}
+use Rattle.std.proofs.Common.{◌≡◌, ℕ, ◌+◌, ◌*◌, ◌/◌, ◌%◌, ◌<◌, ◌≤◌, Bool, true, false, cond, ltb, ◌&&◌, not, List, Option, Some, None, is_some, refl, sym, ap}
+use Rattle.std.proofs.Common.{◌∙◌, subst, arith, lt-ltb}
 use Rattle.std.specs.Prelude.{bytes_eq}
 use Rattle.std.proofs.lemmas.Slice.Eq.{bytes_eq-Decides}
 use Rattle.nofs_dirent.specs.Entries.{entry_limit}
@@ -16,7 +17,8 @@ use Rattle.nofs_machine.specs.Machine.{link_to}
 use Rattle.nofs_machine.specs.History.{FilesMatch}
 use Rattle.nofs_law_untouched.proofs.Matching.{matched-agreed}
 use Rattle.nofs_state.proofs.Machine.{agreed-live}
-use Rattle.nofs_names.specs.Searching.{first_or, where_true, named_in, paired_kind, IsNamed, IsSeen, finds, is_dead, is_empty, is_lost_slot, is_hole_slot, Passed, IsFoundEntry}
+use Rattle.nofs_names.specs.Searching.{first_or, where_true, named_in, paired_kind, IsNamed, IsSeen, finds, is_dead, is_empty, is_lost_slot, is_hole_slot}
+use Rattle.nofs_names.specs.Searching.{Passed, IsFoundEntry}
 use Rattle.nofs_names.specs.declared.entries.Named.{Named}
 use Rattle.nofs_names.specs.declared.searching.Paired.{Paired}
 use Rattle.nofs_names.specs.declared.searching.Unfound.{Unfound}
@@ -54,7 +56,11 @@ value_in_file k o = elim o [ None ↦ Hole | Some f ↦ f.values k ]
 
 -- one more entry was tested
 one-more : (F : Files) (d : ℕ) (name : List ℕ) (n k : ℕ) (v : Unfound) → Passed F d name n k v → finds F d name n ≡ false
-    → Passed F d name (n + 1) k (record v { dead = first_or v.dead (where_true (is_dead F d name n) n); empty = first_or v.empty (where_true (is_empty F d n) n) })
+    → Passed F d name (n + 1) k (record v {
+      dead = first_or v.dead (where_true (is_dead F d name n) n);
+      empty =
+          first_or v.empty (where_true (is_empty F d n) n);
+    })
 one-more F d name n k v p nope = record {
   none = least-next (finds F d name) n ∙ (λ j. first_or (p.none j) (where_true (nope j) n));
   dead = least-next (is_dead F d name) n ∙ ap (λ (o : Option ℕ). first_or o (where_true (is_dead F d name n) n)) p.dead;
@@ -63,13 +69,19 @@ one-more F d name n k v p nope = record {
   hole = p.hole;
 }
 
-one-as : (F : Files) (d : ℕ) (name : List ℕ) (n k : ℕ) (v : Unfound) (dead empty : Bool) → Passed F d name n k v → finds F d name n ≡ false → is_dead F d name n ≡ dead → is_empty F d n ≡ empty
+one-as : (F : Files) (d : ℕ) (name : List ℕ) (n k : ℕ) (v : Unfound) (dead empty : Bool) → Passed F d name n k v → finds F d name n ≡ false
+    → is_dead F d name n ≡ dead → is_empty F d n ≡ empty
     → Passed F d name (n + 1) k (record v { dead = first_or v.dead (where_true dead n); empty = first_or v.empty (where_true empty n) })
 one-as F d name n k v dead empty p nope ed ee =
-    subst (λ (w : Unfound). Passed F d name (n + 1) k w) (λ j. record v { dead = first_or v.dead (where_true (ed j) n); empty = first_or v.empty (where_true (ee j) n) }) (one-more F d name n k v p nope)
+    subst (λ (w : Unfound). Passed F d name (n + 1) k w) (λ j. record v {
+      dead = first_or v.dead (where_true (ed j) n);
+      empty =
+          first_or v.empty (where_true (ee j) n);
+    }) (one-more F d name n k v p nope)
 
 -- one more slot was tested
-slot-as : (F : Files) (d : ℕ) (name : List ℕ) (n k : ℕ) (v : Unfound) (lost hole : Bool) → Passed F d name n k v → is_lost_slot F d k ≡ lost → is_hole_slot F d k ≡ hole
+slot-as : (F : Files) (d : ℕ) (name : List ℕ) (n k : ℕ) (v : Unfound) (lost hole : Bool) → Passed F d name n k v → is_lost_slot F d k ≡ lost
+    → is_hole_slot F d k ≡ hole
     → Passed F d name n (k + 1) (record v { lost = first_or v.lost (where_true lost k); hole = first_or v.hole (where_true hole k) })
 slot-as F d name n k v lost hole p el eh = record {
   none = p.none;
@@ -80,20 +92,27 @@ slot-as F d name n k v lost hole p el eh = record {
 }
 
 -- the entries of a slot without bytes
-skipped : (F : Files) (d : ℕ) (name : List ℕ) (k : ℕ) (v : Unfound) → ((e : ℕ) → e / 16 ≡ k → entry_at F d e ≡ None) → is_bytes (machine.value_of F d k) ≡ false → Passed F d name (16 * k) k v → Passed F d name (16 * (k + 1)) k v
+skipped : (F : Files) (d : ℕ) (name : List ℕ) (k : ℕ) (v : Unfound) → ((e : ℕ) → e / 16 ≡ k → entry_at F d e ≡ None)
+    → is_bytes (machine.value_of F d k) ≡ false → Passed F d name (16 * k) k v → Passed F d name (16 * (k + 1)) k v
 skipped F d name k v none no_bytes p =
     let size : 16 * (k + 1) ≡ 16 * k + 16 = omega arith in
-    let quiet : (e : ℕ) → 16 * k ≤ e → e < 16 * k + 16 → machine.entry_has_name F d name e ≡ false = λ e low high. ap (name_test name) (none e (omega (arith, low, high))) in
-    let vacant : (e : ℕ) → 16 * k ≤ e → e < 16 * k + 16 → is_empty F d e ≡ false = λ e low high. let q : e / 16 ≡ k = omega (arith, low, high) in (λ j. is_bytes (machine.value_of F d (q j)) && not (is_some (entry_at F d e))) ∙ (λ j. no_bytes j && not (is_some (entry_at F d e))) in
+    let quiet : (e : ℕ) → 16 * k ≤ e → e < 16 * k + 16 → machine.entry_has_name F d name e ≡ false =
+    λ e low high. ap (name_test name) (none e (omega (arith, low, high))) in
+    let vacant : (e : ℕ) → 16 * k ≤ e → e < 16 * k + 16 → is_empty F d e ≡ false = λ e low high. let q : e / 16 ≡ k =
+    omega (arith, low, high) in (λ j. is_bytes (machine.value_of F d (q j)) && not (is_some (entry_at F d e)))
+    ∙ (λ j. no_bytes j && not (is_some (entry_at F d e))) in
     record {
-      none = (λ j. least_from (finds F d name) 0 (size j)) ∙ least-skip (finds F d name) (16 * k) 16 (λ e low high. (λ j. quiet e low high j && machine.is_paired F d e)) ∙ p.none;
-      dead = (λ j. least_from (is_dead F d name) 0 (size j)) ∙ least-skip (is_dead F d name) (16 * k) 16 (λ e low high. (λ j. quiet e low high j && not (machine.is_paired F d e))) ∙ p.dead;
+      none = (λ j. least_from (finds F d name) 0 (size j)) ∙ least-skip (finds F d name) (16 * k) 16
+          (λ e low high. (λ j. quiet e low high j && machine.is_paired F d e)) ∙ p.none;
+      dead = (λ j. least_from (is_dead F d name) 0 (size j))
+          ∙ least-skip (is_dead F d name) (16 * k) 16 (λ e low high. (λ j. quiet e low high j && not (machine.is_paired F d e))) ∙ p.dead;
       empty = (λ j. least_from (is_empty F d) 0 (size j)) ∙ least-skip (is_empty F d) (16 * k) 16 vacant ∙ p.empty;
       lost = p.lost;
       hole = p.hole;
     }
 
-module _ (F : Files) (X : Image) (d : ℕ) (dr : Record) (match : FilesMatch F X) (a : agreed (files_in X) d ≡ true) (same : inode X d ≡ dr) (folder : dr.kind ≡ Some Folder) where
+module _ (F : Files) (X : Image) (d : ℕ) (dr : Record) (match : FilesMatch F X) (a : agreed (files_in X) d ≡ true) (same : inode X d ≡ dr)
+    (folder : dr.kind ≡ Some Folder) where
   -- the value of a slot
   pub value-at : (k : ℕ) (v : Value) → k < 72 → value X d k ≡ v → machine.value_of F d k ≡ v
   value-at k v low e =
@@ -111,19 +130,24 @@ module _ (F : Files) (X : Image) (d : ℕ) (dr : Record) (match : FilesMatch F X
   pub ends-bytes : (n k : ℕ) (payload name : List ℕ) (v : Unfound) → k < 72 → value X d k ≡ Bytes payload → Passed F d name n k v → Passed F d name n (k + 1) v
   ends-bytes n k payload name v low b p =
       let e = value-at k (Bytes payload) low b in
-      subst (λ (w : Unfound). Passed F d name n (k + 1) w) (λ j. record v { lost = or-none v.lost j; hole = or-none v.hole j }) (slot-as F d name n k v false false p (ap machine.is_lost e) (ap machine.is_hole e))
+      subst (λ (w : Unfound). Passed F d name n (k + 1) w) (λ j. record v { lost = or-none v.lost j; hole = or-none v.hole j })
+      (slot-as F d name n k v false false p (ap machine.is_lost e) (ap machine.is_hole e))
 
-  pub ends-hole : (k : ℕ) (name : List ℕ) (v : Unfound) → k < 72 → value X d k ≡ Hole → Passed F d name (16 * k) k v → Passed F d name (16 * (k + 1)) (k + 1) (record v { hole = first_or v.hole (Some k) })
+  pub ends-hole : (k : ℕ) (name : List ℕ) (v : Unfound) → k < 72 → value X d k ≡ Hole → Passed F d name (16 * k) k v
+      → Passed F d name (16 * (k + 1)) (k + 1) (record v { hole = first_or v.hole (Some k) })
   ends-hole k name v low b p =
       let e = value-at k Hole low b in
       subst (λ (o : Option ℕ). Passed F d name (16 * (k + 1)) (k + 1) (record v { lost = o; hole = first_or v.hole (Some k) })) (or-none v.lost)
-      (slot-as F d name (16 * (k + 1)) k v false true (skipped F d name k v (λ n at. held-at n k Hole low at b) (ap is_bytes e) p) (ap machine.is_lost e) (ap machine.is_hole e))
+      (slot-as F d name (16 * (k + 1)) k v false true (skipped F d name k v (λ n at. held-at n k Hole low at b) (ap is_bytes e) p) (ap machine.is_lost e)
+      (ap machine.is_hole e))
 
-  pub ends-lost : (k : ℕ) (name : List ℕ) (v : Unfound) → k < 72 → value X d k ≡ Lost → Passed F d name (16 * k) k v → Passed F d name (16 * (k + 1)) (k + 1) (record v { lost = first_or v.lost (Some k) })
+  pub ends-lost : (k : ℕ) (name : List ℕ) (v : Unfound) → k < 72 → value X d k ≡ Lost → Passed F d name (16 * k) k v
+      → Passed F d name (16 * (k + 1)) (k + 1) (record v { lost = first_or v.lost (Some k) })
   ends-lost k name v low b p =
       let e = value-at k Lost low b in
       subst (λ (o : Option ℕ). Passed F d name (16 * (k + 1)) (k + 1) (record v { lost = first_or v.lost (Some k); hole = o })) (or-none v.hole)
-      (slot-as F d name (16 * (k + 1)) k v true false (skipped F d name k v (λ n at. held-at n k Lost low at b) (ap is_bytes e) p) (ap machine.is_lost e) (ap machine.is_hole e))
+      (slot-as F d name (16 * (k + 1)) k v true false (skipped F d name k v (λ n at. held-at n k Lost low at b) (ap is_bytes e) p) (ap machine.is_lost e)
+      (ap machine.is_hole e))
 
   -- In a slot that holds
 
@@ -144,14 +168,17 @@ module _ (F : Files) (X : Image) (d : ℕ) (dr : Record) (match : FilesMatch F X
     named-by (Some it) named en = (it, refl, sym (cc en))
 
     -- what was seen of the place says whether it is a pair
-    paired-as : (s : Seen) (named : Named) → named_in (entry_in payload place) ≡ Some named → IsNamed X (link_to d e dr.generation) named s → machine.is_paired F d e ≡ is_found s
+    paired-as : (s : Seen) (named : Named) → named_in (entry_in payload place) ≡ Some named → IsNamed X (link_to d e dr.generation) named s
+        → machine.is_paired F d e ≡ is_found s
     paired-as s named en is =
         let (it, eo, ei) = named-by (entry_in payload place) named en in
         let p : is_some (paired_kind (inode X named.inode) named (link_to d e dr.generation)) ≡ machine.is_paired F d e =
-        subst (λ (q : Named). is_some (paired_kind (inode X q.inode) q (link_to d e dr.generation)) ≡ machine.is_paired F d e) (sym ei) (paired-is F X d e dr match a same folder it (entry-is ∙ eo) (inode X it.inode) refl) in
+        subst (λ (q : Named). is_some (paired_kind (inode X q.inode) q (link_to d e dr.generation)) ≡ machine.is_paired F d e) (sym ei)
+        (paired-is F X d e dr match a same folder it (entry-is ∙ eo) (inode X it.inode) refl) in
         sym p ∙ go s is
       where
-        go : (s : Seen) → IsNamed X (link_to d e dr.generation) named s → is_some (paired_kind (inode X named.inode) named (link_to d e dr.generation)) ≡ is_found s
+        go : (s : Seen) → IsNamed X (link_to d e dr.generation) named s
+            → is_some (paired_kind (inode X named.inode) named (link_to d e dr.generation)) ≡ is_found s
         go seen.Empty is = absurd is
         go seen.Other is = absurd is
         go seen.Dead is = ap is_some is
@@ -167,7 +194,8 @@ module _ (F : Files) (X : Image) (d : ℕ) (dr : Record) (match : FilesMatch F X
     no-entry en = cell-name payload name place ∙ ap (λ (o : Option Entry). cells.is_named name (cells.name_of o)) en
 
     -- the place was passed
-    pub passes : (v : Unfound) (s : Seen) → is_found s ≡ false → IsSeen X (link_to d e dr.generation) payload place name s → Passed F d name e k v → Passed F d name (e + 1) k (noted v e s)
+    pub passes : (v : Unfound) (s : Seen) → is_found s ≡ false → IsSeen X (link_to d e dr.generation) payload place name s → Passed F d name e k v
+        → Passed F d name (e + 1) k (noted v e s)
     passes v seen.Empty nf is p =
         let h = not-named (no-entry is) in
         subst (λ (o : Option ℕ). Passed F d name (e + 1) k (record v { dead = o; empty = first_or v.empty (Some e) })) (or-none v.dead)
@@ -185,7 +213,8 @@ module _ (F : Files) (X : Image) (d : ℕ) (dr : Record) (match : FilesMatch F X
     passes v (seen.Found x) nf is p = cc nf
 
     -- the place has the pair
-    pub found-here : (v : Unfound) (x : Paired) → IsSeen X (link_to d e dr.generation) payload place name (seen.Found x) → Passed F d name e k v → IsFoundEntry F X d name x
+    pub found-here : (v : Unfound) (x : Paired) → IsSeen X (link_to d e dr.generation) payload place name (seen.Found x) → Passed F d name e k v
+        → IsFoundEntry F X d name x
     unfolding machine.found
     found-here v x is p =
         let h = name-is ∙ is.0 in
@@ -194,7 +223,8 @@ module _ (F : Files) (X : Image) (d : ℕ) (dr : Record) (match : FilesMatch F X
         let (it, eo, ei) = named-by (entry_in payload place) named en in
         let range : e < entry_limit = omega (arith, low, at) in
         let here : x.entry ≡ e = nm.3 in
-        let pk : paired_kind (inode X it.inode) (named_by it) (link_to d e dr.generation) ≡ Some x.kind = subst (λ (q : Named). paired_kind (inode X q.inode) q (link_to d e dr.generation) ≡ Some x.kind) ei nm.0 in
+        let pk : paired_kind (inode X it.inode) (named_by it) (link_to d e dr.generation) ≡ Some x.kind =
+        subst (λ (q : Named). paired_kind (inode X q.inode) q (link_to d e dr.generation) ≡ Some x.kind) ei nm.0 in
         let ag = paired-agreed F X d e dr match a same folder it (entry-is ∙ eo) (inode X it.inode) x.kind refl pk in
         let number : it.inode ≡ x.inode = ap (λ (q : Named). q.inode) (sym ei) ∙ sym nm.2 in
         record {
@@ -213,5 +243,6 @@ module _ (F : Files) (X : Image) (d : ℕ) (dr : Record) (match : FilesMatch F X
       where
         has-that-name : (it : Entry) → entry_in payload place ≡ Some it → cells.has_name payload name place ≡ true → it.name ≡ name
         has-that-name it eo h =
-            let b : bytes_eq it.name name ≡ true = sym (cell-name payload name place ∙ ap (λ (o : Option Entry). cells.is_named name (cells.name_of o)) eo) ∙ h in
+            let b : bytes_eq it.name name ≡ true = sym (cell-name payload name place ∙ ap (λ (o : Option Entry). cells.is_named name (cells.name_of o)) eo)
+            ∙ h in
             (bytes_eq-Decides it.name name).0 b

@@ -1,5 +1,6 @@
 -- The inode that an entry names.
-use Rattle.std.proofs.Common.{◌≡◌, ℕ, ◌*◌, ◌<◌, ◌≤◌, arith, eqb-true, Bool, true, false, cond, eqb, ◌&&◌, List, length, take, drop, Option, Some, None, refl, sym, subst, eq-eqb}
+use Rattle.std.proofs.Common.{◌≡◌, ℕ, ◌*◌, ◌<◌, ◌≤◌, arith, eqb-true, Bool, true, false, cond, eqb, ◌&&◌, List, length, take, drop, Option, Some, None, refl}
+use Rattle.std.proofs.Common.{sym, subst, eq-eqb}
 use Rattle.std.proofs.lemmas.Bool.{and_parts}
 use Rattle.std.proofs.lemmas.List.{length-drop, length-take-le}
 use Rattle.nofs_disk.specs.Number.{number_at}
@@ -10,13 +11,16 @@ use Rattle.nofs_model.specs.Files.{names}
 use Rattle.nofs_names.specs.Searching.{named_in, IsEntrySpelled}
 use Rattle.nofs_names.specs.declared.entries.Named.{Named}
 
-pub named-none : (bytes : List ℕ) (i g : ℕ) → i ≡ number_at 4 0 bytes → g ≡ number_at 8 8 bytes → names (entry_of bytes) i g ≡ false → None ≡ named_in (entry_of bytes)
+pub named-none : (bytes : List ℕ) (i g : ℕ) → i ≡ number_at 4 0 bytes → g ≡ number_at 8 8 bytes → names (entry_of bytes) i g ≡ false
+    → None ≡ named_in (entry_of bytes)
 unfolding entry_of entry_fields
 named-none bytes i g ei eg e = go (has_zeros_after bytes (number_at 4 4 bytes) && has_entry_spelling (entry_fields bytes)) e
   where
-    go : (b : Bool) → names (cond b (Some (entry_with (number_at 4 0 bytes) (number_at 8 8 bytes) (take (number_at 4 4 bytes) (drop 16 bytes)))) None) i g ≡ false
+    go : (b : Bool) → names (cond b (Some (entry_with (number_at 4 0 bytes) (number_at 8 8 bytes) (take (number_at 4 4 bytes) (drop 16 bytes)))) None)
+        i g ≡ false
         → None ≡ named_in (cond b (Some (entry_with (number_at 4 0 bytes) (number_at 8 8 bytes) (take (number_at 4 4 bytes) (drop 16 bytes)))) None)
-    go true h = absurd (let a = eq-eqb (number_at 4 0 bytes) i (sym ei) in let b = eq-eqb (number_at 8 8 bytes) g (sym eg) in let z : (eqb (number_at 4 0 bytes) i && eqb (number_at 8 8 bytes) g) ≡ true = rw (a, b) refl in cc (z, h))
+    go true h = absurd (let a = eq-eqb (number_at 4 0 bytes) i (sym ei) in let b =
+        eq-eqb (number_at 8 8 bytes) g (sym eg) in let z : (eqb (number_at 4 0 bytes) i && eqb (number_at 8 8 bytes) g) ≡ true = rw (a, b) refl in cc (z, h))
     go false h = refl
 
 pub named-spelled : (bytes : List ℕ) (n : Named) → length bytes ≡ 64 → named_in (entry_of bytes) ≡ Some n → IsEntrySpelled n
@@ -24,12 +28,14 @@ named-spelled bytes n len e = go (entry_of bytes) refl e
   where
     go : (o : Option Entry) → entry_of bytes ≡ o → named_in o ≡ Some n → IsEntrySpelled n
     go None eo h = cc h
-    go (Some it) eo h = let s = spelled bytes it len eo in let q : named_in (Some it) ≡ Some n = h in let r : record { inode = it.inode; generation = it.generation } ≡ n = cc q in subst IsEntrySpelled r (s.has.inode, s.has.generation)
+    go (Some it) eo h = let s = spelled bytes it len eo in let q : named_in (Some it) ≡ Some n =
+        h in let r : record { inode = it.inode; generation = it.generation } ≡ n = cc q in subst IsEntrySpelled r (s.has.inode, s.has.generation)
 
 pub named-some : (bytes : List ℕ) (n : Named) → length bytes ≡ 64 → Some n ≡ named_in (entry_of bytes) → IsEntrySpelled n
 named-some bytes n len e = named-spelled bytes n len (sym e)
 
-pub names-spelled : (payload : List ℕ) (at i g : ℕ) → length payload ≡ 1024 → at < 16 → true ≡ names (entry_in payload at) i g → IsEntrySpelled (record { inode = i; generation = g })
+pub names-spelled : (payload : List ℕ) (at i g : ℕ) → length payload ≡ 1024 → at < 16 → true ≡ names (entry_in payload at) i g
+    → IsEntrySpelled (record { inode = i; generation = g })
 names-spelled payload at i g whole low e = go (entry_of (entry_bytes payload at)) refl (sym e)
   where
     len : length (entry_bytes payload at) ≡ 64

@@ -1,5 +1,6 @@
 -- A step that claims nothing and leaves used what was used: what the maps say stays.
-use Rattle.std.proofs.Common.{◌≡◌, ℕ, ◌+◌, ◌≤◌, Bool, true, false, cond, ltb, ◌&&◌, ◌||◌, not, Option, Some, None, is_some, unwrap_or, inl, refl, sym, ap, ◌∙◌, subst, arith}
+use Rattle.std.proofs.Common.{◌≡◌, ℕ, ◌+◌, ◌≤◌, Bool, true, false, cond, ltb, ◌&&◌, ◌||◌, not, Option, Some, None, is_some, unwrap_or, inl, refl, sym, ap}
+use Rattle.std.proofs.Common.{◌∙◌, subst, arith}
 use Rattle.nofs_ptrs.specs.Paths.{slot_limit}
 use Rattle.nofs_model.specs.Cells.{null}
 use Rattle.nofs_model.specs.Image.{Image, path_of, is_special, FileState, Files, Home, NodeState, Present, Absent}
@@ -8,7 +9,8 @@ use Rattle.nofs_model.specs.declared.value.Value.TheVariants.{Hole}
 use Rattle.nofs_machine.specs.Meta.{is_bytes}
 use Rattle.nofs_machine.specs.Machine.{gives, cell_given, no_meta, files_after, filled}
 use Rattle.nofs_machine.specs.World.{World, is_fixed, blocks_needed, inodes_needed, uses_inode, uses_block}
-use Rattle.nofs_machine.specs.Claims.{no_claims, IsBlockClaim, next_stamp, has_block, homes_after, claimed_home, IsClaim, IsInodeClaim, Unclaimed, NoInode, is_present}
+use Rattle.nofs_machine.specs.Claims.{no_claims, IsBlockClaim, next_stamp, has_block, homes_after, claimed_home, IsClaim, IsInodeClaim, Unclaimed, NoInode}
+use Rattle.nofs_machine.specs.Claims.{is_present}
 use Rattle.nofs_machine.specs.History.{FilesMatch}
 use Rattle.nofs_machine.specs.Next.{Learns, sees_inode, sees_block}
 use Rattle.nofs_machine.specs.declared.steps.Step.{Step}
@@ -29,7 +31,8 @@ pub record IsQuiet (W : World) (s : Step) (G : Files) : Type 0 where
   pub sees_no_inode : (i : ℕ) → sees_inode s i ≡ false
   pub sees_no_block : (p : ℕ) → sees_block s p ≡ false
 
-module _ (X : Image) (k : Books) (W : World) (s : Step) (G : Files) (says : Says k W) (match : FilesMatch W.files X) (homes : HomesMatch W X) (past : (b : ℕ) → W.blocks ≤ b → W.homes b ≡ None) (quiet : IsQuiet W s G) where
+module _ (X : Image) (k : Books) (W : World) (s : Step) (G : Files) (says : Says k W) (match : FilesMatch W.files X) (homes : HomesMatch W X) (past : (b : ℕ)
+    → W.blocks ≤ b → W.homes b ≡ None) (quiet : IsQuiet W s G) where
   abbrev V : World
   V = after_world W s no_claims k
 
@@ -48,7 +51,8 @@ module _ (X : Image) (k : Books) (W : World) (s : Step) (G : Files) (says : Says
       go : (h : Option Home) → W.homes q ≡ h
           → (elim h as (λ (_ : Option Home). Option Home) [ None ↦ None | Some home ↦ cond (has_block V.files home) (Some home) None ]) ≡ h
       go None e = refl
-      go (Some home) e = let b : has_block V.files home ≡ true = subst (λ (F : Files). has_block F home ≡ true) (sym quiet.files) (quiet.blocks home (home-has W X match homes past q home e)) in rw b refl
+      go (Some home) e = let b : has_block V.files home ≡ true =
+          subst (λ (F : Files). has_block F home ≡ true) (sym quiet.files) (quiet.blocks home (home-has W X match homes past q home e)) in rw b refl
 
   V-file : (j : ℕ) → is_some (V.files j) ≡ is_some (W.files j)
   V-file j = (λ q. is_some (quiet.files q j)) ∙ quiet.used j
@@ -97,7 +101,8 @@ kept-node true v e = refl
 kept-node false v e = e
 
 abbrev pub block_in : Option FileState → ℕ → Bool
-block_in o k = cond (ltb k slot_limit) (is_bytes (elim o [ None ↦ Hole | Some f ↦ f.values k ])) (is_present (elim o [ None ↦ Absent | Some f ↦ f.nodes (path_of k) ]))
+block_in o k = cond (ltb k slot_limit) (is_bytes (elim o [ None ↦ Hole | Some f ↦ f.values k ]))
+    (is_present (elim o [ None ↦ Absent | Some f ↦ f.nodes (path_of k) ]))
 
 pub cell-used : (F : Files) (d g k : ℕ) (v : Value) (j : ℕ) → is_some (files_after F (cell_given d g k v no_meta) j) ≡ is_some (F j)
 cell-used F d g k v j = go (F j)
@@ -112,7 +117,8 @@ pub cell-blocks : (F : Files) (d g k : ℕ) (v : Value) → is_bytes v ≡ true 
 cell-blocks F d g k v ev home h = go (F home.inode) refl h
   where
     inside : (f : FileState) (b : Bool) → cond b (is_bytes (f.values home.slot)) (is_present (f.nodes (path_of home.slot))) ≡ true
-        → cond b (is_bytes ((filled (cell_given d g k v no_meta) home.inode f).values home.slot)) (is_present ((filled (cell_given d g k v no_meta) home.inode f).nodes (path_of home.slot))) ≡ true
+        → cond b (is_bytes ((filled (cell_given d g k v no_meta) home.inode f).values home.slot))
+        (is_present ((filled (cell_given d g k v no_meta) home.inode f).nodes (path_of home.slot))) ≡ true
     inside f true e = kept-bytes _ v (f.values home.slot) ev e
     inside f false e = kept-node _ (f.nodes (path_of home.slot)) e
 

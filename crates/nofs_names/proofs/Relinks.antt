@@ -38,7 +38,8 @@ tidy gone l h = go (same_link l gone)
     go false = h
 
 pub relinked-spells : (r : Record) (gone : BackLink) (kind : FileKind) → r.kind ≡ Some kind → HasRecordSpelling r → HasRecordSpelling (relinked r gone)
-relinked-spells r gone kind e s = subst (λ (o : Option FileKind). AllowsRecord o (relinked r gone)) (sym e) (go kind (subst (λ (o : Option FileKind). AllowsRecord o r) e s))
+relinked-spells r gone kind e s = subst (λ (o : Option FileKind). AllowsRecord o (relinked r gone)) (sym e)
+    (go kind (subst (λ (o : Option FileKind). AllowsRecord o r) e s))
   where
     allowed : (q : FileKind) → AllowsKind q r → AllowsKind q (relinked r gone)
     allowed File h = h

@@ -1,5 +1,6 @@
 -- The contract of the writes of Drop where the inode goes.
-use Rattle.std.proofs.Common.{◌≡◌, ℕ, ◌+◌, ◌-◌, ◌*◌, ◌/◌, ◌%◌, ◌^◌, ◌<◌, ◌≤◌, ◌||◌, inl, inr, Bool, true, false, List, [], ◌∷◌, length, Some, IsTrue, Result, Ok, Err, refl, sym, ap, ◌∙◌, subst, subst₂, arith, None}
+use Rattle.std.proofs.Common.{◌≡◌, ℕ, ◌+◌, ◌-◌, ◌*◌, ◌/◌, ◌%◌, ◌^◌, ◌<◌, ◌≤◌, ◌||◌, inl, inr, Bool, true, false, List, [], ◌∷◌, length, Some, IsTrue, Result}
+use Rattle.std.proofs.Common.{Ok, Err, refl, sym, ap, ◌∙◌, subst, subst₂, arith, None}
 use Rattle.std.proofs.lemmas.List.{length-set}
 use Rattle.nofs_disk.specs.Disk.{DiskState, IsDisk, StaysButFaults, cell_at}
 use Rattle.nofs_disk.specs.Number.{put_bytes, zeros}
@@ -49,7 +50,14 @@ use Rattle.nofs_names.proofs.Dropping.{gone-ends, gone-done, drop-proper, EndsWe
 
 -- the maps have the sizes of the disk
 pub sizes-of : (d : DiskState) (k : Books) → IsSafe d k → HasSizes k
-sizes-of d k s = record { unknown_inodes = s.unknown_inodes; free_inodes = s.free_inodes; agreement = s.agreement; unknown_blocks = s.unknown_blocks; free_blocks = s.free_blocks }
+sizes-of d k s = record {
+  unknown_inodes = s.unknown_inodes;
+  free_inodes = s.free_inodes;
+  agreement = s.agreement;
+  unknown_blocks =
+      s.unknown_blocks;
+  free_blocks = s.free_blocks;
+}
 
 -- the maps after the removal have the sizes, too, and free blocks of the data area alone
 pub safe-freed : (d : DiskState) (k l : Books) (i : ℕ) (freed : List Bool) → IsSafe d k → FreedAs k l i freed → length freed ≡ k.at.blocks
@@ -88,7 +96,8 @@ pub removed-goes : (b new : DiskState) (k l : Books) (d g : ℕ) (name : List �
     → Stores b k new m ((x.block, c1) ∷ (table_block q.inode, c2) ∷ []) result → (result ≡ Ok tt → FreedAs m l q.inode freed)
     → ((why : Refusal) → result ≡ Err why → l ≡ m)
     → Goes b k new l (step.Drop d g name) no_claims (done_answer (reply.Dropped true) result)
-removed-goes b new k l d g name r x c1 c2 q freed is_b is_new safe going directory gen there record-known q-kind found-in no_names loses positive held cleared table table-tag blocks pass result m stores ok err = go stores
+removed-goes b new k l d g name r x c1 c2 q freed is_b is_new safe going directory gen there record-known q-kind found-in no_names loses positive held
+    cleared table table-tag blocks pass result m stores ok err = go stores
   where
     apart : IsApart ((x.block, c1) ∷ (table_block q.inode, c2) ∷ []) 0
     apart = ((λ e. omega (arith, e, positive)), ((λ e. omega (arith, e)), tt))
@@ -100,12 +109,17 @@ removed-goes b new k l d g name r x c1 c2 q freed is_b is_new safe going directo
     pair H p tells o = found-in tells (agrees H p tells o) p.world.files (open-files b k H p o)
 
     has : (H : List Entry1) (p : Past) → IsTrue b.tells → IsOpen b k H p → HasRecord b.now q.inode free_record c2
-    has H p tells o = let f = pair H p tells o in record { range = (live-stands b.now q.inode (agreed-live b.now q.inode f.pair.agreed)).range; here = (table tells).here; others = (table tells).others }
+    has H p tells o = let f = pair H p tells o in record {
+      range = (live-stands b.now q.inode (agreed-live b.now q.inode f.pair.agreed)).range;
+      here = (table tells).here;
+      others = (table tells).others;
+    }
 
     gone : (H : List Entry1) (p : Past) (tells : IsTrue b.tells) (o : IsOpen b k H p)
         → drop_meta p.world.files (pair H p tells o).pair.entry.inode (link_to d q.entry g) ≡ Gone
     gone H p tells o = is-gone (drop_meta p.world.files (pair H p tells o).pair.entry.inode (link_to d q.entry g))
-        (ap (λ (i : ℕ). is_gone (drop_meta p.world.files i (link_to d q.entry g))) (pair H p tells o).pair.names ∙ loses tells (are-agreed b k H p safe o) p.world.files (open-files b k H p o))
+        (ap (λ (i : ℕ). is_gone (drop_meta p.world.files i (link_to d q.entry g))) (pair H p tells o).pair.names
+        ∙ loses tells (are-agreed b k H p safe o) p.world.files (open-files b k H p o))
       where
         is-gone : (w : Meta) → is_gone w ≡ true → w ≡ Gone
         is-gone Gone e = refl
@@ -116,7 +130,8 @@ removed-goes b new k l d g name r x c1 c2 q freed is_b is_new safe going directo
         → Freed k l (pair H p tells o).pair.entry.inode (λ n. is_of (pair H p tells o).pair.entry.inode (p.world.homes n))
     freed-now H p tells o a = subst (λ (i : ℕ). Freed k l i (λ n. is_of i (p.world.homes n))) (sym (pair H p tells o).pair.names)
         (freed-from k l q.inode freed (λ n. is_of q.inode (p.world.homes n)) (sizes-of b k safe) range.0 range.1 a
-        (λ n low. blocks.owned tells (pair H p tells o).pair.agreed n low ∙ ap (is_of q.inode) (sym (o.homes n (subst (λ (z : ℕ). n < z) (sym o.says.blocks) low))))
+        (λ n low. blocks.owned tells (pair H p tells o).pair.agreed n low
+        ∙ ap (is_of q.inode) (sym (o.homes n (subst (λ (z : ℕ). n < z) (sym o.says.blocks) low))))
         (λ n high. ap (is_of q.inode) (o.homes_past n (subst (λ (z : ℕ). z ≤ n) (sym o.says.blocks) high))))
       where
         range : (1 ≤ q.inode) × (q.inode ≤ k.at.inodes)
@@ -127,24 +142,48 @@ removed-goes b new k l d g name r x c1 c2 q freed is_b is_new safe going directo
     go (Stored writes same e) =
         let a : FreedAs k l q.inode freed = subst (λ (z : Books). FreedAs z l q.inode freed) same (ok e) in
         subst (λ (z : Result (Unit {0}) Refusal). Goes b k new l (step.Drop d g name) no_claims (done_answer (reply.Dropped true) z)) (sym e)
-        (goes-done b new k l (step.Drop d g name) no_claims (reply.Dropped true) ((x.block, c1) ∷ (table_block q.inode, c2) ∷ []) is_b is_new going a.at a.history (a.stopped ∙ going)
-        (safe-freed new k l q.inode freed (safe-writes b new k ((x.block, c1) ∷ (table_block q.inode, c2) ∷ []) (Ok tt) k.stopped writes apart safe) a blocks.size blocks.in_area) refl writes.adds.disk writes.adds.past writes.later safe
-        (λ tells H p o. gone-done b new k H p d g name r x c1 c2 q free_record is_b tells o (directory.known.same tells) directory.kind gen (agrees H p tells o) (pair H p tells o) (held tells) (cleared.whole tells) (cleared.payload tells) (cleared.tag tells) (has H p tells o) table-tag (no_names tells p.world.files (open-files b k H p o)) (record-known.same tells) (gone H p tells o) refl l (freed-now H p tells o a) a.at a.history (a.stopped ∙ going) writes (pass tells H p o)))
-    go (NotStored f writes same e) = subst₂ (λ (z : Books) (w : Result (Unit {0}) Refusal). Goes b k new z (step.Drop d g name) no_claims (done_answer (reply.Dropped true) w)) (sym (err refusal.WriteFault e ∙ same)) (sym e)
-        (goes-fault b new k (stopped_books k) (step.Drop d g name) no_claims is_b going refl refl refl writes.adds.disk writes.adds.past writes.cause writes.later safe
+        (goes-done b new k l (step.Drop d g name) no_claims (reply.Dropped true) ((x.block, c1) ∷ (table_block q.inode, c2) ∷ [])
+        is_b is_new going a.at a.history (a.stopped ∙ going)
+        (safe-freed new k l q.inode freed (safe-writes b new k ((x.block, c1) ∷ (table_block q.inode, c2) ∷ []) (Ok tt) k.stopped writes apart safe)
+        a blocks.size blocks.in_area) refl writes.adds.disk writes.adds.past writes.later safe
+        (λ tells H p o. gone-done b new k H p d g name r x c1 c2 q free_record is_b tells o (directory.known.same tells) directory.kind gen
+        (agrees H p tells o) (pair H p tells o) (held tells) (cleared.whole tells) (cleared.payload tells) (cleared.tag tells) (has H p tells o)
+        table-tag (no_names tells p.world.files (open-files b k H p o)) (record-known.same tells) (gone H p tells o) refl l (freed-now H p tells o a)
+        a.at a.history (a.stopped ∙ going) writes (pass tells H p o)))
+    go (NotStored f writes same e) = subst₂ (λ (z : Books) (w : Result (Unit {0}) Refusal). Goes b k new z (step.Drop d g name) no_claims
+        (done_answer (reply.Dropped true) w)) (sym (err refusal.WriteFault e ∙ same)) (sym e)
+        (goes-fault b new k (stopped_books k) (step.Drop d g name)
+        no_claims is_b going refl refl refl writes.adds.disk writes.adds.past writes.cause writes.later safe
         (safe-writes b new k ((x.block, c1) ∷ (table_block q.inode, c2) ∷ []) (Err f) true writes apart safe)
         (λ tells H p o.
-        let w : EndsWell b new k H p d g name r x c1 c2 q free_record is_b tells o (directory.known.same tells) directory.kind gen (agrees H p tells o) (pair H p tells o) (held tells) (cleared.whole tells) (cleared.payload tells) (cleared.tag tells) (has H p tells o) table-tag (no_names tells p.world.files (open-files b k H p o)) = gone-ends b new k H p d g name r x c1 c2 q free_record is_b tells o (directory.known.same tells) directory.kind gen (agrees H p tells o) (pair H p tells o) (held tells) (cleared.whole tells) (cleared.payload tells) (cleared.tag tells) (has H p tells o) table-tag (no_names tells p.world.files (open-files b k H p o)) (record-known.same tells) (gone H p tells o) refl in drop-numbered b new k H p d g name r x c1 c2 q free_record is_b tells o (directory.known.same tells) directory.kind gen (agrees H p tells o) (pair H p tells o) (held tells) (cleared.whole tells) (cleared.payload tells) (cleared.tag tells) (has H p tells o) table-tag (no_names tells p.world.files (open-files b k H p o)) w writes.adds)
+        let w : EndsWell b new k H p d g name r x c1 c2 q free_record is_b tells o (directory.known.same tells) directory.kind gen (agrees H p tells o)
+        (pair H p tells o) (held tells) (cleared.whole tells) (cleared.payload tells) (cleared.tag tells) (has H p tells o) table-tag
+        (no_names tells p.world.files (open-files b k H p o)) =
+        gone-ends b new k H p d g name r x c1 c2 q free_record is_b tells o (directory.known.same tells) directory.kind gen (agrees H p tells o)
+        (pair H p tells o) (held tells) (cleared.whole tells) (cleared.payload tells) (cleared.tag tells) (has H p tells o) table-tag
+        (no_names tells p.world.files (open-files b k H p o)) (record-known.same tells) (gone H p tells o)
+        refl in drop-numbered b new k H p d g name r x c1 c2 q free_record is_b tells o (directory.known.same tells) directory.kind gen
+        (agrees H p tells o) (pair H p tells o) (held tells) (cleared.whole tells) (cleared.payload tells) (cleared.tag tells) (has H p tells o)
+        table-tag (no_names tells p.world.files (open-files b k H p o)) w writes.adds)
         (λ tells caller H p o.
-        let w : EndsWell b new k H p d g name r x c1 c2 q free_record is_b tells o (directory.known.same tells) directory.kind gen (agrees H p tells o) (pair H p tells o) (held tells) (cleared.whole tells) (cleared.payload tells) (cleared.tag tells) (has H p tells o) table-tag (no_names tells p.world.files (open-files b k H p o)) = gone-ends b new k H p d g name r x c1 c2 q free_record is_b tells o (directory.known.same tells) directory.kind gen (agrees H p tells o) (pair H p tells o) (held tells) (cleared.whole tells) (cleared.payload tells) (cleared.tag tells) (has H p tells o) table-tag (no_names tells p.world.files (open-files b k H p o)) (record-known.same tells) (gone H p tells o) refl in (
-          drop-proper b new k H p d g name r x c1 c2 q free_record is_b tells o (directory.known.same tells) directory.kind gen (agrees H p tells o) (pair H p tells o) (held tells) (cleared.whole tells) (cleared.payload tells) (cleared.tag tells) (has H p tells o) table-tag (no_names tells p.world.files (open-files b k H p o)) w (entry caller b new (step.Drop d g name) no_claims (reply.Refused refusal.WriteFault)) refl writes.adds,
+        let w : EndsWell b new k H p d g name r x c1 c2 q free_record is_b tells o (directory.known.same tells) directory.kind gen (agrees H p tells o)
+        (pair H p tells o) (held tells) (cleared.whole tells) (cleared.payload tells) (cleared.tag tells) (has H p tells o) table-tag
+        (no_names tells p.world.files (open-files b k H p o)) =
+        gone-ends b new k H p d g name r x c1 c2 q free_record is_b tells o (directory.known.same tells) directory.kind gen (agrees H p tells o)
+        (pair H p tells o) (held tells) (cleared.whole tells) (cleared.payload tells) (cleared.tag tells) (has H p tells o) table-tag
+        (no_names tells p.world.files (open-files b k H p o)) (record-known.same tells) (gone H p tells o) refl in (
+          drop-proper b new k H p d g name r x c1 c2 q free_record is_b tells o (directory.known.same tells) directory.kind gen (agrees H p tells o)
+              (pair H p tells o) (held tells) (cleared.whole tells) (cleared.payload tells) (cleared.tag tells) (has H p tells o) table-tag
+              (no_names tells p.world.files (open-files b k H p o)) w (entry caller b new (step.Drop d g name) no_claims (reply.Refused refusal.WriteFault))
+              refl writes.adds,
           pass tells H p o (stopped_world p.world),
           refl,
           w.claim,
         )))
 
 -- from the state before the table was read
-pub remove-ends : (old mid new : DiskState) (k m l : Books) (d g : ℕ) (name : List ℕ) (r : Record) (x : Pointer) (c1 before c2 : Cell) (q : Paired) (freed : List Bool) (result : Result (Unit {0}) Refusal) → IsDisk mid → IsDisk new → StaysButFaults old mid → IsSafe old k → k.stopped ≡ false
+pub remove-ends : (old mid new : DiskState) (k m l : Books) (d g : ℕ) (name : List ℕ) (r : Record) (x : Pointer) (c1 before c2 : Cell) (q : Paired)
+    (freed : List Bool) (result : Result (Unit {0}) Refusal) → IsDisk mid → IsDisk new → StaysButFaults old mid → IsSafe old k → k.stopped ≡ false
     → KnowsDirectory old k.at d r.generation r → r.generation ≡ g → (IsTrue old.tells → KnownTrue k old.now → IsThere d old.now)
     → KnowsInode old k.at q.inode q.record → q.record.kind ≡ Some q.kind → FoundIn old d name q → HasNoNames old q.inode → LosesName old k d g q → 0 < x.block
     → (IsTrue old.tells → find old.now d (path_of (q.entry / 16)) ≡ answer.Holds x) → ClearedIn old x (q.entry % 16) c1
@@ -153,7 +192,8 @@ pub remove-ends : (old mid new : DiskState) (k m l : Books) (d g : ℕ) (name : 
     → RowsPass old k (step.Drop d g name) → Stores mid k new m ((x.block, c1) ∷ (table_block q.inode, c2) ∷ []) result
     → (result ≡ Ok tt → FreedAs m l q.inode freed) → ((why : Refusal) → result ≡ Err why → l ≡ m)
     → Goes old k new l (step.Drop d g name) no_claims (done_answer (reply.Dropped true) result)
-remove-ends old mid new k m l d g name r x c1 before c2 q freed result is_mid is_new stays safe going directory gen there record-known q-kind found-in no_names loses positive held cleared table record-in table-tag blocks pass stores ok err =
+remove-ends old mid new k m l d g name r x c1 before c2 q freed result is_mid is_new stays safe going directory gen there record-known q-kind found-in
+    no_names loses positive held cleared table record-in table-tag blocks pass stores ok err =
     goes-after old mid (reads-keep old mid stays) new k l (step.Drop d g name) no_claims (done_answer (reply.Dropped true) result)
     (removed-goes mid new k l d g name r x c1 c2 q freed is_mid is_new (safe-keeps old mid (reads-keep old mid stays) k safe) going
     (record { known = KnowsInode-on old mid k.at d r stays directory.known; kind = directory.kind; generation = directory.generation }) gen
@@ -166,12 +206,19 @@ remove-ends old mid new k m l d g name r x c1 before c2 q freed result is_mid is
     (λ t. subst (λ (X : Image). find X d (path_of (q.entry / 16)) ≡ answer.Holds x) (sym now) (held (told t)))
     (record {
       whole = λ t. subst (λ (X : Image). length (cell_at X x.block).payload ≡ 1024) (sym now) (cleared.whole (told t));
-      payload = λ t. subst (λ (X : Image). c1.payload ≡ put_bytes (64 * (q.entry % 16)) (zeros 64) (cell_at X x.block).payload) (sym now) (cleared.payload (told t));
+      payload = λ t. subst (λ (X : Image). c1.payload ≡ put_bytes (64 * (q.entry % 16)) (zeros 64) (cell_at X x.block).payload) (sym now)
+          (cleared.payload (told t));
       tag = λ t. subst (λ (X : Image). c1.tag ≡ (cell_at X x.block).tag) (sym now) (cleared.tag (told t));
     })
     (λ t. subst (λ (z : Cell). RecordIn z q.inode free_record c2) (table (told t) ∙ ap (λ (X : Image). cell_at X (table_block q.inode)) (sym now)) record-in)
     table-tag
-    (record { size = blocks.size; in_area = blocks.in_area; owned = λ t a n low. subst (λ (X : Image). agreed (files_in X) q.inode ≡ true → is_set freed n ≡ is_of q.inode (owner X n)) (sym now) (λ b. blocks.owned (told t) b n low) a })
+    (record {
+      size = blocks.size;
+      in_area = blocks.in_area;
+      owned =
+          λ t a n low. subst (λ (X : Image). agreed (files_in X) q.inode ≡ true → is_set freed n ≡ is_of q.inode (owner X n)) (sym now)
+          (λ b. blocks.owned (told t) b n low) a;
+    })
     (λ t H p o V. pass (told t) H p (open-back old mid (reads-keep old mid stays) k H p o) V) result m stores ok err)
   where
     now : mid.now ≡ old.now

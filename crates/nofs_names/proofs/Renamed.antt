@@ -1,5 +1,6 @@
 -- The contract of Rename, from its parts.
-use Rattle.std.proofs.Common.{◌≡◌, ℕ, ◌*◌, ◌/◌, ◌%◌, ◌<◌, inl, inr, Bool, true, false, List, [], ◌∷◌, length, Some, IsTrue, Result, Ok, Err, IfErr, refl, sym, ap, ◌∙◌, subst, subst₂, arith}
+use Rattle.std.proofs.Common.{◌≡◌, ℕ, ◌*◌, ◌/◌, ◌%◌, ◌<◌, inl, inr, Bool, true, false, List, [], ◌∷◌, length, Some, IsTrue, Result, Ok, Err, IfErr, refl, sym}
+use Rattle.std.proofs.Common.{ap, ◌∙◌, subst, subst₂, arith}
 use Rattle.nofs_disk.specs.Disk.{DiskState, IsDisk, StaysButFaults, cell_at}
 use Rattle.nofs_disk.specs.Number.{put_bytes}
 use Rattle.nofs_dirent.specs.EntryLaws.{Spells}
@@ -56,7 +57,8 @@ slot-holds F X d name q match a f =
 
 -- from the state before the write
 
-pub renamed-goes : (b new : DiskState) (k l : Books) (d g : ℕ) (name other : List ℕ) (r : Record) (x : Pointer) (c : Cell) (q : Paired) (result : Result (Unit {0}) Refusal) → IsDisk b → IsDisk new → IsSafe b k → k.stopped ≡ false
+pub renamed-goes : (b new : DiskState) (k l : Books) (d g : ℕ) (name other : List ℕ) (r : Record) (x : Pointer) (c : Cell) (q : Paired)
+    (result : Result (Unit {0}) Refusal) → IsDisk b → IsDisk new → IsSafe b k → k.stopped ≡ false
     → KnowsDirectory b k.at d r.generation r → r.generation ≡ g → (IsTrue b.tells → KnownTrue k b.now → IsThere d b.now) → FoundIn b d name q → 0 < x.block
     → (IsTrue b.tells → find b.now d (path_of (q.entry / 16)) ≡ answer.Holds x)
     → (IsTrue b.tells → length (cell_at b.now x.block).payload ≡ 1024)
@@ -65,7 +67,8 @@ pub renamed-goes : (b new : DiskState) (k l : Books) (d g : ℕ) (name other : L
     → (IsTrue b.tells → c.tag ≡ (cell_at b.now x.block).tag)
     → RowsPass b k (step.Rename d g name other) → Stores b k new l ((x.block, c) ∷ []) result
     → Goes b k new l (step.Rename d g name other) no_claims (done_answer reply.Renamed result)
-renamed-goes b new k l d g name other r x c q result is_b is_new safe going directory gen there found-in positive held whole spells payload tag pass stores = go stores
+renamed-goes b new k l d g name other r x c q result is_b is_new safe going directory gen there found-in positive held whole spells payload tag pass stores =
+    go stores
   where
     apart : IsApart ((x.block, c) ∷ []) 0
     apart = ((λ e. omega (arith, e, positive)), tt)
@@ -77,26 +80,35 @@ renamed-goes b new k l d g name other r x c q result is_b is_new safe going dire
     pair H p tells o = found-in tells (agrees H p tells o) p.world.files (open-files b k H p o)
 
     go : Stores b k new l ((x.block, c) ∷ []) result → Goes b k new l (step.Rename d g name other) no_claims (done_answer reply.Renamed result)
-    go (Stored writes same e) = subst₂ (λ (m : Books) (z : Result (Unit {0}) Refusal). Goes b k new m (step.Rename d g name other) no_claims (done_answer reply.Renamed z)) (sym same) (sym e)
+    go (Stored writes same e) = subst₂ (λ (m : Books) (z : Result (Unit {0}) Refusal). Goes b k new m (step.Rename d g name other) no_claims
+        (done_answer reply.Renamed z)) (sym same) (sym e)
         (goes-done b new k k (step.Rename d g name other) no_claims reply.Renamed ((x.block, c) ∷ []) is_b is_new going refl refl going
         (safe-writes b new k ((x.block, c) ∷ []) (Ok tt) k.stopped writes apart safe) refl writes.adds.disk writes.adds.past writes.later safe
-        (λ tells H p o. rename-done b new k H p d g name other r x c q is_b tells o (directory.known.same tells) directory.kind gen (agrees H p tells o) (pair H p tells o) (held tells) (whole tells) spells (payload tells) (tag tells) writes (pass tells H p o)))
-    go (NotStored f writes same e) = subst₂ (λ (m : Books) (z : Result (Unit {0}) Refusal). Goes b k new m (step.Rename d g name other) no_claims (done_answer reply.Renamed z)) (sym same) (sym e)
-        (goes-fault b new k (stopped_books k) (step.Rename d g name other) no_claims is_b going refl refl refl writes.adds.disk writes.adds.past writes.cause writes.later safe
+        (λ tells H p o. rename-done b new k H p d g name other r x c q is_b tells o (directory.known.same tells) directory.kind gen (agrees H p tells o)
+        (pair H p tells o) (held tells) (whole tells) spells (payload tells) (tag tells) writes (pass tells H p o)))
+    go (NotStored f writes same e) = subst₂ (λ (m : Books) (z : Result (Unit {0}) Refusal). Goes b k new m (step.Rename d g name other) no_claims
+        (done_answer reply.Renamed z)) (sym same) (sym e)
+        (goes-fault b new k (stopped_books k) (step.Rename d g name other)
+        no_claims is_b going refl refl refl writes.adds.disk writes.adds.past writes.cause writes.later safe
         (safe-writes b new k ((x.block, c) ∷ []) (Err f) true writes apart safe)
-        (λ tells H p o. rename-numbered b new k H p d g name other r x c q is_b tells o (directory.known.same tells) directory.kind gen (agrees H p tells o) (pair H p tells o) (held tells) (whole tells) spells (payload tells) (tag tells) writes.adds)
+        (λ tells H p o. rename-numbered b new k H p d g name other r x c q is_b tells o (directory.known.same tells) directory.kind gen (agrees H p tells o)
+        (pair H p tells o) (held tells) (whole tells) spells (payload tells) (tag tells) writes.adds)
         (λ tells caller H p o. (
-          rename-proper b new k H p d g name other r x c q is_b tells o (directory.known.same tells) directory.kind gen (agrees H p tells o) (pair H p tells o) (held tells) (whole tells) spells (payload tells) (tag tells)
+          rename-proper b new k H p d g name other r x c q is_b tells o (directory.known.same tells) directory.kind gen (agrees H p tells o)
+              (pair H p tells o) (held tells) (whole tells) spells (payload tells) (tag tells)
               (entry caller b new (step.Rename d g name other) no_claims (reply.Refused refusal.WriteFault)) refl writes.adds,
           pass tells H p o (stopped_world p.world),
           refl,
-          claim b new k H p d g name other r x c q is_b tells o (directory.known.same tells) directory.kind gen (agrees H p tells o) (pair H p tells o) (held tells) (whole tells) spells (payload tells) (tag tells),
+          claim b new k H p d g name other r x c q is_b tells o (directory.known.same tells) directory.kind gen (agrees H p tells o) (pair H p tells o)
+              (held tells) (whole tells) spells (payload tells) (tag tells),
         )))
 
 -- from the state before the slot was found
 
-module _ (old mid : DiskState) (k : Books) (d g : ℕ) (name other : List ℕ) (r : Record) (q : Paired) (is_old : IsDisk old) (safe : IsSafe old k) (going : k.stopped ≡ false)
-    (directory : KnowsDirectory old k.at d r.generation r) (gen : r.generation ≡ g) (there : IsTrue old.tells → KnownTrue k old.now → IsThere d old.now) (found-in : FoundIn old d name q) (pass : RowsPass old k (step.Rename d g name other)) where
+module _ (old mid : DiskState) (k : Books) (d g : ℕ) (name other : List ℕ) (r : Record) (q : Paired) (is_old : IsDisk old) (safe : IsSafe old k)
+    (going : k.stopped ≡ false)
+    (directory : KnowsDirectory old k.at d r.generation r) (gen : r.generation ≡ g) (there : IsTrue old.tells → KnownTrue k old.now → IsThere d old.now)
+    (found-in : FoundIn old d name q) (pass : RowsPass old k (step.Rename d g name other)) where
   now-in : StaysButFaults old mid → mid.now ≡ old.now
   now-in stays = stays.cells.now
 
@@ -137,4 +149,5 @@ module _ (old mid : DiskState) (k : Books) (d g : ℕ) (name other : List ℕ) (
           let h = slot-holds p.world.files old.now d name q (open-files old k H p o) a (found-in t a p.world.files (open-files old k H p o)) in
           absurd (f.2 t h.0 h.1))
       go (inr f) = subst (λ (w : Refusal). Goes old k mid k (step.Rename d g name other) no_claims (reply.Refused w)) (sym f.0)
-          (goes-read old mid k (step.Rename d g name other) is_old safe holds.stays going f.1 (λ t H p o w c. absurd (let n = pass t H p o p.world in cc (n, c))))
+          (goes-read old mid k (step.Rename d g name other) is_old safe holds.stays going f.1
+          (λ t H p o w c. absurd (let n = pass t H p o p.world in cc (n, c))))

@@ -1,5 +1,6 @@
 -- Rename: the directory's cell is written in place.
-use Rattle.std.proofs.Common.{◌≡◌, ◌≢◌, ℕ, ◌+◌, ◌*◌, ◌/◌, ◌%◌, inl, inr, Bool, true, false, eqb, eqb-true, eq-eqb, leb, ltb, ◌&&◌, ◌||◌, List, [], ◌∷◌, ◌++◌, length, Option, Some, None, is_some, IsTrue, Ok, refl, sym, ap, ◌∙◌, subst, subst₂, arith}
+use Rattle.std.proofs.Common.{◌≡◌, ◌≢◌, ℕ, ◌+◌, ◌*◌, ◌/◌, ◌%◌, inl, inr, Bool, true, false, eqb, eqb-true, eq-eqb, leb, ltb, ◌&&◌, ◌||◌, List, [], ◌∷◌, ◌++◌}
+use Rattle.std.proofs.Common.{length, Option, Some, None, is_some, IsTrue, Ok, refl, sym, ap, ◌∙◌, subst, subst₂, arith}
 use Rattle.nofs_disk.specs.Disk.{DiskState, IsDisk, Picks, cell_at}
 use Rattle.nofs_disk.specs.Number.{put_bytes}
 use Rattle.nofs_disk.specs.Adds.{Adds}
@@ -63,11 +64,14 @@ entry-bytes : (v : Value) (e : ℕ) (bytes : List ℕ) → is_bytes (with_entry 
 unfolding with_entry
 entry-bytes v e bytes = refl
 
-module _ (old new : DiskState) (k : Books) (H : List Entry1) (p : Past) (d g : ℕ) (name other : List ℕ) (r : Record) (x : Pointer) (c : Cell) (q : Paired) (is_old : IsDisk old) (tells : IsTrue old.tells) (o : IsOpen old k H p)
-    (rec : inode old.now d ≡ r) (kind : r.kind ≡ Some Folder) (gen : r.generation ≡ g) (agrees : agreed (files_in old.now) d ≡ true) (pair : IsFoundEntry p.world.files old.now d name q)
+module _ (old new : DiskState) (k : Books) (H : List Entry1) (p : Past) (d g : ℕ) (name other : List ℕ) (r : Record) (x : Pointer) (c : Cell) (q : Paired)
+    (is_old : IsDisk old) (tells : IsTrue old.tells) (o : IsOpen old k H p)
+    (rec : inode old.now d ≡ r) (kind : r.kind ≡ Some Folder) (gen : r.generation ≡ g) (agrees : agreed (files_in old.now) d ≡ true)
+    (pair : IsFoundEntry p.world.files old.now d name q)
     (held : find old.now d (path_of (q.entry / 16)) ≡ answer.Holds x) (whole : length (cell_at old.now x.block).payload ≡ 1024)
     (spells : Spells (spelled_entry q.inode q.record.generation other) (record { inode = q.inode; generation = q.record.generation; name = other }))
-    (payload : c.payload ≡ put_bytes (64 * (q.entry % 16)) (spelled_entry q.inode q.record.generation other) (cell_at old.now x.block).payload) (tag : c.tag ≡ (cell_at old.now x.block).tag) where
+    (payload : c.payload ≡ put_bytes (64 * (q.entry % 16)) (spelled_entry q.inode q.record.generation other) (cell_at old.now x.block).payload)
+    (tag : c.tag ≡ (cell_at old.now x.block).tag) where
   abbrev W : World
   W = p.world
 
@@ -99,7 +103,8 @@ module _ (old new : DiskState) (k : Books) (H : List Entry1) (p : Past) (d g : �
   own = matched-agreed W.files X d match (agreed-live X d agrees) agrees
 
   all-below : IsBelow (next_stamp W) X
-  all-below b lt = o.stage.ready.fresh b (cell_at X b) lt (is_old.has_now b tells (let w = is_old.whole tells in let h = geometry.fits in omega (arith, lt, w, h)))
+  all-below b lt = o.stage.ready.fresh b (cell_at X b) lt (is_old.has_now b tells (let w = is_old.whole tells in let h =
+      geometry.fits in omega (arith, lt, w, h)))
 
   old-numbers : OldNumbers W X
   old-numbers = record { positive = o.stage.ready.positive; mountable = o.mountable; below = all-below }
@@ -127,14 +132,17 @@ module _ (old new : DiskState) (k : Books) (H : List Entry1) (p : Past) (d g : �
     found = pair.pair.at;
     held = held;
     whole = whole;
-    spells = subst₂ (λ (i n : ℕ). Spells (spelled_entry i n other) (record { inode = i; generation = n; name = other })) (sym pair.pair.names) (sym pair.pair.generation) spells;
+    spells = subst₂ (λ (i n : ℕ). Spells (spelled_entry i n other) (record { inode = i; generation = n; name = other })) (sym pair.pair.names)
+        (sym pair.pair.generation) spells;
     content = ap (λ (z : Cell). Bytes z.payload) (write.here X x c geometry.fits geometry.multiple area) ∙ ap Bytes payload
-        ∙ sym (ap (with_entry (Bytes (cell_at X x.block).payload) q.entry) numbers-are ∙ with-entry-put (Bytes (cell_at X x.block).payload) q.entry (spelled_entry q.inode q.record.generation other) spells.short);
+        ∙ sym (ap (with_entry (Bytes (cell_at X x.block).payload) q.entry) numbers-are
+        ∙ with-entry-put (Bytes (cell_at X x.block).payload) q.entry (spelled_entry q.inode q.record.generation other) spells.short);
     writes = in-place;
     old = λ j some. old-pointers j (matched-file W.files X j match some).live;
   }
 
-  law : ((m : Mark) → is_data_block m.image x.block ≡ true → Proper (during m (rename_given W.files d g other q.entry)) X x.block (cell_at Y x.block)) × FilesMatch (files_after W.files (rename_given W.files d g other q.entry)) Y
+  law : ((m : Mark) → is_data_block m.image x.block ≡ true → Proper (during m (rename_given W.files d g other q.entry)) X x.block (cell_at Y x.block))
+      × FilesMatch (files_after W.files (rename_given W.files d g other q.entry)) Y
   law = law-rename W.files X Y d g q.entry (next_stamp W) other own.file x it lies
 
   -- what the step gives
@@ -146,7 +154,8 @@ module _ (old new : DiskState) (k : Books) (H : List Entry1) (p : Past) (d g : �
   given-is = gives-it (files_along (agreed_files p.base) H) (sym o.files) ∙ ap (λ (E : Files). rename_given E d g other q.entry) (sym o.files)
 
   -- it gives a cell, and nothing else
-  cell-is : rename_given W.files d g other q.entry ≡ machine.cell_given d g (q.entry / 16) (with_entry (value_of W.files d (q.entry / 16)) q.entry (spelled_entry it.inode it.generation other)) machine.no_meta
+  cell-is : rename_given W.files d g other q.entry ≡ machine.cell_given d g (q.entry / 16)
+      (with_entry (value_of W.files d (q.entry / 16)) q.entry (spelled_entry it.inode it.generation other)) machine.no_meta
   cell-is = rw (pair.pair.at, rename_given) refl
 
   after-files : files_after W.files (gives W.files (step.Rename d g name other) no_claims) ≡ files_after W.files (rename_given W.files d g other q.entry)
@@ -158,9 +167,11 @@ module _ (old new : DiskState) (k : Books) (H : List Entry1) (p : Past) (d g : �
     no_block = refl;
     none_claimed = λ b. refl;
     files = after-files;
-    used = λ j. ap (λ (z : Given). is_some (files_after W.files z j)) cell-is ∙ cell-used W.files d g (q.entry / 16) (with_entry (value_of W.files d (q.entry / 16)) q.entry (spelled_entry it.inode it.generation other)) j;
+    used = λ j. ap (λ (z : Given). is_some (files_after W.files z j)) cell-is
+        ∙ cell-used W.files d g (q.entry / 16) (with_entry (value_of W.files d (q.entry / 16)) q.entry (spelled_entry it.inode it.generation other)) j;
     blocks = λ home h. subst (λ (z : Given). has_block (files_after W.files z) home ≡ true) (sym cell-is)
-        (cell-blocks W.files d g (q.entry / 16) (with_entry (value_of W.files d (q.entry / 16)) q.entry (spelled_entry it.inode it.generation other)) (entry-bytes (value_of W.files d (q.entry / 16)) q.entry (spelled_entry it.inode it.generation other)) home h);
+        (cell-blocks W.files d g (q.entry / 16) (with_entry (value_of W.files d (q.entry / 16)) q.entry (spelled_entry it.inode it.generation other))
+        (entry-bytes (value_of W.files d (q.entry / 16)) q.entry (spelled_entry it.inode it.generation other)) home h);
     sees_no_inode = λ i. refl;
     sees_no_block = λ b. refl;
   }
@@ -183,17 +194,21 @@ module _ (old new : DiskState) (k : Books) (H : List Entry1) (p : Past) (d g : �
   mark-area = subst (λ (z : SuperBlock). (leb (1 + z.inodes / 4) x.block && ltb x.block z.blocks) ≡ true) (sym mark-super) area
 
   proper : Proper (during (mark_at p.base H (old.moment + 1) p.mark p.stamps) (rename_given W.files d g other q.entry)) X x.block c
-  proper = subst (λ (z : Cell). Proper (during (mark_at p.base H (old.moment + 1) p.mark p.stamps) (rename_given W.files d g other q.entry)) X x.block z) (write.here X x c geometry.fits geometry.multiple area)
+  proper = subst (λ (z : Cell). Proper (during (mark_at p.base H (old.moment + 1) p.mark p.stamps) (rename_given W.files d g other q.entry)) X x.block z)
+      (write.here X x c geometry.fits geometry.multiple area)
       (law.0 (mark_at p.base H (old.moment + 1) p.mark p.stamps) mark-area)
 
-  pub proper-one : (G' : Given) → G' ≡ rename_given W.files d g other q.entry → (b : ℕ) (cell : Cell) → OneOf ((x.block, c) ∷ []) b cell → Proper (during (mark_at p.base H (old.moment + 1) p.mark p.stamps) G') X b cell
+  pub proper-one : (G' : Given) → G' ≡ rename_given W.files d g other q.entry → (b : ℕ) (cell : Cell) → OneOf ((x.block, c) ∷ []) b cell
+      → Proper (during (mark_at p.base H (old.moment + 1) p.mark p.stamps) G') X b cell
   proper-one G' ge b cell (inl one) = subst (λ (z : Given). Proper (during (mark_at p.base H (old.moment + 1) p.mark p.stamps) z) X b cell) (sym ge)
-      (subst₂ (λ (n : ℕ) (z : Cell). Proper (during (mark_at p.base H (old.moment + 1) p.mark p.stamps) (rename_given W.files d g other q.entry)) X n z) (sym one.0) (sym one.1) proper)
+      (subst₂ (λ (n : ℕ) (z : Cell). Proper (during (mark_at p.base H (old.moment + 1) p.mark p.stamps) (rename_given W.files d g other q.entry)) X n z)
+      (sym one.0) (sym one.1) proper)
   proper-one G' ge b cell (inr none) = absurd none
 
   numbers : (b : ℕ) (cell : Cell) → OneOf ((x.block, c) ∷ []) b cell → CellNumbers (Numbered W no_claims) X b cell
   numbers b cell (inl one) = subst₂ (λ (n : ℕ) (z : Cell). CellNumbers (Numbered W no_claims) X n z) (sym one.0) (sym one.1)
-      (subst (λ (z : Cell). CellNumbers (Numbered W no_claims) X x.block z) (write.here X x c geometry.fits geometry.multiple area) (law-rename-numbers W X Y d g q.entry (next_stamp W) other own.file x it no_claims old-numbers lies))
+      (subst (λ (z : Cell). CellNumbers (Numbered W no_claims) X x.block z) (write.here X x c geometry.fits geometry.multiple area)
+      (law-rename-numbers W X Y d g q.entry (next_stamp W) other own.file x it no_claims old-numbers lies))
   numbers b cell (inr none) = absurd none
 
   -- The rest stays
@@ -203,14 +218,18 @@ module _ (old new : DiskState) (k : Books) (H : List Entry1) (p : Past) (d g : �
   or-false false b e = refl
 
   nothing : (j : ℕ) → j ≢ d → GivesNothing (rename_given W.files d g other q.entry) j
-  nothing j ne = subst (λ (z : Given). GivesNothing z j) (sym cell-is) (cell-elsewhere d g (q.entry / 16) (with_entry (value_of W.files d (q.entry / 16)) q.entry (spelled_entry it.inode it.generation other)) machine.no_meta j ne (λ h. refl))
+  nothing j ne = subst (λ (z : Given). GivesNothing z j) (sym cell-is)
+      (cell-elsewhere d g (q.entry / 16) (with_entry (value_of W.files d (q.entry / 16)) q.entry (spelled_entry it.inode it.generation other))
+      machine.no_meta j ne (λ h. refl))
 
   owned : (j : ℕ) → (eqb j d || eqb j 0) ≡ true → is_live (inode Y j) ≡ true → is_some (files_after W.files (rename_given W.files d g other q.entry) j) ≡ true
   owned j t live = go (eqb j d) refl t
     where
       go : (b : Bool) → eqb j d ≡ b → (b || eqb j 0) ≡ true → is_some (files_after W.files (rename_given W.files d g other q.entry) j) ≡ true
       go true e h = quiet.used j ∙ subst (λ (n : ℕ). is_some (W.files n) ≡ true) (sym (eqb-true j d e)) (ap is_some own.is)
-      go false e h = absurd (let z : inode Y j ≡ inode X 0 = write.records X x c geometry.fits geometry.multiple area j ∙ ap (inode X) (eqb-true j 0 h) in let n : is_live (inode Y j) ≡ false = ap is_live (z ∙ no-zero X) in cc (n, live))
+      go false e h = absurd (let z : inode Y j ≡ inode X 0 =
+          write.records X x c geometry.fits geometry.multiple area j ∙ ap (inode X) (eqb-true j 0 h) in let n : is_live (inode Y j) ≡ false =
+          ap is_live (z ∙ no-zero X) in cc (n, live))
 
   rest : (e : Entry1) → given_by (files_along (agreed_files p.base) H) e ≡ rename_given W.files d g other q.entry → SteadyRest p.base (H ++ e ∷ []) Y
   rest e ge = law-rest p.base H e (next_stamp W) (λ j. eqb j d || eqb j 0) X Y (files_after W.files (rename_given W.files d g other q.entry)) o.rest (record {
@@ -227,7 +246,8 @@ module _ (old new : DiskState) (k : Books) (H : List Entry1) (p : Past) (d g : �
       apart : (j : ℕ) → (eqb j d || eqb j 0) ≡ false → j ≢ d
       apart j t e = let a = or-false (eqb j d) (eqb j 0) t in let b = eq-eqb j d e in cc (a, b)
 
-  pub rename-done : WritesAll old new ((x.block, c) ∷ []) (Ok tt) → ((U : World) → first_of (rows W U (step.Rename d g name other)) ≡ None) → IsDone old new k k H p (step.Rename d g name other) no_claims reply.Renamed ((x.block, c) ∷ [])
+  pub rename-done : WritesAll old new ((x.block, c) ∷ []) (Ok tt) → ((U : World) → first_of (rows W U (step.Rename d g name other)) ≡ None)
+      → IsDone old new k k H p (step.Rename d g name other) no_claims reply.Renamed ((x.block, c) ∷ [])
   rename-done writes none = record {
     adds = writes.adds;
     later = writes.later;
@@ -240,9 +260,11 @@ module _ (old new : DiskState) (k : Books) (H : List Entry1) (p : Past) (d g : �
     accepted = refl;
     no_flush = refl;
     claim = claim;
-    learns = quiet-learns X k W (step.Rename d g name other) (files_after W.files (rename_given W.files d g other q.entry)) o.says match o.homes o.homes_past quiet;
+    learns = quiet-learns X k W (step.Rename d g name other) (files_after W.files (rename_given W.files d g other q.entry))
+        o.says match o.homes o.homes_past quiet;
     files = subst₂ (λ (F : Files) (Z : Image). FilesMatch F Z) (sym after-files) (sym writes.now) law.1;
-    move = subst (λ (Z : Image). HomesMove W.files (step.Rename d g name other) no_claims X Z) (sym writes.now) (law-rename-homes W X Y d g q.entry (next_stamp W) name other own.file x it no_claims lies claim);
+    move = subst (λ (Z : Image). HomesMove W.files (step.Rename d g name other) no_claims X Z) (sym writes.now)
+        (law-rename-homes W X Y d g q.entry (next_stamp W) name other own.file x it no_claims lies claim);
     rest = λ e es ec ge. subst (λ (Z : Image). SteadyRest p.base (H ++ e ∷ []) Z) (sym writes.now) (rest e (ge ∙ given-is));
     says = quiet-says X k W (step.Rename d g name other) (files_after W.files (rename_given W.files d g other q.entry)) o.says match o.homes o.homes_past quiet;
     books_at = refl;
@@ -253,6 +275,8 @@ module _ (old new : DiskState) (k : Books) (H : List Entry1) (p : Past) (d g : �
   pub rename-numbered : Adds (OneOf ((x.block, c) ∷ [])) old new → AddsNumbered W no_claims old new
   rename-numbered = Adds-map (OneOf ((x.block, c) ∷ [])) (λ n cell. CellNumbers (Numbered W no_claims) X n cell) old new numbers
 
-  pub rename-proper : (e : Entry1) → given_by (files_along (agreed_files p.base) H) e ≡ gives (files_along (agreed_files p.base) H) (step.Rename d g name other) no_claims → Adds (OneOf ((x.block, c) ∷ [])) old new → AddsProper p.base H e p.mark p.stamps old new
-  rename-proper e ge adds = Adds-map (OneOf ((x.block, c) ∷ [])) (Proper (during (mark_at p.base H (old.moment + 1) p.mark p.stamps) (given_by (files_along (agreed_files p.base) H) e)) old.now) old new
+  pub rename-proper : (e : Entry1) → given_by (files_along (agreed_files p.base) H) e ≡ gives (files_along (agreed_files p.base) H)
+      (step.Rename d g name other) no_claims → Adds (OneOf ((x.block, c) ∷ [])) old new → AddsProper p.base H e p.mark p.stamps old new
+  rename-proper e ge adds = Adds-map (OneOf ((x.block, c) ∷ []))
+      (Proper (during (mark_at p.base H (old.moment + 1) p.mark p.stamps) (given_by (files_along (agreed_files p.base) H) e)) old.now) old new
       (λ b cell one. proper-one (given_by (files_along (agreed_files p.base) H) e) (ge ∙ given-is) b cell one) adds

@@ -42,7 +42,8 @@ module _ (old : DiskState) (k : Books) (d g : ℕ) (name other : List ℕ) (is :
 
   module _ (ok : is_name name ≡ true) where
     pub rename-bad-new : is_name other ≡ false → Goes old k old k (step.Rename d g name other) no_claims (reply.Refused refusal.BadName)
-    rename-bad-new bad = goes-row old old k (step.Rename d g name other) is safe (StaysButFaults-refl old) refusal.BadName refl tt going (λ tells H p o. rw (ok, bad) refl)
+    rename-bad-new bad = goes-row old old k (step.Rename d g name other) is safe (StaysButFaults-refl old) refusal.BadName refl tt going
+        (λ tells H p o. rw (ok, bad) refl)
 
     module _ (good : is_name other ≡ true) where
       rows-are : (W V : World)
@@ -50,13 +51,20 @@ module _ (old : DiskState) (k : Books) (d g : ℕ) (name other : List ℕ) (is :
       rows-are W V = rw (ok, good) refl
 
       late : (W : World) → IsLate (first_of (rows W W (step.Rename d g name other)))
-      late W why e = first-late (directory_rows d g W ++ (missing_rows d name W ++ exists_rows d other W))
-          (late-row (not (is_some (W.files d) && eqb (generation_of W.files d) g)) refusal.Stale refl, (late-row (not (is_folder_at W.files d)) refusal.NotDirectory refl, (missing-late W d name, (late-row (is_some (found W.files d other)) refusal.Exists refl, tt)))) why (sym (rows-are W W) ∙ e)
+      late W why e = first-late (directory_rows d g W ++ (missing_rows d name W ++ exists_rows d other W)) (
+        late-row (not (is_some (W.files d) && eqb (generation_of W.files d) g)) refusal.Stale refl,
+        (
+          late-row (not (is_folder_at W.files d)) refusal.NotDirectory refl,
+          (missing-late W d name, (late-row (is_some (found W.files d other)) refusal.Exists refl, tt)),
+        ),
+      ) why (sym (rows-are W W) ∙ e)
 
       pub rename-unopened : (mid : DiskState) (last : LastRead) (res : Result Record Refusal) (why : Refusal) → OpensDirectory old mid k d g last res
           → res ≡ Err why → Goes old k mid k (step.Rename d g name other) no_claims (reply.Refused why)
-      rename-unopened mid last res why opens e = goes-fails old mid k (step.Rename d g name other) (directory_rows d g) why is safe going opens.stays (subst (λ (r : Result Record Refusal). IfErr r (Fails old mid (KnownTrue k) (directory_rows d g))) e opens.refused)
-          (λ t H p o q. rows-are p.world p.world ∙ first-left (directory_rows d g p.world) (missing_rows d name p.world ++ exists_rows d other p.world) why q) late
+      rename-unopened mid last res why opens e = goes-fails old mid k (step.Rename d g name other) (directory_rows d g) why is safe going opens.stays
+          (subst (λ (r : Result Record Refusal). IfErr r (Fails old mid (KnownTrue k) (directory_rows d g))) e opens.refused)
+          (λ t H p o q. rows-are p.world p.world ∙ first-left (directory_rows d g p.world) (missing_rows d name p.world ++ exists_rows d other p.world)
+          why q) late
 
       module _ (mid : DiskState) (last : LastRead) (r : Record) (opens : OpensDirectory old mid k d g last (Ok r)) where
         none-before : IsTrue old.tells → (H : List Entry1) (p : Past) → IsOpen old k H p → first_of (directory_rows d g p.world) ≡ None
@@ -65,10 +73,13 @@ module _ (old : DiskState) (k : Books) (d g : ℕ) (name other : List ℕ) (is :
         module _ (new : DiskState) (names records : LastRead) where
           pub rename-missing : (res : Result Paired Refusal) (why : Refusal) → FindsPair mid new k.at d name names records res → res ≡ Err why
               → Goes old k new k (step.Rename d g name other) no_claims (reply.Refused why)
-          rename-missing res why finds e = goes-fails old new k (step.Rename d g name other) (missing_rows d name) why is safe going (StaysButFaults-trans old mid new opens.stays finds.stays)
+          rename-missing res why finds e = goes-fails old new k (step.Rename d g name other) (missing_rows d name) why is safe going
+              (StaysButFaults-trans old mid new opens.stays finds.stays)
               (fails-given old new (IsThere d) (KnownTrue k) (missing_rows d name) why opens.there
-              (fails-after old mid new (IsThere d) (missing_rows d name) why opens.stays (subst (λ (q : Result Paired Refusal). IfErr q (Fails mid new (IsThere d) (missing_rows d name))) e finds.refused)))
-              (λ t H p o q. rows-are p.world p.world ∙ first-right (directory_rows d g p.world) (missing_rows d name p.world ++ exists_rows d other p.world) (none-before t H p o) ∙ first-left (missing_rows d name p.world) (exists_rows d other p.world) why q) late
+              (fails-after old mid new (IsThere d) (missing_rows d name) why opens.stays
+              (subst (λ (q : Result Paired Refusal). IfErr q (Fails mid new (IsThere d) (missing_rows d name))) e finds.refused)))
+              (λ t H p o q. rows-are p.world p.world ∙ first-right (directory_rows d g p.world) (missing_rows d name p.world ++ exists_rows d other p.world)
+              (none-before t H p o) ∙ first-left (missing_rows d name p.world) (exists_rows d other p.world) why q) late
 
           module _ (end : DiskState) (names2 records2 : LastRead) (q : Paired) (finds : FindsPair mid new k.at d name names records (Ok q)) where
             to-new : StaysButFaults old new
@@ -76,7 +87,10 @@ module _ (old : DiskState) (k : Books) (d g : ℕ) (name other : List ℕ) (is :
 
             found-here : IsTrue old.tells → (H : List Entry1) (p : Past) → IsOpen old k H p → missing p.world d name ≡ None
             found-here t H p o =
-                let f : IsFoundEntry p.world.files old.now d name q = subst (λ (X : Image). IsThere d X → FilesMatch p.world.files X → IsFoundEntry p.world.files X d name q) opens.stays.cells.now (λ a m. finds.found (told-on old mid opens.stays t) a p.world.files m) (opens.there t (are-agreed old k H p safe o)) (open-files old k H p o) in
+                let f : IsFoundEntry p.world.files old.now d name q =
+                subst (λ (X : Image). IsThere d X → FilesMatch p.world.files X → IsFoundEntry p.world.files X d name q) opens.stays.cells.now
+                (λ a m. finds.found (told-on old mid opens.stays t) a p.world.files m) (opens.there t (are-agreed old k H p safe o))
+                (open-files old k H p o) in
                 let s = f.found in rw s refl
 
             none-missing : IsTrue old.tells → (H : List Entry1) (p : Past) → IsOpen old k H p → first_of (missing_rows d name p.world) ≡ None
@@ -84,13 +98,16 @@ module _ (old : DiskState) (k : Books) (d g : ℕ) (name other : List ℕ) (is :
 
             to-exists : IsTrue old.tells → (H : List Entry1) (p : Past) → IsOpen old k H p → (V : World)
                 → first_of (rows p.world V (step.Rename d g name other)) ≡ first_of (exists_rows d other p.world)
-            to-exists t H p o V = rows-are p.world V ∙ first-right (directory_rows d g p.world) (missing_rows d name p.world ++ exists_rows d other p.world) (none-before t H p o) ∙ first-right (missing_rows d name p.world) (exists_rows d other p.world) (none-missing t H p o)
+            to-exists t H p o V = rows-are p.world V ∙ first-right (directory_rows d g p.world) (missing_rows d name p.world ++ exists_rows d other p.world)
+                (none-before t H p o) ∙ first-right (missing_rows d name p.world) (exists_rows d other p.world) (none-missing t H p o)
 
             pub rename-exists : (res : Result Unfound Refusal) (why : Refusal) → FindsNone new end d other names2 records2 res → res ≡ Err why
                 → Goes old k end k (step.Rename d g name other) no_claims (reply.Refused why)
-            rename-exists res why none e = goes-fails old end k (step.Rename d g name other) (exists_rows d other) why is safe going (StaysButFaults-trans old new end to-new none.stays)
+            rename-exists res why none e = goes-fails old end k (step.Rename d g name other) (exists_rows d other) why is safe going
+                (StaysButFaults-trans old new end to-new none.stays)
                 (fails-given old end (IsThere d) (KnownTrue k) (exists_rows d other) why opens.there
-                (fails-after old new end (IsThere d) (exists_rows d other) why to-new (subst (λ (z : Result Unfound Refusal). IfErr z (Fails new end (IsThere d) (exists_rows d other))) e none.refused)))
+                (fails-after old new end (IsThere d) (exists_rows d other) why to-new
+                (subst (λ (z : Result Unfound Refusal). IfErr z (Fails new end (IsThere d) (exists_rows d other))) e none.refused)))
                 (λ t H p o z. to-exists t H p o p.world ∙ z) late
 
             pub rename-passes : (u : Unfound) → FindsNone new end d other names2 records2 (Ok u) → RowsPass end k (step.Rename d g name other)
@@ -99,5 +116,7 @@ module _ (old : DiskState) (k : Books) (d g : ℕ) (name other : List ℕ) (is :
                 let told : IsTrue old.tells = subst (λ (b : Bool). IsTrue b) stays.disk.tells t in
                 let before : IsOpen old k H p = open-back old end (reads-keep old end stays) k H p o in
                 let a = opens.there told (are-agreed old k H p safe before) in
-                let passed : Passed p.world.files d other entry_limit 72 u = subst (λ (X : Image). IsThere d X → FilesMatch p.world.files X → Passed p.world.files d other entry_limit 72 u) to-new.cells.now (λ b m. none.seen (told-on old new to-new told) b p.world.files m) a (open-files old k H p before) in
+                let passed : Passed p.world.files d other entry_limit 72 u =
+                subst (λ (X : Image). IsThere d X → FilesMatch p.world.files X → Passed p.world.files d other entry_limit 72 u) to-new.cells.now
+                (λ b m. none.seen (told-on old new to-new told) b p.world.files m) a (open-files old k H p before) in
                 to-exists told H p before V ∙ (let n = exists-none p.world d other u passed in rw n refl)

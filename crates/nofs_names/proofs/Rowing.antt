@@ -1,5 +1,6 @@
 -- The rows of refusals of the parts that steps on names share.
-use Rattle.std.proofs.Common.{◌≡◌, ℕ, Bool, true, false, ◌&&◌, eqb, List, [], ◌∷◌, Option, Some, None, option_map, IsTrue, Result, Ok, Err, IfErr, refl, sym, ap, ◌∙◌, subst}
+use Rattle.std.proofs.Common.{◌≡◌, ℕ, Bool, true, false, ◌&&◌, eqb, List, [], ◌∷◌, Option, Some, None, option_map, IsTrue, Result, Ok, Err, IfErr, refl, sym}
+use Rattle.std.proofs.Common.{ap, ◌∙◌, subst}
 use Rattle.nofs_dirent.specs.Entries.{entry_limit}
 use Rattle.nofs_disk.specs.Disk.{DiskState}
 use Rattle.nofs_inode.specs.declared.inode.FileKind.TheVariants.{Directory as Folder}
@@ -21,7 +22,8 @@ use Rattle.nofs_state.specs.declared.books.Books.{Books}
 use Rattle.nofs_state.specs.declared.opening.Opened.{Opened}
 use Rattle.nofs_state.proofs.Machine.{agreed-live, stale-none, stale-some}
 use Rattle.nofs_names.specs.Searching.{Passed, Searches}
-use Rattle.nofs_names.specs.Refusing.{Fails, ByRow, ByRead, KnownTrue, directory_rows, OpensDirectory, FindsPair, IsPairOf, missing_in, unused_in, FindsNone, hole_place, place_of_entry}
+use Rattle.nofs_names.specs.Refusing.{Fails, ByRow, ByRead, KnownTrue, directory_rows, OpensDirectory, FindsPair, IsPairOf, missing_in, unused_in, FindsNone}
+use Rattle.nofs_names.specs.Refusing.{hole_place, place_of_entry}
 use Rattle.nofs_names.specs.declared.searching.Paired.{Paired}
 use Rattle.nofs_names.specs.declared.searching.Unfound.{Unfound}
 use Rattle.nofs_names.specs.declared.searching.Searched.{Searched}
@@ -69,7 +71,8 @@ module _ (old new : DiskState) (k : Books) (d g : ℕ) (last : LastRead) (res : 
     opened = subst (λ (q : Result Opened Refusal). Opens old new k d g last q) is opens
 
     folder-of : IsTrue old.tells → KnownTrue k old.now → (W : World) → FilesMatch W.files old.now → is_folder_at W.files d ≡ is_folder it.kind
-    folder-of t all W match = folder-at W.files old.now d it.found it.kind match (current-agreed old.now d g (opened.current t all)) (record-of old new k.at d it.found opens.stays opened.known.known t) opened.known.kind
+    folder-of t all W match = folder-at W.files old.now d it.found it.kind match (current-agreed old.now d g (opened.current t all))
+        (record-of old new k.at d it.found opens.stays opened.known.known t) opened.known.kind
 
     pub directory-file : is_folder it.kind ≡ false → OpensDirectory old new k d g last (Err refusal.NotDirectory)
     directory-file no_folder = record {
@@ -79,7 +82,8 @@ module _ (old new : DiskState) (k : Books) (d g : ℕ) (last : LastRead) (res : 
       passes = tt;
       there = tt;
       kept = tt;
-      refused = ByRow refl tt (λ t all W match. let f = folder-of t all W match ∙ no_folder in rw (stale-none W old.now d g match (opened.current t all), f) refl);
+      refused = ByRow refl tt (λ t all W match. let f = folder-of t all W match
+          ∙ no_folder in rw (stale-none W old.now d g match (opened.current t all), f) refl);
     }
 
     pub directory-is : is_folder it.kind ≡ true → OpensDirectory old new k d g last (Ok it.found)
@@ -142,7 +146,8 @@ module _ (old new : DiskState) (at : SuperBlock) (d : ℕ) (name : List ℕ) (na
         known = tt;
         found = tt;
         kept = tt;
-        refused = ByRow (plain-missing u why ew) (range-missing u why ew) (λ t there W match. let m = missing-is W.files W d name u refl (search.answer t W.files match there) ∙ sym ew in rw m refl);
+        refused = ByRow (plain-missing u why ew) (range-missing u why ew) (λ t there W match. let m =
+            missing-is W.files W d name u refl (search.answer t W.files match there) ∙ sym ew in rw m refl);
       })
 
   pub name-unused : (s : Searched) (res : Result Unfound Refusal) → Searches old new at d name names records (Ok s) → res ≡ unused_in s

@@ -1,5 +1,6 @@
 -- What a new entry writes: its cell with what is claimed for it, and the record of the inode that it names.
-use Rattle.std.specs.Prelude.{◌≡◌, ◌≢◌, ℕ, ◌+◌, ◌-◌, ◌*◌, ◌/◌, ◌%◌, ◌^◌, ◌<◌, ◌≤◌, true, List, [], ◌∷◌, length, Some, IsTrue, Result, IfOk, OnOk, OnErr, slice_set}
+use Rattle.std.specs.Prelude.{◌≡◌, ◌≢◌, ℕ, ◌+◌, ◌-◌, ◌*◌, ◌/◌, ◌%◌, ◌^◌, ◌<◌, ◌≤◌, true, List, [], ◌∷◌, length, Some, IsTrue, Result, IfOk, OnOk, OnErr}
+use Rattle.std.specs.Prelude.{slice_set}
 use Rattle.nofs_disk.specs.Disk.{DiskState, StaysButFaults, Rose, cell_at}
 use Rattle.nofs_disk.specs.Number.{put_bytes, zeros}
 use Rattle.nofs_disk.specs.declared.Failed.{Failed}

@@ -1,5 +1,6 @@
 -- What Link asks of its parts.
-use Rattle.std.specs.Prelude.{◌≡◌, ℕ, ◌/◌, ◌<◌, Bool, true, not, List, [], ◌∷◌, ◌++◌, Option, Some, None, IsTrue, Result, Ok, Err, IfOk, IfErr, IfSome, OnOk, OnErr, slice_set}
+use Rattle.std.specs.Prelude.{◌≡◌, ℕ, ◌/◌, ◌<◌, Bool, true, not, List, [], ◌∷◌, ◌++◌, Option, Some, None, IsTrue, Result, Ok, Err, IfOk, IfErr, IfSome, OnOk}
+use Rattle.std.specs.Prelude.{OnErr, slice_set}
 use Rattle.nofs_disk.specs.Disk.{DiskState, StaysButFaults, Rose}
 use Rattle.nofs_disk.specs.declared.Failed.{Failed}
 use Rattle.nofs_inode.specs.declared.inode.FileKind.TheVariants as kind
@@ -63,7 +64,8 @@ both_as kind.Directory kind.File d f = Ok (record { directory = d; file = f })
 abbrev pub dead_place : Image → ℕ → List BackLink → Option ℕ
 dead_place X i links = machine.place_for_link (λ link. not (is_agreed_link (files_in X) i link)) links 0
 
-pub record TellsDeadPlace (old new : DiskState) (known : List (Option Bool)) (i : ℕ) (r : Record) (last : LastRead) (result : Result (Option ℕ) Failed) : Type 0 where
+pub record TellsDeadPlace (old new : DiskState) (known : List (Option Bool)) (i : ℕ) (r : Record) (last : LastRead) (result : Result (Option ℕ) Failed)
+    : Type 0 where
   pub stays : StaysButFaults old new
   pub range : IfOk result (λ o. IfSome o (λ b. b < 4))
   pub found : IfOk result (λ o. IsTrue old.tells → AreTrue old.now known → o ≡ dead_place old.now i r.links)

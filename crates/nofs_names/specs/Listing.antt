@@ -1,5 +1,6 @@
 -- What List answers.
-use Rattle.std.specs.Prelude.{◌≡◌, ℕ, ◌≤◌, ◌<◌, ◌⊎◌, true, false, List, length, All, Option, Some, None, IsTrue, Result, Ok, Err, IfOk, IfErr, IfSome, OnOk, OnErr}
+use Rattle.std.specs.Prelude.{◌≡◌, ℕ, ◌≤◌, ◌<◌, ◌⊎◌, true, false, List, length, All, Option, Some, None, IsTrue, Result, Ok, Err, IfOk, IfErr, IfSome, OnOk}
+use Rattle.std.specs.Prelude.{OnErr}
 use Rattle.nofs_disk.specs.declared.Failed.{Failed}
 use Rattle.nofs_disk.specs.Disk.{DiskState, StaysButFaults, Rose}
 use Rattle.nofs_dirent.specs.Names.{NameOk, is_name}
@@ -71,7 +72,8 @@ name_line_in X link (Some it) = Some (line_with it (paired_kind (inode X it.inod
 abbrev pub LinesFail : DiskState → DiskState → Refusal → Type 0
 LinesFail old new why = (why ≡ refusal.OutOfMemory) ⊎ ((why ≡ refusal.ReadFault) × Rose old.faults new.faults)
 
-pub record ReadsLine (old new : DiskState) (link : BackLink) (payload : List ℕ) (place : ℕ) (last : LastRead) (result : Result (Option NameLine) Refusal) : Type 0 where
+pub record ReadsLine (old new : DiskState) (link : BackLink) (payload : List ℕ) (place : ℕ) (last : LastRead) (result : Result (Option NameLine) Refusal)
+    : Type 0 where
   pub stays : StaysButFaults old new
   pub line : IfOk result (λ l. IsTrue old.tells → l ≡ name_line_in old.now link (entry_in payload place))
   pub named : IfOk result (λ l. IfSome l (λ line. NameOk line.name))

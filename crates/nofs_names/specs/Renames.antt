@@ -28,7 +28,8 @@ IsSlotHeld slot answer.Lost result = result ≡ Err (refusal.LostSlot slot)
 
 -- why a slot that must hold was not found: it does not hold, or a read failed
 abbrev pub HoldFails : DiskState → DiskState → ℕ → ℕ → Refusal → Type 0
-HoldFails old new d slot why = ((is_plain why ≡ true) × InRange why × (IsTrue old.tells → (x : Pointer) → find old.now d (path_of slot) ≡ answer.Holds x → ⊥)) ⊎ ((why ≡ refusal.ReadFault) × Rose old.faults new.faults)
+HoldFails old new d slot why = ((is_plain why ≡ true) × InRange why × (IsTrue old.tells → (x : Pointer) → find old.now d (path_of slot) ≡ answer.Holds x
+    → ⊥)) ⊎ ((why ≡ refusal.ReadFault) × Rose old.faults new.faults)
 
 pub record HoldsSlot (old new : DiskState) (at : SuperBlock) (d slot : ℕ) (last : LastRead) (result : Result Pointer Refusal) : Type 0 where
   pub stays : StaysButFaults old new

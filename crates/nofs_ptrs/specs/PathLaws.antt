@@ -1,5 +1,6 @@
 -- A slot has one place, and a place one slot.
-use Rattle.std.proofs.Common.{◌≡◌, ℕ, ◌+◌, ◌-◌, ◌*◌, ◌/◌, ◌%◌, ◌^◌, ◌<◌, ◌≤◌, ◌⊎◌, inl, inr, true, refl, ap, ap₂, ◌∙◌, arith, eqb-true, leb-true, lt-ltb, le-ltb}
+use Rattle.std.proofs.Common.{◌≡◌, ℕ, ◌+◌, ◌-◌, ◌*◌, ◌/◌, ◌%◌, ◌^◌, ◌<◌, ◌≤◌, ◌⊎◌, inl, inr, true, refl, ap, ap₂, ◌∙◌, arith, eqb-true, leb-true, lt-ltb}
+use Rattle.std.proofs.Common.{le-ltb}
 use Rattle.std.proofs.lemmas.Bool.{cases_lt, false≢true}
 use Rattle.nofs_ptrs.specs.Paths.{Path, InRecord, Under, leaf, child, path_of, slot_of, is_pointer_slot, IsSlot, slot_limit}
 

@@ -24,10 +24,26 @@ kept W V k = record { blocks = k.blocks; inodes = k.inodes; files = k.files; hom
 
 -- a refused step keeps all, and an accepted one is done
 cases-of : (W : World) (e : Entry1) (V : World) → Next W e V → ((is_refused e.reply ≡ true) × SameState W V) ⊎ IsDone W e V
-cases-of W e V (AfterFault s r c same) = inl (ap is_refused r, record { blocks = ap (λ (q : World). q.blocks) same; inodes = ap (λ (q : World). q.inodes) same; files = ap (λ (q : World). q.files) same; homes = ap (λ (q : World). q.homes) same })
+cases-of W e V (AfterFault s r c same) = inl (
+  ap is_refused r,
+  record {
+    blocks = ap (λ (q : World). q.blocks) same;
+    inodes = ap (λ (q : World). q.inodes) same;
+    files = ap (λ (q : World). q.files) same;
+    homes =
+        ap (λ (q : World). q.homes) same;
+  },
+)
 cases-of W e V (ByRow why s f (inl r) c k st l) = inl (ap is_refused r, kept W V k)
 cases-of W e V (ByRow why s f (inr r) c k st l) = inl (ap is_refused r.0, kept W V k)
-cases-of W e V (Done s f r c fs hs se vs l) = inr (record { accepted = ap is_refused r ∙ done-accepts W V e.step e.claims f; files = fs; homes = hs; blocks = vs.1; inodes = vs.2 })
+cases-of W e V (Done s f r c fs hs se vs l) = inr (record {
+  accepted = ap is_refused r ∙ done-accepts W V e.step e.claims f;
+  files = fs;
+  homes = hs;
+  blocks =
+      vs.1;
+  inodes = vs.2;
+})
 cases-of W e V (ByRead s f r c k st l) = inl (ap is_refused r, kept W V k)
 cases-of W e V (ByWrite s f m r c k st l) = inl (ap is_refused r, kept W V k)
 
@@ -35,22 +51,47 @@ same-next : (U W V X : World) (e : Entry1) → SameState U W → Next U e V → 
 same-next U W V X e s n m = go (cases-of U e V n) (cases-of W e X m)
   where
     go : ((is_refused e.reply ≡ true) × SameState U V) ⊎ IsDone U e V → ((is_refused e.reply ≡ true) × SameState W X) ⊎ IsDone W e X → SameState V X
-    go (inl a) (inl b) = record { blocks = b.1.blocks ∙ s.blocks ∙ sym a.1.blocks; inodes = b.1.inodes ∙ s.inodes ∙ sym a.1.inodes; files = b.1.files ∙ s.files ∙ sym a.1.files; homes = b.1.homes ∙ s.homes ∙ sym a.1.homes }
+    go (inl a) (inl b) = record {
+      blocks = b.1.blocks ∙ s.blocks ∙ sym a.1.blocks;
+      inodes = b.1.inodes ∙ s.inodes ∙ sym a.1.inodes;
+      files =
+          b.1.files ∙ s.files ∙ sym a.1.files;
+      homes = b.1.homes ∙ s.homes ∙ sym a.1.homes;
+    }
     go (inl a) (inr b) = absurd (let x = a.0 in let y = b.accepted in cc (x, y))
     go (inr a) (inl b) = absurd (let x = b.0 in let y = a.accepted in cc (x, y))
     go (inr a) (inr b) =
         let files : X.files ≡ V.files = b.files ∙ ap (λ (F : Files). files_after F (gives F e.step e.claims)) s.files ∙ sym a.files in
-        let homes : homes_after W e.step e.claims X.files ≡ homes_after U e.step e.claims V.files = λ j. homes_after (record W { files = s.files j; homes = s.homes j }) e.step e.claims (files j) in
-        record { blocks = b.blocks ∙ s.blocks ∙ sym a.blocks; inodes = b.inodes ∙ s.inodes ∙ sym a.inodes; files = files; homes = b.homes ∙ homes ∙ sym a.homes }
+        let homes : homes_after W e.step e.claims X.files ≡ homes_after U e.step e.claims V.files =
+        λ j. homes_after (record W { files = s.files j; homes = s.homes j }) e.step e.claims (files j) in
+        record {
+          blocks = b.blocks ∙ s.blocks ∙ sym a.blocks;
+          inodes = b.inodes ∙ s.inodes ∙ sym a.inodes;
+          files = files;
+          homes =
+              b.homes ∙ homes ∙ sym a.homes;
+        }
 
 same-world : (W V : World) → V ≡ W → SameState W V
-same-world W V e = record { blocks = ap (λ (q : World). q.blocks) e; inodes = ap (λ (q : World). q.inodes) e; files = ap (λ (q : World). q.files) e; homes = ap (λ (q : World). q.homes) e }
+same-world W V e = record {
+  blocks = ap (λ (q : World). q.blocks) e;
+  inodes = ap (λ (q : World). q.inodes) e;
+  files = ap (λ (q : World). q.files) e;
+  homes =
+      ap (λ (q : World). q.homes) e;
+}
 
 pub law-one-run : LawOneRun
 law-one-run [] start moment U W V X s r q =
     let a = same-world U V r in
     let b = same-world W X q in
-    record { blocks = b.blocks ∙ s.blocks ∙ sym a.blocks; inodes = b.inodes ∙ s.inodes ∙ sym a.inodes; files = b.files ∙ s.files ∙ sym a.files; homes = b.homes ∙ s.homes ∙ sym a.homes }
+    record {
+      blocks = b.blocks ∙ s.blocks ∙ sym a.blocks;
+      inodes = b.inodes ∙ s.inodes ∙ sym a.inodes;
+      files = b.files ∙ s.files ∙ sym a.files;
+      homes =
+          b.homes ∙ s.homes ∙ sym a.homes;
+    }
 law-one-run (e ∷ es) start moment U W V X s r q = law-one-run es e.to e.to r.0 q.0 V X (same-next U W r.0 q.0 e s r.4 q.4) r.5 q.5
 
 pub law-late : LawLate

@@ -87,7 +87,8 @@ asks-none old = record { made = []; more = sym (append-nil old); each = none }
     none [] after m h = absurd (cc h)
     none (b ∷ before) after m h = absurd (cc h)
 
-asks-one : (old mid new : List Made) (s : Step) → Asks old mid → MakesOne mid new s → ((made : List Made) → mid ≡ old ++ made → MayBeAsked made s) → Asks old new
+asks-one : (old mid new : List Made) (s : Step) → Asks old mid → MakesOne mid new s → ((made : List Made) → mid ≡ old ++ made → MayBeAsked made s)
+    → Asks old new
 asks-one old mid new s asks one asked = go (is_out_of_memory one.reply) one.more
   where
     x : Made
@@ -222,12 +223,14 @@ met-label old = record { made = []; more = sym (append-nil old); met = Label ref
 with-met : (old now : List Made) (handles : List Handle) (at : Handle) (b : Bool) → All (HasReached old now) handles → HasReached old now at
     → All (HasReached old now) (if b then handles else handles ++ at ∷ [])
 with-met old now handles at true h one = h
-with-met old now handles at false h one = All-append (HasReached old now) handles (at ∷ []) h (All-cons (HasReached old now) at [] one (All-nil (HasReached old now)))
+with-met old now handles at false h one = All-append (HasReached old now) handles (at ∷ []) h
+    (All-cons (HasReached old now) at [] one (All-nil (HasReached old now)))
 
 pub met-with : (old now : List Made) (at : Handle) (before after : Tree) → handles_in after ≡ with_handle (handles_in before) at → HasReached old now at
     → AreReached old now before → AreReached old now after
 met-with old now at before after is one h = subst (All (HasReached old now)) (sym is) (with-met old now (handles_in before) at _ h one)
 
-pub met-at : (old now : List Made) (tree : Tree) (n : ℕ) (at : Handle) → slice_get (handles_in tree) n ≡ Some at → AreReached old now tree → HasReached old now at
+pub met-at : (old now : List Made) (tree : Tree) (n : ℕ) (at : Handle) → slice_get (handles_in tree) n ≡ Some at → AreReached old now tree
+    → HasReached old now at
 met-at old now tree n at is h = subst (HasReached old now) (get_or_from_slice_get (handles_in tree) n at at is)
     (All-get_or (HasReached old now) (handles_in tree) n at (slice_get_within (handles_in tree) n at is) h)

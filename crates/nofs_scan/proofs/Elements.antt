@@ -1,5 +1,6 @@
 -- An element that a step may see: what each way to its verdict leaves of the mount.
-use Rattle.std.proofs.Common.{◌≡◌, ℕ, ◌<◌, ◌≤◌, Bool, true, false, eqb, ltb, leb, ◌||◌, List, Option, Some, None, IsTrue, Result, Ok, Err, refl, sym, ap, ◌∙◌, subst, arith}
+use Rattle.std.proofs.Common.{◌≡◌, ℕ, ◌<◌, ◌≤◌, Bool, true, false, eqb, ltb, leb, ◌||◌, List, Option, Some, None, IsTrue, Result, Ok, Err, refl, sym, ap, ◌∙◌}
+use Rattle.std.proofs.Common.{subst, arith}
 use Rattle.std.proofs.lemmas.Bool.Decides.{nat_tests}
 use Rattle.nofs_disk.specs.Disk.{DiskState, IsDisk, StaysButFaults}
 use Rattle.nofs_disk.specs.Chains.{StaysButFaults-refl}
@@ -34,7 +35,8 @@ in-table n i e = (low n i e, high n i e)
     high n i e = grind (arith, nat_tests)
 
 -- an element of these books: its verdict, what the books learn of it, and the scan's verdict
-pub record IsElement (old : DiskState) (k : Books) (s : Step) (stood : Option Bool) (learned : Bool → Books) (answer : Image → Bool) (Fits : Bool → Type 0) : Type 1 where
+pub record IsElement (old : DiskState) (k : Books) (s : Step) (stood : Option Bool) (learned : Bool → Books) (answer : Image → Bool) (Fits : Bool → Type 0)
+    : Type 1 where
   pub at : (used : Bool) → (learned used).at ≡ k.at
   pub history : (used : Bool) → (learned used).history ≡ k.history
   pub stopped : (used : Bool) → (learned used).stopped ≡ k.stopped
@@ -58,7 +60,8 @@ module _ (old : DiskState) (k : Books) (is : IsDisk old) (safe : IsSafe old k) (
     safe = λ new used stays fits. safe-block new k b used (safe-on old new k stays safe) fits;
     stands = λ used stood H p o. block-stands old old k b used is safe (StaysButFaults-refl old) going low H p o stood ∙ machine-block old k H p o b low;
     by_stood = λ new used stays stood tells caller H p o. block-stood old new k b used is safe stays going low caller H p tells o stood;
-    by_learned = λ new used stays tells caller H p o right. block-learned old new k b used is safe stays going low caller H p tells o (right ∙ sym (machine-block old k H p o b low));
+    by_learned = λ new used stays tells caller H p o right. block-learned old new k b used is safe stays going low caller H p tells o
+        (right ∙ sym (machine-block old k H p o b low));
   }
 
   pub inode-element : (Fits : Bool → Type 0) (i : ℕ) → 1 ≤ i → i ≤ k.at.inodes
@@ -71,23 +74,27 @@ module _ (old : DiskState) (k : Books) (is : IsDisk old) (safe : IsSafe old k) (
     safe = λ new used stays fits. safe-inode new k i used (safe-on old new k stays safe);
     stands = λ used stood H p o. inode-stands old old k i used is safe (StaysButFaults-refl old) going low high H p o stood ∙ machine-inode old k H p o i;
     by_stood = λ new used stays stood tells caller H p o. inode-stood old new k i used is safe stays going low high caller H p tells o stood;
-    by_learned = λ new used stays tells caller H p o right. inode-learned old new k i used is safe stays going low high caller H p tells o (right ∙ sym (machine-inode old k H p o i));
+    by_learned = λ new used stays tells caller H p o right. inode-learned old new k i used is safe stays going low high caller H p tells o
+        (right ∙ sym (machine-inode old k H p o i));
   }
 
   -- no such element
   pub block-beyond : (b : ℕ) → k.at.blocks ≤ b → Goes old k old k (step.SeeBlock b) no_claims (reply.Refused refusal.BadRange)
-  block-beyond b high = goes-row old old k (step.SeeBlock b) is safe (StaysButFaults-refl old) refusal.BadRange refl tt going (λ tells H p o. rw (le-is p.world.blocks b (let e = o.says.blocks in omega (arith, e, high))) refl)
+  block-beyond b high = goes-row old old k (step.SeeBlock b) is safe (StaysButFaults-refl old) refusal.BadRange refl tt going
+      (λ tells H p o. rw (le-is p.world.blocks b (let e = o.says.blocks in omega (arith, e, high))) refl)
     where
       le-is : (m n : ℕ) → m ≤ n → leb m n ≡ true
       le-is m n h = grind (arith, nat_tests)
 
   pub inode-beyond : (i : ℕ) → (eqb i 0 || ltb k.at.inodes i) ≡ true → Goes old k old k (step.SeeInode i) no_claims (reply.Refused refusal.BadRange)
-  inode-beyond i outside = goes-row old old k (step.SeeInode i) is safe (StaysButFaults-refl old) refusal.BadRange refl tt going (λ tells H p o. rw (subst (λ (n : ℕ). (eqb i 0 || ltb n i) ≡ true) (sym o.says.inodes) outside) refl)
+  inode-beyond i outside = goes-row old old k (step.SeeInode i) is safe (StaysButFaults-refl old) refusal.BadRange refl tt going
+      (λ tells H p o. rw (subst (λ (n : ℕ). (eqb i 0 || ltb n i) ≡ true) (sym o.says.inodes) outside) refl)
 
 -- what an element that is seen leaves
 goes-seen : (old new : DiskState) (k l : Books) (s : Step) (used : Bool) → StaysButFaults old new → k.stopped ≡ false → l.stopped ≡ false → IsSafe new l
     → l.at ≡ k.at → l.history ≡ k.history
-    → (IsTrue old.tells → (caller : ℕ) (H : List Entry1) (p : Past) → IsOpen old k H p → Follows old new l H p (entry caller old new s no_claims (reply.Seen used))) → Goes old k new l s no_claims (reply.Seen used)
+    → (IsTrue old.tells → (caller : ℕ) (H : List Entry1) (p : Past) → IsOpen old k H p
+    → Follows old new l H p (entry caller old new s no_claims (reply.Seen used))) → Goes old k new l s no_claims (reply.Seen used)
 goes-seen old new k l s used stays going still safe at history follows = record {
   disk = stays.disk;
   past = stays.past;
@@ -101,7 +108,8 @@ goes-seen old new k l s used stays going still safe at history follows = record 
   from_stopped = λ tells caller H p o. absurd (let t = o.stopped in cc (t, going));
 }
 
-module _ (old : DiskState) (k : Books) (s : Step) (stood : Option Bool) (learned : Bool → Books) (answer : Image → Bool) (Fits : Bool → Type 0) (is : IsDisk old) (safe : IsSafe old k) (going : k.stopped ≡ false) (element : IsElement old k s stood learned answer Fits) where
+module _ (old : DiskState) (k : Books) (s : Step) (stood : Option Bool) (learned : Bool → Books) (answer : Image → Bool) (Fits : Bool → Type 0)
+    (is : IsDisk old) (safe : IsSafe old k) (going : k.stopped ≡ false) (element : IsElement old k s stood learned answer Fits) where
   pub element-seen : (new : DiskState) (l : Books) (result : Result Bool Failed) (used : Bool) → Verifies old k new l stood learned answer Fits result
       → result ≡ Ok used → Goes old k new l s no_claims (reply.Seen used)
   element-seen new l result used (Stood u is-stood stays same e) is-ok =
@@ -112,7 +120,8 @@ module _ (old : DiskState) (k : Books) (s : Step) (stood : Option Bool) (learned
       let su : u ≡ used = let z = sym e ∙ is-ok in cc z in
       let j : Judges old new k.agreement answer (Ok used) = subst (λ (q : Bool). Judges old new k.agreement answer (Ok q)) su judged in
       subst (λ (m : Books). Goes old k new m s no_claims (reply.Seen used)) (sym (same ∙ ap learned su))
-      (goes-seen old new k (learned used) s used j.stays going (element.stopped used ∙ going) (element.safe new used j.stays (subst Fits su fits)) (element.at used) (element.history used)
+      (goes-seen old new k (learned used) s used j.stays going (element.stopped used ∙ going) (element.safe new used j.stays (subst Fits su fits))
+      (element.at used) (element.history used)
       (λ tells caller H p o. element.by_learned new used j.stays tells caller H p o (j.found tells (are-agreed old k H p safe o))))
   element-seen new l result used (Unread x judged same e) is-ok = absurd (let z = sym e ∙ is-ok in cc z)
 

@@ -24,11 +24,13 @@ none-named : (o : Option Entry) → is_some o ≡ false → None ≡ named_inode
 none-named None e = refl
 none-named (Some x) e = cc
 
-pub named-none : (bytes : List ℕ) (i g : ℕ) → i ≡ number_at 4 0 bytes → g ≡ number_at 8 8 bytes → names (entry_of bytes) i g ≡ false → None ≡ named_inode (entry_of bytes)
+pub named-none : (bytes : List ℕ) (i g : ℕ) → i ≡ number_at 4 0 bytes → g ≡ number_at 8 8 bytes → names (entry_of bytes) i g ≡ false
+    → None ≡ named_inode (entry_of bytes)
 named-none bytes i g ei eg e = go (is_some (entry_of bytes)) refl
   where
     go : (b : Bool) → is_some (entry_of bytes) ≡ b → None ≡ named_inode (entry_of bytes)
     go false f = none-named (entry_of bytes) f
     go true f =
-        let same : names (entry_of bytes) i g ≡ true = names-fields bytes i g f ∙ (λ j. eqb-same (number_at 4 0 bytes) i (sym ei) j && eqb-same (number_at 8 8 bytes) g (sym eg) j) in
+        let same : names (entry_of bytes) i g ≡ true = names-fields bytes i g f
+        ∙ (λ j. eqb-same (number_at 4 0 bytes) i (sym ei) j && eqb-same (number_at 8 8 bytes) g (sym eg) j) in
         absurd (let z = sym same ∙ e in cc z)

@@ -1,5 +1,6 @@
 -- Elements that are looked at, one after another.
-use Rattle.std.proofs.Common.{◌≡◌, ℕ, ◌+◌, ◌/◌, ◌<◌, ◌≤◌, Bool, true, false, cond, leb, List, Option, [], ◌∷◌, ◌++◌, length, map, take, get_or, IsTrue, Result, Ok, Err, refl, sym, ap, ◌∙◌, subst, arith, le_refl}
+use Rattle.std.proofs.Common.{◌≡◌, ℕ, ◌+◌, ◌/◌, ◌<◌, ◌≤◌, Bool, true, false, cond, leb, List, Option, [], ◌∷◌, ◌++◌, length, map, take, get_or, IsTrue}
+use Rattle.std.proofs.Common.{Result, Ok, Err, refl, sym, ap, ◌∙◌, subst, arith, le_refl}
 use Rattle.std.specs.List.{All}
 use Rattle.std.proofs.lemmas.Bool.Decides.{nat_tests}
 use Rattle.std.proofs.lemmas.List.Elements.{All-nil, All-push}
@@ -32,17 +33,25 @@ right-of : (old new : DiskState) (at : SuperBlock) (known more : List (Option Bo
     → HasElement kind at item
     → Sees old new known more (λ X. sight_in kind X item) (Ok s) → item_of s ≡ item → (sight_verdict s ≡ false → least_free kind at ≤ item)
     → IsSeen old at known kind (verdict_by s)
-right-of old new at known more kind item s is range sees same may = subst (λ (i : ℕ). IsSeen old at known kind (record { item = i; used = sight_verdict s })) (sym same) (record {
-  range = range;
-  may = may;
-  scan = λ tells agreed. ap sight_verdict (sees.found tells agreed) ∙ judged-is old.now kind item (subst (λ (n : SuperBlock). HasElement kind n item) (sym (is.same tells)) range);
-})
+right-of old new at known more kind item s is range sees same may =
+    subst (λ (i : ℕ). IsSeen old at known kind (record { item = i; used = sight_verdict s })) (sym same) (record {
+      range = range;
+      may = may;
+      scan = λ tells agreed. ap sight_verdict (sees.found tells agreed)
+          ∙ judged-is old.now kind item (subst (λ (n : SuperBlock). HasElement kind n item) (sym (is.same tells)) range);
+    })
 
 -- a part of a sight was read
 sight-of : {T : Type 0} (old new : DiskState) (known more : List (Option Bool)) (f : Image → T) (g : T → Sight) (whole : Image → Sight) (a : T)
     → Sees old new known more f (Ok a)
     → (IsTrue old.tells → g (f old.now) ≡ whole old.now) → Sees old new known more whole (Ok (g a))
-sight-of old new known more f g whole a s is = record { stays = s.stays; learns = s.learns; found = λ tells agreed. ap g (s.found tells agreed) ∙ is tells; cause = tt }
+sight-of old new known more f g whole a s is = record {
+  stays = s.stays;
+  learns = s.learns;
+  found =
+      λ tells agreed. ap g (s.found tells agreed) ∙ is tells;
+  cause = tt;
+}
 
 pub inode-looked : (old new : DiskState) (at : SuperBlock) (known more : List (Option Bool)) (i : ℕ) (s : InodeSight) → IsAt old at
     → HasElement element.Inode at i
@@ -80,10 +89,16 @@ pub block-looked : (old new : DiskState) (at : SuperBlock) (known more : List (O
 block-looked old new at known more b s is range high sees same =
     let whole = sight-of old new known more (λ X. block_sight X b) sight.Block (λ X. sight_in element.Block X b) s sees
     (λ tells. sym (block-if old.now b false (fixed-as old at b false is (above b (at.inodes / 4) high) tells))) in
-    record { sees = whole; number = same; right = right-of old new at known more element.Block b (sight.Block s) is range whole same (λ e. omega (arith, high)) }
+    record {
+      sees = whole;
+      number = same;
+      right = right-of old new at known more element.Block b (sight.Block s) is range whole same
+          (λ e. omega (arith, high));
+    }
 
 -- the first of the elements were looked at
-pub record Looked (old : DiskState) (at : SuperBlock) (known more : List (Option Bool)) (now : DiskState) (kind : ElementKind) (asked : List ℕ) (place : ℕ) (ss : List Sight) : Type 0 where
+pub record Looked (old : DiskState) (at : SuperBlock) (known more : List (Option Bool)) (now : DiskState) (kind : ElementKind) (asked : List ℕ) (place : ℕ)
+    (ss : List Sight) : Type 0 where
   pub stays : StaysButFaults old now
   pub learns : Learns old known more
   pub sees : IsTrue old.tells → AreTrue old.now known → ss ≡ map (sight_in kind old.now) (take place asked)
@@ -115,9 +130,11 @@ module _ (old now : DiskState) (known more : List (Option Bool)) (stays : StaysB
   seen-before : (kind : ElementKind) (item : ℕ) (s : Sight) → (IsTrue now.tells → AreTrue now.now more → s ≡ sight_in kind now.now item) → IsTrue old.tells
       → AreTrue old.now known
       → s ≡ sight_in kind old.now item
-  seen-before kind item s f tells agreed = subst (λ (X : Image). s ≡ sight_in kind X item) stays.cells.now (f (told-on old now stays tells) (true-now tells agreed))
+  seen-before kind item s f tells agreed = subst (λ (X : Image). s ≡ sight_in kind X item) stays.cells.now
+      (f (told-on old now stays tells) (true-now tells agreed))
 
-pub looked-goes : (old now new : DiskState) (at : SuperBlock) (known more most : List (Option Bool)) (kind : ElementKind) (items : List ℕ) (place d : ℕ) (ss ts : List Sight) (s : Sight)
+pub looked-goes : (old now new : DiskState) (at : SuperBlock) (known more most : List (Option Bool)) (kind : ElementKind) (items : List ℕ) (place d : ℕ)
+    (ss ts : List Sight) (s : Sight)
     → Looked old at known more now kind items place ss → place < length items → LooksAt now at more most new kind (get_or items place d) (Ok s)
     → ts ≡ ss ++ s ∷ [] → Looked old at known most new kind items (place + 1) ts
 looked-goes old now new at known more most kind items place d ss ts s l low looks e =
@@ -127,11 +144,15 @@ looked-goes old now new at known more most kind items place d ss ts s l low look
       stays = StaysButFaults-trans old now new l.stays looks.sees.stays;
       learns = learns-more old now known more most l.stays l.learns looks.sees.learns;
       sees = λ tells agreed.
-          let one : s ≡ sight_in kind old.now (get_or items place d) = seen-before old now known more l.stays l.learns kind (get_or items place d) s looks.sees.found tells agreed in
-          e ∙ (λ j. l.sees tells agreed j ++ one j ∷ []) ∙ sym (map-append (sight_in kind old.now) (take place items) (get_or items place d ∷ [])) ∙ ap (map (sight_in kind old.now)) (sym next);
-      items = ap items_of all ∙ map-append (λ (v : Verdict). v.item) (map verdict_by ss) (verdict_by s ∷ []) ∙ (λ j. l.items j ++ looks.number j ∷ []) ∙ sym next;
+          let one : s ≡ sight_in kind old.now (get_or items place d) =
+          seen-before old now known more l.stays l.learns kind (get_or items place d) s looks.sees.found tells agreed in
+          e ∙ (λ j. l.sees tells agreed j ++ one j ∷ []) ∙ sym (map-append (sight_in kind old.now) (take place items) (get_or items place d ∷ []))
+          ∙ ap (map (sight_in kind old.now)) (sym next);
+      items = ap items_of all ∙ map-append (λ (v : Verdict). v.item) (map verdict_by ss) (verdict_by s ∷ []) ∙ (λ j. l.items j ++ looks.number j ∷ [])
+          ∙ sym next;
       right = subst (All (IsSeen old at known kind)) (sym all)
-          (All-push (IsSeen old at known kind) (map verdict_by ss) (verdict_by s) l.right (right-before old now known more l.stays l.learns at kind (verdict_by s) looks.right));
+          (All-push (IsSeen old at known kind) (map verdict_by ss) (verdict_by s) l.right
+          (right-before old now known more l.stays l.learns at kind (verdict_by s) looks.right));
     }
 
 pub looked-ends : (old now : DiskState) (at : SuperBlock) (known more : List (Option Bool)) (kind : ElementKind) (items : List ℕ) (place : ℕ) (ss : List Sight)
@@ -148,7 +169,8 @@ looked-ends old now at known more kind items place ss l all =
     }
 
 -- a read failed on the way, or memory was wanting
-pub looked-unread : (old now new : DiskState) (at : SuperBlock) (known more most : List (Option Bool)) (kind : ElementKind) (items : List ℕ) (place item : ℕ) (ss : List Sight) (x : Failed)
+pub looked-unread : (old now new : DiskState) (at : SuperBlock) (known more most : List (Option Bool)) (kind : ElementKind) (items : List ℕ) (place item : ℕ)
+    (ss : List Sight) (x : Failed)
     → Looked old at known more now kind items place ss → LooksAt now at more most new kind item (Err x)
     → LooksAll old at known most new kind items (Err refusal.ReadFault)
 looked-unread old now new at known more most kind items place item ss x l looks = record {
@@ -160,7 +182,8 @@ looked-unread old now new at known more most kind items place item ss x l looks 
   refused = Rose-within old.faults now.faults new.faults new.faults l.stays.disk.faults looks.sees.cause (le_refl new.faults);
 }
 
-pub looked-full : (old now new : DiskState) (at : SuperBlock) (known more most : List (Option Bool)) (kind : ElementKind) (items : List ℕ) (place item : ℕ) (ss : List Sight) (r : Result Sight Failed)
+pub looked-full : (old now new : DiskState) (at : SuperBlock) (known more most : List (Option Bool)) (kind : ElementKind) (items : List ℕ) (place item : ℕ)
+    (ss : List Sight) (r : Result Sight Failed)
     → Looked old at known more now kind items place ss → LooksAt now at more most new kind item r
     → LooksAll old at known most new kind items (Err refusal.OutOfMemory)
 looked-full old now new at known more most kind items place item ss r l looks = record {

@@ -1,11 +1,14 @@
 -- The verdict of what an image has is that of its scan.
-use Rattle.std.proofs.Common.{◌≡◌, ℕ, ◌+◌, ◌/◌, ◌<◌, Bool, true, false, cond, eqb, ltb, leb, ◌&&◌, ◌||◌, not, List, [], ◌∷◌, length, get_or, Option, Some, None, is_some, refl, sym, ap, ◌∙◌, arith, eqb-true}
+use Rattle.std.proofs.Common.{◌≡◌, ℕ, ◌+◌, ◌/◌, ◌<◌, Bool, true, false, cond, eqb, ltb, leb, ◌&&◌, ◌||◌, not, List, [], ◌∷◌, length, get_or, Option, Some}
+use Rattle.std.proofs.Common.{None, is_some, refl, sym, ap, ◌∙◌, arith, eqb-true}
 use Rattle.std.specs.List.{list_any}
 use Rattle.std.proofs.lemmas.Bool.{false≢true}
 use Rattle.std.proofs.lemmas.Bool.Decides.{nat_tests}
 use Rattle.nofs_model.specs.Cells.{BackLink, Entry, FileKind, Pointer, Tag, is_live, is_null, no_link, pointer_at, tag_of}
 use Rattle.nofs_inode.specs.declared.inode.FileKind.TheVariants.{Directory, File}
-use Rattle.nofs_model.specs.Image.{Image, cell_at, super_at, inode, is_data_block, is_fixed_block, is_used_block, is_used_inode, Path, InRecord, Under, path_of, IsSlot, is_slot, record_pointer, is_tag, agrees, judged as judged_slot, find, files_in, file_from, entry_at, is_a, names, pairs, is_pair, is_special, agreed, Home, home_at, owner, owner_by, owner_found}
+use Rattle.nofs_model.specs.Image.{Image, cell_at, super_at, inode, is_data_block, is_fixed_block, is_used_block, is_used_inode, Path, InRecord, Under}
+use Rattle.nofs_model.specs.Image.{path_of, IsSlot, is_slot, record_pointer, is_tag, agrees, judged as judged_slot, find, files_in, file_from, entry_at, is_a}
+use Rattle.nofs_model.specs.Image.{names, pairs, is_pair, is_special, agreed, Home, home_at, owner, owner_by, owner_found}
 use Rattle.nofs_model.specs.declared.path.PathAnswer.{PathAnswer}
 use Rattle.nofs_model.specs.declared.path.PathAnswer.TheVariants as answer
 use Rattle.nofs_model.proofs.Parents.{any-links, linked-is}
@@ -15,7 +18,8 @@ use Rattle.nofs_machine.specs.declared.steps.ElementKind.TheVariants as element
 use Rattle.nofs_agree.proofs.Links.{four-links}
 use Rattle.nofs_state.specs.Verdicts.{names_block}
 use Rattle.nofs_scan.specs.Elements.{HasElement, is_used}
-use Rattle.nofs_scan.specs.Sights.{above_in, block_sight, holds_down, holds_with, inode_sight, sight_verdict, judged_inode, judged_tag, leads_up, entry_linked, link_sight, may_have, named_inode, names_it, no_above, sight_in, tag_sight, tag_wanted, tagged_in, way_in}
+use Rattle.nofs_scan.specs.Sights.{above_in, block_sight, holds_down, holds_with, inode_sight, sight_verdict, judged_inode, judged_tag, leads_up}
+use Rattle.nofs_scan.specs.Sights.{entry_linked, link_sight, may_have, named_inode, names_it, no_above, sight_in, tag_sight, tag_wanted, tagged_in, way_in}
 use Rattle.nofs_scan.specs.declared.sights.Above.{Above}
 use Rattle.nofs_scan.specs.declared.sights.LinkSight.{LinkSight}
 use Rattle.nofs_scan.specs.declared.sights.Sight.TheVariants as sight
@@ -41,22 +45,32 @@ of-directory false false n up = refl
 
 -- a back link that leads up is a pair with an agreed directory
 up-is : (X : Image) (i : ℕ) (l : BackLink) → leads_up i (inode X i) l (link_sight X l) ≡ (is_pair (files_in X) i l && agreed (files_in X) l.directory)
-up-is X i l = go (inode X i).kind (named-if (is_a Directory l.generation (files_in X l.directory)) (entry_at (files_in X) l.directory l.entry) i (inode X i).generation)
+up-is X i l = go (inode X i).kind (named-if (is_a Directory l.generation (files_in X l.directory)) (entry_at (files_in X) l.directory l.entry) i
+    (inode X i).generation)
   where
-    go : (k : Option FileKind) → names_it (entry_linked (files_in X) l) i (inode X i).generation ≡ (is_a Directory l.generation (files_in X l.directory) && names (entry_at (files_in X) l.directory l.entry) i (inode X i).generation)
-        → (may_have k l.generation (inode X i).generation && (names_it (entry_linked (files_in X) l) i (inode X i).generation && agreed (files_in X) l.directory)) ≡ (pairs (file_from X i k) (files_in X l.directory) i l && agreed (files_in X) l.directory)
+    go : (k : Option FileKind) → names_it (entry_linked (files_in X) l) i (inode X i).generation ≡
+        (is_a Directory l.generation (files_in X l.directory) && names (entry_at (files_in X) l.directory l.entry) i (inode X i).generation)
+        → (may_have k l.generation (inode X i).generation &&
+        (names_it (entry_linked (files_in X) l) i (inode X i).generation && agreed (files_in X) l.directory)) ≡
+        (pairs (file_from X i k) (files_in X l.directory) i l && agreed (files_in X) l.directory)
     go None entry = refl
-    go (Some File) entry = ap (λ (b : Bool). b && agreed (files_in X) l.directory) entry ∙ of-file (is_a Directory l.generation (files_in X l.directory)) (names (entry_at (files_in X) l.directory l.entry) i (inode X i).generation) (agreed (files_in X) l.directory)
+    go (Some File) entry = ap (λ (b : Bool). b && agreed (files_in X) l.directory) entry
+        ∙ of-file (is_a Directory l.generation (files_in X l.directory)) (names (entry_at (files_in X) l.directory l.entry) i (inode X i).generation)
+        (agreed (files_in X) l.directory)
     go (Some Directory) entry = ap (λ (b : Bool). ltb l.generation (inode X i).generation && (b && agreed (files_in X) l.directory)) entry
-        ∙ of-directory (ltb l.generation (inode X i).generation) (is_a Directory l.generation (files_in X l.directory)) (names (entry_at (files_in X) l.directory l.entry) i (inode X i).generation) (agreed (files_in X) l.directory)
+        ∙ of-directory (ltb l.generation (inode X i).generation) (is_a Directory l.generation (files_in X l.directory))
+        (names (entry_at (files_in X) l.directory l.entry) i (inode X i).generation) (agreed (files_in X) l.directory)
 
 or-false : (b : Bool) → b ≡ (b || false)
 or-false true = refl
 or-false false = refl
 
 -- some of four is the same as one of them
-four-any : (f : BackLink → LinkSight) (P : BackLink → Bool) (R : BackLink → LinkSight → Bool) → ((l : BackLink) → R l (f l) ≡ P l) → (ls : List BackLink) → length ls ≡ 4
-    → (R (get_or ls 0 no_link) (f (get_or ls 0 no_link)) || (R (get_or ls 1 no_link) (f (get_or ls 1 no_link)) || (R (get_or ls 2 no_link) (f (get_or ls 2 no_link)) || R (get_or ls 3 no_link) (f (get_or ls 3 no_link))))) ≡ list_any P ls
+four-any : (f : BackLink → LinkSight) (P : BackLink → Bool) (R : BackLink → LinkSight → Bool) → ((l : BackLink) → R l (f l) ≡ P l) → (ls : List BackLink)
+    → length ls ≡ 4
+    → (R (get_or ls 0 no_link) (f (get_or ls 0 no_link)) ||
+    (R (get_or ls 1 no_link) (f (get_or ls 1 no_link)) ||
+    (R (get_or ls 2 no_link) (f (get_or ls 2 no_link)) || R (get_or ls 3 no_link) (f (get_or ls 3 no_link))))) ≡ list_any P ls
 four-any f P R is (a ∷ b ∷ c ∷ d ∷ []) e = λ j. is a j || (is b j || (is c j || (is d ∙ or-false (P d)) j))
 four-any f P R is [] e = absurd (omega (arith, e))
 four-any f P R is (a ∷ []) e = absurd (omega (arith, e))
@@ -73,20 +87,26 @@ abbrev is_linked : Image → ℕ → Bool
 is_linked X i = list_any (λ l. is_pair (files_in X) i l && agreed (files_in X) l.directory) (inode X i).links
 
 inode-found : (X : Image) (i : ℕ) → judged_inode (inode_sight X i) ≡ (is_special i || is_linked X i)
-inode-found X i = ap (λ (b : Bool). is_special i || b) (four-any (link_sight X) (λ l. is_pair (files_in X) i l && agreed (files_in X) l.directory) (leads_up i (inode X i)) (up-is X i) (inode X i).links (four-links X i))
+inode-found X i = ap (λ (b : Bool). is_special i || b) (four-any (link_sight X) (λ l. is_pair (files_in X) i l && agreed (files_in X) l.directory)
+    (leads_up i (inode X i)) (up-is X i) (inode X i).links (four-links X i))
 
 inode-judged : (X : Image) (i : ℕ) → judged_inode (inode_sight X i) ≡ is_used_inode X i
 inode-judged X i = inode-found X i ∙ go (is_special i) refl
   where
     go : (b : Bool) → is_special i ≡ b → (b || is_linked X i) ≡ (b || agreed (files_in X) i)
     go true e = refl
-    go false e = any-links X i (inode X i) refl ∙ sym (linked-is (files_in X) i (root-special (eqb i 1) (eqb i 2) (is_a Directory 1 (files_in X 1)) (is_a File 2 (files_in X 2)) e) e)
+    go false e = any-links X i (inode X i) refl ∙ sym (linked-is (files_in X) i
+        (root-special (eqb i 1) (eqb i 2) (is_a Directory 1 (files_in X 1)) (is_a File 2 (files_in X 2)) e) e)
 
 -- Blocks
 
 -- what stands in a slot, by what stands above it
 abbrev after : Image → ℕ → Path → ℕ → PathAnswer → PathAnswer
-after X i a n above = elim above [ answer.Hole ↦ answer.Hole | answer.Holds x ↦ judged_slot X i (Under a n) (pointer_at (cell_at X x.block).payload n) | answer.Lost ↦ answer.Lost ]
+after X i a n above = elim above [
+  | answer.Hole ↦ answer.Hole
+  | answer.Holds x ↦ judged_slot X i (Under a n) (pointer_at (cell_at X x.block).payload n)
+  | answer.Lost ↦ answer.Lost
+]
 
 module _ (X : Image) (i : ℕ) (a : Path) (y : Pointer) (n : ℕ) (q : PathAnswer → Bool) (hole : q answer.Hole ≡ false) (lost : q answer.Lost ≡ false) where
   abbrev wanted : Tag
@@ -95,11 +115,13 @@ module _ (X : Image) (i : ℕ) (a : Path) (y : Pointer) (n : ℕ) (q : PathAnswe
   abbrev full : Above
   full = record { tag = tag_of (cell_at X y.block).tag; pointer = pointer_at (cell_at X y.block).payload n }
 
-  with-tag : (b : Bool) → (b && q (judged_slot X i (Under a n) (pointer_at (cell_at X y.block).payload n))) ≡ q (after X i a n (cond b (answer.Holds y) answer.Lost))
+  with-tag : (b : Bool) → (b && q (judged_slot X i (Under a n) (pointer_at (cell_at X y.block).payload n))) ≡ q
+      (after X i a n (cond b (answer.Holds y) answer.Lost))
   with-tag true = refl
   with-tag false = sym lost
 
-  by-case : (d none live : Bool) → ((not none && (live && is_tag (cond d full no_above).tag wanted)) && q (judged_slot X i (Under a n) (cond d full no_above).pointer))
+  by-case : (d none live : Bool) → ((not none && (live && is_tag (cond d full no_above).tag wanted))
+      && q (judged_slot X i (Under a n) (cond d full no_above).pointer))
       ≡ q (after X i a n (cond none answer.Hole (cond (live && (d && is_tag (tag_of (cell_at X y.block).tag) wanted)) (answer.Holds y) answer.Lost)))
   by-case d true live = sym hole
   by-case true false true = with-tag (is_tag (tag_of (cell_at X y.block).tag) wanted)
@@ -108,7 +130,8 @@ module _ (X : Image) (i : ℕ) (a : Path) (y : Pointer) (n : ℕ) (q : PathAnswe
   by-case false false false = sym lost
 
   -- a block above a slot holds where its tag is that of its own slot
-  under : (holds_with (inode X i) i a y (above_in X y.block n).tag && q (judged_slot X i (Under a n) (above_in X y.block n).pointer)) ≡ q (after X i a n (judged_slot X i a y))
+  under : (holds_with (inode X i) i a y (above_in X y.block n).tag && q (judged_slot X i (Under a n) (above_in X y.block n).pointer)) ≡ q
+      (after X i a n (judged_slot X i a y))
   under = by-case (is_data_block X y.block) (is_null y) (is_live (inode X i))
 
 module _ (X : Image) (p : ℕ) (t : Tag) (data_block : is_data_block X p ≡ true) (own : tag_of (cell_at X p).tag ≡ Some t) where
@@ -117,16 +140,21 @@ module _ (X : Image) (p : ℕ) (t : Tag) (data_block : is_data_block X p ≡ tru
   last path x = go (eqb x.block p) refl (is_null x) (agrees X t.inode path x) refl
     where
       live-tag : x.block ≡ p → (is_live (inode X t.inode) && is_tag (Some t) (tag_wanted (inode X t.inode) t.inode path x.stamp)) ≡ agrees X t.inode path x
-      live-tag at = sym (ap (λ (b : ℕ). is_live (inode X t.inode) && (is_data_block X b && is_tag (tag_of (cell_at X b).tag) (tag_wanted (inode X t.inode) t.inode path x.stamp))) at
-          ∙ ap (λ (d : Bool). is_live (inode X t.inode) && (d && is_tag (tag_of (cell_at X p).tag) (tag_wanted (inode X t.inode) t.inode path x.stamp))) data_block
+      live-tag at = sym (ap (λ (b : ℕ). is_live (inode X t.inode)
+          && (is_data_block X b && is_tag (tag_of (cell_at X b).tag) (tag_wanted (inode X t.inode) t.inode path x.stamp))) at
+          ∙ ap (λ (d : Bool). is_live (inode X t.inode) && (d && is_tag (tag_of (cell_at X p).tag) (tag_wanted (inode X t.inode) t.inode path x.stamp)))
+          data_block
           ∙ ap (λ (o : Option Tag). is_live (inode X t.inode) && is_tag o (tag_wanted (inode X t.inode) t.inode path x.stamp)) own)
 
-      here : eqb x.block p ≡ true → (b : Bool) → agrees X t.inode path x ≡ b → (is_live (inode X t.inode) && is_tag (Some t) (tag_wanted (inode X t.inode) t.inode path x.stamp)) ≡ names_block (cond b (answer.Holds x) answer.Lost) p
+      here : eqb x.block p ≡ true → (b : Bool) → agrees X t.inode path x ≡ b
+          → (is_live (inode X t.inode) && is_tag (Some t) (tag_wanted (inode X t.inode) t.inode path x.stamp)) ≡ names_block
+          (cond b (answer.Holds x) answer.Lost) p
       here e true f = live-tag (eqb-true x.block p e) ∙ f ∙ sym e
       here e false f = live-tag (eqb-true x.block p e) ∙ f
 
       go : (b : Bool) → eqb x.block p ≡ b → (null ag : Bool) → agrees X t.inode path x ≡ ag
-          → (b && (not null && (is_live (inode X t.inode) && is_tag (Some t) (tag_wanted (inode X t.inode) t.inode path x.stamp)))) ≡ names_block (cond null answer.Hole (cond ag (answer.Holds x) answer.Lost)) p
+          → (b && (not null && (is_live (inode X t.inode) && is_tag (Some t) (tag_wanted (inode X t.inode) t.inode path x.stamp)))) ≡ names_block
+          (cond null answer.Hole (cond ag (answer.Holds x) answer.Lost)) p
       go true e true ag h = refl
       go true e false ag h = here e ag h
       go false e true ag h = refl
@@ -149,7 +177,8 @@ module _ (X : Image) (p : ℕ) (t : Tag) (data_block : is_data_block X p ≡ tru
       let up : Above = above_in X y.block m in
       let low : Above = above_in X up.pointer.block n in
       ap (λ (b : Bool). holds_with (inode X t.inode) t.inode (InRecord a) y up.tag && b)
-      (ap (λ (b : Bool). holds_with (inode X t.inode) t.inode (Under (InRecord a) m) up.pointer low.tag && b) (last (Under (Under (InRecord a) m) n) low.pointer)
+      (ap (λ (b : Bool). holds_with (inode X t.inode) t.inode (Under (InRecord a) m) up.pointer low.tag && b)
+      (last (Under (Under (InRecord a) m) n) low.pointer)
       ∙ under X t.inode (Under (InRecord a) m) up.pointer n (λ f. names_block f p) refl refl)
       ∙ under X t.inode (InRecord a) y m (λ f. names_block (after X t.inode (Under (InRecord a) m) n f) p) refl refl
   slot-held (Under (Under (Under a k) m) n) is = absurd (false≢true is.0)
@@ -163,12 +192,16 @@ owner-some X p t (answer.Holds x) = go (eqb x.block p && agreed (files_in X) t.i
     go false = refl
 owner-some X p t answer.Lost = refl
 
-tag-judged : (X : Image) (p : ℕ) → is_data_block X p ≡ true → (o : Option Tag) → tag_of (cell_at X p).tag ≡ o → judged_tag p (tagged_in X o) ≡ is_some (owner_by X p o)
+tag-judged : (X : Image) (p : ℕ) → is_data_block X p ≡ true → (o : Option Tag) → tag_of (cell_at X p).tag ≡ o
+    → judged_tag p (tagged_in X o) ≡ is_some (owner_by X p o)
 tag-judged X p in_data None own = refl
 tag-judged X p in_data (Some t) own = go (is_slot t.slot) refl
   where
-    go : (b : Bool) → is_slot t.slot ≡ b → judged_tag p (cond b (Some (tag_sight X t)) None) ≡ is_some (cond b (owner_found X p t (find X t.inode (path_of t.slot))) None)
-    go true e = ap (λ (b : Bool). b && (holds_down p (tag_sight X t) (path_of t.slot) && agreed (files_in X) t.inode)) e ∙ (ap (λ (b : Bool). b && agreed (files_in X) t.inode) (slot-held X p t in_data own (path_of t.slot) (path_of-number t.slot e).0) ∙ owner-some X p t (find X t.inode (path_of t.slot)))
+    go : (b : Bool) → is_slot t.slot ≡ b → judged_tag p (cond b (Some (tag_sight X t)) None) ≡ is_some
+        (cond b (owner_found X p t (find X t.inode (path_of t.slot))) None)
+    go true e = ap (λ (b : Bool). b && (holds_down p (tag_sight X t) (path_of t.slot) && agreed (files_in X) t.inode)) e
+        ∙ (ap (λ (b : Bool). b && agreed (files_in X) t.inode) (slot-held X p t in_data own (path_of t.slot) (path_of-number t.slot e).0)
+        ∙ owner-some X p t (find X t.inode (path_of t.slot)))
     go false e = refl
 
 data-block : (at p blocks : ℕ) → leb p at ≡ false → p < blocks → (leb (1 + at) p && ltb p blocks) ≡ true
@@ -183,7 +216,8 @@ block-judged X p low = go (is_fixed_block X p) refl
   where
     go : (b : Bool) → is_fixed_block X p ≡ b → sight_verdict (cond b (sight.Fixed p) (sight.Block (block_sight X p))) ≡ (b || is_some (owner X p))
     go true e = refl
-    go false e = tag-judged X p (data-block ((super_at X).inodes / 4) p (super_at X).blocks e low) (tag_of (cell_at X p).tag) refl ∙ sym (ap is_some (owner-is X p))
+    go false e = tag-judged X p (data-block ((super_at X).inodes / 4) p (super_at X).blocks e low) (tag_of (cell_at X p).tag) refl
+        ∙ sym (ap is_some (owner-is X p))
 
 -- of an element of the disk
 pub judged-is : (X : Image) (kind : ElementKind) (item : ℕ) → HasElement kind (super_at X) item → sight_verdict (sight_in kind X item) ≡ is_used kind X item

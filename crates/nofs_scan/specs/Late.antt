@@ -35,7 +35,8 @@ pub record Commits (early : DiskState) (before : Books) (d : DiskState) (k l : B
   -- the answer is the scan's now
   pub right : IsTrue d.tells → (H : List Entry1) (p : Past) → IsOpen d k H p → WasOpen early before k H p → result ≡ is_used kind d.now item
   -- and the commit is a See step
-  pub from_open : IsTrue d.tells → (caller : ℕ) (H : List Entry1) (p : Past) → IsOpen d k H p → WasOpen early before k H p → Follows d d l H p (entry caller d d (see_step kind item) no_claims (reply.Seen result))
+  pub from_open : IsTrue d.tells → (caller : ℕ) (H : List Entry1) (p : Past) → IsOpen d k H p → WasOpen early before k H p
+      → Follows d d l H p (entry caller d d (see_step kind item) no_claims (reply.Seen result))
 
 -- the earlier state is one of the mount of this base, and its history is a part of the present one
 pub record IsOfMount (early : DiskState) (before : Books) (k : Books) (base : Image) (first : ℕ) : Type 0 where

@@ -2,7 +2,8 @@
 use Rattle.std.specs.Prelude.{ℕ, Bool, true, false, ◌&&◌, ◌||◌, not, List, [], ◌∷◌, get_or, Option, Some, None, if◌then◌else◌, ◌==◌, nat_lt}
 use Rattle.nofs_model.specs.Cells.{Tag, Pointer, BackLink, FileKind, Record, Entry, tag_of, pointer_at, null, is_null, is_live, no_link}
 use Rattle.nofs_inode.specs.declared.inode.FileKind.TheVariants as file
-use Rattle.nofs_model.specs.Image.{Image, cell_at, inode, is_data_block, is_fixed_block, Path, InRecord, Under, path_of, slot_of, is_slot, record_pointer, kind_in, is_tag, Files, files_in, entry_at, is_a, is_special, agreed}
+use Rattle.nofs_model.specs.Image.{Image, cell_at, inode, is_data_block, is_fixed_block, Path, InRecord, Under, path_of, slot_of, is_slot, record_pointer}
+use Rattle.nofs_model.specs.Image.{kind_in, is_tag, Files, files_in, entry_at, is_a, is_special, agreed}
 use Rattle.nofs_machine.specs.declared.steps.ElementKind.{ElementKind}
 use Rattle.nofs_machine.specs.declared.steps.ElementKind.TheVariants as element
 use Rattle.nofs_scan.specs.declared.sights.Named.{Named}
@@ -32,7 +33,8 @@ link_sight X l = record { entry = entry_linked (files_in X) l; agreed = agreed (
 
 -- the sights of four back links
 abbrev pub link_sights : Image → List BackLink → List LinkSight
-link_sights X ls = link_sight X (get_or ls 0 no_link) ∷ link_sight X (get_or ls 1 no_link) ∷ link_sight X (get_or ls 2 no_link) ∷ link_sight X (get_or ls 3 no_link) ∷ []
+link_sights X ls = link_sight X (get_or ls 0 no_link) ∷ link_sight X (get_or ls 1 no_link) ∷ link_sight X (get_or ls 2 no_link) ∷ link_sight X
+    (get_or ls 3 no_link) ∷ []
 
 abbrev pub inode_sight : Image → ℕ → InodeSight
 inode_sight X i = record { inode = i; in_table = inode X i; links = link_sights X (inode X i).links }
@@ -131,10 +133,12 @@ holds_it p s path x = (x.block == p) && holds_with s.in_table s.tag.inode path x
 -- the tag's slot holds this block, and each slot above it holds
 abbrev pub holds_down : ℕ → TagSight → Path → Bool
 holds_down p s (InRecord n) = holds_it p s (InRecord n) (record_pointer s.in_table n)
-holds_down p s (Under (InRecord a) n) = holds_with s.in_table s.tag.inode (InRecord a) (record_pointer s.in_table a) s.way.upper.tag && holds_it p s (Under (InRecord a) n) s.way.upper.pointer
+holds_down p s (Under (InRecord a) n) = holds_with s.in_table s.tag.inode (InRecord a) (record_pointer s.in_table a) s.way.upper.tag
+    && holds_it p s (Under (InRecord a) n) s.way.upper.pointer
 holds_down p s (Under (Under (InRecord a) m) n) =
     holds_with s.in_table s.tag.inode (InRecord a) (record_pointer s.in_table a) s.way.upper.tag
-    && (holds_with s.in_table s.tag.inode (Under (InRecord a) m) s.way.upper.pointer s.way.lower.tag && holds_it p s (Under (Under (InRecord a) m) n) s.way.lower.pointer)
+    && (holds_with s.in_table s.tag.inode (Under (InRecord a) m) s.way.upper.pointer s.way.lower.tag
+    && holds_it p s (Under (Under (InRecord a) m) n) s.way.lower.pointer)
 holds_down p s (Under (Under (Under a k) m) n) = false
 
 abbrev pub judged_tag : ℕ → Option TagSight → Bool

@@ -3,7 +3,8 @@ use Rattle.std.proofs.Common.{◌≡◌, ℕ, List, [], ◌∷◌, take, Option,
 use Rattle.nofs_script.specs.declared.commands.Verb.{Verb}
 use Rattle.nofs_script.specs.declared.commands.Verb.TheVariants as verb
 use Rattle.nofs_script.specs.declared.session.Reading.{Reading}
-use Rattle.nofs_script.specs.Grammar.{command_of, put_command, get_command, size_command, link_command, rename_command, move_command, one_path, one_new_path, verb_in}
+use Rattle.nofs_script.specs.Grammar.{command_of, put_command, get_command, size_command, link_command, rename_command, move_command, one_path, one_new_path}
+use Rattle.nofs_script.specs.Grammar.{verb_in}
 use Rattle.nofs_script.specs.Sessions.{read_verb, read_words, user_of}
 
 -- a verb with more than three words after it has a wrong number of words, whatever they are

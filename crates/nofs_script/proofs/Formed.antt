@@ -1,5 +1,6 @@
 -- What is read is a session: its commands are well formed, and its scripts are 1 to 8.
-use Rattle.std.proofs.Common.{◌≡◌, ℕ, zero, suc, ◌+◌, ◌<◌, ◌≤◌, ◌==◌, not, nat_lt, Bool, true, false, if◌then◌else◌, List, [], ◌∷◌, ◌++◌, length, length-append, Option, None, Some, Result, Ok, Err, IfOk, arith, refl, sym, ap, ◌∙◌, subst}
+use Rattle.std.proofs.Common.{◌≡◌, ℕ, zero, suc, ◌+◌, ◌<◌, ◌≤◌, ◌==◌, not, nat_lt, Bool, true, false, if◌then◌else◌, List, [], ◌∷◌, ◌++◌, length}
+use Rattle.std.proofs.Common.{length-append, Option, None, Some, Result, Ok, Err, IfOk, arith, refl, sym, ap, ◌∙◌, subst}
 use Rattle.std.specs.List.{AllByRecursion}
 use Rattle.std.proofs.lemmas.Bool.{ltb-true, eqb-false}
 use Rattle.hex.specs.Hex.{decode_of}
@@ -15,8 +16,10 @@ use Rattle.nofs_script.specs.declared.faults.ScriptKind.{ScriptKind}
 use Rattle.nofs_script.specs.declared.faults.ScriptKind.TheVariants.{BadPath, BadHex, TooManyUsers, TooMuchAsked, TooManyCommands}
 use Rattle.nofs_script.specs.declared.faults.ScriptFault.{ScriptFault}
 use Rattle.nofs_script.specs.declared.session.Reading.{Reading}
-use Rattle.nofs_script.specs.Grammar.{◌>>=◌, has_last_name, path_word, new_path_word, number_word, hex_word, hex_digits, one_path, one_new_path, put_by, put_command, get_by, get_command, size_command, link_command, rename_command, move_command, command_of, verb_in}
-use Rattle.nofs_script.specs.Sessions.{with_command, asked_by, user_of, read_verb, read_words, read_line, line_to_break, at_line, read_from, empty_reading, is_skipped, IsSession}
+use Rattle.nofs_script.specs.Grammar.{◌>>=◌, has_last_name, path_word, new_path_word, number_word, hex_word, hex_digits, one_path, one_new_path, put_by}
+use Rattle.nofs_script.specs.Grammar.{put_command, get_by, get_command, size_command, link_command, rename_command, move_command, command_of, verb_in}
+use Rattle.nofs_script.specs.Sessions.{with_command, asked_by, user_of, read_verb, read_words, read_line, line_to_break, at_line, read_from, empty_reading}
+use Rattle.nofs_script.specs.Sessions.{is_skipped, IsSession}
 use Rattle.nofs_script.specs.Words.{words_of, text_lines}
 
 -- what holds of a reading holds of the next one
@@ -154,14 +157,16 @@ record Reads (r : Reading) : Type 0 where
 
 with_one : (r : Reading) (c : Command) → Reads r → IsWellFormed c → IfOk (with_command r c) Reads
 with_one r c reads well = go (nat_lt 67108864 (r.asked + asked_by c)) (nat_lt r.count 65536) where
-  go : (a b : Bool) → IfOk {E = ScriptKind} (if a then Err TooMuchAsked else if b then Ok (record { done = r.done; current = r.current ++ c ∷ []; count = r.count + 1; asked = r.asked + asked_by c }) else Err TooManyCommands) Reads
+  go : (a b : Bool) → IfOk {E = ScriptKind} (if a then Err TooMuchAsked else if b then Ok
+      (record { done = r.done; current = r.current ++ c ∷ []; count = r.count + 1; asked = r.asked + asked_by c }) else Err TooManyCommands) Reads
   go true b = tt
   go false true = record { done = reads.done; current = more IsWellFormed r.current c reads.current well; few = reads.few }
   go false false = tt
 
 next_script : (r : Reading) (args : List (List ℕ)) → Reads r → IfOk (user_of r args) Reads
 next_script r [] reads = go (nat_lt (length r.done + 1) 8) refl where
-  go : (b : Bool) → nat_lt (length r.done + 1) 8 ≡ b → IfOk {E = ScriptKind} (if b then Ok (record { done = r.done ++ r.current ∷ []; current = []; count = r.count; asked = r.asked }) else Err TooManyUsers) Reads
+  go : (b : Bool) → nat_lt (length r.done + 1) 8 ≡ b → IfOk {E = ScriptKind}
+      (if b then Ok (record { done = r.done ++ r.current ∷ []; current = []; count = r.count; asked = r.asked }) else Err TooManyUsers) Reads
   go true e = record {
     done = more (AllByRecursion IsWellFormed) r.done r.current reads.done reads.current;
     current = tt;
@@ -174,7 +179,8 @@ one_verb : (r : Reading) (v : Option Verb) (args : List (List ℕ)) → Reads r 
 one_verb r None args reads = tt
 one_verb r (Some verb.User) args reads = next_script r args reads
 one_verb r (Some verb.Make) args reads = bind IsWellFormed Reads (command_of verb.Make args) _ (formed verb.Make args) (λ c well. with_one r c reads well)
-one_verb r (Some verb.MakeDirectory) args reads = bind IsWellFormed Reads (command_of verb.MakeDirectory args) _ (formed verb.MakeDirectory args) (λ c well. with_one r c reads well)
+one_verb r (Some verb.MakeDirectory) args reads = bind IsWellFormed Reads (command_of verb.MakeDirectory args) _ (formed verb.MakeDirectory args)
+    (λ c well. with_one r c reads well)
 one_verb r (Some verb.Put) args reads = bind IsWellFormed Reads (command_of verb.Put args) _ (formed verb.Put args) (λ c well. with_one r c reads well)
 one_verb r (Some verb.Get) args reads = bind IsWellFormed Reads (command_of verb.Get args) _ (formed verb.Get args) (λ c well. with_one r c reads well)
 one_verb r (Some verb.Size) args reads = bind IsWellFormed Reads (command_of verb.Size args) _ (formed verb.Size args) (λ c well. with_one r c reads well)
@@ -205,7 +211,8 @@ all_lines : (n : ℕ) (r : Reading) (lines : List (List ℕ)) → Reads r → If
 unfolding read_from
 all_lines n r [] reads = reads
 all_lines n r (line ∷ rest) reads =
-    bind Reads Reads (at_line n (read_line r (line_to_break line rest))) (λ next. read_from (n + 1) next rest) (placed n (read_line r (line_to_break line rest)) (one_line r (line_to_break line rest) reads))
+    bind Reads Reads (at_line n (read_line r (line_to_break line rest))) (λ next. read_from (n + 1) next rest)
+    (placed n (read_line r (line_to_break line rest)) (one_line r (line_to_break line rest) reads))
     (λ next reads_on. all_lines (n + 1) next rest reads_on)
 
 pub is_session : (text : List ℕ) (r : Reading) → read_from 1 empty_reading (text_lines text) ≡ Ok r → IsSession (r.done ++ r.current ∷ [])

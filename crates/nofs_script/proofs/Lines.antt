@@ -19,15 +19,18 @@ ended line (x ∷ xs) some = refl
 
 -- one line is read
 step : (n : ℕ) (r : Reading) (text : List ℕ) (end : ℕ) → slice_get text end ≡ Some 10 → Lacks 10 (take end text)
-    → read_from n r (text_lines text) ≡ (at_line n (read_line r (strip_carriage_return (take end text))) >>= λ next. read_from (n + 1) next (text_lines (after end text)))
+    → read_from n r (text_lines text) ≡ (at_line n (read_line r (strip_carriage_return (take end text))) >>= λ next. read_from (n + 1) next
+    (text_lines (after end text)))
 unfolding read_from
 step n r text end feed none =
     let some : 0 < length (text_lines (after end text)) = omega (arith, length-slice_split (λ other. other == 10) (after end text)) in
     ap (read_from n r) (first_part 10 text end feed none)
-    ∙ ap (λ line. at_line n (read_line r line) >>= λ next. read_from (n + 1) next (text_lines (after end text))) (ended (take end text) (text_lines (after end text)) some)
+    ∙ ap (λ line. at_line n (read_line r line) >>= λ next. read_from (n + 1) next (text_lines (after end text)))
+    (ended (take end text) (text_lines (after end text)) some)
 
 module _ (n : ℕ) (r : Reading) (text line rest : List ℕ) (end : ℕ) (total : Result Reading ScriptFault)
-    (feed : slice_get text end ≡ Some 10) (none : Lacks 10 (take end text)) (is_line : line ≡ strip_carriage_return (take end text)) (so_far : read_from n r (text_lines text) ≡ total) where
+    (feed : slice_get text end ≡ Some 10) (none : Lacks 10 (take end text)) (is_line : line ≡ strip_carriage_return (take end text))
+    (so_far : read_from n r (text_lines text) ≡ total) where
   read : at_line n (read_line r (strip_carriage_return (take end text))) ≡ at_line n (read_line r line)
   read = ap (λ l. at_line n (read_line r l)) (sym is_line)
 

@@ -15,7 +15,8 @@ module _ (before now total : List (List ℕ)) (text : List ℕ) (so_far : before
       → now ≡ before ++ word_in (take end text) → rest ≡ after end text → now ++ words_of rest ≡ total
   goes_on rest end space none pushed is_rest =
       let first : words_of text ≡ word_in (take end text) ++ words_of (after end text) =
-      ap (filter is_word) (first_part 32 text end space none) ∙ filter-append is_word (take end text ∷ []) (slice_split (λ other. other == 32) (after end text)) in
+      ap (filter is_word) (first_part 32 text end space none)
+      ∙ filter-append is_word (take end text ∷ []) (slice_split (λ other. other == 32) (after end text)) in
       ap₂ (λ front back. front ++ words_of back) pushed is_rest
       ∙ append_assoc before (word_in (take end text)) (words_of (after end text))
       ∙ ap (λ words. before ++ words) (sym first) ∙ so_far

@@ -1,5 +1,6 @@
 -- Passes that are joined: what each caller made.
-use Rattle.std.proofs.Common.{◌≡◌, ◌≢◌, ℕ, ◌+◌, ◌<◌, eqb, ne_eqb, eqb-true, Bool, true, false, cond, ◌&&◌, List, [], ◌∷◌, length, map, ltb, refl, sym, ap, ◌∙◌, subst, arith}
+use Rattle.std.proofs.Common.{◌≡◌, ◌≢◌, ℕ, ◌+◌, ◌<◌, eqb, ne_eqb, eqb-true, Bool, true, false, cond, ◌&&◌, List, [], ◌∷◌, length, map, ltb, refl, sym, ap}
+use Rattle.std.proofs.Common.{◌∙◌, subst, arith}
 use Rattle.std.specs.Prelude.{filter}
 use mathlib.Core.List.{IsPrefix}
 use Rattle.nofs_turn.specs.declared.view.View.{View}
@@ -24,7 +25,8 @@ chosen_not : (c d : ℕ) (m : List (ℕ × Entry1)) → all_by d m ≡ true → 
 chosen_not c d [] e apart = refl
 chosen_not c d (x ∷ m) e apart = both (is_by d x.1) refl e (λ h. chosen_not c d m h apart)
   where
-    both : (b : Bool) → is_by d x.1 ≡ b → b && all_by d m ≡ true → (all_by d m ≡ true → chosen (is_by c) m ≡ []) → cond (is_by c x.1) (x ∷ chosen (is_by c) m) (chosen (is_by c) m) ≡ []
+    both : (b : Bool) → is_by d x.1 ≡ b → b && all_by d m ≡ true → (all_by d m ≡ true → chosen (is_by c) m ≡ [])
+        → cond (is_by c x.1) (x ∷ chosen (is_by c) m) (chosen (is_by c) m) ≡ []
     both true is h more =
         let d_is : x.1.caller ≡ d = eqb-true x.1.caller d is in
         let not_c : is_by c x.1 ≡ false = ne_eqb x.1.caller c (λ e. apart (sym e ∙ d_is)) in
@@ -37,7 +39,8 @@ none_chosen (x ∷ m) e = absurd (cc)
 
 -- what the numbered history has of a caller
 pub steps_of : (c n : ℕ) (log : List Entry1) → steps_by c log ≡ own_steps (chosen (is_by c) (numbered n log))
-steps_of c n log = ap (λ es. map done_of (filter (is_by c) es)) (sym (entries_of-numbered n log)) ∙ ap (map done_of) (filter-entries_of (is_by c) (numbered n log))
+steps_of c n log = ap (λ es. map done_of (filter (is_by c) es)) (sym (entries_of-numbered n log))
+    ∙ ap (map done_of) (filter-entries_of (is_by c) (numbered n log))
 
 longer-begins : (H xs ys : List Entry1) → IsPrefix H xs → IsPrefix H ys → (b : Bool) → IsPrefix H (cond b ys xs)
 longer-begins H xs ys p q true = q
@@ -79,5 +82,6 @@ module _ {F : Type 0} where
     start = ap (λ (z : View Entry1 F). z.start) j.now ∙ g.start;
     seats = ap (λ (z : View Entry1 F). z.seats) j.now ∙ g.seats;
     stands = (let s = ap (λ (z : View Entry1 F). z.stands) j.now in let a = g.stands in let b = same.stands in omega (arith, s, a, b, one));
-    seen = subst (λ l. IsPrefix v.seen l) (sym (ap (λ (z : View Entry1 F). z.seen) j.now)) (longer-begins v.seen u.seen w.seen g.seen same.seen (ltb (length u.seen) (length w.seen)));
+    seen = subst (λ l. IsPrefix v.seen l) (sym (ap (λ (z : View Entry1 F). z.seen) j.now))
+        (longer-begins v.seen u.seen w.seen g.seen same.seen (ltb (length u.seen) (length w.seen)));
   }

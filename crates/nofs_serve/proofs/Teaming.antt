@@ -1,5 +1,6 @@
 -- A whole team: its sweepers, its flusher and its users, and what it leaves in a history.
-use Rattle.std.proofs.Common.{◌≡◌, ◌≢◌, ◌⊎◌, inl, inr, ℕ, ◌+◌, ◌-◌, ◌<◌, ◌≤◌, eqb, eqb-true, eq-eqb, Bool, true, false, ◌||◌, List, [], ◌∷◌, ◌++◌, length, drop, refl, sym, ap, ◌∙◌, subst, arith}
+use Rattle.std.proofs.Common.{◌≡◌, ◌≢◌, ◌⊎◌, inl, inr, ℕ, ◌+◌, ◌-◌, ◌<◌, ◌≤◌, eqb, eqb-true, eq-eqb, Bool, true, false, ◌||◌, List, [], ◌∷◌, ◌++◌, length}
+use Rattle.std.proofs.Common.{drop, refl, sym, ap, ◌∙◌, subst, arith}
 use mathlib.Core.List.{IsPrefix}
 use Rattle.nofs_turn.specs.declared.view.View.{View}
 use Rattle.nofs_turn.specs.Lists.{numbered, chosen}
@@ -21,7 +22,8 @@ use Rattle.nofs_serve.proofs.Joining.{steps_of, made_by-own, made_by-other, join
 use Rattle.nofs_serve.proofs.Gathering.{neither}
 
 -- a sweep that is told of only where more was done
-sweeps-told : (Item : ℕ → ℕ → Type 0) (kind : ElementKind) (count : ℕ) (out short : Bool) (new now : List Made) → (short ≡ false → out ≡ false) → now ≡ new → Sweeps Item kind 0 count out [] new → Sweeps Item kind 0 count short [] now
+sweeps-told : (Item : ℕ → ℕ → Type 0) (kind : ElementKind) (count : ℕ) (out short : Bool) (new now : List Made) → (short ≡ false → out ≡ false) → now ≡ new
+    → Sweeps Item kind 0 count out [] new → Sweeps Item kind 0 count short [] now
 sweeps-told Item kind count out short new now less is s = record {
   elements = s.elements;
   at_most = s.at_most;
@@ -30,7 +32,8 @@ sweeps-told Item kind count out short new now less is s = record {
   makes = record { made = s.makes.made; more = is ∙ s.makes.more; steps = s.makes.steps };
 }
 
-module _ {F : Type 0} (scripts : List (List Command)) (inodes blocks : ℕ) (short out out_inodes out_blocks : Bool) (lines : List (List Line)) (v p w q f z u : View Entry1 F)
+module _ {F : Type 0} (scripts : List (List Command)) (inodes blocks : ℕ) (short out out_inodes out_blocks : Bool) (lines : List (List Line))
+    (v p w q f z u : View Entry1 F)
     (few : length scripts ≤ 8) (one : v.stands ≡ 1) (same : SameSeat v p) (own : all_by 9 p.mine ≡ true)
     (up : Sweeps (λ place item. item ≡ place) Inode 0 inodes out_inodes [] (own_steps p.mine))
     (same_blocks : SameSeat v w) (j : JoinsOwn 10 p w q)
@@ -54,14 +57,17 @@ module _ {F : Type 0} (scripts : List (List Command)) (inodes blocks : ℕ) (sho
   none_before : (c : ℕ) → c ≢ 9 → c ≢ 10 → made_by c z ≡ []
   none_before c not_inodes not_blocks = flusher-adds c ∙ none_of_sweeps c not_inodes not_blocks
 
-  pub team-gathers : (((c : ℕ) → 1 ≤ c → c ≤ length scripts → made_by c z ≡ []) → Gathers v z 3 → Gathers v u (3 + length scripts) × UsersGathered scripts out short lines z u) → TeamGathered scripts inodes blocks short lines v u
+  pub team-gathers : (((c : ℕ) → 1 ≤ c → c ≤ length scripts → made_by c z ≡ []) → Gathers v z 3
+      → Gathers v u (3 + length scripts) × UsersGathered scripts out short lines z u) → TeamGathered scripts inodes blocks short lines v u
   team-gathers users =
       let two = gathers-more 10 1 v p w q one (gathers-one v p one same) j same_blocks in
       let three = gathers-more 11 2 v q f z one two joined_flusher same_flusher in
       let r = users (λ c low high. none_before c (λ e. absurd (omega (arith, few, high, e))) (λ e. absurd (omega (arith, few, high, e)))) three in
       let g = r.1 in
-      let of_inodes : made_by 9 u ≡ own_steps p.mine = g.others 9 (inr (omega (arith, few))) ∙ (flusher-adds 9 ∙ (joins-other 10 9 p w q j (λ e. absurd (omega (arith, e))) ∙ made_by-own 9 p own)) in
-      let of_blocks : made_by 10 u ≡ own_steps w.mine = g.others 10 (inr (omega (arith, few))) ∙ (flusher-adds 10 ∙ joins-own 10 p w q j (made_by-other 10 9 p own (λ e. absurd (omega (arith, e))))) in
+      let of_inodes : made_by 9 u ≡ own_steps p.mine = g.others 9 (inr (omega (arith, few)))
+      ∙ (flusher-adds 9 ∙ (joins-other 10 9 p w q j (λ e. absurd (omega (arith, e))) ∙ made_by-own 9 p own)) in
+      let of_blocks : made_by 10 u ≡ own_steps w.mine = g.others 10 (inr (omega (arith, few)))
+      ∙ (flusher-adds 10 ∙ joins-own 10 p w q j (made_by-other 10 9 p own (λ e. absurd (omega (arith, e))))) in
       let less : short ≡ false → (out_inodes ≡ false) × (out_blocks ≡ false) = λ e. neither out_inodes out_blocks (sym either ∙ g.was_short e) in
       record {
         gathers = subst (λ n. Gathers v u n) (omega arith) r.0;
@@ -69,7 +75,8 @@ module _ {F : Type 0} (scripts : List (List Command)) (inodes blocks : ℕ) (sho
           begun = g.begun;
           served = g.served;
           inodes_seen = sweeps-told (λ place item. item ≡ place) Inode inodes out_inodes short (own_steps p.mine) (made_by 9 u) (λ e. (less e).0) of_inodes up;
-          blocks_seen = sweeps-told (λ place item. item ≡ blocks - 1 - place) Block blocks out_blocks short (own_steps w.mine) (made_by 10 u) (λ e. (less e).1) of_blocks down;
+          blocks_seen = sweeps-told (λ place item. item ≡ blocks - 1 - place) Block blocks out_blocks short (own_steps w.mine) (made_by 10 u)
+              (λ e. (less e).1) of_blocks down;
           others = λ c nobody. g.others c nobody.2 ∙ none_before c nobody.0 nobody.1;
         };
       }
@@ -102,7 +109,8 @@ module _ (scripts : List (List Command)) (inodes blocks : ℕ) where
   drop-whole [] = refl
   drop-whole (e ∷ H) = drop-whole H
 
-  sweeps-none : (Item : ℕ → ℕ → Type 0) (kind : ElementKind) (count : ℕ) (short : Bool) (now : List Made) → short ≡ true → now ≡ [] → Sweeps Item kind 0 count short [] now
+  sweeps-none : (Item : ℕ → ℕ → Type 0) (kind : ElementKind) (count : ℕ) (short : Bool) (now : List Made) → short ≡ true → now ≡ []
+      → Sweeps Item kind 0 count short [] now
   sweeps-none Item kind count short now is none = record {
     elements = [];
     at_most = omega arith;
@@ -127,11 +135,13 @@ module _ (scripts : List (List Command)) (inodes blocks : ℕ) where
       }
 
   -- the passes in one are closed
-  pub team-closed : {F : Type 0} (short : Bool) (lines : List (List Line)) (H K : List Entry1) (v u : View Entry1 F) → v.seen ≡ H → v.start ≡ length H → TeamGathered scripts inodes blocks short lines v u
+  pub team-closed : {F : Type 0} (short : Bool) (lines : List (List Line)) (H K : List Entry1) (v u : View Entry1 F) → v.seen ≡ H → v.start ≡ length H
+      → TeamGathered scripts inodes blocks short lines v u
       → IsPrefix u.seen K → u.mine ≡ numbered u.start (drop u.start K) → TeamServed scripts inodes blocks short lines H K
   team-closed short lines H K v u seen start g begins all =
       let from : u.start ≡ length H = g.gathers.start ∙ start in
-      let same : (c : ℕ) → made_by c u ≡ steps_by c (drop (length H) K) = λ c. ap (λ m. own_steps (chosen (is_by c) m)) (all ∙ ap (λ (n : ℕ). numbered n (drop n K)) from) ∙ sym (steps_of c (length H) (drop (length H) K)) in
+      let same : (c : ℕ) → made_by c u ≡ steps_by c (drop (length H) K) =
+      λ c. ap (λ m. own_steps (chosen (is_by c) m)) (all ∙ ap (λ (n : ℕ). numbered n (drop n K)) from) ∙ sym (steps_of c (length H) (drop (length H) K)) in
       record {
         grown = prefix_trans H u.seen K (subst (λ l. IsPrefix l u.seen) seen g.gathers.seen) begins;
         made = subst (λ (by : ℕ → List Made). TeamMade scripts inodes blocks short lines by) (λ i c. same c i) g.made;

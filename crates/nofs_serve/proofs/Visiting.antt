@@ -28,8 +28,10 @@ module _ {F : Type 0} (Visits : List Made → Type 0) (inodes blocks : ℕ) (sho
         gathers = gathers-more 1 3 v z g u one t.gathers j same;
         made = record {
           visited = subst Visits (sym own) visits;
-          inodes_seen = subst (λ (m : List Made). Sweeps (λ place item. item ≡ place) Inode 0 inodes short [] m) (sym (apart 9 (λ e. absurd (omega (arith, e))))) t.made.inodes_seen;
-          blocks_seen = subst (λ (m : List Made). Sweeps (λ place item. item ≡ blocks - 1 - place) Block 0 blocks short [] m) (sym (apart 10 (λ e. absurd (omega (arith, e))))) t.made.blocks_seen;
+          inodes_seen = subst (λ (m : List Made). Sweeps (λ place item. item ≡ place) Inode 0 inodes short [] m)
+              (sym (apart 9 (λ e. absurd (omega (arith, e))))) t.made.inodes_seen;
+          blocks_seen = subst (λ (m : List Made). Sweeps (λ place item. item ≡ blocks - 1 - place) Block 0 blocks short [] m)
+              (sym (apart 10 (λ e. absurd (omega (arith, e))))) t.made.blocks_seen;
           others = λ c not_own not_inodes not_blocks. apart c not_own ∙ t.made.others c (not_inodes, not_blocks, anyone c);
         };
       }
@@ -43,7 +45,8 @@ module _ {F : Type 0} (Visits : List Made → Type 0) (inodes blocks : ℕ) (sho
       → IsPrefix u.seen K → u.mine ≡ numbered u.start (drop u.start K) → VisitServed Visits inodes blocks short H K
   visit-closed H K v u seen start g begins all =
       let from : u.start ≡ length H = g.gathers.start ∙ start in
-      let same : (c : ℕ) → made_by c u ≡ steps_by c (drop (length H) K) = λ c. ap (λ m. own_steps (chosen (is_by c) m)) (all ∙ ap (λ (n : ℕ). numbered n (drop n K)) from) ∙ sym (steps_of c (length H) (drop (length H) K)) in
+      let same : (c : ℕ) → made_by c u ≡ steps_by c (drop (length H) K) =
+      λ c. ap (λ m. own_steps (chosen (is_by c) m)) (all ∙ ap (λ (n : ℕ). numbered n (drop n K)) from) ∙ sym (steps_of c (length H) (drop (length H) K)) in
       record {
         grown = prefix_trans H u.seen K (subst (λ l. IsPrefix l u.seen) seen g.gathers.seen) begins;
         made = subst (λ (by : ℕ → List Made). VisitMade Visits inodes blocks short by) (λ i c. same c i) g.made;

@@ -10,7 +10,8 @@ use Rattle.nofs_workers.specs.Users.{steps_in, WorkedAsUser}
 use Rattle.nofs_serve.specs.Teams.{Stand, StandInTurn, IsReady, HasRun}
 
 module _ {W V : Type 0} (R : W → V → Type 0) where
-  pub zip-split : (front : List W) (w : W) (vs : List V) → AllZip R (front ++ w ∷ []) vs → (back : List V) × (v : V) × (vs ≡ back ++ v ∷ []) × AllZip R front back × R w v
+  pub zip-split : (front : List W) (w : W) (vs : List V) → AllZip R (front ++ w ∷ []) vs
+      → (back : List V) × (v : V) × (vs ≡ back ++ v ∷ []) × AllZip R front back × R w v
   zip-split [] w [] z = absurd z
   zip-split [] w (v ∷ []) z = ([], v, refl, tt, z.0)
   zip-split [] w (v ∷ x ∷ vs) z = absurd z.1
@@ -21,34 +22,41 @@ module _ {W V : Type 0} (R : W → V → Type 0) where
   zip-nil [] z = refl
   zip-nil (v ∷ vs) z = absurd z
 
-pub runs-some : (commands script : List Command) (old new : List Made) (old_lines lines : List Line) → commands ≡ script → old ≡ [] → old_lines ≡ [] → RunsSome commands old new old_lines lines → IsPartlyDriven script new lines
+pub runs-some : (commands script : List Command) (old new : List Made) (old_lines lines : List Line) → commands ≡ script → old ≡ [] → old_lines ≡ []
+    → RunsSome commands old new old_lines lines → IsPartlyDriven script new lines
 runs-some commands script old new old_lines lines is none no_lines r =
     let m : r.made ≡ new = sym (r.more ∙ ap (λ l. l ++ r.made) none) in
     let s : r.said ≡ lines = sym (r.more_lines ∙ ap (λ l. l ++ r.said) no_lines) in
     subst (λ (q : List Command × List Made × List Line). IsPartlyDriven q.0 q.1 q.2) (λ i. (is i, m i, s i)) r.driven
 
-pub runs-all : (commands script : List Command) (old new : List Made) (old_lines lines : List Line) → commands ≡ script → old ≡ [] → old_lines ≡ [] → RunsAll commands old new old_lines lines → IsDriven script new lines
+pub runs-all : (commands script : List Command) (old new : List Made) (old_lines lines : List Line) → commands ≡ script → old ≡ [] → old_lines ≡ []
+    → RunsAll commands old new old_lines lines → IsDriven script new lines
 runs-all commands script old new old_lines lines is none no_lines r =
     let m : r.made ≡ new = sym (r.more ∙ ap (λ l. l ++ r.made) none) in
     let s : r.said ≡ lines = sym (r.more_lines ∙ ap (λ l. l ++ r.said) no_lines) in
     subst (λ (q : List Command × List Made × List Line). IsDriven q.0 q.1 q.2) (λ i. (is i, m i, s i)) r.driven
 
 module _ {S T : Type 0} {made : S → List Made} {goes : S → S → Type 0} where
-  zips : (xs ys : List (UserWorker S T)) → length ys ≡ length xs → ((k : ℕ) (d : UserWorker S T) → k < length xs → WorkedAsUser made goes (get_or xs k d) (get_or ys k d)) → AllZip (WorkedAsUser made goes) xs ys
+  zips : (xs ys : List (UserWorker S T)) → length ys ≡ length xs
+      → ((k : ℕ) (d : UserWorker S T) → k < length xs → WorkedAsUser made goes (get_or xs k d) (get_or ys k d)) → AllZip (WorkedAsUser made goes) xs ys
   zips [] [] e h = tt
   zips [] (y ∷ ys) e h = absurd (omega (arith, e))
   zips (x ∷ xs) [] e h = absurd (omega (arith, e))
   zips (x ∷ xs) (y ∷ ys) e h = (h 0 x (omega arith), zips xs ys (omega (arith, e)) (λ k d l. h (suc k) d (omega (arith, l))))
 
 module _ {S T : Type 0} {made : S → List Made} {goes : S → S → Type 0} {New Back : ℕ → S → Type 0} where
-  has-run : (c : ℕ) (script : List Command) (w v : UserWorker S T) → ((c : ℕ) (p q : S) → New c p → goes p q → Back c q) → ((c : ℕ) (p : S) → New c p → made p ≡ []) → IsReady New c script w → WorkedAsUser made goes w v → HasRun Back made c script v
+  has-run : (c : ℕ) (script : List Command) (w v : UserWorker S T) → ((c : ℕ) (p q : S) → New c p → goes p q → Back c q)
+      → ((c : ℕ) (p : S) → New c p → made p ≡ []) → IsReady New c script w → WorkedAsUser made goes w v → HasRun Back made c script v
   has-run c script w v lead none r h = record {
     back = lead c (steps_in w) (steps_in v) r.new h.goes_on;
     some = runs-some w.script.commands script (made (steps_in w)) (made (steps_in v)) w.lines v.lines r.script_is (none c (steps_in w) r.new) r.no_lines h.some;
-    all = λ e. runs-all w.script.commands script (made (steps_in w)) (made (steps_in v)) w.lines v.lines r.script_is (none c (steps_in w) r.new) r.no_lines (h.ran e);
+    all = λ e. runs-all w.script.commands script (made (steps_in w)) (made (steps_in v)) w.lines v.lines r.script_is (none c (steps_in w) r.new) r.no_lines
+        (h.ran e);
   }
 
-  zipped-run : (c : ℕ) (scripts : List (List Command)) (ws vs : List (UserWorker S T)) → ((c : ℕ) (p q : S) → New c p → goes p q → Back c q) → ((c : ℕ) (p : S) → New c p → made p ≡ []) → AllZip (WorkedAsUser made goes) ws vs → StandInTurn (IsReady New) c scripts ws → StandInTurn (HasRun Back made) c scripts vs
+  zipped-run : (c : ℕ) (scripts : List (List Command)) (ws vs : List (UserWorker S T)) → ((c : ℕ) (p q : S) → New c p → goes p q → Back c q)
+      → ((c : ℕ) (p : S) → New c p → made p ≡ []) → AllZip (WorkedAsUser made goes) ws vs → StandInTurn (IsReady New) c scripts ws
+      → StandInTurn (HasRun Back made) c scripts vs
   zipped-run c [] ws vs lead none z s = zip-nil (WorkedAsUser made goes) vs (subst (λ l. AllZip (WorkedAsUser made goes) l vs) s z)
   zipped-run c (script ∷ scripts) ws vs lead none z s =
       let p = zip-split (WorkedAsUser made goes) s.0 s.1 vs (subst (λ l. AllZip (WorkedAsUser made goes) l vs) s.2 z) in

@@ -26,7 +26,8 @@ pub record TeamMade (scripts : List (List Command)) (inodes blocks : ℕ) (short
   pub others : (c : ℕ) → IsNobody (length scripts) c → by c ≡ []
 
 -- the passes of a team in one
-pub record TeamGathered {F : Type 0} (scripts : List (List Command)) (inodes blocks : ℕ) (short : Bool) (lines : List (List Line)) (v u : View Entry1 F) : Type 0 where
+pub record TeamGathered {F : Type 0} (scripts : List (List Command)) (inodes blocks : ℕ) (short : Bool) (lines : List (List Line)) (v u : View Entry1 F)
+    : Type 0 where
   pub gathers : Gathers v u (length scripts + 3)
   pub made : TeamMade scripts inodes blocks short lines (λ c. made_by c u)
 

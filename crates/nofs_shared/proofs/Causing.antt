@@ -10,7 +10,8 @@ use Rattle.nofs_state.specs.declared.books.Books.{Books}
 use Rattle.nofs_shared.specs.StepCauses.{StepCauses}
 
 -- after a step function, with an entry or without one
-pub causes-kept : (old new : DiskState) (k l : Books) (r : Reply) (h : HistoryState) → IsSafeStep old k new l r → StepCauses old new k (record l { history = h }) r
+pub causes-kept : (old new : DiskState) (k l : Books) (r : Reply) (h : HistoryState) → IsSafeStep old k new l r
+    → StepCauses old new k (record l { history = h }) r
 causes-kept old new k l r h g = record {
   disk = g.disk;
   past = g.past;
@@ -29,7 +30,8 @@ pub causes-none : (old new : DiskState) (k l : Books) (r : Reply) → IsSafeStep
 causes-none old new k l r g = causes-kept old new k l r l.history g
 
 -- room was taken for the entry before
-pub causes-roomed : (old new : DiskState) (k l : Books) (r : Reply) (h : HistoryState) → StepCauses old new (record k { history = h }) l r → StepCauses old new k l r
+pub causes-roomed : (old new : DiskState) (k l : Books) (r : Reply) (h : HistoryState) → StepCauses old new (record k { history = h }) l r
+    → StepCauses old new k l r
 causes-roomed old new k l r h g = record {
   disk = g.disk;
   past = g.past;

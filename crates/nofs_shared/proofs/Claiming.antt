@@ -1,5 +1,6 @@
 -- What a step claims has no owner on the disk before it.
-use Rattle.std.proofs.Common.{◌≡◌, ℕ, Bool, true, false, ◌&&◌, ◌||◌, not, List, [], ◌∷◌, ◌++◌, length, length-append, Contains, Option, Some, None, is_some, IsTrue, ◌⊎◌, inl, inr, refl, sym, ap, ◌∙◌, subst, arith}
+use Rattle.std.proofs.Common.{◌≡◌, ℕ, Bool, true, false, ◌&&◌, ◌||◌, not, List, [], ◌∷◌, ◌++◌, length, length-append, Contains, Option, Some, None, is_some}
+use Rattle.std.proofs.Common.{IsTrue, ◌⊎◌, inl, inr, refl, sym, ap, ◌∙◌, subst, arith}
 use Rattle.std.proofs.lemmas.Bool.{cases_lt}
 use Rattle.nofs_disk.specs.Disk.{DiskState}
 use Rattle.nofs_model.specs.Cells.{Pointer, SuperBlock}
@@ -54,7 +55,8 @@ last-is (h ∷ H) e f q = last-is H e f (cc q)
 pub unowned-none : (X : Image) (H K : List Entry1) → K ≡ H → Unowned X H K
 unowned-none X H K same e is x has = absurd (let a = ap length same in let b = ap length is in omega (arith, a, b, length-append H (e ∷ [])))
 
-pub unowned-more : (found old new : DiskState) (first : ℕ) (k l : Books) (s : Step) (c : Claims) (r : Reply) (caller : ℕ) → Goes old k new l s c r → IsMount found old first k → is_out_of_memory r ≡ false → IsSoundDisk found
+pub unowned-more : (found old new : DiskState) (first : ℕ) (k l : Books) (s : Step) (c : Claims) (r : Reply) (caller : ℕ) → Goes old k new l s c r
+    → IsMount found old first k → is_out_of_memory r ≡ false → IsSoundDisk found
     → (K : List Entry1) → K ≡ k.history.entries ++ entry caller old new s c r ∷ [] → Unowned old.now k.history.entries K
 unowned-more found old new first k l s c r caller g m mem q K all e is x has = go st.past st.now
   where
@@ -77,4 +79,5 @@ unowned-more found old new first k l s c r caller g m mem q K all e is x has = g
         by true eb = let t = f.fault eb in open-unowned old k k.history.entries p x.block o ((next-free p.world t.0.world this t.1.next).blocks x here)
         by false eb = let t = f.done mem eb in open-unowned old k k.history.entries p x.block o ((next-free p.world t.0.world this t.1.next).blocks x here)
     go p (inr o) = absurd (none-claimed x (subst (λ (d : Claims). Contains (claimed_blocks d) x)
-        (stopped-none p.world p.world this o.world_stopped ((g.from_stopped (subst (λ (b : Bool). IsTrue b) (sym m.disk.tells) q.tells) caller k.history.entries p o).next mem)) here))
+        (stopped-none p.world p.world this o.world_stopped ((g.from_stopped (subst (λ (b : Bool). IsTrue b) (sym m.disk.tells) q.tells)
+        caller k.history.entries p o).next mem)) here))

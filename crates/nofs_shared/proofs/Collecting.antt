@@ -1,5 +1,6 @@
 -- Passes that are joined one after another: the history has of each caller what its pass made.
-use Rattle.std.proofs.Common.{◌≡◌, ◌≢◌, ℕ, ◌+◌, ne_eqb, eqb-true, Bool, true, false, cond, ◌&&◌, List, [], ◌∷◌, ◌++◌, length, map, refl, sym, ap, ◌∙◌, subst, arith, append_assoc}
+use Rattle.std.proofs.Common.{◌≡◌, ◌≢◌, ℕ, ◌+◌, ne_eqb, eqb-true, Bool, true, false, cond, ◌&&◌, List, [], ◌∷◌, ◌++◌, length, map, refl, sym, ap, ◌∙◌, subst}
+use Rattle.std.proofs.Common.{arith, append_assoc}
 use Rattle.std.specs.Prelude.{filter}
 use mathlib.Core.List.{IsPrefix}
 use Rattle.nofs_turn.specs.declared.view.View.{View}
@@ -23,7 +24,8 @@ pub chosen_not : (c d : ℕ) (m : List (ℕ × Entry1)) → all_by d m ≡ true 
 chosen_not c d [] e apart = refl
 chosen_not c d (x ∷ m) e apart = both (is_by d x.1) refl e (λ h. chosen_not c d m h apart)
   where
-    both : (b : Bool) → is_by d x.1 ≡ b → b && all_by d m ≡ true → (all_by d m ≡ true → chosen (is_by c) m ≡ []) → cond (is_by c x.1) (x ∷ chosen (is_by c) m) (chosen (is_by c) m) ≡ []
+    both : (b : Bool) → is_by d x.1 ≡ b → b && all_by d m ≡ true → (all_by d m ≡ true → chosen (is_by c) m ≡ [])
+        → cond (is_by c x.1) (x ∷ chosen (is_by c) m) (chosen (is_by c) m) ≡ []
     both true is h more =
         let d_is : x.1.caller ≡ d = eqb-true x.1.caller d is in
         let not_c : is_by c x.1 ≡ false = ne_eqb x.1.caller c (λ e. apart (sym e ∙ d_is)) in
@@ -32,7 +34,8 @@ chosen_not c d (x ∷ m) e apart = both (is_by d x.1) refl e (λ h. chosen_not c
 
 -- what the numbered history has of a caller
 pub steps_of : (c n : ℕ) (log : List Entry1) → steps_by c log ≡ own_steps (chosen (is_by c) (numbered n log))
-steps_of c n log = ap (λ es. map done_of (filter (is_by c) es)) (sym (entries_of-numbered n log)) ∙ ap (map done_of) (filter-entries_of (is_by c) (numbered n log))
+steps_of c n log = ap (λ es. map done_of (filter (is_by c) es)) (sym (entries_of-numbered n log))
+    ∙ ap (map done_of) (filter-entries_of (is_by c) (numbered n log))
 
 module _ {F : Type 0} (n start : ℕ) where
   -- v has joined the seats after `rest`, which are the last of all
@@ -67,7 +70,8 @@ module _ {F : Type 0} (n start : ℕ) where
         same_start = o.begun;
       }
 
-  sorts_still : (m k : List (ℕ × Entry1)) (d : ℕ) (js : List (Seat F)) → rises 0 m ≡ true → rises 0 k ≡ true → all_by d k ≡ true → Without d js → Sorts m js → Sorts (merge m k) js
+  sorts_still : (m k : List (ℕ × Entry1)) (d : ℕ) (js : List (Seat F)) → rises 0 m ≡ true → rises 0 k ≡ true → all_by d k ≡ true → Without d js → Sorts m js
+      → Sorts (merge m k) js
   sorts_still m k d [] up up' own apart s = tt
   sorts_still m k d (j ∷ js) up up' own apart s = (
     joined_other (is_by j.0) m k up up' (chosen_not j.0 d k own (λ e. apart.0 (sym e))) ∙ s.0,
@@ -75,14 +79,16 @@ module _ {F : Type 0} (n start : ℕ) where
   )
 
   -- one pass more
-  pub more_joined : (all old rest : List (Seat F)) (e : Seat F) (v w : View Entry1 F) → old ≡ rest ++ e ∷ [] → AllOut n start all → Apart all → rises 0 v.mine ≡ true → rises 0 e.1.mine ≡ true → w ≡ joined v e.1 → Joined all old v → Joined all rest w
+  pub more_joined : (all old rest : List (Seat F)) (e : Seat F) (v w : View Entry1 F) → old ≡ rest ++ e ∷ [] → AllOut n start all → Apart all
+      → rises 0 v.mine ≡ true → rises 0 e.1.mine ≡ true → w ≡ joined v e.1 → Joined all old v → Joined all rest w
   more_joined all old rest e v w is out apart up up' after j =
       let js = j.ones in
       let whole : all ≡ rest ++ e ∷ js = j.whole ∙ (ap (λ l. l ++ js) is ∙ append_assoc rest (e ∷ []) js) in
       let mine : w.mine ≡ merge v.mine e.1.mine = ap (λ (u : View Entry1 F). u.mine) after in
       let a = apart_tail rest (e ∷ js) (subst (λ l. Apart l) whole apart) in
       let o = (out_tail rest (e ∷ js) (subst (λ l. AllOut n start l) whole out)).0 in
-      let here : chosen (is_by e.0) (merge v.mine e.1.mine) ≡ e.1.mine = joined_own (is_by e.0) v.mine e.1.mine up up' (j.others e.0 a.0) ∙ chosen_by e.0 e.1.mine o.own in
+      let here : chosen (is_by e.0) (merge v.mine e.1.mine) ≡ e.1.mine =
+      joined_own (is_by e.0) v.mine e.1.mine up up' (j.others e.0 a.0) ∙ chosen_by e.0 e.1.mine o.own in
       let stands : w.stands ≡ v.stands + e.1.stands = ap (λ (u : View Entry1 F). u.stands) after in
       let one : e.1.stands ≡ 1 = o.single in
       let was = j.stands in
@@ -90,7 +96,8 @@ module _ {F : Type 0} (n start : ℕ) where
         ones = e ∷ js;
         whole = whole;
         sorts = subst (λ m. Sorts m (e ∷ js)) (sym mine) (here, sorts_still v.mine e.1.mine e.0 js up up' o.own a.0 j.sorts);
-        others = λ c none. subst (λ m. chosen (is_by c) m ≡ []) (sym mine) (joined_other (is_by c) v.mine e.1.mine up up' (chosen_not c e.0 e.1.mine o.own none.0) ∙ j.others c none.1);
+        others = λ c none. subst (λ m. chosen (is_by c) m ≡ []) (sym mine)
+            (joined_other (is_by c) v.mine e.1.mine up up' (chosen_not c e.0 e.1.mine o.own none.0) ∙ j.others c none.1);
         stands = omega (arith, stands, one, was);
         seats = ap (λ (u : View Entry1 F). u.seats) after ∙ j.seats;
         same_start = ap (λ (u : View Entry1 F). u.start) after ∙ j.same_start;
@@ -104,15 +111,18 @@ module _ {F : Type 0} (n start : ℕ) where
   pub tells_all : (all : List (Seat F)) (v : View Entry1 F) (k : ℕ) (log : List Entry1) → Joined all [] v → v.mine ≡ numbered k log → TellsAll log all
   tells_all all v k log j is = subst (λ l. TellsAll log l) (sym j.whole) (tells_of k log v.mine j.ones is j.sorts)
 
-  pub tells_others : (all : List (Seat F)) (v : View Entry1 F) (k : ℕ) (log : List Entry1) → Joined all [] v → v.mine ≡ numbered k log → (c : ℕ) → Without c all → steps_by c log ≡ []
+  pub tells_others : (all : List (Seat F)) (v : View Entry1 F) (k : ℕ) (log : List Entry1) → Joined all [] v → v.mine ≡ numbered k log → (c : ℕ)
+      → Without c all → steps_by c log ≡ []
   tells_others all v k log j is c none =
       steps_of c k log ∙ (ap (λ m. own_steps (chosen (is_by c) m)) (sym is) ∙ ap own_steps (j.others c (subst (λ l. Without c l) j.whole none)))
 
   -- a history that tells of all passes has each task
   pub follow-each : (tasks : List Task) (all : List (Seat F)) (log : List Entry1) → Did tasks all → TellsAll log all → FollowEach tasks log
   follow-each [] [] log did tells = tt
-  follow-each (t ∷ ts) (e ∷ es) log did tells =
-      (subst (λ (c : ℕ). IsPrefix (map step_of (steps_by c log)) t.steps) did.0 (subst (λ l. IsPrefix (map step_of l) t.steps) (sym tells.0) did.1), follow-each ts es log did.2 tells.1)
+  follow-each (t ∷ ts) (e ∷ es) log did tells = (
+    subst (λ (c : ℕ). IsPrefix (map step_of (steps_by c log)) t.steps) did.0 (subst (λ l. IsPrefix (map step_of l) t.steps) (sym tells.0) did.1),
+    follow-each ts es log did.2 tells.1,
+  )
   follow-each [] (e ∷ es) log did tells = absurd did
   follow-each (t ∷ ts) [] log did tells = absurd did
 

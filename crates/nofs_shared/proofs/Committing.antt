@@ -28,7 +28,8 @@ use Rattle.nofs_shared.specs.Mounts.{IsMount, IsSoundDisk, MountStands}
 use Rattle.nofs_shared.proofs.Mounting.{Leads, mount-more}
 
 module _ (found early d : DiskState) (first : ℕ) (before k l : Books) (then : IsMount found early first before) (m : IsMount found d first k)
-    (open_then : before.stopped ≡ false) (going : k.stopped ≡ false) (begun : before.history.start ≡ k.history.start) (numbers : before.at ≡ k.at) (begins : IsPrefix before.history.entries k.history.entries) where
+    (open_then : before.stopped ≡ false) (going : k.stopped ≡ false) (begun : before.history.start ≡ k.history.start) (numbers : before.at ≡ k.at)
+    (begins : IsPrefix before.history.entries k.history.entries) where
   -- the base of both is the disk that was found, with the mount number raised
   base-then : (p q : Past) → q.base ≡ early.was before.history.start → p.base ≡ d.was k.history.start → p.base ≡ q.base
   base-then p q eq ep = ep ∙ m.mounted.base ∙ ap (λ (at : SuperBlock). set found.now 0 (super_cell at)) (sym numbers) ∙ sym then.mounted.base ∙ sym eq
@@ -39,7 +40,8 @@ module _ (found early d : DiskState) (first : ℕ) (before k l : Books) (then : 
       st : MountStands found early first before
       st = then.stands q
 
-      go : (o : Past) → o.base ≡ early.was before.history.start → o.first ≡ first → IsOpen early before before.history.entries o ⊎ IsStopped early before before.history.entries o → WasOpen early before k k.history.entries p
+      go : (o : Past) → o.base ≡ early.was before.history.start → o.first ≡ first
+          → IsOpen early before before.history.entries o ⊎ IsStopped early before before.history.entries o → WasOpen early before k k.history.entries p
       go o eb ef (inr s) = absurd (let e = s.stopped in cc (e, open_then))
       go o eb ef (inl s) = record {
         tells = subst (λ (b : Bool). IsTrue b) (sym then.disk.tells) q.tells;
@@ -57,23 +59,47 @@ module _ (found early d : DiskState) (first : ℕ) (before k l : Books) (then : 
     e = entry caller d d (see_step kind item) no_claims (reply.Seen result)
 
     safely : IsSafeStep d k d l (reply.Seen result)
-    safely = record { disk = IsSameDisk-refl d; past = KeepsPast-refl d; later = le_refl d.moment; cause = cm.cause; safe = cm.safe; at = cm.at; history = cm.history }
+    safely = record {
+      disk = IsSameDisk-refl d;
+      past = KeepsPast-refl d;
+      later = le_refl d.moment;
+      cause = cm.cause;
+      safe = cm.safe;
+      at = cm.at;
+      history =
+          cm.history;
+    }
 
-    pub mount-commits : (h : HistoryState) → h.start ≡ l.history.start → h.entries ≡ l.history.entries ++ e ∷ [] → IsMount found d first (record l { history = h })
+    pub mount-commits : (h : HistoryState) → h.start ≡ l.history.start → h.entries ≡ l.history.entries ++ e ∷ []
+        → IsMount found d first (record l { history = h })
     mount-commits = mount-more found d d first k l m (see_step kind item) no_claims (reply.Seen result) caller safely refl
         (λ q st. (go q st.past st.base st.serial st.now, st.sound))
       where
-        go : IsSoundDisk found → (p : Past) → p.base ≡ d.was k.history.start → p.first ≡ first → IsOpen d k k.history.entries p ⊎ IsStopped d k k.history.entries p → Leads d l e k.history.entries p
+        go : IsSoundDisk found → (p : Past) → p.base ≡ d.was k.history.start → p.first ≡ first
+            → IsOpen d k k.history.entries p ⊎ IsStopped d k k.history.entries p → Leads d l e k.history.entries p
         go q p eb ef (inr s) = absurd (let t = s.stopped in cc (t, going))
         go q p eb ef (inl o) =
-            let t = (cm.from_open (subst (λ (b : Bool). IsTrue b) (sym m.disk.tells) q.tells) caller k.history.entries p o (was-open q p eb ef)).done refl refl in
+            let t = (cm.from_open (subst (λ (b : Bool). IsTrue b) (sym m.disk.tells) q.tells) caller k.history.entries p o (was-open q p eb ef)).done refl
+            refl in
             (t.0, t.1, inl t.2)
 
     -- with the entry that the code writes
     pub mount-kept : (from to spare : ℕ) (s : Step) → s ≡ see_step kind item → from ≡ d.moment → to ≡ d.moment
-        → IsMount found d first (with_history l (record { start = l.history.start; entries = l.history.entries ++ record { caller = caller; from = from; to = to; step = s; reply = reply.Seen result; claims = no_claims } ∷ []; spare = spare }))
+        → IsMount found d first (with_history l (record {
+          start = l.history.start;
+          entries =
+              l.history.entries ++ record { caller = caller; from = from; to = to; step = s; reply = reply.Seen result; claims = no_claims } ∷ [];
+          spare =
+              spare;
+        }))
     mount-kept from to spare s same begin end =
-        mount-commits (record { start = l.history.start; entries = l.history.entries ++ record { caller = caller; from = from; to = to; step = s; reply = reply.Seen result; claims = no_claims } ∷ []; spare = spare }) refl
+        mount-commits (record {
+          start = l.history.start;
+          entries =
+              l.history.entries ++ record { caller = caller; from = from; to = to; step = s; reply = reply.Seen result; claims = no_claims } ∷ [];
+          spare =
+              spare;
+        }) refl
         (λ j. l.history.entries ++ record { caller = caller; from = begin j; to = end j; step = same j; reply = reply.Seen result; claims = no_claims } ∷ [])
 
     -- the answer is the verdict that stands, and right
@@ -84,12 +110,14 @@ module _ (found early d : DiskState) (first : ℕ) (before k l : Books) (then : 
       right = λ q v e. let st = m.stands q in let same : result ≡ v = cc e in sym same ∙ right q st.past st.base st.serial st.now;
     }
       where
-        right : IsSoundDisk found → (p : Past) → p.base ≡ d.was k.history.start → p.first ≡ first → IsOpen d k k.history.entries p ⊎ IsStopped d k k.history.entries p → result ≡ is_used kind d.now item
+        right : IsSoundDisk found → (p : Past) → p.base ≡ d.was k.history.start → p.first ≡ first
+            → IsOpen d k k.history.entries p ⊎ IsStopped d k k.history.entries p → result ≡ is_used kind d.now item
         right q p eb ef (inr s) = absurd (let t = s.stopped in cc (t, going))
         right q p eb ef (inl o) = cm.right (subst (λ (b : Bool). IsTrue b) (sym m.disk.tells) q.tells) k.history.entries p o (was-open q p eb ef)
 
 -- a mount that is stopped commits nothing
-pub commit-stopped : (found d : DiskState) (k l : Books) (kind : ElementKind) (item : ℕ) (used : Bool) (r : Reply) → k.stopped ≡ true → r ≡ reply.Refused refusal.Stopped → IsCommit found d k l kind item used r
+pub commit-stopped : (found d : DiskState) (k l : Books) (kind : ElementKind) (item : ℕ) (used : Bool) (r : Reply) → k.stopped ≡ true
+    → r ≡ reply.Refused refusal.Stopped → IsCommit found d k l kind item used r
 commit-stopped found d k l kind item used r is answer = record {
   stopped = λ stopped memory. answer;
   seen = λ running memory. absurd (cc (is, running));
@@ -97,14 +125,16 @@ commit-stopped found d k l kind item used r is answer = record {
 }
 
 -- nor does one that finds no memory
-pub commit-unmade : (found d : DiskState) (k l : Books) (kind : ElementKind) (item : ℕ) (used : Bool) → IsCommit found d k l kind item used (reply.Refused refusal.OutOfMemory)
+pub commit-unmade : (found d : DiskState) (k l : Books) (kind : ElementKind) (item : ℕ) (used : Bool)
+    → IsCommit found d k l kind item used (reply.Refused refusal.OutOfMemory)
 commit-unmade found d k l kind item used = record {
   stopped = λ stopped memory. absurd (cc memory);
   seen = λ running memory. absurd (cc memory);
   right = λ q v e. absurd (cc e);
 }
 
-learned-beside : (k : Books) (h g : HistoryState) (kind : ElementKind) (item : ℕ) (used : Bool) → with_history (learned kind (with_history k h) item used) g ≡ with_history (learned kind k item used) g
+learned-beside : (k : Books) (h g : HistoryState) (kind : ElementKind) (item : ℕ) (used : Bool)
+    → with_history (learned kind (with_history k h) item used) g ≡ with_history (learned kind k item used) g
 learned-beside k h g element.Inode item used = refl
 learned-beside k h g element.Block item used = refl
 
@@ -112,10 +142,12 @@ stood-beside : (k : Books) (h : HistoryState) (kind : ElementKind) (item : ℕ) 
 stood-beside k h element.Inode item = refl
 stood-beside k h element.Block item = refl
 
-sees-beside : (k l : Books) (h : HistoryState) (kind : ElementKind) (item : ℕ) (used : Bool) (r : Reply) → SeesVerdict (with_history k h) l kind item used r → SeesVerdict k l kind item used r
+sees-beside : (k l : Books) (h : HistoryState) (kind : ElementKind) (item : ℕ) (used : Bool) (r : Reply) → SeesVerdict (with_history k h) l kind item used r
+    → SeesVerdict k l kind item used r
 sees-beside k l h kind item used r s = go s.settles
   where
-    go : Settles (with_history k h) s.settled (verdict_of kind (with_history k h) item) (learned kind (with_history k h) item) used s.verdict → SeesVerdict k l kind item used r
+    go : Settles (with_history k h) s.settled (verdict_of kind (with_history k h) item) (learned kind (with_history k h) item) used s.verdict
+        → SeesVerdict k l kind item used r
     go (StaysSo stood e) = record {
       verdict = s.verdict;
       is = s.is;
@@ -132,8 +164,14 @@ sees-beside k l h kind item used r s = go s.settles
     }
 
 -- room that was taken for the entry changes nothing of it
-pub commit-beside : (found d : DiskState) (k l : Books) (h : HistoryState) (kind : ElementKind) (item : ℕ) (used : Bool) (r : Reply) → IsCommit found d (with_history k h) l kind item used r → IsCommit found d k l kind item used r
-commit-beside found d k l h kind item used r c = record { stopped = c.stopped; seen = λ running memory. sees-beside k l h kind item used r (c.seen running memory); right = c.right }
+pub commit-beside : (found d : DiskState) (k l : Books) (h : HistoryState) (kind : ElementKind) (item : ℕ) (used : Bool) (r : Reply)
+    → IsCommit found d (with_history k h) l kind item used r → IsCommit found d k l kind item used r
+commit-beside found d k l h kind item used r c = record {
+  stopped = c.stopped;
+  seen =
+      λ running memory. sees-beside k l h kind item used r (c.seen running memory);
+  right = c.right;
+}
 
 -- what a See step's reply may be
 pub fits-seen : (kind : ElementKind) (item : ℕ) (used : Bool) → Fits (see_step kind item) (reply.Seen used)

@@ -44,7 +44,8 @@ next-free W V e (Done a b c d f g h i j) = claim-is-free W e.step e refl d
 next-free W V e (ByRead a b c d f g h) = none-free W e d
 next-free W V e (ByWrite a b c d f g h i) = claim-is-free W e.step e refl f
 
-pub run-claims : (before : List Entry1) (start : ℕ) (W V : World) (e : Entry1) (after : List Entry1) → Run start W (before ++ e ∷ after) V → (U : World) × Run start W before U × EntryClaimsFree U e
+pub run-claims : (before : List Entry1) (start : ℕ) (W V : World) (e : Entry1) (after : List Entry1) → Run start W (before ++ e ∷ after) V
+    → (U : World) × Run start W before U × EntryClaimsFree U e
 run-claims [] start W V e after r = (W, refl, next-free W r.0 e r.4)
 run-claims (x ∷ before) start W V e after r =
     let q = run-claims before x.to r.0 V e after r.5 in
@@ -60,7 +61,8 @@ mount-ends found d first k m = record {
   contents = λ q.
       let s = m.stands q in
       let r = run s.past s.now in
-      let w : Run k.history.start (world_of s.past.base first) k.history.entries s.past.world = subst (λ (n : ℕ). Run k.history.start (world_of s.past.base n) k.history.entries s.past.world) s.serial r in
+      let w : Run k.history.start (world_of s.past.base first) k.history.entries s.past.world =
+      subst (λ (n : ℕ). Run k.history.start (world_of s.past.base n) k.history.entries s.past.world) s.serial r in
       record {
         base = s.past.base;
         base_was = s.base;
@@ -68,17 +70,21 @@ mount-ends found d first k m = record {
         world = s.past.world;
         run = w;
         allowed = λ n X from to left. (images s.past s.now).each n X from to left;
-        before = subst (λ (q : SuperBlock). (n : ℕ) (X : Image) → found.moment ≤ n → n ≤ k.history.start → d.left n X → IsFound q found X) s.raised m.mounted.before;
-        claims = λ before after e is. run-claims before k.history.start (world_of s.past.base first) s.past.world e after (subst (λ (H : List Entry1). Run k.history.start (world_of s.past.base first) H s.past.world) is w);
+        before = subst (λ (q : SuperBlock). (n : ℕ) (X : Image) → found.moment ≤ n → n ≤ k.history.start → d.left n X → IsFound q found X)
+            s.raised m.mounted.before;
+        claims = λ before after e is. run-claims before k.history.start (world_of s.past.base first) s.past.world e after
+            (subst (λ (H : List Entry1). Run k.history.start (world_of s.past.base first) H s.past.world) is w);
         sound = s.sound.images.each;
         next = s.sound.picks;
       };
 }
   where
-    run : (p : Past) → IsOpen d k k.history.entries p ⊎ IsStopped d k k.history.entries p → Run k.history.start (world_of p.base p.first) k.history.entries p.world
+    run : (p : Past) → IsOpen d k k.history.entries p ⊎ IsStopped d k k.history.entries p
+        → Run k.history.start (world_of p.base p.first) k.history.entries p.world
     run p (inl o) = o.run.run
     run p (inr o) = o.run.run
 
-    images : (p : Past) → IsOpen d k k.history.entries p ⊎ IsStopped d k k.history.entries p → AtEach (λ n X. IsAllowed p.base k.history.entries n X) k.history.start d
+    images : (p : Past) → IsOpen d k k.history.entries p ⊎ IsStopped d k k.history.entries p
+        → AtEach (λ n X. IsAllowed p.base k.history.entries n X) k.history.start d
     images p (inl o) = o.stage.lasts.images
     images p (inr o) = o.lasts.images

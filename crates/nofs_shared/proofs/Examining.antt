@@ -46,11 +46,13 @@ module _ {F Out : Type 0} (tells : F → List Entry1 → List Entry1 → Out →
       some-is a b q = cc q
 
 -- what stays with each entry is known on
-pub knows-on : {F : Type 0} (P : F → List Entry1 → Type 0) (more : (f : F) (xs ys : List Entry1) → P f xs → P f (xs ++ ys)) (v w : View Entry1 F) → SameSeat v w → MayRun P v → MayRun P w
+pub knows-on : {F : Type 0} (P : F → List Entry1 → Type 0) (more : (f : F) (xs ys : List Entry1) → P f xs → P f (xs ++ ys)) (v w : View Entry1 F)
+    → SameSeat v w → MayRun P v → MayRun P w
 knows-on P more v w same may f e = subst (λ (l : List Entry1). P f l) same.seen.1 (more f v.seen same.seen.0 (may f (sym same.fixed ∙ e)))
 
 -- what a look gave, as the pass knows it
-pub knows-looked : {F A B : Type 0} (tells : F → List Entry1 → List Entry1 → Result A B → Type 0) (P : A → F → List Entry1 → Type 0) (v w : View Entry1 F) (r : Result A B) (h : Ran tells v w r) → IfOk r (λ e. P e h.part h.after) → IfOk r (λ e. MayRun (P e) w)
+pub knows-looked : {F A B : Type 0} (tells : F → List Entry1 → List Entry1 → Result A B → Type 0) (P : A → F → List Entry1 → Type 0) (v w : View Entry1 F)
+    (r : Result A B) (h : Ran tells v w r) → IfOk r (λ e. P e h.part h.after) → IfOk r (λ e. MayRun (P e) w)
 knows-looked tells P v w (Ok e) h p = knows-left tells v w (Ok e) h (P e) p
 knows-looked tells P v w (Err x) h p = tt
 

@@ -20,7 +20,8 @@ use Rattle.nofs_shared.proofs.Mounting.{mount-still}
 pub safe-looked : (old new : DiskState) (k l : Books) → StaysButFaults old new → l ≡ with_agreement k l.agreement → Learns old k.agreement l.agreement
     → IsSafe old k → IsSafe new l
 safe-looked old new k l stays same learns safe =
-    subst (λ (b : Books). IsSafe new b) (sym same) (safe-keeps old new (reads-keep old new stays) (with_agreement k l.agreement) (safe-knows old k l.agreement learns safe))
+    subst (λ (b : Books). IsSafe new b) (sym same) (safe-keeps old new (reads-keep old new stays) (with_agreement k l.agreement)
+    (safe-knows old k l.agreement learns safe))
 
 -- a mount whose books know more of inodes
 mount-knows : (found d : DiskState) (first : ℕ) (k : Books) (known : List (Option Bool)) → Learns d k.agreement known → IsMount found d first k
@@ -54,7 +55,8 @@ pub mount-looked : (found old new : DiskState) (first : ℕ) (k l : Books) → S
 mount-looked found old new first k l stays same learns m =
     let more = mount-knows found old first k l.agreement learns m in
     let b = with_agreement k l.agreement in
-    subst (λ (q : Books). IsMount found new first q) (sym same) (mount-still found old new first b b more (reads-keep old new stays) (safe-keeps old new (reads-keep old new stays) b more.safe))
+    subst (λ (q : Books). IsMount found new first q) (sym same)
+    (mount-still found old new first b b more (reads-keep old new stays) (safe-keeps old new (reads-keep old new stays) b more.safe))
 
 -- the evidence is of the state before the look
 pub looked-own : {E B K : Type 0} (core_of : E → K) (disk_of : K → DiskState) (books_of : K → Books) (now : K) (r : Result E B)

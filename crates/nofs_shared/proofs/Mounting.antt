@@ -1,5 +1,6 @@
 -- A mount stands after each step.
-use Rattle.std.proofs.Common.{◌≡◌, ℕ, ◌+◌, ◌-◌, ◌^◌, ◌<◌, ◌≤◌, min, Bool, true, false, ◌||◌, cond, List, [], ◌∷◌, ◌++◌, IsTrue, ◌⊎◌, inl, inr, refl, sym, ap, ◌∙◌, subst, subst₂, arith, le_refl}
+use Rattle.std.proofs.Common.{◌≡◌, ℕ, ◌+◌, ◌-◌, ◌^◌, ◌<◌, ◌≤◌, min, Bool, true, false, ◌||◌, cond, List, [], ◌∷◌, ◌++◌, IsTrue, ◌⊎◌, inl, inr, refl, sym, ap}
+use Rattle.std.proofs.Common.{◌∙◌, subst, subst₂, arith, le_refl}
 use Rattle.std.proofs.lemmas.Bool.{cases_lt}
 use Rattle.nofs_disk.specs.Disk.{DiskState, IsSameDisk, KeepsCells, Picks, Rose}
 use Rattle.nofs_disk.specs.Chains.{IsSameDisk-trans}
@@ -110,7 +111,8 @@ mount-history found d first k h start entries m = record {
     base = subst (λ (n : ℕ). s.past.base ≡ d.was n) (sym start) s.base;
     serial = s.serial;
     raised = s.raised;
-    now = subst (λ (H : List Entry1). IsOpen d (record k { history = h }) H s.past ⊎ IsStopped d (record k { history = h }) H s.past) (sym entries) (go s.past s.now);
+    now = subst (λ (H : List Entry1). IsOpen d (record k { history = h }) H s.past ⊎ IsStopped d (record k { history = h }) H s.past) (sym entries)
+        (go s.past s.now);
     sound = s.sound;
     rests = λ X p. subst (λ (H : List Entry1). IsAllowed s.past.base H d.moment X) (sym entries) (s.rests X p);
   };
@@ -255,7 +257,8 @@ module _ (found old new : DiskState) (first : ℕ) (k l : Books) (m : IsMount fo
       raised = st.raised;
       now = go st.past st.now;
       sound = sounds-keep found.moment old new keep.disk keep.past keep.cells st.sound;
-      rests = λ X p. subst (λ (n : ℕ). IsAllowed st.past.base k.history.entries n X) (sym keep.cells.moment) (st.rests X (picks-back old new keep.disk keep.cells X p));
+      rests = λ X p. subst (λ (n : ℕ). IsAllowed st.past.base k.history.entries n X) (sym keep.cells.moment)
+          (st.rests X (picks-back old new keep.disk keep.cells X p));
     };
   }
     where
@@ -279,7 +282,11 @@ module _ (found old new : DiskState) (first : ℕ) (k l : Books) (m : IsMount fo
 
     pub goes-leads : IsSoundDisk found → (p : Past) → IsOpen old k k.history.entries p ⊎ IsStopped old k k.history.entries p
         → Leads new l this k.history.entries p
-    goes-leads q p (inr o) = (p, record { base = refl; first = refl; next = (g.from_stopped (told q) caller k.history.entries p o).next mem }, inr ((g.from_stopped (told q) caller k.history.entries p o).done mem))
+    goes-leads q p (inr o) = (
+      p,
+      record { base = refl; first = refl; next = (g.from_stopped (told q) caller k.history.entries p o).next mem },
+      inr ((g.from_stopped (told q) caller k.history.entries p o).done mem),
+    )
     goes-leads q p (inl o) = go (is_write_fault r) refl
       where
         f : Follows old new l k.history.entries p this
@@ -299,7 +306,8 @@ module _ (found old new : DiskState) (first : ℕ) (k l : Books) (m : IsMount fo
     mount-more leads h start entries = record {
       safe = safe-history l h new g.safe;
       disk = IsSameDisk-trans found old new m.disk g.disk;
-      mounted = subst₂ (λ (n : ℕ) (at : SuperBlock). IsMounted found new n at) (sym from) (sym g.at) (mounted-on old new k l r g found k.history.start k.at low m.mounted);
+      mounted = subst₂ (λ (n : ℕ) (at : SuperBlock). IsMounted found new n at) (sym from) (sym g.at)
+          (mounted-on old new k l r g found k.history.start k.at low m.mounted);
       forms = subst₂ (λ (n : ℕ) (H : List Entry1). Forms n false H new.moment l.stopped) (sym from) (sym all)
           (forms-append k.history.entries k.history.start false old.moment k.stopped e new.moment l.stopped m.forms (record {
             from = refl;
@@ -309,7 +317,8 @@ module _ (found old new : DiskState) (first : ℕ) (k l : Books) (m : IsMount fo
             stopped_only = g.cause.not_stopped;
             memory = mem;
           }) refl (stopped-is old new k l r g));
-      counted = subst (λ (n : ℕ). min (found.faults + n) (2 ^ 64 - 1) ≤ new.faults) (sym (ap faults_in all ∙ faults-more k.history.entries e)) (rose old new k l r g found.faults (faults_in k.history.entries) m.counted);
+      counted = subst (λ (n : ℕ). min (found.faults + n) (2 ^ 64 - 1) ≤ new.faults) (sym (ap faults_in all ∙ faults-more k.history.entries e))
+          (rose old new k l r g found.faults (faults_in k.history.entries) m.counted);
       stands = λ q.
           let st = m.stands q in
           let a = leads q st in
@@ -318,9 +327,11 @@ module _ (found old new : DiskState) (first : ℕ) (k l : Books) (m : IsMount fo
             base = a.0.1.base ∙ st.base ∙ sym (g.past.was k.history.start low) ∙ ap new.was (sym from);
             serial = a.0.1.first ∙ st.serial;
             raised = g.at ∙ st.raised;
-            now = subst (λ (H : List Entry1). IsOpen new (record l { history = h }) H a.0.0 ⊎ IsStopped new (record l { history = h }) H a.0.0) (sym all) (go a.0.0 a.0.2);
+            now = subst (λ (H : List Entry1). IsOpen new (record l { history = h }) H a.0.0 ⊎ IsStopped new (record l { history = h }) H a.0.0) (sym all)
+                (go a.0.0 a.0.2);
             sound = a.1;
-            rests = subst (λ (H : List Entry1). (X : Image) → Picks new.may new.blocks X → IsAllowed a.0.0.base H new.moment X) (sym all) (rests-more old new k l r g caller s c k.history.entries st.past a.0.0 a.0.1.base st.now a.0.2 st.rests);
+            rests = subst (λ (H : List Entry1). (X : Image) → Picks new.may new.blocks X → IsAllowed a.0.0.base H new.moment X) (sym all)
+                (rests-more old new k l r g caller s c k.history.entries st.past a.0.0 a.0.1.base st.now a.0.2 st.rests);
           };
     }
       where
@@ -339,4 +350,5 @@ module _ (found old new : DiskState) (first : ℕ) (k l : Books) (m : IsMount fo
   pub mount-goes : (s : Step) (c : Claims) (r : Reply) (caller : ℕ) (g : Goes old k new l s c r) (mem : is_out_of_memory r ≡ false)
       → (h : HistoryState) → h.start ≡ l.history.start → h.entries ≡ l.history.entries ++ entry caller old new s c r ∷ []
       → IsMount found new first (record l { history = h })
-  mount-goes s c r caller g mem = mount-more s c r caller (goes-safely g) mem (λ q st. (goes-leads s c r caller g mem q st.past st.now, g.sound (told q) k.history.entries st.past st.now found.moment st.sound))
+  mount-goes s c r caller g mem = mount-more s c r caller (goes-safely g) mem
+      (λ q st. (goes-leads s c r caller g mem q st.past st.now, g.sound (told q) k.history.entries st.past st.now found.moment st.sound))

@@ -1,5 +1,6 @@
 -- What a step under the turn adds to the caller's own entries.
-use Rattle.std.proofs.Common.{◌≡◌, ℕ, ◌+◌, ◌%◌, ◌<◌, ◌≤◌, length-append, eqb, eq-eqb, Bool, true, false, ◌&&◌, List, [], ◌∷◌, ◌++◌, length, Result, Ok, Err, IfOk, IfErr, refl, sym, ap, ◌∙◌, subst, arith}
+use Rattle.std.proofs.Common.{◌≡◌, ℕ, ◌+◌, ◌%◌, ◌<◌, ◌≤◌, length-append, eqb, eq-eqb, Bool, true, false, ◌&&◌, List, [], ◌∷◌, ◌++◌, length, Result, Ok, Err}
+use Rattle.std.proofs.Common.{IfOk, IfErr, refl, sym, ap, ◌∙◌, subst, arith}
 use Rattle.std.proofs.lemmas.List.{append-nil}
 use mathlib.Core.List.{IsPrefix}
 use Rattle.nofs_turn.specs.declared.view.View.{View}
@@ -58,10 +59,12 @@ module _ {F : Type 0} (c : ℕ) (s : Step) (r : Reply) (v w : View Entry1 F) (h 
   new_ones = news c s r h.before h.after h.told.adds
 
   mine_is : w.mine ≡ v.mine ++ numbered (length h.before) new_ones.more
-  mine_is = ap (λ (u : View Entry1 F). u.mine) h.now ∙ ap (λ es. v.mine ++ numbered (length h.before) es) (drop_prefix h.before h.after (new_ones.more, new_ones.whole))
+  mine_is = ap (λ (u : View Entry1 F). u.mine) h.now ∙ ap (λ es. v.mine ++ numbered (length h.before) es)
+      (drop_prefix h.before h.after (new_ones.more, new_ones.whole))
 
   pub ran_owns : all_by c v.mine ≡ true → all_by c w.mine ≡ true
-  ran_owns e = subst (λ l. all_by c l ≡ true) (sym mine_is) (all_by-append c v.mine (numbered (length h.before) new_ones.more) e (new_ones.owned (length h.before)))
+  ran_owns e = subst (λ l. all_by c l ≡ true) (sym mine_is)
+      (all_by-append c v.mine (numbered (length h.before) new_ones.more) e (new_ones.owned (length h.before)))
 
   pub ran_made : own_steps w.mine ≡ with_made (own_steps v.mine) s r
   ran_made = ap own_steps mine_is ∙ (own_steps-append v.mine (numbered (length h.before) new_ones.more) ∙ new_ones.made (own_steps v.mine) (length h.before))
@@ -76,7 +79,8 @@ module _ {F : Type 0} (c : ℕ) (s : Step) (r : Reply) (v w : View Entry1 F) (h 
   }
 
 -- the same of a try
-pub tried_owns : {B F : Type 0} (Same : B → Type 0) (c : ℕ) (s : Step) (res : Result Reply B) (word : B → ℕ) (v w : View Entry1 F) → IfOk res (Ran (λ (f : F) xs ys q. TellsStep c s xs ys q) v w) → IfErr res (λ b. Same b × (word b % 2 ≡ 1) × (w ≡ looked v (word b)))
+pub tried_owns : {B F : Type 0} (Same : B → Type 0) (c : ℕ) (s : Step) (res : Result Reply B) (word : B → ℕ) (v w : View Entry1 F)
+    → IfOk res (Ran (λ (f : F) xs ys q. TellsStep c s xs ys q) v w) → IfErr res (λ b. Same b × (word b % 2 ≡ 1) × (w ≡ looked v (word b)))
     → all_by c v.mine ≡ true → all_by c w.mine ≡ true
 tried_owns Same c s (Ok r) word v w ok err e = ran_owns c s r v w ok e
 tried_owns {F = F} Same c s (Err b) word v w ok err e = subst (λ (u : View Entry1 F). all_by c u.mine ≡ true) (sym err.2) e

@@ -1,5 +1,6 @@
 -- A mount begins: the superblock is raised, and all images stay sound.
-use Rattle.std.proofs.Common.{◌≡◌, ◌≢◌, ℕ, ◌+◌, ◌-◌, ◌*◌, ◌^◌, ◌<◌, ◌≤◌, min, Bool, true, false, cond, ◌||◌, eqb, eqb-true, eq-eqb, List, [], length, set, IsTrue, Some, None, ◌⊎◌, inl, inr, refl, sym, ap, ◌∙◌, subst, subst₂, arith, Contains}
+use Rattle.std.proofs.Common.{◌≡◌, ◌≢◌, ℕ, ◌+◌, ◌-◌, ◌*◌, ◌^◌, ◌<◌, ◌≤◌, min, Bool, true, false, cond, ◌||◌, eqb, eqb-true, eq-eqb, List, [], length, set}
+use Rattle.std.proofs.Common.{IsTrue, Some, None, ◌⊎◌, inl, inr, refl, sym, ap, ◌∙◌, subst, subst₂, arith, Contains}
 use Rattle.std.proofs.lemmas.Bool.{cases_lt}
 use Rattle.std.proofs.lemmas.List.{get_or-set_same, get_or-set_other, length-set}
 use Rattle.nofs_disk.specs.Disk.{DiskState, IsDisk, IsSameDisk, KeepsPast, KeepsCells, Picks, no_cell, IsSettled}
@@ -57,7 +58,8 @@ abbrev super_tag : Tag
 super_tag = record { kind = Super; inode = 0; generation = 0; slot = 0; stamp = 0 }
 
 tag-spelled : tag_of (tag_bytes super_tag) ≡ Some super_tag
-tag-spelled = tag_of-spells (tag_bytes super_tag) super_tag (SpellsTag-tag_bytes super_tag (record { inode = omega arith; generation = omega arith; slot = omega arith; stamp = omega arith }) tt)
+tag-spelled = tag_of-spells (tag_bytes super_tag) super_tag
+    (SpellsTag-tag_bytes super_tag (record { inode = omega arith; generation = omega arith; slot = omega arith; stamp = omega arith }) tt)
 
 super-tag : (it : SuperBlock) → tag_of (super_cell it).tag ≡ Some super_tag
 unfolding super_cell
@@ -71,7 +73,8 @@ module _ (blocks : ℕ) (it : SuperBlock) (can : CanMount blocks it) where
       let b = g.most_blocks in
       let i = g.most_inodes in
       let m = can.mount in
-      spells (super_payload (raised it)) (raised it) (super_of-payload (raised it) (version-small it.version can.version) (omega (arith, b)) (omega (arith, i)) (omega (arith, m)) can.version)
+      spells (super_payload (raised it)) (raised it) (super_of-payload (raised it) (version-small it.version can.version) (omega (arith, b))
+      (omega (arith, i)) (omega (arith, m)) can.version)
 
   super-is : (X : Image) → cell_at X 0 ≡ super_cell (raised it) → super_at X ≡ raised it
   unfolding super_at
@@ -83,7 +86,8 @@ module _ (blocks : ℕ) (it : SuperBlock) (can : CanMount blocks it) where
     tag = ap (λ (c : Cell). tag_of c.tag) e ∙ super-tag (raised it);
   }
 
-  raised-of : (Z X : Image) → length X ≡ length Z → ((b : ℕ) → b ≢ 0 → cell_at X b ≡ cell_at Z b) → super_at Z ≡ it → cell_at X 0 ≡ super_cell (raised it) → lives.Raised Z X
+  raised-of : (Z X : Image) → length X ≡ length Z → ((b : ℕ) → b ≢ 0 → cell_at X b ≡ cell_at Z b) → super_at Z ≡ it → cell_at X 0 ≡ super_cell (raised it)
+      → lives.Raised Z X
   raised-of Z X size others ez ex =
       let sx = super-is X ex in
       record {
@@ -104,7 +108,8 @@ super-of : (X : Image) (c : Cell) (it : SuperBlock) → cell_at X 0 ≡ c → su
 unfolding super_at
 super-of X c it e spelled = ap (λ (q : Cell). super_in q.payload) e ∙ (spells c.payload it spelled).numbers
 
-each-of : (may : ℕ → List Cell) (X : Image) (n : ℕ) → Contains (may 0) (cell_at X 0) → ((b : ℕ) → b < n → b ≢ 0 → Contains (may b) (cell_at X b)) → (b : ℕ) → b < n → Contains (may b) (cell_at X b)
+each-of : (may : ℕ → List Cell) (X : Image) (n : ℕ) → Contains (may 0) (cell_at X 0) → ((b : ℕ) → b < n → b ≢ 0 → Contains (may b) (cell_at X b)) → (b : ℕ)
+    → b < n → Contains (may b) (cell_at X b)
 each-of may X n here rest b low = go (eqb b 0) refl
   where
     go : (t : Bool) → eqb b 0 ≡ t → Contains (may b) (cell_at X b)
@@ -112,7 +117,8 @@ each-of may X n here rest b low = go (eqb b 0) refl
     go false e = rest b low (λ z. let t : eqb b 0 ≡ true = eq-eqb b 0 z in cc (t, e))
 
 -- Every image of the disk as it was found, but for a raised superblock, is sound
-module _ (old : DiskState) (it : SuperBlock) (is : IsDisk old) (can : CanMount old.blocks it) (q : IsSoundDisk old) (spelled : super_of (cell_at old.now 0).payload ≡ Some it) where
+module _ (old : DiskState) (it : SuperBlock) (is : IsDisk old) (can : CanMount old.blocks it) (q : IsSoundDisk old)
+    (spelled : super_of (cell_at old.now 0).payload ≡ Some it) where
   some : 0 < old.blocks
   some = let g = can.geometry in let a = g.some_blocks in let b = g.fits in omega (arith, a, b)
 
@@ -141,11 +147,13 @@ module _ (old : DiskState) (it : SuperBlock) (is : IsDisk old) (can : CanMount o
       go : WasOr (IsSuperCell (raised it)) old 0 (cell_at X 0) → IsSound X
       go (inl here) = q.sound X (record { len = found.0; each = each-of old.may X old.blocks here rest })
       go (inr c) = (law-begin Z X 0 (q.sound Z picks)
-          (raised-of old.blocks it can Z X (sym (length-set X 0 (cell_at old.now 0))) (λ b ne. sym (others b ne)) (super-of Z (cell_at old.now 0) it first spelled) c.is)
+          (raised-of old.blocks it can Z X (sym (length-set X 0 (cell_at old.now 0))) (λ b ne. sym (others b ne))
+          (super-of Z (cell_at old.now 0) it first spelled) c.is)
           (cell-is old.blocks it can X c.is) (mount-small old.blocks it can X c.is)).0
 
 -- images at the moments of the raise
-pub before-raised : (old new : DiskState) (it : SuperBlock) → IsDisk old → Adds (IsSuperCell it) old new → (m : ℕ) (X : Image) → old.moment ≤ m → m ≤ new.moment → new.left m X → IsFound it old X
+pub before-raised : (old new : DiskState) (it : SuperBlock) → IsDisk old → Adds (IsSuperCell it) old new → (m : ℕ) (X : Image) → old.moment ≤ m
+    → m ≤ new.moment → new.left m X → IsFound it old X
 before-raised old new it is adds m X from to left = elim (cases_lt old.moment m) [
   | inl beyond ↦ adds.left m X beyond to left
   | inr here ↦
@@ -155,9 +163,13 @@ before-raised old new it is adds m X from to left = elim (cases_lt old.moment m)
       (p.len, λ b low. inl (p.each b low))
 ]
 
-pub sounds-raised : (old new : DiskState) (it : SuperBlock) → IsDisk old → CanMount old.blocks it → Adds (IsSuperCell (raised it)) old new → IsSoundDisk old → super_of (cell_at old.now 0).payload ≡ Some it → Sounds old.moment new
+pub sounds-raised : (old new : DiskState) (it : SuperBlock) → IsDisk old → CanMount old.blocks it → Adds (IsSuperCell (raised it)) old new → IsSoundDisk old
+    → super_of (cell_at old.now 0).payload ≡ Some it → Sounds old.moment new
 sounds-raised old new it is can adds q spelled = record {
-  picks = λ X p. sound-found old it is can q spelled X (p.len ∙ adds.disk.blocks, λ b low. adds.cells b (cell_at X b) (p.each b (let e = adds.disk.blocks in omega (arith, low, e))));
+  picks = λ X p. sound-found old it is can q spelled X (
+    p.len ∙ adds.disk.blocks,
+    λ b low. adds.cells b (cell_at X b) (p.each b (let e = adds.disk.blocks in omega (arith, low, e))),
+  );
   images = record {
     begun = adds.later;
     each = λ m X from to left. sound-found old it is can q spelled X (before-raised old new (raised it) is adds m X from to left);
@@ -184,7 +196,8 @@ sound-on old new disk cells q = record {
 }
 
 -- what the raise leaves on a disk that tells
-module _ (old new : DiskState) (it : SuperBlock) (is_old : IsDisk old) (can : CanMount old.blocks it) (adds : Adds (IsSuperCell (raised it)) old new) (r : IsRaised (raised it) old new) where
+module _ (old new : DiskState) (it : SuperBlock) (is_old : IsDisk old) (can : CanMount old.blocks it) (adds : Adds (IsSuperCell (raised it)) old new)
+    (r : IsRaised (raised it) old new) where
   first-is : IsTrue old.tells → cell_at new.now 0 ≡ super_cell (raised it)
   first-is tells = ap (λ (X : Image). cell_at X 0) r.now ∙ get_or-set_same old.now 0 (super_cell (raised it)) no_cell
       (let e = is_old.whole tells in let g = can.geometry in let a = g.some_blocks in let b = g.fits in omega (arith, e, a, b))
@@ -198,21 +211,27 @@ module _ (old new : DiskState) (it : SuperBlock) (is_old : IsDisk old) (can : Ca
   others-are : (b : ℕ) → b ≢ 0 → cell_at new.now b ≡ cell_at old.now b
   others-are b ne = ap (λ (X : Image). cell_at X b) r.now ∙ get_or-set_other old.now 0 b (super_cell (raised it)) no_cell ne
 
-  below-raised : (first : ℕ) → IsSoundDisk old → super_of (cell_at old.now 0).payload ≡ Some it → IsSound new.now × IsBelow ((raised it).mount * 2 ^ 40 + first) new.now
+  below-raised : (first : ℕ) → IsSoundDisk old → super_of (cell_at old.now 0).payload ≡ Some it
+      → IsSound new.now × IsBelow ((raised it).mount * 2 ^ 40 + first) new.now
   unfolding world_of
   below-raised first q spelled =
       let f = first-is q.tells in
       let old_sound : IsSound old.now = q.sound old.now (record { len = is_old.whole q.tells; each = λ b low. is_old.has_now b q.tells low }) in
       let law = law-begin old.now new.now first old_sound
-      (raised-of old.blocks it can old.now new.now (ap (λ (X : Image). length X) r.now ∙ length-set old.now 0 (super_cell (raised it))) others-are (super-of old.now (cell_at old.now 0) it refl spelled) f)
+      (raised-of old.blocks it can old.now new.now (ap (λ (X : Image). length X) r.now ∙ length-set old.now 0 (super_cell (raised it))) others-are
+      (super-of old.now (cell_at old.now 0) it refl spelled) f)
       (cell-is old.blocks it can new.now f) (mount-small old.blocks it can new.now f) in
-      let m : (super_at new.now).mount * 2 ^ 40 + first ≡ (raised it).mount * 2 ^ 40 + first = ap (λ (s : SuperBlock). s.mount * 2 ^ 40 + first) (super-is old.blocks it can new.now f) in
+      let m : (super_at new.now).mount * 2 ^ 40 + first ≡ (raised it).mount * 2 ^ 40 + first =
+      ap (λ (s : SuperBlock). s.mount * 2 ^ 40 + first) (super-is old.blocks it can new.now f) in
       (law.0, subst (λ (s : ℕ). IsBelow s new.now) m (λ b lt. law.1 b lt (cell_at new.now b) (0, omega arith, refl)))
 
-pub begin-mount : (found old new : DiskState) (it at : SuperBlock) (first : ℕ) (k : Books) → IsDisk old → IsDisk new → IsSameDisk found old → KeepsPast found old → KeepsCells found old
-    → CanMount old.blocks it → (IsTrue old.tells → super_of (cell_at old.now 0).payload ≡ Some it) → Adds (IsSuperCell (raised it)) old new → IsRaised (raised it) old new → at ≡ raised it
+pub begin-mount : (found old new : DiskState) (it at : SuperBlock) (first : ℕ) (k : Books) → IsDisk old → IsDisk new → IsSameDisk found old
+    → KeepsPast found old → KeepsCells found old
+    → CanMount old.blocks it → (IsTrue old.tells → super_of (cell_at old.now 0).payload ≡ Some it) → Adds (IsSuperCell (raised it)) old new
+    → IsRaised (raised it) old new → at ≡ raised it
     → IsSafe new k → k.history.entries ≡ [] → (k.history.start ≡ new.moment) × (k.at ≡ at) × (k.stopped ≡ false)
-    → (IsTrue new.tells → IsSettled new → IsTrue (is_mountable new.now) → 0 < at.mount * 2 ^ 40 + first → IsBelow (at.mount * 2 ^ 40 + first) new.now → IsOpen new k [] (first_past new first))
+    → (IsTrue new.tells → IsSettled new → IsTrue (is_mountable new.now) → 0 < at.mount * 2 ^ 40 + first → IsBelow (at.mount * 2 ^ 40 + first) new.now
+    → IsOpen new k [] (first_past new first))
     → IsMount found new first k
 begin-mount found old new it at first k is_old is_new disk past cells can spelled adds r same safe empty begun opens = record {
   safe = safe;
@@ -224,13 +243,15 @@ begin-mount found old new it at first k is_old is_new disk past cells can spelle
     resting = λ e X p. on X (p.len ∙ adds.disk.blocks, λ b low. adds.cells b (cell_at X b) (p.each b (let n = adds.disk.blocks in omega (arith, low, n))));
   });
   forms = subst₂ (λ (n : ℕ) (H : List Entry1). Forms n false H new.moment k.stopped) (sym begun.0) (sym empty) (refl, begun.2);
-  counted = subst (λ (H : List Entry1). min (found.faults + faults_in H) (2 ^ 64 - 1) ≤ new.faults) (sym empty) (let a = disk.faults in let b = adds.disk.faults in omega (arith, a, b));
+  counted = subst (λ (H : List Entry1). min (found.faults + faults_in H) (2 ^ 64 - 1) ≤ new.faults) (sym empty) (let a = disk.faults in let b =
+      adds.disk.faults in omega (arith, a, b));
   stands = λ q.
       let o : IsSoundDisk old = sound-on found old disk cells q in
       let sp = spelled o.tells in
       let t : IsTrue new.tells = subst (λ (b : Bool). IsTrue b) (sym adds.disk.tells) o.tells in
       let b = below-raised old new it is_old can adds r first o sp in
-      let opened : IsOpen new k [] (first_past new first) = opens t r.settled b.0.mountable (let m : at.mount ≡ it.mount + 1 = ap (λ (s : SuperBlock). s.mount) same in omega (arith, m))
+      let opened : IsOpen new k [] (first_past new first) =
+      opens t r.settled b.0.mountable (let m : at.mount ≡ it.mount + 1 = ap (λ (s : SuperBlock). s.mount) same in omega (arith, m))
       (subst (λ (s : SuperBlock). IsBelow (s.mount * 2 ^ 40 + first) new.now) (sym same) b.1) in
       record {
         past = first_past new first;
@@ -245,4 +266,5 @@ begin-mount found old new it at first k is_old is_new disk past cells can spelle
 }
   where
     on : (X : Image) → IsFound (raised it) old X → IsFound (raised it) found X
-    on X f = subst₂ (λ (may : ℕ → List Cell) (n : ℕ). (length X ≡ n) × ((b : ℕ) → b < n → Contains (may b) (cell_at X b) ⊎ IsSuperCell (raised it) b (cell_at X b))) cells.may disk.blocks f
+    on X f = subst₂ (λ (may : ℕ → List Cell) (n : ℕ). (length X ≡ n) × ((b : ℕ) → b < n
+        → Contains (may b) (cell_at X b) ⊎ IsSuperCell (raised it) b (cell_at X b))) cells.may disk.blocks f

@@ -33,7 +33,8 @@ settles-memory _ d = tt
 pub adds-none : (c : ℕ) (s : Step) (H K : List Entry1) → K ≡ H → AddsStep c s (reply.Refused refusal.OutOfMemory) H K
 adds-none c s H K same = record { none = λ e. same; one = λ e. absurd (cc) }
 
-pub sweep-served : (c : ℕ) (s : Step) (r : Reply) (kept left : ℕ) → (is_of_sweep c s ≡ true → 0 < kept → Some left ≡ Some (kept - 1)) → (is_see s ≡ true → is_out_of_memory r ≡ false) → is_of_sweep c s ≡ true → 0 < kept → (is_out_of_memory r ≡ false) × (left ≡ kept - 1)
+pub sweep-served : (c : ℕ) (s : Step) (r : Reply) (kept left : ℕ) → (is_of_sweep c s ≡ true → 0 < kept → Some left ≡ Some (kept - 1))
+    → (is_see s ≡ true → is_out_of_memory r ≡ false) → is_of_sweep c s ≡ true → 0 < kept → (is_out_of_memory r ≡ false) × (left ≡ kept - 1)
 sweep-served c s r kept left takes sees e some = (sees (sweep-sees c s e), some-is left (kept - 1) (takes e some))
   where
     some-is : (a b : ℕ) → Some a ≡ Some b → a ≡ b

@@ -15,7 +15,10 @@ snapshot-send : (D : RattleType) → IsSend (snapshot.the_row D)
 snapshot-send D = owner_send (snapshot.the_type D) (search sendable) (λ d. tt) (λ k x w. tt)
 
 pub mount-send : (D : RattleType) (g : Disk.Ghosts D.Denot) → IsSend D → IsSend (the_row D g)
-mount-send D g d = declared_send (the_type D g) (as_row_send (core.the_field D) (core_sends.the_field_send D d), (search sendable, (as_row_send (snapshot.the_field D) (snapshot-send D), (search sendable, tt))))
+mount-send D g d = declared_send (the_type D g) (
+  as_row_send (core.the_field D) (core_sends.the_field_send D d),
+  (search sendable, (as_row_send (snapshot.the_field D) (snapshot-send D), (search sendable, tt))),
+)
 
 verdicts-send : IsSend verdicts.the_row
 verdicts-send = verdicts_sends.the_send

@@ -24,11 +24,13 @@ neither : (a b : Bool) → (a || b) ≡ false → (a ≡ false) × (b ≡ false)
 neither true b e = cc
 neither false b e = (refl, e)
 
-module _ {F : Type 0} (fx : F) (H : List Entry1) (one two : List Step) (short short' : Bool) (a b v w u : View Entry1 F) (ea : a ≡ fresh fx H 2) (eb : b ≡ fresh fx H 2)
+module _ {F : Type 0} (fx : F) (H : List Entry1) (one two : List Step) (short short' : Bool) (a b v w u : View Entry1 F) (ea : a ≡ fresh fx H 2)
+    (eb : b ≡ fresh fx H 2)
     (first : Served 1 a v one short) (second : Served 2 b w two short') (j : u ≡ joined v w) where
   pub two-stand : (u.stands ≡ 2) × (u.seats ≡ 2)
   two-stand = (
-    (let p = first.same.stands in let q = second.same.stands in let x = ap (λ (z : View Entry1 F). z.stands) ea in let y = ap (λ (z : View Entry1 F). z.stands) eb in let e = ap (λ (z : View Entry1 F). z.stands) j in omega (arith, p, q, x, y, e)),
+    (let p = first.same.stands in let q = second.same.stands in let x = ap (λ (z : View Entry1 F). z.stands) ea in let y =
+        ap (λ (z : View Entry1 F). z.stands) eb in let e = ap (λ (z : View Entry1 F). z.stands) j in omega (arith, p, q, x, y, e)),
     ap (λ (z : View Entry1 F). z.seats) j ∙ first.same.seats ∙ ap (λ (z : View Entry1 F). z.seats) ea,
   )
 
@@ -48,12 +50,17 @@ module _ {F : Type 0} (fx : F) (H : List Entry1) (one two : List Step) (short sh
       go true = from_b
       go false = from_a
 
-  pub two-served : (K : List Entry1) → rises 0 v.mine ≡ true → rises 0 w.mine ≡ true → IsPrefix u.seen K → u.mine ≡ numbered u.start (drop u.start K) → AllServed (two_users one two) (short || short') H K
+  pub two-served : (K : List Entry1) → rises 0 v.mine ≡ true → rises 0 w.mine ≡ true → IsPrefix u.seen K → u.mine ≡ numbered u.start (drop u.start K)
+      → AllServed (two_users one two) (short || short') H K
   two-served K up up' begins all = record {
     grown = prefix_trans H u.seen K seen begins;
-    each = (subst (λ (l : List Made). IsPrefix (map step_of l) one) (sym of_one) first.steps, (subst (λ (l : List Made). IsPrefix (map step_of l) two) (sym of_two) second.steps, tt));
+    each = (
+      subst (λ (l : List Made). IsPrefix (map step_of l) one) (sym of_one) first.steps,
+      (subst (λ (l : List Made). IsPrefix (map step_of l) two) (sym of_two) second.steps, tt),
+    );
     all = λ e. let p = neither short short' e in (ap (map step_of) of_one ∙ first.all p.0, (ap (map step_of) of_two ∙ second.all p.1, tt));
-    others = λ c idle. by c ∙ ap own_steps (joined_other (is_by c) v.mine w.mine up up' (chosen_not c 2 w.mine second.own idle.1.0) ∙ chosen_not c 1 v.mine first.own idle.0);
+    others = λ c idle. by c ∙ ap own_steps (joined_other (is_by c) v.mine w.mine up up' (chosen_not c 2 w.mine second.own idle.1.0)
+        ∙ chosen_not c 1 v.mine first.own idle.0);
   }
     where
       mine : numbered (length H) (drop (length H) K) ≡ merge v.mine w.mine
@@ -63,10 +70,12 @@ module _ {F : Type 0} (fx : F) (H : List Entry1) (one two : List Step) (short sh
       by c = steps_of c (length H) (drop (length H) K) ∙ ap (λ m. own_steps (chosen (is_by c) m)) mine
 
       of_one : steps_by 1 (drop (length H) K) ≡ own_steps v.mine
-      of_one = by 1 ∙ ap own_steps (joined_other (is_by 1) v.mine w.mine up up' (chosen_not 1 2 w.mine second.own (λ e. absurd (omega (arith, e)))) ∙ chosen_by 1 v.mine first.own)
+      of_one = by 1 ∙ ap own_steps (joined_other (is_by 1) v.mine w.mine up up' (chosen_not 1 2 w.mine second.own (λ e. absurd (omega (arith, e))))
+          ∙ chosen_by 1 v.mine first.own)
 
       of_two : steps_by 2 (drop (length H) K) ≡ own_steps w.mine
-      of_two = by 2 ∙ ap own_steps (joined_own (is_by 2) v.mine w.mine up up' (chosen_not 2 1 v.mine first.own (λ e. absurd (omega (arith, e)))) ∙ chosen_by 2 w.mine second.own)
+      of_two = by 2 ∙ ap own_steps (joined_own (is_by 2) v.mine w.mine up up' (chosen_not 2 1 v.mine first.own (λ e. absurd (omega (arith, e))))
+          ∙ chosen_by 2 w.mine second.own)
 
 -- the last two of a list of which all have P
 all-last : {X : Type 0} (P : X → Type 0) (xs : List X) (x : X) → AllByRecursion P (xs ++ x ∷ []) → P x
@@ -84,7 +93,8 @@ last-two P all rest less x y h e f =
       all-last P less y (subst (AllByRecursion P) f (all-front P rest (x ∷ []) a)),
     )
 
-pub all-follow : (tasks : List Task) (short : Bool) (H K L : List Entry1) (r : Reply) → H ≡ [] → AllServed tasks short H K → AddsStep 0 (step.Flush 0 0) r K L → AllFollow tasks short L
+pub all-follow : (tasks : List Task) (short : Bool) (H K L : List Entry1) (r : Reply) → H ≡ [] → AllServed tasks short H K
+    → AddsStep 0 (step.Flush 0 0) r K L → AllFollow tasks short L
 all-follow tasks short H K L r empty s a =
     let d : drop (length H) K ≡ K = ap (λ (l : List Entry1). drop (length l) K) empty in
     record {

@@ -14,15 +14,18 @@ map-append [] ys = refl
 map-append (x ∷ xs) ys = λ i. step_of x ∷ map-append xs ys i
 
 -- one step more
-pub walks-more : (before mid after : List Made) (script rest tail : List Step) (s : Step) (r : Reply) → rest ≡ s ∷ tail → after ≡ with_made mid s r → is_out_of_memory r ≡ false → Walks before mid script rest → Walks before after script tail
+pub walks-more : (before mid after : List Made) (script rest tail : List Step) (s : Step) (r : Reply) → rest ≡ s ∷ tail → after ≡ with_made mid s r
+    → is_out_of_memory r ≡ false → Walks before mid script rest → Walks before after script tail
 walks-more before mid after script rest tail s r is made some w = record {
   more = w.more ++ (s, r) ∷ [];
   whole = made ∙ (rw some refl) ∙ ap (λ l. l ++ (s, r) ∷ []) w.whole ∙ append_assoc before w.more ((s, r) ∷ []);
-  steps = ap (λ l. l ++ tail) (map-append w.more ((s, r) ∷ [])) ∙ append_assoc (map step_of w.more) (s ∷ []) tail ∙ ap (λ l. map step_of w.more ++ l) (sym is) ∙ w.steps;
+  steps = ap (λ l. l ++ tail) (map-append w.more ((s, r) ∷ [])) ∙ append_assoc (map step_of w.more) (s ∷ []) tail
+      ∙ ap (λ l. map step_of w.more ++ l) (sym is) ∙ w.steps;
 }
 
 -- memory was wanting
-pub walks-stop : (before mid after : List Made) (script rest : List Step) (s : Step) (r : Reply) → after ≡ with_made mid s r → is_out_of_memory r ≡ true → Walks before mid script rest → Walked before after script true
+pub walks-stop : (before mid after : List Made) (script rest : List Step) (s : Step) (r : Reply) → after ≡ with_made mid s r → is_out_of_memory r ≡ true
+    → Walks before mid script rest → Walked before after script true
 walks-stop before mid after script rest s r made none w = record {
   more = w.more;
   whole = made ∙ (rw none refl) ∙ w.whole;
@@ -35,4 +38,10 @@ nil-of [] e = refl
 nil-of (x ∷ xs) e = absurd (omega (arith, e))
 
 pub walks-end : (before after : List Made) (script rest : List Step) → rest ≡ [] → Walks before after script rest → Walked before after script false
-walks-end before after script rest none w = record { more = w.more; whole = w.whole; steps = (rest, w.steps); all = λ e. sym (append-nil (map step_of w.more)) ∙ ap (λ l. map step_of w.more ++ l) (sym none) ∙ w.steps }
+walks-end before after script rest none w = record {
+  more = w.more;
+  whole = w.whole;
+  steps = (rest, w.steps);
+  all =
+      λ e. sym (append-nil (map step_of w.more)) ∙ ap (λ l. map step_of w.more ++ l) (sym none) ∙ w.steps;
+}

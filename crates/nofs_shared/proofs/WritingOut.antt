@@ -14,7 +14,8 @@ use Rattle.nofs_shared.specs.Forms.{Forms}
 use Rattle.nofs_shared.specs.Mounts.{IsMount, IsMounted}
 use Rattle.nofs_shared.proofs.Mounting.{forms-later, picks-back}
 
-module _ (found old new : DiskState) (first : ℕ) (k : Books) (result : Result (Option ℕ) OutFault) (out : WroteOne old new result) (m : IsMount found old first k) where
+module _ (found old new : DiskState) (first : ℕ) (k : Books) (result : Result (Option ℕ) OutFault) (out : WroteOne old new result)
+    (m : IsMount found old first k) where
   began : k.history.start ≤ old.moment
   began = forms-later k.history.entries k.history.start false old.moment k.stopped m.forms
 
@@ -48,11 +49,13 @@ module _ (found old new : DiskState) (first : ℕ) (k : Books) (result : Result 
       raised = st.raised;
       now = go st.past st.rests st.now;
       sound = sounds-out old new result out found.moment st.sound;
-      rests = λ X p. subst (λ (n : ℕ). IsAllowed st.past.base k.history.entries n X) (sym out.cells.moment) (st.rests X (picks-back old new out.disk out.cells X p));
+      rests = λ X p. subst (λ (n : ℕ). IsAllowed st.past.base k.history.entries n X) (sym out.cells.moment)
+          (st.rests X (picks-back old new out.disk out.cells X p));
     };
   }
     where
-      go : (p : Past) → ((X : Image) → Picks old.may old.blocks X → IsAllowed p.base k.history.entries old.moment X) → IsOpen old k k.history.entries p ⊎ IsStopped old k k.history.entries p → IsOpen new k k.history.entries p ⊎ IsStopped new k k.history.entries p
+      go : (p : Past) → ((X : Image) → Picks old.may old.blocks X → IsAllowed p.base k.history.entries old.moment X)
+          → IsOpen old k k.history.entries p ⊎ IsStopped old k k.history.entries p → IsOpen new k k.history.entries p ⊎ IsStopped new k k.history.entries p
       go p rest (inl o) = inl (open-out old new result out k k.history.entries p rest o)
       go p rest (inr o) = inr (stopped-out old new result out k k.history.entries p rest o)
 

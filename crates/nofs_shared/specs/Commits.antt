@@ -32,7 +32,8 @@ pub record IsCommit (found d : DiskState) (k l : Books) (kind : ElementKind) (it
   pub right : IsSoundDisk found → (v : Bool) → r ≡ reply.Seen v → v ≡ is_used kind d.now item
 
 -- the mount over `found`, whose history had these entries, met a commit in some state, and the commit says of it what `IsCommit` says
-pub record CommitsAt {D : Type 0} (state : D → DiskState) (found : D) (first : ℕ) (H : List Entry1) (kind : ElementKind) (item : ℕ) (used : Bool) (r : Reply) : Type 0
+pub record CommitsAt {D : Type 0} (state : D → DiskState) (found : D) (first : ℕ) (H : List Entry1) (kind : ElementKind) (item : ℕ) (used : Bool) (r : Reply)
+    : Type 0
   where
     pub met : D
     pub before : Books

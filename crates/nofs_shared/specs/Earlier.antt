@@ -24,7 +24,8 @@ pub record IsOfBooks (early k : Books) : Type 0 where
   pub begins : IsPrefix early.history.entries k.history.entries
 
 -- so it is when more entries came
-pub earlier-more : {found early : DiskState} {k : Books} {first start : ℕ} {at : SuperBlock} {H : List Entry1} → IsEarlier found early k first start at H → (K : List Entry1) → IsEarlier found early k first start at (H ++ K)
+pub earlier-more : {found early : DiskState} {k : Books} {first start : ℕ} {at : SuperBlock} {H : List Entry1} → IsEarlier found early k first start at H
+    → (K : List Entry1) → IsEarlier found early k first start at (H ++ K)
 earlier-more {k = k} {H = H} e K = record {
   stood = e.stood;
   going = e.going;
@@ -34,7 +35,8 @@ earlier-more {k = k} {H = H} e K = record {
 }
 
 -- in a later state of the same mount
-pub earlier-on : {found early : DiskState} {k : Books} {first start : ℕ} {at : SuperBlock} {H : List Entry1} → IsEarlier found early k first start at H → (from : ℕ) (numbers : SuperBlock) (K : List Entry1) → from ≡ start → numbers ≡ at → IsPrefix H K → IsEarlier found early k first from numbers K
+pub earlier-on : {found early : DiskState} {k : Books} {first start : ℕ} {at : SuperBlock} {H : List Entry1} → IsEarlier found early k first start at H
+    → (from : ℕ) (numbers : SuperBlock) (K : List Entry1) → from ≡ start → numbers ≡ at → IsPrefix H K → IsEarlier found early k first from numbers K
 earlier-on {k = k} e from numbers K begun same longer = record {
   stood = e.stood;
   going = e.going;

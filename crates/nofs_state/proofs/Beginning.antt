@@ -1,5 +1,6 @@
 -- A mount that has just begun stands.
-use Rattle.std.proofs.Common.{◌≡◌, ℕ, ◌+◌, ◌-◌, ◌*◌, ◌/◌, ◌^◌, ◌<◌, ◌≤◌, Bool, true, false, ◌&&◌, ◌||◌, not, leb, ltb, eqb, [], Option, Some, None, is_some, IsTrue, inl, inr, refl, sym, ap, ◌∙◌, subst, arith, le_refl}
+use Rattle.std.proofs.Common.{◌≡◌, ℕ, ◌+◌, ◌-◌, ◌*◌, ◌/◌, ◌^◌, ◌<◌, ◌≤◌, Bool, true, false, ◌&&◌, ◌||◌, not, leb, ltb, eqb, [], Option, Some, None, is_some}
+use Rattle.std.proofs.Common.{IsTrue, inl, inr, refl, sym, ap, ◌∙◌, subst, arith, le_refl}
 use Rattle.std.proofs.lemmas.Bool.{ltb-true, cases_lt}
 use Rattle.std.proofs.lemmas.Bool.Decides.{nat_tests}
 use Rattle.nofs_bits.specs.Bits.{is_set}
@@ -30,7 +31,8 @@ owner-beyond X b past = go (owner X b) refl
     go None e = e
     go (Some h) e =
         let o = owner-holds X b h.inode h.slot e in
-        let area = and-both (leb (1 + (super_at X).inodes / 4) o.0.block) (ltb o.0.block (super_at X).blocks) (find-held X h.inode (path_of h.slot) o.0 o.2).agrees.area in
+        let area = and-both (leb (1 + (super_at X).inodes / 4) o.0.block) (ltb o.0.block (super_at X).blocks)
+        (find-held X h.inode (path_of h.slot) o.0 o.2).agrees.area in
         let low : o.0.block < (super_at X).blocks = ltb-true o.0.block (super_at X).blocks area.1 in
         let same = o.3 in
         absurd (omega (arith, low, past, same))
@@ -79,10 +81,14 @@ says-first X at first start room same some table r = record {
   mount = ap (λ (q : SuperBlock). q.mount) same;
   serial = refl;
   stopped = refl;
-  known_inodes = λ i. special-known i at.inodes (is_set room.unknown_inodes (i - 1)) some (λ low high. r.unknown_inodes.each (i - 1) (omega (arith, low, high)));
-  known_blocks = λ p. ap (λ (q : SuperBlock). leb p (q.inodes / 4)) same ∙ fixed-known p at.blocks (at.inodes / 4) (is_set room.unknown_blocks p) (omega (arith, table)) (λ low. r.unknown_blocks.each p low);
-  free_inodes = λ i low high. ap (λ (bits : _). is_set bits (i - 1)) r.free_inodes ∙ set-none at.inodes (i - 1) ∙ sym (not-both (is_special i) (is_some (agreed_files X i)));
-  free_blocks = λ p low. ap (λ (bits : _). is_set bits p) r.free_blocks ∙ set-none at.blocks p ∙ sym (not-both (leb p ((super_at X).inodes / 4)) (is_some (owner X p)));
+  known_inodes = λ i. special-known i at.inodes (is_set room.unknown_inodes (i - 1)) some
+      (λ low high. r.unknown_inodes.each (i - 1) (omega (arith, low, high)));
+  known_blocks = λ p. ap (λ (q : SuperBlock). leb p (q.inodes / 4)) same
+      ∙ fixed-known p at.blocks (at.inodes / 4) (is_set room.unknown_blocks p) (omega (arith, table)) (λ low. r.unknown_blocks.each p low);
+  free_inodes = λ i low high. ap (λ (bits : _). is_set bits (i - 1)) r.free_inodes ∙ set-none at.inodes (i - 1)
+      ∙ sym (not-both (is_special i) (is_some (agreed_files X i)));
+  free_blocks = λ p low. ap (λ (bits : _). is_set bits p) r.free_blocks ∙ set-none at.blocks p
+      ∙ sym (not-both (leb p ((super_at X).inodes / 4)) (is_some (owner X p)));
   agreement = λ i a t. absurd (let e : told room.agreement i ≡ None = ap (λ (known : _). told known i) r.agreement ∙ told-nothing at.inodes i in cc (t, e));
 }
 
@@ -123,5 +129,7 @@ pub open-with : (d : DiskState) (at : SuperBlock) (first moment : ℕ) (room : R
     → 0 < at.mount * 2 ^ 40 + first
     → IsBelow (at.mount * 2 ^ 40 + first) d.now → IsOpen d (record (new_books at first room moment) { history = h }) [] (first_past d first)
 open-with d at first moment room h is numbers r same eh tells settled mountable positive below =
-    let e : h ≡ record { start = d.moment; entries = []; spare = room.history.spare } = eh ∙ (λ j. record { start = same j; entries = []; spare = room.history.spare }) in
-    subst (λ (q : HistoryState). IsOpen d (record (new_books at first room moment) { history = q }) [] (first_past d first)) (sym e) (open-first d at first room is numbers r tells settled mountable positive below)
+    let e : h ≡ record { start = d.moment; entries = []; spare = room.history.spare } =
+    eh ∙ (λ j. record { start = same j; entries = []; spare = room.history.spare }) in
+    subst (λ (q : HistoryState). IsOpen d (record (new_books at first room moment) { history = q }) [] (first_past d first)) (sym e)
+    (open-first d at first room is numbers r tells settled mountable positive below)

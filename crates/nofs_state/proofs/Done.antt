@@ -1,5 +1,6 @@
 -- A step that writes, and is done: the mount stands.
-use Rattle.std.proofs.Common.{◌≡◌, ℕ, ◌+◌, ◌%◌, ◌<◌, ◌≤◌, ◌⊎◌, inl, inr, Bool, true, false, List, [], ◌∷◌, ◌++◌, Option, Some, None, length, leb, ltb, ltb-true, ◌/◌, IsTrue, refl, sym, ap, ◌∙◌, subst, subst₂, arith}
+use Rattle.std.proofs.Common.{◌≡◌, ℕ, ◌+◌, ◌%◌, ◌<◌, ◌≤◌, ◌⊎◌, inl, inr, Bool, true, false, List, [], ◌∷◌, ◌++◌, Option, Some, None, length, leb, ltb}
+use Rattle.std.proofs.Common.{ltb-true, ◌/◌, IsTrue, refl, sym, ap, ◌∙◌, subst, subst₂, arith}
 use Rattle.nofs_disk.specs.Disk.{DiskState, IsDisk, IsSameDisk, KeepsPast, cell_at}
 use Rattle.nofs_disk.specs.Adds.{Adds, WasOr}
 use Rattle.nofs_super.specs.Geometry.{IsGeometry}
@@ -60,14 +61,22 @@ Adds-map P Q old new h a = record {
 abbrev pub after_world : World → Step → Claims → Books → World
 after_world W s c l =
     let files : Files = files_after W.files (gives W.files s c) in
-    record W { serial = W.serial + inodes_needed s + blocks_needed W.files s; files = files; homes = homes_after W s c files; known_inodes = λ i. knows_inode l i; known_blocks = λ q. knows_block l q }
+    record W {
+      serial = W.serial + inodes_needed s + blocks_needed W.files s;
+      files = files;
+      homes = homes_after W s c files;
+      known_inodes =
+          λ i. knows_inode l i;
+      known_blocks = λ q. knows_block l q;
+    }
 
 -- what a step that writes owes where it is done
 pub record IsDone (old new : DiskState) (k l : Books) (H : List Entry1) (p : Past) (s : Step) (c : Claims) (r : Reply) (ws : List (ℕ × Cell)) : Type 0 where
   pub adds : Adds (OneOf ws) old new
   pub later : old.moment < new.moment
   pub proper : (e : Entry1) → e.step ≡ s → e.claims ≡ c → given_by (files_along (agreed_files p.base) H) e ≡ gives (files_along (agreed_files p.base) H) s c
-      → (b : ℕ) (cell : Cell) → OneOf ws b cell → Proper (during (mark_at p.base H (old.moment + 1) p.mark p.stamps) (given_by (files_along (agreed_files p.base) H) e)) old.now b cell
+      → (b : ℕ) (cell : Cell) → OneOf ws b cell → Proper (during (mark_at p.base H (old.moment + 1) p.mark p.stamps)
+      (given_by (files_along (agreed_files p.base) H) e)) old.now b cell
   pub numbers : (b : ℕ) (cell : Cell) → OneOf ws b cell → CellNumbers (Numbered p.world c) old.now b cell
   pub super : cell_at new.now 0 ≡ cell_at old.now 0
   pub size : new.blocks ≡ old.blocks
@@ -79,7 +88,8 @@ pub record IsDone (old new : DiskState) (k l : Books) (H : List Entry1) (p : Pas
   pub learns : Learns p.world s true (after_world p.world s c l)
   pub files : FilesMatch (files_after p.world.files (gives p.world.files s c)) new.now
   pub move : HomesMove p.world.files s c old.now new.now
-  pub rest : (e : Entry1) → e.step ≡ s → e.claims ≡ c → given_by (files_along (agreed_files p.base) H) e ≡ gives (files_along (agreed_files p.base) H) s c → SteadyRest p.base (H ++ e ∷ []) new.now
+  pub rest : (e : Entry1) → e.step ≡ s → e.claims ≡ c → given_by (files_along (agreed_files p.base) H) e ≡ gives (files_along (agreed_files p.base) H) s c
+      → SteadyRest p.base (H ++ e ∷ []) new.now
   pub says : Says l (after_world p.world s c l)
   pub books_at : l.at ≡ k.at
   pub history : l.history ≡ k.history
@@ -89,7 +99,8 @@ pub no-fault : (r : Reply) → is_refused r ≡ false → is_write_fault r ≡ f
 no-fault (reply.Refused w) e = cc
 no-fault _ e = refl
 
-module _ (old new : DiskState) (k l : Books) (H : List Entry1) (p : Past) (caller : ℕ) (s : Step) (c : Claims) (r : Reply) (ws : List (ℕ × Cell)) (is_old : IsDisk old) (is_new : IsDisk new) (tells : IsTrue old.tells)
+module _ (old new : DiskState) (k l : Books) (H : List Entry1) (p : Past) (caller : ℕ) (s : Step) (c : Claims) (r : Reply) (ws : List (ℕ × Cell))
+    (is_old : IsDisk old) (is_new : IsDisk new) (tells : IsTrue old.tells)
     (o : IsOpen old k H p) (d : IsDone old new k l H p s c r ws) where
   abbrev W : World
   W = p.world
@@ -113,7 +124,8 @@ module _ (old new : DiskState) (k l : Books) (H : List Entry1) (p : Past) (calle
   given = let a = d.accepted in rw a refl
 
   by : files_by (files_along (agreed_files p.base) H) e ≡ files_after W.files (gives W.files s c)
-  by = (let a = d.accepted in let q : files_by (files_along (agreed_files p.base) H) e ≡ files_after (files_along (agreed_files p.base) H) (gives (files_along (agreed_files p.base) H) s c) = rw a refl in q)
+  by = (let a = d.accepted in let q : files_by (files_along (agreed_files p.base) H) e ≡ files_after (files_along (agreed_files p.base) H)
+      (gives (files_along (agreed_files p.base) H) s c) = rw a refl in q)
       ∙ ap (λ (G : Files). files_after G (gives G s c)) (sym o.files)
 
   same-super : super_at new.now ≡ super_at old.now
@@ -142,7 +154,8 @@ module _ (old new : DiskState) (k l : Books) (H : List Entry1) (p : Past) (calle
       beyond : (h : Home) → claimed_home W.files s c b ≡ Some h → ⊥
       beyond h eh =
           let house = d.move.claimed b h eh in
-          let area = and-both (leb (1 + (super_at new.now).inodes / 4) house.pointer.block) (ltb house.pointer.block (super_at new.now).blocks) (find-held new.now h.inode house.path house.pointer house.holds).agrees.area in
+          let area = and-both (leb (1 + (super_at new.now).inodes / 4) house.pointer.block) (ltb house.pointer.block (super_at new.now).blocks)
+          (find-held new.now h.inode house.path house.pointer house.holds).agrees.area in
           let low : house.pointer.block < (super_at new.now).blocks = ltb-true house.pointer.block (super_at new.now).blocks area.1 in
           let same = house.block in
           let blocks : (super_at new.now).blocks ≡ W.blocks = ap (λ (q : SuperBlock). q.blocks) same-super ∙ sym blocks-are in
@@ -153,7 +166,8 @@ module _ (old new : DiskState) (k l : Books) (H : List Entry1) (p : Past) (calle
       go (Some h) eq = absurd (beyond h eq)
 
   proper : AddsProper p.base H e p.mark p.stamps old new
-  proper = Adds-map (OneOf ws) (Proper (during (mark_at p.base H (old.moment + 1) p.mark p.stamps) (given_by (files_along (agreed_files p.base) H) e)) old.now) old new (d.proper e refl refl given) d.adds
+  proper = Adds-map (OneOf ws) (Proper (during (mark_at p.base H (old.moment + 1) p.mark p.stamps) (given_by (files_along (agreed_files p.base) H) e))
+      old.now) old new (d.proper e refl refl given) d.adds
 
   stage : Stage p.base (H ++ e ∷ []) p.mark p.stamps k.history.start (next_stamp V) new
   stage = law-stage old new p.base H e p.mark p.stamps k.history.start (next_stamp W) (next_stamp V)
@@ -177,7 +191,8 @@ module _ (old new : DiskState) (k l : Books) (H : List Entry1) (p : Past) (calle
 
   pub open-done : IsOpen new l (H ++ e ∷ []) (record p { world = V })
   open-done = record {
-    run = run-more old new k l H p e V o.run (ap (λ h. h.start) d.history) refl refl (let q = d.later in omega (arith, q)) (λ t. absurd (let z = takes-none r d.no_flush (no-fault r d.accepted) in cc (t, z))) next;
+    run = run-more old new k l H p e V o.run (ap (λ h. h.start) d.history) refl refl (let q = d.later in omega (arith, q))
+        (λ t. absurd (let z = takes-none r d.no_flush (no-fault r d.accepted) in cc (t, z))) next;
     going = d.going;
     says = d.says;
     at = same-super ∙ o.at ∙ sym d.books_at;
@@ -193,12 +208,15 @@ module _ (old new : DiskState) (k l : Books) (H : List Entry1) (p : Past) (calle
 
   -- all that it may leave stays sound
   pub done-sounds : IsSafe old k → (from : ℕ) → Sounds from old → Sounds from new
-  done-sounds safe = sounds-adds old new k H p e V (during (mark_at p.base H (old.moment + 1) p.mark p.stamps) (given_by (files_along (agreed_files p.base) H) e)) is_old tells safe o next proper
+  done-sounds safe = sounds-adds old new k H p e V (during (mark_at p.base H (old.moment + 1) p.mark p.stamps)
+      (given_by (files_along (agreed_files p.base) H) e)) is_old tells safe o next proper
       (Adds-map (OneOf ws) (λ b cell. CellNumbers (Numbered W c) old.now b cell) old new d.numbers d.adds)
 
 -- the contract of a step that is done
-pub goes-done : (old new : DiskState) (k l : Books) (s : Step) (c : Claims) (r : Reply) (ws : List (ℕ × Cell)) → IsDisk old → IsDisk new → k.stopped ≡ false → l.at ≡ k.at → l.history ≡ k.history → l.stopped ≡ false → IsSafe new l → is_refused r ≡ false
-    → IsSameDisk old new → KeepsPast old new → old.moment < new.moment → IsSafe old k → (IsTrue old.tells → (H : List Entry1) (p : Past) → IsOpen old k H p → IsDone old new k l H p s c r ws) → Goes old k new l s c r
+pub goes-done : (old new : DiskState) (k l : Books) (s : Step) (c : Claims) (r : Reply) (ws : List (ℕ × Cell)) → IsDisk old → IsDisk new → k.stopped ≡ false
+    → l.at ≡ k.at → l.history ≡ k.history → l.stopped ≡ false → IsSafe new l → is_refused r ≡ false
+    → IsSameDisk old new → KeepsPast old new → old.moment < new.moment → IsSafe old k
+    → (IsTrue old.tells → (H : List Entry1) (p : Past) → IsOpen old k H p → IsDone old new k l H p s c r ws) → Goes old k new l s c r
 goes-done old new k l s c r ws is_old is_new going at history runs safe accepted disk past later safe_old done = record {
   disk = disk;
   past = past;
@@ -223,7 +241,11 @@ goes-done old new k l s c r ws is_old is_new going at history runs safe accepted
   sound = λ tells H p o from q. sounds tells H p o from q;
   from_open = λ tells caller H p o. record {
     none = λ t. absurd (let z = no-memory r accepted in cc (t, z));
-    done = λ n f. (record p { world = after_world p.world s c l }, record { base = refl; first = refl; next = next old new k l H p caller s c r ws is_old is_new tells o (done tells H p o) }, open-done old new k l H p caller s c r ws is_old is_new tells o (done tells H p o));
+    done = λ n f. (
+      record p { world = after_world p.world s c l },
+      record { base = refl; first = refl; next = next old new k l H p caller s c r ws is_old is_new tells o (done tells H p o) },
+      open-done old new k l H p caller s c r ws is_old is_new tells o (done tells H p o),
+    );
     fault = λ t. absurd (let z = no-fault r accepted in cc (t, z));
   };
   from_stopped = λ tells caller H p o. absurd (let t = o.stopped in cc (t, going));

@@ -40,14 +40,18 @@ stopped-learns W s = record {
 }
 
 -- the machine's next world
-fault-next : (W : World) (e : Entry1) → e.reply ≡ reply.Refused refusal.WriteFault → W.stopped ≡ false → first_of (rows W (stopped_world W) e.step) ≡ None → may_write e.step ≡ true → IsClaim W e.step e.claims → Next W e (stopped_world W)
-fault-next W e is going none may claim = ByWrite going none may is claim (record { version = refl; blocks = refl; inodes = refl; mount = refl; serial = refl; files = refl; homes = refl }) refl (stopped-learns W e.step)
+fault-next : (W : World) (e : Entry1) → e.reply ≡ reply.Refused refusal.WriteFault → W.stopped ≡ false → first_of (rows W (stopped_world W) e.step) ≡ None
+    → may_write e.step ≡ true → IsClaim W e.step e.claims → Next W e (stopped_world W)
+fault-next W e is going none may claim = ByWrite going none may is claim
+    (record { version = refl; blocks = refl; inodes = refl; mount = refl; serial = refl; files = refl; homes = refl }) refl (stopped-learns W e.step)
 
-module _ (old new : DiskState) (k l : Books) (at : l.at ≡ k.at) (history : l.history ≡ k.history) (stops : l.stopped ≡ true) (H : List Entry1) (p : Past) (caller : ℕ) (s : Step) (c : Claims) (is : IsDisk old) (tells : IsTrue old.tells) (o : IsOpen old k H p) where
+module _ (old new : DiskState) (k l : Books) (at : l.at ≡ k.at) (history : l.history ≡ k.history) (stops : l.stopped ≡ true) (H : List Entry1) (p : Past)
+    (caller : ℕ) (s : Step) (c : Claims) (is : IsDisk old) (tells : IsTrue old.tells) (o : IsOpen old k H p) where
   abbrev e : Entry1
   e = entry caller old new s c (reply.Refused refusal.WriteFault)
 
-  pub open-fault : AddsProper p.base H e p.mark p.stamps old new → old.moment < new.moment → first_of (rows p.world (stopped_world p.world) s) ≡ None → may_write s ≡ true → IsClaim p.world s c
+  pub open-fault : AddsProper p.base H e p.mark p.stamps old new → old.moment < new.moment → first_of (rows p.world (stopped_world p.world) s) ≡ None
+      → may_write s ≡ true → IsClaim p.world s c
       → IsStopped new l (H ++ e ∷ []) (record p { world = stopped_world p.world })
   open-fault adds later none may claim =
       let going : p.world.stopped ≡ false = o.says.stopped ∙ o.going in
@@ -56,14 +60,18 @@ module _ (old new : DiskState) (k l : Books) (at : l.at ≡ k.at) (history : l.h
         run = run-more old new k l H p e (stopped_world p.world) o.run (ap (λ h. h.start) history) refl refl (omega (arith, later)) (λ t. later) next;
         stopped = stops;
         world_stopped = refl;
-        lasts = subst (λ (n : ℕ). Lasts p.base (H ++ e ∷ []) p.mark p.stamps n new) (sym (ap (λ h. h.start) history)) (law-lasts old new p.base H e p.mark p.stamps k.history.start (next_stamp p.world)
+        lasts = subst (λ (n : ℕ). Lasts p.base (H ++ e ∷ []) p.mark p.stamps n new) (sym (ap (λ h. h.start) history))
+            (law-lasts old new p.base H e p.mark p.stamps k.history.start (next_stamp p.world)
             (record { stage = o.stage; disk = is; tells = tells; from = refl; to = refl; no_flush = refl }) adds);
       }
 
 -- the contract of a step whose write failed
-pub goes-fault : (old new : DiskState) (k l : Books) (s : Step) (c : Claims) → IsDisk old → k.stopped ≡ false → l.at ≡ k.at → l.history ≡ k.history → l.stopped ≡ true → IsSameDisk old new → KeepsPast old new → Rose old.faults new.faults → old.moment < new.moment → IsSafe old k → IsSafe new l
+pub goes-fault : (old new : DiskState) (k l : Books) (s : Step) (c : Claims) → IsDisk old → k.stopped ≡ false → l.at ≡ k.at → l.history ≡ k.history
+    → l.stopped ≡ true → IsSameDisk old new → KeepsPast old new → Rose old.faults new.faults → old.moment < new.moment → IsSafe old k → IsSafe new l
     → (IsTrue old.tells → (H : List Entry1) (p : Past) → IsOpen old k H p → AddsNumbered p.world c old new)
-    → (IsTrue old.tells → (caller : ℕ) (H : List Entry1) (p : Past) → IsOpen old k H p → AddsProper p.base H (entry caller old new s c (reply.Refused refusal.WriteFault)) p.mark p.stamps old new × (first_of (rows p.world (stopped_world p.world) s) ≡ None) × (may_write s ≡ true) × IsClaim p.world s c)
+    → (IsTrue old.tells → (caller : ℕ) (H : List Entry1) (p : Past) → IsOpen old k H p
+    → AddsProper p.base H (entry caller old new s c (reply.Refused refusal.WriteFault)) p.mark p.stamps old new ×
+    (first_of (rows p.world (stopped_world p.world) s) ≡ None) × (may_write s ≡ true) × IsClaim p.world s c)
     → Goes old k new l s c (reply.Refused refusal.WriteFault)
 goes-fault old new k l s c is going at history stopped disk past rose later safe_old safe numbered proper = record {
   disk = disk;
@@ -92,7 +100,16 @@ goes-fault old new k l s c is going at history stopped disk past rose later safe
       record {
         none = λ t. absurd (cc);
         done = λ n f. absurd (cc);
-        fault = λ t. (record p { world = stopped_world p.world }, record { base = refl; first = refl; next = fault-next p.world (entry caller old new s c (reply.Refused refusal.WriteFault)) refl (o.says.stopped ∙ o.going) q.1 q.2 q.3 }, open-fault old new k l at history stopped H p caller s c is tells o q.0 later q.1 q.2 q.3);
+        fault = λ t. (
+          record p { world = stopped_world p.world },
+          record {
+            base = refl;
+            first = refl;
+            next = fault-next p.world (entry caller old new s c (reply.Refused refusal.WriteFault)) refl
+                (o.says.stopped ∙ o.going) q.1 q.2 q.3;
+          },
+          open-fault old new k l at history stopped H p caller s c is tells o q.0 later q.1 q.2 q.3,
+        );
       };
   from_stopped = λ tells caller H p o. absurd (let t = o.stopped in cc (t, going));
 }
@@ -101,5 +118,6 @@ goes-fault old new k l s c is going at history stopped disk past rose later safe
     sounds tells H p (inl o) from q =
         let a = proper tells 0 H p o in
         sounds-adds old new k H p (entry 0 old new s c (reply.Refused refusal.WriteFault)) (stopped_world p.world) _ is tells safe_old o
-        (fault-next p.world (entry 0 old new s c (reply.Refused refusal.WriteFault)) refl (o.says.stopped ∙ o.going) a.1 a.2 a.3) a.0 (numbered tells H p o) from q
+        (fault-next p.world (entry 0 old new s c (reply.Refused refusal.WriteFault)) refl (o.says.stopped ∙ o.going) a.1 a.2 a.3) a.0 (numbered tells H p o)
+        from q
     sounds tells H p (inr o) from q = absurd (let t = o.stopped in cc (t, going))

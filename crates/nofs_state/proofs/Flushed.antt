@@ -68,8 +68,10 @@ module _ (old new : DiskState) (k : Books) (i g : ℕ) (is_old : IsDisk old) (is
   open-flushed caller H p tells o f =
       let e : Entry1 = flush_entry caller old new i g in
       let F : Files = files_along (agreed_files p.base) H in
-      let r : IsRun new k (H ++ e ∷ []) (record p { world = p.world }) = run-more old new k k H p e p.world o.run refl refl refl (let m = f.moment in omega (arith, m)) (λ t. let m = f.moment in omega (arith, m))
-      (by-answer p.world old.now e (o.says.stopped ∙ going) (open-files old k H p o) o.homes o.homes_past (flush-reads i g) (comes tells H p o p.world) refl refl) in
+      let r : IsRun new k (H ++ e ∷ []) (record p { world = p.world }) =
+      run-more old new k k H p e p.world o.run refl refl refl (let m = f.moment in omega (arith, m)) (λ t. let m = f.moment in omega (arith, m))
+      (by-answer p.world old.now e (o.says.stopped ∙ going) (open-files old k H p o) o.homes o.homes_past (flush-reads i g) (comes tells H p o p.world)
+      refl refl) in
       record {
         run = record { run = r.run; ends = r.ends };
         going = going;
@@ -119,17 +121,29 @@ module _ (old new : DiskState) (k : Books) (i g : ℕ) (is_old : IsDisk old) (is
     sound = λ tells H p o from q. sounds-flush from old new is_new f q;
     from_open = λ tells caller H p o. record {
       none = λ t. absurd (cc);
-      done = λ n t. (record p { mark = old.now; stamps = next_stamp p.world }, record { base = refl; first = refl; next = by-answer p.world old.now (flush_entry caller old new i g) (o.says.stopped ∙ going) (open-files old k H p o) o.homes o.homes_past (flush-reads i g) (comes tells H p o p.world) refl refl }, open-flushed caller H p tells o f);
+      done = λ n t. (
+        record p { mark = old.now; stamps = next_stamp p.world },
+        record {
+          base = refl;
+          first = refl;
+          next = by-answer p.world old.now (flush_entry caller old new i g) (o.says.stopped ∙ going)
+              (open-files old k H p o) o.homes o.homes_past (flush-reads i g) (comes tells H p o p.world) refl refl;
+        },
+        open-flushed caller H p tells o f,
+      );
       fault = λ t. absurd (cc);
     };
     from_stopped = λ tells caller H p o. absurd (let t = o.stopped in cc (t, going));
   }
 
   pub goes-unflushed : (x : Failed) → Flushes old new (Err x) → Goes old k new (stopped_books k) (step.Flush i g) no_claims (reply.Refused refusal.WriteFault)
-  goes-unflushed x f = goes-fault old new k (stopped_books k) (step.Flush i g) no_claims is_old going refl refl refl f.disk f.past f.cause (let m = f.moment in omega (arith, m)) safe (safe-flushed old new k true f safe)
+  goes-unflushed x f = goes-fault old new k (stopped_books k) (step.Flush i g) no_claims is_old going refl refl refl f.disk f.past f.cause (let m =
+      f.moment in omega (arith, m)) safe (safe-flushed old new k true f safe)
       (λ tells H p o. Adds-flushes (λ b cell. CellNumbers (Numbered p.world no_claims) old.now b cell) old new is_new f)
       (λ tells caller H p o. (
-        Adds-flushes (Proper (during (mark_at p.base H (old.moment + 1) p.mark p.stamps) (given_by (files_along (agreed_files p.base) H) (entry caller old new (step.Flush i g) no_claims (reply.Refused refusal.WriteFault)))) old.now) old new is_new f,
+        Adds-flushes (Proper (during (mark_at p.base H (old.moment + 1) p.mark p.stamps)
+            (given_by (files_along (agreed_files p.base) H) (entry caller old new (step.Flush i g) no_claims (reply.Refused refusal.WriteFault)))) old.now)
+            old new is_new f,
         comes tells H p o (stopped_world p.world),
         refl,
         record { inode = NoInode refl refl; cell = Unclaimed refl; leaf = Unclaimed refl; top = Unclaimed refl; apart = tt },

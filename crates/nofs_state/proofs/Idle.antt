@@ -35,25 +35,30 @@ takes-none (reply.Refused _) f w = refl
 takes-none _ f w = refl
 
 -- one more entry of a run
-pub run-more : (old new : DiskState) (k l : Books) (H : List Entry1) (p : Past) (e : Entry1) (V : World) → IsRun old k H p → l.history.start ≡ k.history.start → e.from ≡ old.moment → e.to ≡ new.moment → old.moment ≤ new.moment
+pub run-more : (old new : DiskState) (k l : Books) (H : List Entry1) (p : Past) (e : Entry1) (V : World) → IsRun old k H p
+    → l.history.start ≡ k.history.start → e.from ≡ old.moment → e.to ≡ new.moment → old.moment ≤ new.moment
     → (takes_time e.reply ≡ true → old.moment < new.moment) → Next p.world e V → IsRun new l (H ++ e ∷ []) (record p { world = V })
 run-more old new k l H p e V r start from to later time next = record {
   run = subst (λ (n : ℕ). Run n (world_of p.base p.first) (H ++ e ∷ []) V) (sym start)
-      (run-append H k.history.start (world_of p.base p.first) p.world V e r.run (from ∙ sym r.ends) (omega (arith, from, to, later)) (λ t. let q = time t in omega (arith, from, to, q)) next);
+      (run-append H k.history.start (world_of p.base p.first) p.world V e r.run (from ∙ sym r.ends) (omega (arith, from, to, later)) (λ t. let q =
+      time t in omega (arith, from, to, q)) next);
   ends = ends-append H l.history.start e ∙ to;
 }
 
-module _ (old new : DiskState) (k l : Books) (H : List Entry1) (p : Past) (e : Entry1) (stays : StaysButFaults old new) (from : e.from ≡ old.moment) (to : e.to ≡ new.moment) (history : l.history ≡ k.history) where
+module _ (old new : DiskState) (k l : Books) (H : List Entry1) (p : Past) (e : Entry1) (stays : StaysButFaults old new) (from : e.from ≡ old.moment)
+    (to : e.to ≡ new.moment) (history : l.history ≡ k.history) where
   start : l.history.start ≡ k.history.start
   start = ap (λ (h : HistoryState). h.start) history
 
-  run-idle : (V : World) → is_flushed e.reply ≡ false → is_write_fault e.reply ≡ false → IsRun old k H p → Next p.world e V → IsRun new l (H ++ e ∷ []) (record p { world = V })
+  run-idle : (V : World) → is_flushed e.reply ≡ false → is_write_fault e.reply ≡ false → IsRun old k H p → Next p.world e V
+      → IsRun new l (H ++ e ∷ []) (record p { world = V })
   run-idle V plain safe r next =
       let same : new.moment ≡ old.moment = stays.cells.moment in
       let none : takes_time e.reply ≡ false = takes-none e.reply plain safe in
       run-more old new k l H p e V r start from to (omega (arith, same)) (λ t. absurd (cc (t, none))) next
 
-  pub open-idle : (V : World) → IsDisk old → IsTrue old.tells → IsOpen old k H p → IsIdle p.world.files e → Next p.world e V → Keeps p.world V → Says l V → l.at ≡ k.at → l.stopped ≡ false
+  pub open-idle : (V : World) → IsDisk old → IsTrue old.tells → IsOpen old k H p → IsIdle p.world.files e → Next p.world e V → Keeps p.world V → Says l V
+      → l.at ≡ k.at → l.stopped ≡ false
       → IsOpen new l (H ++ e ∷ []) (record p { world = V })
   open-idle V is tells o idle next keeps says at going =
       let now : new.now ≡ old.now = stays.cells.now in
@@ -79,11 +84,13 @@ module _ (old new : DiskState) (k l : Books) (H : List Entry1) (p : Past) (e : E
       }
 
   -- the same where a write has failed before
-  pub stopped-idle : IsStopped old k H p → is_flushed e.reply ≡ false → is_write_fault e.reply ≡ false → given_by (files_along (agreed_files p.base) H) e ≡ nothing → Next p.world e p.world → l.stopped ≡ true
+  pub stopped-idle : IsStopped old k H p → is_flushed e.reply ≡ false → is_write_fault e.reply ≡ false
+      → given_by (files_along (agreed_files p.base) H) e ≡ nothing → Next p.world e p.world → l.stopped ≡ true
       → IsStopped new l (H ++ e ∷ []) p
   stopped-idle o plain safe given next stopped = record {
     run = run-idle p.world plain safe o.run next;
     stopped = stopped;
     world_stopped = o.world_stopped;
-    lasts = subst (λ (n : ℕ). Lasts p.base (H ++ e ∷ []) p.mark p.stamps n new) (sym start) (lasts-idle p.base H e p.mark p.stamps k.history.start old new o.lasts stays from to plain given);
+    lasts = subst (λ (n : ℕ). Lasts p.base (H ++ e ∷ []) p.mark p.stamps n new) (sym start)
+        (lasts-idle p.base H e p.mark p.stamps k.history.start old new o.lasts stays from to plain given);
   }

@@ -158,7 +158,10 @@ module _ (old new : DiskState) (keep : Keeping old new) where
       stopped = g.cause.stopped;
       not_stopped = g.cause.not_stopped;
       read = λ e. let f = keep.disk.faults in let h = g.cause.read e in omega (arith, f, h);
-      write = λ e. let h = g.cause.write e in ((let f = keep.disk.faults in let q = h.0 in omega (arith, f, q)), (let m = moment' in let q = h.1 in omega (arith, m, q)));
+      write = λ e. let h = g.cause.write e in (
+        (let f = keep.disk.faults in let q = h.0 in omega (arith, f, q)),
+        (let m = moment' in let q = h.1 in omega (arith, m, q)),
+      );
       stops = g.cause.stops;
       fault = g.cause.fault;
       keeps = g.cause.keeps;
@@ -172,8 +175,12 @@ module _ (old new : DiskState) (keep : Keeping old new) where
     at = g.at;
     history = g.history;
     sound = λ tells H p o from q. g.sound (told tells) H p (either H p o) from (sounds-keep from old new keep.disk keep.past keep.cells q);
-    from_open = λ tells caller H p o. subst (λ (n : ℕ). Follows old end l H p (record { caller = caller; from = n; to = end.moment; step = s; reply = r; claims = c })) moment' (again H p caller (g.from_open (told tells) caller H p (open-keeps k H p o)));
-    from_stopped = λ tells caller H p o. subst (λ (n : ℕ). StaysStopped old end l H p (record { caller = caller; from = n; to = end.moment; step = s; reply = r; claims = c })) moment' (still H p caller (g.from_stopped (told tells) caller H p (stopped-keeps k H p o)));
+    from_open = λ tells caller H p o. subst (λ (n : ℕ). Follows old end l H p
+        (record { caller = caller; from = n; to = end.moment; step = s; reply = r; claims = c })) moment'
+        (again H p caller (g.from_open (told tells) caller H p (open-keeps k H p o)));
+    from_stopped = λ tells caller H p o. subst (λ (n : ℕ). StaysStopped old end l H p
+        (record { caller = caller; from = n; to = end.moment; step = s; reply = r; claims = c })) moment'
+        (still H p caller (g.from_stopped (told tells) caller H p (stopped-keeps k H p o)));
   }
     where
       told : IsTrue old.tells → IsTrue new.tells

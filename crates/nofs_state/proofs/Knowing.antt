@@ -57,4 +57,10 @@ open-knows d k known H p tells learns safe o = record {
 
 pub stopped-knows : (d : DiskState) (k : Books) (known : List (Option Bool)) (H : List Entry1) (p : Past) → IsStopped d k H p
     → IsStopped d (with_agreement k known) H p
-stopped-knows d k known H p s = record { run = record { run = s.run.run; ends = s.run.ends }; stopped = s.stopped; world_stopped = s.world_stopped; lasts = s.lasts }
+stopped-knows d k known H p s = record {
+  run = record { run = s.run.run; ends = s.run.ends };
+  stopped = s.stopped;
+  world_stopped = s.world_stopped;
+  lasts =
+      s.lasts;
+}

@@ -57,10 +57,12 @@ machine-pair F X i link match a = go (agreed (files_in X) link.directory) refl
   where
     go : (b : Bool) → agreed (files_in X) link.directory ≡ b → is_pair F i link ≡ (is_pair (files_in X) i link && agreed (files_in X) link.directory)
     go true e =
-        pairs-alike (F i) (files_in X i) (F link.directory) (files_in X link.directory) i link (same-alike (F i) (files_in X i) (same-of F X i match a)) (same-alike (F link.directory) (files_in X link.directory) (same-of F X link.directory match e))
+        pairs-alike (F i) (files_in X i) (F link.directory) (files_in X link.directory) i link (same-alike (F i) (files_in X i) (same-of F X i match a))
+        (same-alike (F link.directory) (files_in X link.directory) (same-of F X link.directory match e))
         ∙ and-true (is_pair (files_in X) i link) ∙ ap (λ (b : Bool). is_pair (files_in X) i link && b) (sym e)
     go false e =
-        let none : F link.directory ≡ None = same-none (F link.directory) (subst (λ (o : Option FileState). SameFile (F link.directory) o) (agreed-files-is X link.directory ∙ rw e refl) (match link.directory)) in
+        let none : F link.directory ≡ None = same-none (F link.directory)
+        (subst (λ (o : Option FileState). SameFile (F link.directory) o) (agreed-files-is X link.directory ∙ rw e refl) (match link.directory)) in
         ap (λ (o : Option FileState). pairs (F i) o i link) none ∙ no-pair (F i) i link
         ∙ and-false (is_pair (files_in X) i link) ∙ ap (λ (b : Bool). is_pair (files_in X) i link && b) (sym e)
 
@@ -85,4 +87,5 @@ stale-some W X i g match c = stale-is W X i g match ∙ rw c refl
 -- what the books know of inodes is true
 pub are-agreed : (d : DiskState) (k : Books) (H : List Entry1) (p : Past) → IsSafe d k → IsOpen d k H p → AreTrue d.now k.agreement
 are-agreed d k H p safe o i =
-    if-told (told k.agreement i) (λ a. agreed (files_in d.now) i ≡ a) (λ a known. sym (uses-inode p.world.files d.now (open-files d k H p o) i) ∙ o.says.agreement i a known)
+    if-told (told k.agreement i) (λ a. agreed (files_in d.now) i ≡ a)
+    (λ a known. sym (uses-inode p.world.files d.now (open-files d k H p o) i) ∙ o.says.agreement i a known)

@@ -37,13 +37,15 @@ between-all from place n low = grind (arith, nat_tests)
 pub sets-begins : (places from : ℕ) → SetsFrom places from from (replicate places false)
 sets-begins places from = record { len = length-replicate places false; each = λ n low. set-none places n ∙ sym (between-none from n) }
 
-pub sets-goes : (places from place : ℕ) (bits : List Bool) → SetsFrom places from place bits → from ≤ place → place < places → SetsFrom places from (place + 1) (slice_set bits place true)
+pub sets-goes : (places from place : ℕ) (bits : List Bool) → SetsFrom places from place bits → from ≤ place → place < places
+    → SetsFrom places from (place + 1) (slice_set bits place true)
 sets-goes places from place bits s low high = record {
   len = set-length bits place true ∙ s.len;
   each = λ n lt. elim (cases_eq n place) [
     | inl here ↦
         let at : place < length bits = let e = s.len in omega (arith, e, high) in
-        subst (λ (q : ℕ). is_set (slice_set bits place true) q ≡ (leb from q && ltb q (place + 1))) (sym here) (set-here bits place true at ∙ sym (between-here from place low))
+        subst (λ (q : ℕ). is_set (slice_set bits place true) q ≡ (leb from q && ltb q (place + 1))) (sym here)
+        (set-here bits place true at ∙ sym (between-here from place low))
     | inr other ↦ set-other bits place n true other ∙ s.each n lt ∙ sym (between-other from place n other)
   ];
 }

@@ -16,7 +16,8 @@ use Rattle.nofs_state.specs.declared.opening.Opened.{Opened}
 use Rattle.nofs_state.proofs.Machine.{agreed-live}
 
 pub IsLast-on : (old new : DiskState) (last : LastRead) → StaysButFaults old new → IsLast old last → IsLast new last
-IsLast-on old new last s is tells = subst (λ (X : Image). IfSome last.block (λ block. last.cell ≡ cell_at X block)) (sym s.cells.now) (is (subst (λ (b : Bool). IsTrue b) s.disk.tells tells))
+IsLast-on old new last s is tells = subst (λ (X : Image). IfSome last.block (λ block. last.cell ≡ cell_at X block)) (sym s.cells.now)
+    (is (subst (λ (b : Bool). IsTrue b) s.disk.tells tells))
 
 same-current : (X : Image) (i g : ℕ) → agreed (files_in X) i ≡ true → (inode X i).generation ≡ g → is_current X i g ≡ true
 same-current X i g a e = rw (a, eq-eqb (inode X i).generation g e) refl
@@ -31,7 +32,8 @@ pub opened : (old mid new : DiskState) (k : Books) (i g : ℕ) (r : Record) (las
 opened old mid new k i g r last res a b knows kept gen ok err agrees = by-result res ok err
   where
     agreed-old : IsTrue old.tells → AreTrue old.now k.agreement → agreed (files_in old.now) i ≡ true
-    agreed-old t all = sym (subst (λ (X : Image). true ≡ agreed (files_in X) i) a.cells.now (agrees (told-on old mid a t) (subst (λ (X : Image). AreTrue X k.agreement) (sym a.cells.now) all)))
+    agreed-old t all = sym (subst (λ (X : Image). true ≡ agreed (files_in X) i) a.cells.now
+        (agrees (told-on old mid a t) (subst (λ (X : Image). AreTrue X k.agreement) (sym a.cells.now) all)))
 
     by-result : (q : Result Opened Refusal) → IfOk q (λ it. (it.found ≡ r) × (r.kind ≡ Some it.kind))
         → IfErr q (λ why. (why ≡ refusal.Stale) × (r.kind ≡ None)) → Opens old new k i g last q
@@ -65,6 +67,7 @@ opened-not old mid new k i g last b a c fails agrees = record {
   kept = tt;
   refused = λ t all.
       let is : agreed (files_in old.now) i ≡ false =
-      sym (subst (λ (X : Image). b ≡ agreed (files_in X) i) a.cells.now (agrees (told-on old mid a t) (subst (λ (X : Image). AreTrue X k.agreement) (sym a.cells.now) all))) ∙ fails in
+      sym (subst (λ (X : Image). b ≡ agreed (files_in X) i) a.cells.now
+      (agrees (told-on old mid a t) (subst (λ (X : Image). AreTrue X k.agreement) (sym a.cells.now) all))) ∙ fails in
       rw is refl;
 }

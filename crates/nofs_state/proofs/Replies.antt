@@ -9,7 +9,8 @@ use Rattle.nofs_model.proofs.Paths.{path_of-number}
 use Rattle.nofs_machine.specs.Search.{first_of}
 use Rattle.nofs_machine.specs.Machine.{gives, files_after, is_write_fault, is_refused}
 use Rattle.nofs_machine.specs.World.{World, inodes_needed, blocks_needed}
-use Rattle.nofs_machine.specs.Claims.{no_claims, next_stamp, cell_slot, homes_after, has_block, claimed_home, IsClaim, IsBlockClaim, IsInodeClaim, Unclaimed, NoInode}
+use Rattle.nofs_machine.specs.Claims.{no_claims, next_stamp, cell_slot, homes_after, has_block, claimed_home, IsClaim, IsBlockClaim, IsInodeClaim, Unclaimed}
+use Rattle.nofs_machine.specs.Claims.{NoInode}
 use Rattle.nofs_machine.specs.Refusals.{rows, reads_nothing}
 use Rattle.nofs_machine.specs.Answers.{reply_of}
 use Rattle.nofs_machine.specs.History.{is_flushed, FilesMatch}
@@ -119,7 +120,8 @@ by-answer W X e going match homes past reads none is claims = Done going none is
     })
 
     files : W.files ≡ files_after W.files (gives W.files e.step e.claims)
-    files = sym (ap (λ (c : Claims). files_after W.files (gives W.files e.step c)) claims ∙ ap (λ g. files_after W.files g) (reads.gives W.files) ∙ files-stay W.files)
+    files = sym (ap (λ (c : Claims). files_after W.files (gives W.files e.step c)) claims ∙ ap (λ g. files_after W.files g) (reads.gives W.files)
+        ∙ files-stay W.files)
 
     homes-are : W.homes ≡ homes_after W e.step e.claims W.files
     homes-are = sym (ap (λ (c : Claims). homes_after W e.step c W.files) claims ∙ homes-stay W X e.step match homes past (reads.no_slot W.files))
@@ -190,7 +192,8 @@ module _ (old new : DiskState) (k : Books) (s : Step) (is : IsDisk old) (safe : 
     from_open = λ tells caller H p o. absurd (let g = o.going in cc (g, stopped));
     from_stopped = λ tells caller H p o. record {
       none = λ t. absurd (cc);
-      done = λ n. stopped-idle old new k k H p (entry caller old new s no_claims (reply.Refused refusal.Stopped)) stays refl refl refl o refl refl refl (AfterFault o.world_stopped refl refl refl) stopped;
+      done = λ n. stopped-idle old new k k H p (entry caller old new s no_claims (reply.Refused refusal.Stopped)) stays refl refl refl o refl refl refl
+          (AfterFault o.world_stopped refl refl refl) stopped;
       next = λ n. AfterFault o.world_stopped refl refl refl;
     };
   }
@@ -228,9 +231,15 @@ module _ (old new : DiskState) (k : Books) (s : Step) (is : IsDisk old) (safe : 
           none = λ t. absurd (let z = plain-memory why plain in cc (t, z));
           done = λ n f. (
             p,
-            record { base = refl; first = refl; next = ByRow why open_world (comes tells H p o) (inl refl) refl (keeps-all p.world) open_world (nothing-learned p.world s) },
+            record {
+              base = refl;
+              first = refl;
+              next = ByRow why open_world (comes tells H p o) (inl refl) refl (keeps-all p.world) open_world
+                  (nothing-learned p.world s);
+            },
             open-idle old new k k H p e stays refl refl refl p.world is tells o (refused-idle p.world.files e why refl (plain-fault why plain))
-                (ByRow why open_world (comes tells H p o) (inl refl) refl (keeps-all p.world) open_world (nothing-learned p.world s)) (keeps-all p.world) o.says refl going,
+                (ByRow why open_world (comes tells H p o) (inl refl) refl (keeps-all p.world) open_world (nothing-learned p.world s)) (keeps-all p.world)
+                o.says refl going,
           );
           fault = λ t. absurd (let z = plain-fault why plain in cc (t, z));
         };
@@ -239,7 +248,8 @@ module _ (old new : DiskState) (k : Books) (s : Step) (is : IsDisk old) (safe : 
 
   -- a read failed
   pub goes-read : k.stopped ≡ false → Rose old.faults new.faults
-      → (IsTrue old.tells → (H : List Entry1) (p : Past) → IsOpen old k H p → (why : Refusal) → first_of (rows p.world p.world s) ≡ Some why → reads_nothing why ≡ false)
+      → (IsTrue old.tells → (H : List Entry1) (p : Past) → IsOpen old k H p → (why : Refusal) → first_of (rows p.world p.world s) ≡ Some why
+      → reads_nothing why ≡ false)
       → Goes old k new k s no_claims (reply.Refused refusal.ReadFault)
   goes-read going rose late = record {
     disk = stays.disk;
@@ -313,9 +323,21 @@ module _ (old new : DiskState) (k : Books) (s : Step) (is : IsDisk old) (safe : 
           none = λ t. absurd (let z = no-memory r accepted in cc (t, z));
           done = λ n f. (
             p,
-            record { base = refl; first = refl; next = by-answer p.world old.now e open_world (open-files old k H p o) o.homes o.homes_past reads c.0 c.1 refl },
+            record {
+              base = refl;
+              first = refl;
+              next = by-answer p.world old.now e open_world (open-files old k H p o)
+                  o.homes o.homes_past reads c.0 c.1 refl;
+            },
             open-idle old new k k H p e stays refl refl refl p.world is tells o
-                (record { given = rw accepted (reads.gives p.world.files); files = rw accepted (ap (λ g. files_after p.world.files g) (reads.gives p.world.files) ∙ files-stay p.world.files); no_flush = plain; no_fault = no-fault r accepted })
+                (record {
+                  given = rw accepted (reads.gives p.world.files);
+                  files =
+                      rw accepted (ap (λ g. files_after p.world.files g) (reads.gives p.world.files) ∙ files-stay p.world.files);
+                  no_flush = plain;
+                  no_fault =
+                      no-fault r accepted;
+                })
                 (by-answer p.world old.now e open_world (open-files old k H p o) o.homes o.homes_past reads c.0 c.1 refl) (keeps-all p.world) o.says refl going,
           );
           fault = λ t. absurd (let z = no-fault r accepted in cc (t, z));

@@ -120,7 +120,8 @@ safely-memory old new keep k safe = record {
 }
 
 -- a step from there on is one from here on
-pub safely-after : (old new : DiskState) (keep : Keeping old new) (end : DiskState) (k l : Books) (r : Reply) → IsSafeStep new k end l r → IsSafeStep old k end l r
+pub safely-after : (old new : DiskState) (keep : Keeping old new) (end : DiskState) (k l : Books) (r : Reply) → IsSafeStep new k end l r
+    → IsSafeStep old k end l r
 safely-after old new keep end k l r g = record {
   disk = IsSameDisk-trans old new end keep.disk g.disk;
   past = KeepsPast-trans old new end (let m = keep.cells.moment in omega (arith, m)) keep.past g.past;
@@ -129,7 +130,10 @@ safely-after old new keep end k l r g = record {
     stopped = g.cause.stopped;
     not_stopped = g.cause.not_stopped;
     read = λ e. let f = keep.disk.faults in let h = g.cause.read e in omega (arith, f, h);
-    write = λ e. let h = g.cause.write e in ((let f = keep.disk.faults in let q = h.0 in omega (arith, f, q)), (let m = keep.cells.moment in let q = h.1 in omega (arith, m, q)));
+    write = λ e. let h = g.cause.write e in (
+      (let f = keep.disk.faults in let q = h.0 in omega (arith, f, q)),
+      (let m = keep.cells.moment in let q = h.1 in omega (arith, m, q)),
+    );
     stops = g.cause.stops;
     fault = g.cause.fault;
     keeps = g.cause.keeps;
@@ -145,7 +149,8 @@ safely-after old new keep end k l r g = record {
 }
 
 -- the writes are done
-pub safely-done : (old new : DiskState) (k l : Books) (r : Reply) → k.stopped ≡ false → l.at ≡ k.at → l.history ≡ k.history → l.stopped ≡ false → IsSafe new l → is_refused r ≡ false → IsSameDisk old new → KeepsPast old new → old.moment < new.moment → IsSafeStep old k new l r
+pub safely-done : (old new : DiskState) (k l : Books) (r : Reply) → k.stopped ≡ false → l.at ≡ k.at → l.history ≡ k.history → l.stopped ≡ false
+    → IsSafe new l → is_refused r ≡ false → IsSameDisk old new → KeepsPast old new → old.moment < new.moment → IsSafeStep old k new l r
 safely-done old new k l r going at history runs safe accepted disk past later = record {
   disk = disk;
   past = past;
@@ -178,7 +183,8 @@ safely-done old new k l r going at history runs safe accepted disk past later = 
     has-range _ e = tt
 
 -- a write failed
-pub safely-fault : (old new : DiskState) (k l : Books) → k.stopped ≡ false → l.at ≡ k.at → l.history ≡ k.history → l.stopped ≡ true → IsSafe new l → IsSameDisk old new → KeepsPast old new → Rose old.faults new.faults → old.moment < new.moment
+pub safely-fault : (old new : DiskState) (k l : Books) → k.stopped ≡ false → l.at ≡ k.at → l.history ≡ k.history → l.stopped ≡ true → IsSafe new l
+    → IsSameDisk old new → KeepsPast old new → Rose old.faults new.faults → old.moment < new.moment
     → IsSafeStep old k new l (reply.Refused refusal.WriteFault)
 safely-fault old new k l going at history stopped safe disk past rose later = record {
   disk = disk;

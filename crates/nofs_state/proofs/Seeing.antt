@@ -1,5 +1,6 @@
 -- A See step: one more element is known, with the verdict of the disk.
-use Rattle.std.proofs.Common.{◌≡◌, ◌≢◌, ℕ, ◌+◌, ◌/◌, ◌<◌, ◌≤◌, ◌⊎◌, inl, inr, Bool, true, false, cond, ◌&&◌, ◌||◌, not, eqb, ltb, leb, List, length, Some, None, is_some, IsTrue, refl, sym, ap, ◌∙◌, subst, eq-eqb, eqb-true, arith}
+use Rattle.std.proofs.Common.{◌≡◌, ◌≢◌, ℕ, ◌+◌, ◌/◌, ◌<◌, ◌≤◌, ◌⊎◌, inl, inr, Bool, true, false, cond, ◌&&◌, ◌||◌, not, eqb, ltb, leb, List, length, Some}
+use Rattle.std.proofs.Common.{None, is_some, IsTrue, refl, sym, ap, ◌∙◌, subst, eq-eqb, eqb-true, arith}
 use Rattle.std.specs.Prelude.{slice_set}
 use Rattle.std.proofs.lemmas.Bool.{cases_eq, cases_lt, ne_eqb}
 use Rattle.std.proofs.lemmas.List.{get_or_past}
@@ -66,10 +67,12 @@ pub record Sees (W V : World) (s : Step) (used : Bool) : Type 0 where
   pub going : V.stopped ≡ false
   pub learns : Learns W s true V
 
-module _ (old new : DiskState) (k l : Books) (s : Step) (used : Bool) (is : IsDisk old) (stays : StaysButFaults old new) (at : l.at ≡ k.at) (history : l.history ≡ k.history) (going : k.stopped ≡ false) (still : l.stopped ≡ false) where
+module _ (old new : DiskState) (k l : Books) (s : Step) (used : Bool) (is : IsDisk old) (stays : StaysButFaults old new) (at : l.at ≡ k.at)
+    (history : l.history ≡ k.history) (going : k.stopped ≡ false) (still : l.stopped ≡ false) where
   next-seen : (caller : ℕ) (H : List Entry1) (p : Past) (V : World) → IsOpen old k H p → IsSeeing s → Sees p.world V s used
       → Next p.world (entry caller old new s no_claims (reply.Seen used)) V
-  next-seen caller H p V o seeing sees = Done (o.says.stopped ∙ going) sees.rows sees.reply claim files homes-are serial (sees.keeps.version, sees.keeps.blocks, sees.keeps.inodes, sees.keeps.mount, sees.going) sees.learns
+  next-seen caller H p V o seeing sees = Done (o.says.stopped ∙ going) sees.rows sees.reply claim files homes-are serial
+      (sees.keeps.version, sees.keeps.blocks, sees.keeps.inodes, sees.keeps.mount, sees.going) sees.learns
     where
       W : World
       W = p.world
@@ -87,7 +90,8 @@ module _ (old new : DiskState) (k l : Books) (s : Step) (used : Bool) (is : IsDi
       files = sees.keeps.files ∙ sym (ap (λ g. files_after W.files g) (seeing.gives W.files) ∙ files-stay W.files)
 
       homes-are : V.homes ≡ homes_after W s no_claims V.files
-      homes-are = sees.keeps.homes ∙ sym (ap (λ (F : Files). homes_after W s no_claims F) sees.keeps.files ∙ homes-stay W old.now s (open-files old k H p o) o.homes o.homes_past (seeing.no_slot W.files))
+      homes-are = sees.keeps.homes ∙ sym (ap (λ (F : Files). homes_after W s no_claims F) sees.keeps.files
+          ∙ homes-stay W old.now s (open-files old k H p o) o.homes o.homes_past (seeing.no_slot W.files))
 
       serial : V.serial ≡ W.serial + inodes_needed s + blocks_needed W.files s
       serial = let a = seeing.no_inode in let b = seeing.no_block W.files in let e = sees.keeps.serial in omega (arith, a, b, e)
@@ -100,7 +104,13 @@ module _ (old new : DiskState) (k l : Books) (s : Step) (used : Bool) (is : IsDi
       record p { world = V },
       record { base = refl; first = refl; next = next-seen caller H p V o seeing sees },
       open-idle old new k l H p (entry caller old new s no_claims (reply.Seen used)) stays refl refl history V is tells o
-          (record { given = seeing.gives p.world.files; files = ap (λ g. files_after p.world.files g) (seeing.gives p.world.files) ∙ files-stay p.world.files; no_flush = refl; no_fault = refl })
+          (record {
+            given = seeing.gives p.world.files;
+            files =
+                ap (λ g. files_after p.world.files g) (seeing.gives p.world.files) ∙ files-stay p.world.files;
+            no_flush = refl;
+            no_fault = refl;
+          })
           (next-seen caller H p V o seeing sees) sees.keeps says at still,
     );
     fault = λ t. cc;
@@ -203,7 +213,8 @@ says-block k W p used s low unknown free right = record {
     known q = elim (cases_eq q p) [
       | inl same ↦
           let here : is_set (slice_set k.unknown_blocks p false) p ≡ false = set-here k.unknown_blocks p false (omega (arith, unknown, low)) in
-          subst (λ (n : ℕ). (eqb n p || W.known_blocks n) ≡ (ltb n k.at.blocks && not (is_set (slice_set k.unknown_blocks p false) n))) (sym same) (rw (eq-eqb p p refl, in-range p k.at.blocks low, here) refl)
+          subst (λ (n : ℕ). (eqb n p || W.known_blocks n) ≡ (ltb n k.at.blocks && not (is_set (slice_set k.unknown_blocks p false) n))) (sym same)
+          (rw (eq-eqb p p refl, in-range p k.at.blocks low, here) refl)
       | inr other ↦ rw (ne_eqb q p other, set-other k.unknown_blocks p q false other) (s.known_blocks q)
     ]
 
@@ -211,7 +222,8 @@ says-block k W p used s low unknown free right = record {
     free-is q inside = elim (cases_eq q p) [
       | inl same ↦
           let here : is_set (slice_set k.free_blocks p (not used)) p ≡ not used = set-here k.free_blocks p (not used) (omega (arith, free, low)) in
-          subst (λ (n : ℕ). is_set (slice_set k.free_blocks p (not used)) n ≡ ((eqb n p || W.known_blocks n) && not (uses_block W n))) (sym same) (here ∙ ap not right ∙ rw (eq-eqb p p refl) refl)
+          subst (λ (n : ℕ). is_set (slice_set k.free_blocks p (not used)) n ≡ ((eqb n p || W.known_blocks n) && not (uses_block W n))) (sym same)
+          (here ∙ ap not right ∙ rw (eq-eqb p p refl) refl)
       | inr other ↦ set-other k.free_blocks p q (not used) other ∙ s.free_blocks q inside ∙ rw (ne_eqb q p other) refl
     ]
 
@@ -247,14 +259,16 @@ safe-block d k p used s lies = record {
     area : (q : ℕ) → is_set (slice_set k.free_blocks p (not used)) q ≡ true → 1 + k.at.inodes / 4 ≤ q
     area q e = elim (cases_eq q p) [
       | inl same ↦
-          let low : p < length k.free_blocks = set-within k.free_blocks p (not used) (subst (λ (n : ℕ). is_set (slice_set k.free_blocks p (not used)) n ≡ true) same e) in
+          let low : p < length k.free_blocks = set-within k.free_blocks p (not used)
+          (subst (λ (n : ℕ). is_set (slice_set k.free_blocks p (not used)) n ≡ true) same e) in
           let here : is_set (slice_set k.free_blocks p (not used)) p ≡ not used = set-here k.free_blocks p (not used) low in
           let f : used ≡ false = freed used (sym here ∙ subst (λ (n : ℕ). is_set (slice_set k.free_blocks p (not used)) n ≡ true) same e) in
           subst (λ (n : ℕ). 1 + k.at.inodes / 4 ≤ n) (sym same) (lies f)
       | inr other ↦ s.in_area q (sym (set-other k.free_blocks p q (not used) other) ∙ e)
     ]
 
-module _ (old new : DiskState) (k : Books) (b : ℕ) (used : Bool) (is : IsDisk old) (safe : IsSafe old k) (stays : StaysButFaults old new) (going : k.stopped ≡ false) (low : b < k.at.blocks) where
+module _ (old new : DiskState) (k : Books) (b : ℕ) (used : Bool) (is : IsDisk old) (safe : IsSafe old k) (stays : StaysButFaults old new)
+    (going : k.stopped ≡ false) (low : b < k.at.blocks) where
   -- what is known of it is known, and the verdict that stands is the machine's
   block-parts : verdict_of_block k b ≡ Some used → (is_set k.unknown_blocks b ≡ false) × (used ≡ not (is_set k.free_blocks b))
   block-parts stood = verdict-is (is_set k.unknown_blocks b) (is_set k.free_blocks b) used stood
@@ -263,17 +277,34 @@ module _ (old new : DiskState) (k : Books) (b : ℕ) (used : Bool) (is : IsDisk 
   block-known H p o stood = o.says.known_blocks b ∙ rw (in-range b k.at.blocks low, (block-parts stood).0) refl
 
   pub block-stands : (H : List Entry1) (p : Past) → IsOpen old k H p → verdict_of_block k b ≡ Some used → used ≡ uses_block p.world b
-  block-stands H p o stood = stands (p.world.known_blocks b) (uses_block p.world b) (is_set k.free_blocks b) used (block-known H p o stood) (o.says.free_blocks b low) (block-parts stood).1
+  block-stands H p o stood = stands (p.world.known_blocks b) (uses_block p.world b) (is_set k.free_blocks b) used (block-known H p o stood)
+      (o.says.free_blocks b low) (block-parts stood).1
 
   -- the verdict stood
   pub block-stood : (caller : ℕ) (H : List Entry1) (p : Past) → IsTrue old.tells → IsOpen old k H p → verdict_of_block k b ≡ Some used
       → Follows old new k H p (entry caller old new (step.SeeBlock b) no_claims (reply.Seen used))
-  block-stood caller H p tells o stood = follows-seen old new k k (step.SeeBlock b) used is stays refl refl going going caller H p p.world tells o (sees-block b)
-      (record { rows = block-row p.world p.world b k.at.blocks o.says.blocks low; reply = ap reply.Seen (block-stands H p o stood); keeps = keeps-all p.world; going = o.says.stopped ∙ going; learns = learns-again p.world b (block-known H p o stood) }) o.says
+  block-stood caller H p tells o stood = follows-seen old new k k (step.SeeBlock b) used is stays refl refl going going caller H p p.world tells o
+      (sees-block b)
+      (record {
+        rows = block-row p.world p.world b k.at.blocks o.says.blocks low;
+        reply = ap reply.Seen (block-stands H p o stood);
+        keeps =
+            keeps-all p.world;
+        going = o.says.stopped ∙ going;
+        learns = learns-again p.world b (block-known H p o stood);
+      }) o.says
 
   -- it was learned
   pub block-learned : (caller : ℕ) (H : List Entry1) (p : Past) → IsTrue old.tells → IsOpen old k H p → used ≡ uses_block p.world b
       → Follows old new (learned_block k b used) H p (entry caller old new (step.SeeBlock b) no_claims (reply.Seen used))
-  block-learned caller H p tells o right = follows-seen old new k (learned_block k b used) (step.SeeBlock b) used is stays refl refl going going caller H p (with_block p.world b) tells o (sees-block b)
-      (record { rows = block-row p.world (with_block p.world b) b k.at.blocks o.says.blocks low; reply = ap reply.Seen right; keeps = keeps-block p.world b; going = o.says.stopped ∙ going; learns = learns-block p.world b })
+  block-learned caller H p tells o right = follows-seen old new k (learned_block k b used) (step.SeeBlock b) used is stays refl refl going going caller H p
+      (with_block p.world b) tells o (sees-block b)
+      (record {
+        rows = block-row p.world (with_block p.world b) b k.at.blocks o.says.blocks low;
+        reply = ap reply.Seen right;
+        keeps =
+            keeps-block p.world b;
+        going = o.says.stopped ∙ going;
+        learns = learns-block p.world b;
+      })
       (says-block k p.world b used o.says low safe.unknown_blocks safe.free_blocks right)

@@ -1,5 +1,6 @@
 -- One more inode is known, with the verdict of the disk.
-use Rattle.std.proofs.Common.{◌≡◌, ◌≢◌, if◌then◌else◌, ℕ, zero, suc, ◌-◌, ◌≤◌, ◌⊎◌, inl, inr, Bool, true, false, ◌&&◌, ◌||◌, not, eqb, ltb, leb, List, length, Some, None, is_some, IsTrue, refl, sym, ap, ◌∙◌, subst, eq-eqb, eqb-true, arith}
+use Rattle.std.proofs.Common.{◌≡◌, ◌≢◌, if◌then◌else◌, ℕ, zero, suc, ◌-◌, ◌≤◌, ◌⊎◌, inl, inr, Bool, true, false, ◌&&◌, ◌||◌, not, eqb, ltb, leb, List, length}
+use Rattle.std.proofs.Common.{Some, None, is_some, IsTrue, refl, sym, ap, ◌∙◌, subst, eq-eqb, eqb-true, arith}
 use Rattle.std.specs.Prelude.{slice_set}
 use Rattle.std.proofs.lemmas.Bool.{cases_eq, ne_eqb}
 use Rattle.std.proofs.lemmas.List.{length-set}
@@ -82,19 +83,25 @@ module _ (k : Books) (W : World) (i : ℕ) (used : Bool) (s : Says k W) (low : 1
   known-is len zero = rw (ne_eqb 0 i (λ e. let z : 0 ≡ i = e in omega (arith, z, low))) (s.known_inodes 0)
   known-is len (suc n) = elim (cases_eq (suc n) i) [
     | inl same ↦
-        let here : is_set (slice_set k.unknown_inodes (i - 1) false) (i - 1) ≡ false = set-here k.unknown_inodes (i - 1) false (omega (arith, len, low, high)) in
-        subst (λ (m : ℕ). (eqb m i || W.known_inodes m) ≡ (leb 1 m && (leb m k.at.inodes && not (is_set (slice_set k.unknown_inodes (i - 1) false) (m - 1))))) (sym same)
+        let here : is_set (slice_set k.unknown_inodes (i - 1) false) (i - 1) ≡ false =
+        set-here k.unknown_inodes (i - 1) false (omega (arith, len, low, high)) in
+        subst (λ (m : ℕ). (eqb m i || W.known_inodes m) ≡ (leb 1 m
+        && (leb m k.at.inodes && not (is_set (slice_set k.unknown_inodes (i - 1) false) (m - 1))))) (sym same)
         (rw (eq-eqb i i refl, le-is 1 i low, le-is i k.at.inodes high, here) refl)
-    | inr other ↦ rw (ne_eqb (suc n) i other, set-other k.unknown_inodes (i - 1) (suc n - 1) false (λ e. other (omega (arith, e, low)))) (s.known_inodes (suc n))
+    | inr other ↦ rw (ne_eqb (suc n) i other, set-other k.unknown_inodes (i - 1) (suc n - 1) false (λ e. other (omega (arith, e, low))))
+        (s.known_inodes (suc n))
   ]
 
   free-is : length k.free_inodes ≡ k.at.inodes → (j : ℕ) → 1 ≤ j → j ≤ k.at.inodes
       → is_set (slice_set k.free_inodes (i - 1) (not used)) (j - 1) ≡ ((eqb j i || W.known_inodes j) && not (uses_inode W j))
   free-is len j from to = elim (cases_eq j i) [
     | inl same ↦
-        let here : is_set (slice_set k.free_inodes (i - 1) (not used)) (i - 1) ≡ not used = set-here k.free_inodes (i - 1) (not used) (omega (arith, len, low, high)) in
-        subst (λ (m : ℕ). is_set (slice_set k.free_inodes (i - 1) (not used)) (m - 1) ≡ ((eqb m i || W.known_inodes m) && not (uses_inode W m))) (sym same) (here ∙ ap not right ∙ rw (eq-eqb i i refl) refl)
-    | inr other ↦ set-other k.free_inodes (i - 1) (j - 1) (not used) (λ e. other (omega (arith, e, low, from))) ∙ s.free_inodes j from to ∙ rw (ne_eqb j i other) refl
+        let here : is_set (slice_set k.free_inodes (i - 1) (not used)) (i - 1) ≡ not used =
+        set-here k.free_inodes (i - 1) (not used) (omega (arith, len, low, high)) in
+        subst (λ (m : ℕ). is_set (slice_set k.free_inodes (i - 1) (not used)) (m - 1) ≡ ((eqb m i || W.known_inodes m) && not (uses_inode W m))) (sym same)
+        (here ∙ ap not right ∙ rw (eq-eqb i i refl) refl)
+    | inr other ↦ set-other k.free_inodes (i - 1) (j - 1) (not used) (λ e. other (omega (arith, e, low, from))) ∙ s.free_inodes j from to
+        ∙ rw (ne_eqb j i other) refl
   ]
 
   agreed-is : length k.agreement ≡ k.at.inodes → (j : ℕ) (a : Bool)
@@ -109,7 +116,8 @@ module _ (k : Books) (W : World) (i : ℕ) (used : Bool) (s : Says k W) (low : 1
       go true h t = elim (cases_eq j i) [
         | inl same ↦
             let here : told (slice_set k.agreement (i - 1) (Some used)) i ≡ Some used = told-here k.agreement i (Some used) low (omega (arith, len, high)) in
-            let t-here : told (slice_set k.agreement (i - 1) (Some used)) i ≡ Some a = subst (λ (m : ℕ). told (slice_set k.agreement (i - 1) (Some used)) m ≡ Some a) same t in
+            let t-here : told (slice_set k.agreement (i - 1) (Some used)) i ≡ Some a =
+            subst (λ (m : ℕ). told (slice_set k.agreement (i - 1) (Some used)) m ≡ Some a) same t in
             let is : used ≡ a = cc (here, t-here) in
             let plain : is_special i ≡ false = above i h in
             subst (λ (m : ℕ). is_some (W.files m) ≡ a) (sym same) (ap (λ (b : Bool). b || is_some (W.files i)) (sym plain) ∙ sym right ∙ is)
@@ -150,7 +158,8 @@ safe-inode d k i used s = record {
     known-length true = length-set k.agreement (i - 1) (Some used) ∙ s.agreement
     known-length false = s.agreement
 
-module _ (old new : DiskState) (k : Books) (i : ℕ) (used : Bool) (is : IsDisk old) (safe : IsSafe old k) (stays : StaysButFaults old new) (going : k.stopped ≡ false) (low : 1 ≤ i) (high : i ≤ k.at.inodes) where
+module _ (old new : DiskState) (k : Books) (i : ℕ) (used : Bool) (is : IsDisk old) (safe : IsSafe old k) (stays : StaysButFaults old new)
+    (going : k.stopped ≡ false) (low : 1 ≤ i) (high : i ≤ k.at.inodes) where
   -- what is known of it is known, and the verdict that stands is the machine's
   inode-parts : verdict_of_inode k i ≡ Some used → (is_set k.unknown_inodes (i - 1) ≡ false) × (used ≡ not (is_set k.free_inodes (i - 1)))
   inode-parts stood = verdict-is (is_set k.unknown_inodes (i - 1)) (is_set k.free_inodes (i - 1)) used stood
@@ -159,17 +168,34 @@ module _ (old new : DiskState) (k : Books) (i : ℕ) (used : Bool) (is : IsDisk 
   inode-known H p o stood = o.says.known_inodes i ∙ rw (le-is 1 i low, le-is i k.at.inodes high, (inode-parts stood).0) refl
 
   pub inode-stands : (H : List Entry1) (p : Past) → IsOpen old k H p → verdict_of_inode k i ≡ Some used → used ≡ uses_inode p.world i
-  inode-stands H p o stood = stands (p.world.known_inodes i) (uses_inode p.world i) (is_set k.free_inodes (i - 1)) used (inode-known H p o stood) (o.says.free_inodes i low high) (inode-parts stood).1
+  inode-stands H p o stood = stands (p.world.known_inodes i) (uses_inode p.world i) (is_set k.free_inodes (i - 1)) used (inode-known H p o stood)
+      (o.says.free_inodes i low high) (inode-parts stood).1
 
   -- the verdict stood
   pub inode-stood : (caller : ℕ) (H : List Entry1) (p : Past) → IsTrue old.tells → IsOpen old k H p → verdict_of_inode k i ≡ Some used
       → Follows old new k H p (entry caller old new (step.SeeInode i) no_claims (reply.Seen used))
-  inode-stood caller H p tells o stood = follows-seen old new k k (step.SeeInode i) used is stays refl refl going going caller H p p.world tells o (sees-inode i)
-      (record { rows = inode-row p.world p.world i k.at.inodes o.says.inodes low high; reply = ap reply.Seen (inode-stands H p o stood); keeps = keeps-all p.world; going = o.says.stopped ∙ going; learns = learns-again p.world i (inode-known H p o stood) }) o.says
+  inode-stood caller H p tells o stood = follows-seen old new k k (step.SeeInode i) used is stays refl refl going going caller H p p.world tells o
+      (sees-inode i)
+      (record {
+        rows = inode-row p.world p.world i k.at.inodes o.says.inodes low high;
+        reply = ap reply.Seen (inode-stands H p o stood);
+        keeps =
+            keeps-all p.world;
+        going = o.says.stopped ∙ going;
+        learns = learns-again p.world i (inode-known H p o stood);
+      }) o.says
 
   -- it was learned
   pub inode-learned : (caller : ℕ) (H : List Entry1) (p : Past) → IsTrue old.tells → IsOpen old k H p → used ≡ uses_inode p.world i
       → Follows old new (learned_inode k i used) H p (entry caller old new (step.SeeInode i) no_claims (reply.Seen used))
-  inode-learned caller H p tells o right = follows-seen old new k (learned_inode k i used) (step.SeeInode i) used is stays refl refl going going caller H p (with_inode p.world i) tells o (sees-inode i)
-      (record { rows = inode-row p.world (with_inode p.world i) i k.at.inodes o.says.inodes low high; reply = ap reply.Seen right; keeps = keeps-inode p.world i; going = o.says.stopped ∙ going; learns = learns-inode p.world i })
+  inode-learned caller H p tells o right = follows-seen old new k (learned_inode k i used) (step.SeeInode i) used is stays refl refl going going caller H p
+      (with_inode p.world i) tells o (sees-inode i)
+      (record {
+        rows = inode-row p.world (with_inode p.world i) i k.at.inodes o.says.inodes low high;
+        reply = ap reply.Seen right;
+        keeps =
+            keeps-inode p.world i;
+        going = o.says.stopped ∙ going;
+        learns = learns-inode p.world i;
+      })
       (says-inode k p.world i used o.says low high right safe.unknown_inodes safe.free_inodes safe.agreement)

@@ -78,7 +78,8 @@ module _ (d : DiskState) (k : Books) (h : HistoryState) (start : h.start ≡ k.h
     lasts = subst (λ (n : ℕ). Lasts p.base H p.mark p.stamps n d) (sym start) o.lasts;
   }
 
-module _ (old : DiskState) (k : Books) (new : DiskState) (l : Books) (s : Step) (c : Claims) (r : Reply) (goes : Goes old k new l s c r) (tells : IsTrue old.tells) (base : Image) (first caller : ℕ) (h : HistoryState) (start : h.start ≡ k.history.start) where
+module _ (old : DiskState) (k : Books) (new : DiskState) (l : Books) (s : Step) (c : Claims) (r : Reply) (goes : Goes old k new l s c r)
+    (tells : IsTrue old.tells) (base : Image) (first caller : ℕ) (h : HistoryState) (start : h.start ≡ k.history.start) where
   start' : h.start ≡ l.history.start
   start' = start ∙ ap (λ (x : HistoryState). x.start) (sym goes.history)
 
@@ -91,39 +92,67 @@ module _ (old : DiskState) (k : Books) (new : DiskState) (l : Books) (s : Step) 
       by_fault false w =
           let q = (goes.from_open tells caller k.history.entries p o).done memory w in
           going q.0 (q.1.base ∙ b) (q.1.first ∙ f)
-          (subst (λ (H : List Entry1). IsOpen new (with_history l h) H q.0) (sym e) (open-with new l h start' (k.history.entries ++ entry caller old new s c r ∷ []) q.0 q.2))
+          (subst (λ (H : List Entry1). IsOpen new (with_history l h) H q.0) (sym e)
+          (open-with new l h start' (k.history.entries ++ entry caller old new s c r ∷ []) q.0 q.2))
       by_fault true w =
           let q = (goes.from_open tells caller k.history.entries p o).fault w in
           ended q.0 (q.1.base ∙ b) (q.1.first ∙ f)
-          (subst (λ (H : List Entry1). IsStopped new (with_history l h) H q.0) (sym e) (stopped-with new l h start' (k.history.entries ++ entry caller old new s c r ∷ []) q.0 q.2))
+          (subst (λ (H : List Entry1). IsStopped new (with_history l h) H q.0) (sym e)
+          (stopped-with new l h start' (k.history.entries ++ entry caller old new s c r ∷ []) q.0 q.2))
   stands-after e memory (ended p b f o) = ended p b f
-      (subst (λ (H : List Entry1). IsStopped new (with_history l h) H p) (sym e) (stopped-with new l h start' (k.history.entries ++ entry caller old new s c r ∷ []) p ((goes.from_stopped tells caller k.history.entries p o).done memory)))
+      (subst (λ (H : List Entry1). IsStopped new (with_history l h) H p) (sym e)
+      (stopped-with new l h start' (k.history.entries ++ entry caller old new s c r ∷ []) p
+      ((goes.from_stopped tells caller k.history.entries p o).done memory)))
 
   -- a step that found no memory
   pub stands-none : h.entries ≡ k.history.entries → is_out_of_memory r ≡ true → Stands old k base first → Stands new (with_history l h) base first
   stands-none e memory (going p b f o) = going p b f
-      (subst (λ (H : List Entry1). IsOpen new (with_history l h) H p) (sym e) (open-with new l h start' k.history.entries p ((goes.from_open tells caller k.history.entries p o).none memory)))
+      (subst (λ (H : List Entry1). IsOpen new (with_history l h) H p) (sym e)
+      (open-with new l h start' k.history.entries p ((goes.from_open tells caller k.history.entries p o).none memory)))
   stands-none e memory (ended p b f o) = ended p b f
-      (subst (λ (H : List Entry1). IsStopped new (with_history l h) H p) (sym e) (stopped-with new l h start' k.history.entries p ((goes.from_stopped tells caller k.history.entries p o).none memory)))
+      (subst (λ (H : List Entry1). IsStopped new (with_history l h) H p) (sym e)
+      (stopped-with new l h start' k.history.entries p ((goes.from_stopped tells caller k.history.entries p o).none memory)))
 
 -- the entry as code makes it
 pub stands-kept : (old : DiskState) (k : Books) (new : DiskState) (l : Books) (s : Step) (c : Claims) (r : Reply) → Goes old k new l s c r → IsTrue old.tells
     → (base : Image) (first caller from spare : ℕ) → from ≡ old.moment → is_out_of_memory r ≡ false → Stands old k base first
-    → Stands new (with_history l (record { start = l.history.start; entries = l.history.entries ++ record { caller = caller; from = from; to = new.moment; step = s; reply = r; claims = c } ∷ []; spare = spare })) base first
+    → Stands new (with_history l (record {
+      start = l.history.start;
+      entries =
+          l.history.entries ++ record { caller = caller; from = from; to = new.moment; step = s; reply = r; claims = c } ∷ [];
+      spare = spare;
+    })) base first
 stands-kept old k new l s c r goes tells base first caller from spare same memory stands =
-    stands-after old k new l s c r goes tells base first caller (record { start = l.history.start; entries = l.history.entries ++ record { caller = caller; from = from; to = new.moment; step = s; reply = r; claims = c } ∷ []; spare = spare })
+    stands-after old k new l s c r goes tells base first caller
+    (record {
+      start = l.history.start;
+      entries = l.history.entries ++ record {
+        caller = caller;
+        from = from;
+        to = new.moment;
+        step = s;
+        reply =
+            r;
+        claims = c;
+      } ∷ [];
+      spare = spare;
+    })
     (ap (λ (x : HistoryState). x.start) goes.history)
-    (ap (λ (x : HistoryState). x.entries ++ record { caller = caller; from = from; to = new.moment; step = s; reply = r; claims = c } ∷ []) goes.history ∙ ap (λ (n : ℕ). k.history.entries ++ record { caller = caller; from = n; to = new.moment; step = s; reply = r; claims = c } ∷ []) same)
+    (ap (λ (x : HistoryState). x.entries ++ record { caller = caller; from = from; to = new.moment; step = s; reply = r; claims = c } ∷ []) goes.history
+    ∙ ap (λ (n : ℕ). k.history.entries ++ record { caller = caller; from = n; to = new.moment; step = s; reply = r; claims = c } ∷ []) same)
     memory stands
 
 -- where memory was wanting
 pub stands-still : (old : DiskState) (k : Books) (new : DiskState) (l : Books) (s : Step) (c : Claims) (r : Reply) → Goes old k new l s c r → IsTrue old.tells
     → (base : Image) (first : ℕ) → is_out_of_memory r ≡ true → Stands old k base first → Stands new l base first
 stands-still old k new l s c r goes tells base first memory stands =
-    stands-none old k new l s c r goes tells base first 0 l.history (ap (λ (x : HistoryState). x.start) goes.history) (ap (λ (x : HistoryState). x.entries) goes.history) memory stands
+    stands-none old k new l s c r goes tells base first 0 l.history (ap (λ (x : HistoryState). x.start) goes.history)
+    (ap (λ (x : HistoryState). x.entries) goes.history) memory stands
 
 -- memory for entries was taken
 pub stands-with : (d : DiskState) (k : Books) (h : HistoryState) (base : Image) (first : ℕ) → h.start ≡ k.history.start → h.entries ≡ k.history.entries
     → Stands d k base first → Stands d (with_history k h) base first
-stands-with d k h base first start e (going p b f o) = going p b f (subst (λ (H : List Entry1). IsOpen d (with_history k h) H p) (sym e) (open-with d k h start k.history.entries p o))
-stands-with d k h base first start e (ended p b f o) = ended p b f (subst (λ (H : List Entry1). IsStopped d (with_history k h) H p) (sym e) (stopped-with d k h start k.history.entries p o))
+stands-with d k h base first start e (going p b f o) = going p b f
+    (subst (λ (H : List Entry1). IsOpen d (with_history k h) H p) (sym e) (open-with d k h start k.history.entries p o))
+stands-with d k h base first start e (ended p b f o) = ended p b f
+    (subst (λ (H : List Entry1). IsStopped d (with_history k h) H p) (sym e) (stopped-with d k h start k.history.entries p o))

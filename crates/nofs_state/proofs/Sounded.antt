@@ -1,5 +1,6 @@
 -- Sound images stay so over the writes of a step, whichever of them failed.
-use Rattle.std.proofs.Common.{◌≡◌, ℕ, ◌+◌, ◌*◌, ◌/◌, ◌%◌, ◌^◌, ◌<◌, ◌≤◌, IsTrue, true, inl, inr, leb, leb-true, ltb, List, [], ◌∷◌, length, refl, sym, ap, ◌∙◌, subst, arith, Contains}
+use Rattle.std.proofs.Common.{◌≡◌, ℕ, ◌+◌, ◌*◌, ◌/◌, ◌%◌, ◌^◌, ◌<◌, ◌≤◌, IsTrue, true, inl, inr, leb, leb-true, ltb, List, [], ◌∷◌, length, refl, sym, ap}
+use Rattle.std.proofs.Common.{◌∙◌, subst, arith, Contains}
 use Rattle.std.proofs.lemmas.Bool.{cases_lt}
 use Rattle.nofs_disk.specs.Disk.{DiskState, IsDisk}
 use Rattle.nofs_disk.specs.Adds.{Adds, WasOr}
@@ -39,7 +40,8 @@ fine-first : (m : Mark) (c : Cell) → Fine m 0 c → c ≡ cell_at m.image 0
 fine-first m c (inl e) = e
 fine-first m c (inr w) = absurd (let l = w.not_super in omega (arith, l))
 
-module _ (old new : DiskState) (k : Books) (H : List Entry1) (p : Past) (e : Entry1) (V : World) (q : Mark) (is : IsDisk old) (tells : IsTrue old.tells) (safe : IsSafe old k) (o : IsOpen old k H p) (next : Next p.world e V)
+module _ (old new : DiskState) (k : Books) (H : List Entry1) (p : Past) (e : Entry1) (V : World) (q : Mark) (is : IsDisk old) (tells : IsTrue old.tells)
+    (safe : IsSafe old k) (o : IsOpen old k H p) (next : Next p.world e V)
     (adds : Adds (Proper q old.now) old new) (numbered : AddsNumbered p.world e.claims old new) where
   abbrev W : World
   W = p.world
@@ -78,8 +80,10 @@ module _ (old new : DiskState) (k : Books) (H : List Entry1) (p : Past) (e : Ent
   first-is c (inl was) = first-was c was
   first-is c (inr good) = absurd (not-first q old.now c good)
 
-  only : (Y : Image) → ((b : ℕ) → b < old.blocks → WasOr (λ n cell. CellNumbers (Numbered W e.claims) old.now n cell) old b (cell_at Y b)) → OnlyNumbered W e.claims old.now old.may (λ b. cell_at Y b ∷ [])
-  only Y each b low c has = subst (λ (d : Cell). WasOr (λ n cell. CellNumbers (Numbered W e.claims) old.now n cell) old b d) (sole-is (cell_at Y b) c has) (each b (within b low))
+  only : (Y : Image) → ((b : ℕ) → b < old.blocks → WasOr (λ n cell. CellNumbers (Numbered W e.claims) old.now n cell) old b (cell_at Y b))
+      → OnlyNumbered W e.claims old.now old.may (λ b. cell_at Y b ∷ [])
+  only Y each b low c has = subst (λ (d : Cell). WasOr (λ n cell. CellNumbers (Numbered W e.claims) old.now n cell) old b d) (sole-is (cell_at Y b) c has)
+      (each b (within b low))
 
   picked : (Y : Image) → length Y ≡ old.blocks → ((b : ℕ) → b < old.blocks → WasOr (Proper q old.now) old b (cell_at Y b))
       → ((b : ℕ) → b < old.blocks → WasOr (λ n cell. CellNumbers (Numbered W e.claims) old.now n cell) old b (cell_at Y b)) → IsSound Y

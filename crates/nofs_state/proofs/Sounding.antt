@@ -13,7 +13,8 @@ sounds-keep from old new disk past cells s = record {
   images = AtEach-stays (λ m X. IsSound X) from old new past cells.moment s.images;
 }
 
-pub sounds-flush : (from : ℕ) (old new : DiskState) {result : Result (Unit {0}) Failed} → IsDisk new → Flushes old new result → Sounds from old → Sounds from new
+pub sounds-flush : (from : ℕ) (old new : DiskState) {result : Result (Unit {0}) Failed} → IsDisk new → Flushes old new result → Sounds from old
+    → Sounds from new
 sounds-flush from old new is f s = record {
   picks = picks;
   images = AtEach-flushes (λ m X. IsSound X) from old new is f s.picks picks s.images;

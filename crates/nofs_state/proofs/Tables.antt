@@ -1,5 +1,6 @@
 -- One record of the inode table is written.
-use Rattle.std.proofs.Common.{◌≡◌, ◌≢◌, ℕ, ◌+◌, ◌-◌, ◌/◌, ◌%◌, ◌<◌, ◌≤◌, ◌⊎◌, inl, inr, Bool, true, false, leb, leb-true, ◌&&◌, List, Some, refl, sym, ap, ◌∙◌, subst, arith}
+use Rattle.std.proofs.Common.{◌≡◌, ◌≢◌, ℕ, ◌+◌, ◌-◌, ◌/◌, ◌%◌, ◌<◌, ◌≤◌, ◌⊎◌, inl, inr, Bool, true, false, leb, leb-true, ◌&&◌, List, Some, refl, sym, ap}
+use Rattle.std.proofs.Common.{◌∙◌, subst, arith}
 use Rattle.std.proofs.lemmas.Bool.{cases_eq}
 use Rattle.nofs_disk.specs.Disk.{cell_at}
 use Rattle.nofs_model.specs.Cells.{Cell, Record, SuperBlock, record_at, record_of, free_record}
@@ -50,7 +51,8 @@ table-records X i r c h j e same = elim (cases_eq j i) [
       ∙ ap (λ (n : ℕ). record_at (cell_at X n).payload ((j - 1) % 4)) (sym same) ∙ sym (in-table X j e))
 ]
 
-module _ (X Y : Image) (i : ℕ) (r : Record) (c : Cell) (h : HasRecord X i r c) (quarters : (super_at X).inodes % 4 ≡ 0) (super : cell_at Y 0 ≡ cell_at X 0) (table : cell_at Y (table_block i) ≡ c)
+module _ (X Y : Image) (i : ℕ) (r : Record) (c : Cell) (h : HasRecord X i r c) (quarters : (super_at X).inodes % 4 ≡ 0) (super : cell_at Y 0 ≡ cell_at X 0)
+    (table : cell_at Y (table_block i) ≡ c)
     (beside : (b : ℕ) → b ≤ (super_at X).inodes / 4 → b ≢ table_block i → cell_at Y b ≡ cell_at X b) where
   same-range : (j : ℕ) → is_inode Y j ≡ is_inode X j
   same-range j = ap (λ (q : SuperBlock). leb 1 j && leb j q.inodes) (supers X Y super)
@@ -64,11 +66,13 @@ module _ (X Y : Image) (i : ℕ) (r : Record) (c : Cell) (h : HasRecord X i r c)
       inside : is_inode X j ≡ true → (table_block j ≡ table_block i) ⊎ (table_block j ≢ table_block i) → inode Y j ≡ inode X j
       inside e (inl same) = elim (table-records X i r c h j e same) [
         | inl here ↦ absurd (ne here.0)
-        | inr was ↦ in-table Y j (same-range j ∙ e) ∙ ap (λ (n : ℕ). record_at (cell_at Y n).payload ((j - 1) % 4)) same ∙ ap (λ (q : Cell). record_at q.payload ((j - 1) % 4)) table ∙ was
+        | inr was ↦ in-table Y j (same-range j ∙ e) ∙ ap (λ (n : ℕ). record_at (cell_at Y n).payload ((j - 1) % 4)) same
+            ∙ ap (λ (q : Cell). record_at q.payload ((j - 1) % 4)) table ∙ was
       ]
       inside e (inr other) =
           let a = range X j e in
-          in-table Y j (same-range j ∙ e) ∙ ap (λ (q : Cell). record_at q.payload ((j - 1) % 4)) (beside (table_block j) (let q = quarters in omega (arith, a, q)) other) ∙ sym (in-table X j e)
+          in-table Y j (same-range j ∙ e) ∙ ap (λ (q : Cell). record_at q.payload ((j - 1) % 4))
+          (beside (table_block j) (let q = quarters in omega (arith, a, q)) other) ∙ sym (in-table X j e)
 
       go : (b : Bool) → is_inode X j ≡ b → inode Y j ≡ inode X j
       go false e = outside Y j (same-range j ∙ e) ∙ sym (outside X j e)

@@ -29,7 +29,8 @@ out-refused old new result is ready =
       was = ready.past.was;
       no_more = λ m X low. ready.past.no_more m X (omega (arith, low));
       no_less = ready.past.no_less;
-      added = λ X left. subst₂ (λ (may : ℕ → List Cell) (n : ℕ). Picks may n X) ready.cells.may ready.disk.blocks (is.at_rest X (let F : ℕ → Type 0 = λ n. new.left n X in subst F (sym same) left));
+      added = λ X left. subst₂ (λ (may : ℕ → List Cell) (n : ℕ). Picks may n X) ready.cells.may ready.disk.blocks
+          (is.at_rest X (let F : ℕ → Type 0 = λ n. new.left n X in subst F (sym same) left));
       none = tt;
       some = tt;
       err = ready.dirty;
@@ -42,7 +43,8 @@ module _ {E : Type 0} (old mid new : DiskState) (ok : Result (Unit {0}) E) (is :
   added result w X left =
       let same : old.moment ≡ new.moment = sym (w.cells.moment ∙ ready.cells.moment) in
       let F : ℕ → Type 0 = λ n. new.left n X in
-      subst₂ (λ (may : ℕ → List Cell) (n : ℕ). Picks may n X) (w.cells.may ∙ ready.cells.may) (w.disk.blocks ∙ ready.disk.blocks) (is.at_rest X (subst F same left))
+      subst₂ (λ (may : ℕ → List Cell) (n : ℕ). Picks may n X) (w.cells.may ∙ ready.cells.may) (w.disk.blocks ∙ ready.disk.blocks)
+      (is.at_rest X (subst F same left))
 
   module _ (result : Result (Option ℕ) Failed) (w : WritesOut mid new result) where
     no-more : (m : ℕ) (X : Image) → m < old.moment → new.left m X → old.left m X

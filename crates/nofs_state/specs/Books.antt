@@ -1,5 +1,6 @@
 -- What the maps of a mount say of the machine's world.
-use Rattle.std.specs.Prelude.{◌≡◌, ℕ, ◌+◌, ◌-◌, ◌*◌, ◌/◌, ◌^◌, ◌<◌, ◌≤◌, Bool, true, false, ◌&&◌, not, List, [], length, Some, None, is_some, replicate, nat_le, nat_lt, slice_set}
+use Rattle.std.specs.Prelude.{◌≡◌, ℕ, ◌+◌, ◌-◌, ◌*◌, ◌/◌, ◌^◌, ◌<◌, ◌≤◌, Bool, true, false, ◌&&◌, not, List, [], length, Some, None, is_some, replicate}
+use Rattle.std.specs.Prelude.{nat_le, nat_lt, slice_set}
 use Rattle.nofs_bits.specs.Bits.{is_set}
 use Rattle.nofs_machine.specs.HistoryState.{HistoryState}
 use Rattle.nofs_disk.specs.Disk.{DiskState}

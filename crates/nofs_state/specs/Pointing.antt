@@ -32,7 +32,8 @@ pub record IsPointed (spot : Spot) (to : Pointer) (cell : Cell) : Type 0 where
   pub pointer : pointer_at cell.payload spot.number ≡ to
 
 -- One write of that cell. Where it succeeds, the disk has the cell with that one pointer changed; where it fails, the mount is stopped
-pub record SetsPointer (old : DiskState) (k : Books) (new : DiskState) (l : Books) (spot : Spot) (to : Pointer) (result : Result (Unit {0}) Failed) : Type 0 where
+pub record SetsPointer (old : DiskState) (k : Books) (new : DiskState) (l : Books) (spot : Spot) (to : Pointer) (result : Result (Unit {0}) Failed)
+    : Type 0 where
   pub cell : Cell
   pub pointed : IsPointed spot to cell
   pub writes : WritesAll old new ((spot.block, cell) ∷ []) result

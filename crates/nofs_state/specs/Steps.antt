@@ -81,7 +81,8 @@ pub record Goes (old : DiskState) (k : Books) (new : DiskState) (l : Books) (s :
   pub history : l.history ≡ k.history
   pub sound : IsTrue old.tells → (H : List Entry1) (p : Past) → IsOpen old k H p ⊎ IsStopped old k H p → (from : ℕ) → Sounds from old → Sounds from new
   pub from_open : IsTrue old.tells → (caller : ℕ) (H : List Entry1) (p : Past) → IsOpen old k H p → Follows old new l H p (entry caller old new s c r)
-  pub from_stopped : IsTrue old.tells → (caller : ℕ) (H : List Entry1) (p : Past) → IsStopped old k H p → StaysStopped old new l H p (entry caller old new s c r)
+  pub from_stopped : IsTrue old.tells → (caller : ℕ) (H : List Entry1) (p : Past) → IsStopped old k H p
+      → StaysStopped old new l H p (entry caller old new s c r)
 
 -- What holds of a step over any disk: no world is named, and nothing is asked of the device.
 pub record IsSafeStep (old : DiskState) (k : Books) (new : DiskState) (l : Books) (r : Reply) : Type 0 where

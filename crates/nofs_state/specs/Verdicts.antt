@@ -1,5 +1,6 @@
 -- Which elements are used, by the disk and by the maps, and what a map learns of one.
-use Rattle.std.specs.Prelude.{◌≡◌, ℕ, ◌+◌, ◌-◌, ◌/◌, ◌≤◌, Bool, false, not, List, Option, Some, None, if◌then◌else◌, ◌==◌, nat_lt, IsTrue, Result, Ok, Err, IfOk, OnErr, slice_set}
+use Rattle.std.specs.Prelude.{◌≡◌, ℕ, ◌+◌, ◌-◌, ◌/◌, ◌≤◌, Bool, false, not, List, Option, Some, None, if◌then◌else◌, ◌==◌, nat_lt, IsTrue, Result, Ok, Err}
+use Rattle.std.specs.Prelude.{IfOk, OnErr, slice_set}
 use Rattle.nofs_bits.specs.Bits.{is_set}
 use Rattle.nofs_disk.specs.declared.Failed.{Failed}
 use Rattle.nofs_disk.specs.Disk.{DiskState, StaysButFaults, Rose}
@@ -46,7 +47,8 @@ abbrev pub InData : Books → ℕ → Bool → Type 0
 InData k p used = used ≡ false → 1 + k.at.inodes / 4 ≤ p
 
 -- an element is verified: its verdict stood, is learned from the disk, or could not be read
-pub data Verifies (old : DiskState) (k : Books) (new : DiskState) (l : Books) (stood : Option Bool) (learned : Bool → Books) (answer : Image → Bool) (Fits : Bool → Type 0) (result : Result Bool Failed) : Type 0 where
+pub data Verifies (old : DiskState) (k : Books) (new : DiskState) (l : Books) (stood : Option Bool) (learned : Bool → Books) (answer : Image → Bool)
+    (Fits : Bool → Type 0) (result : Result Bool Failed) : Type 0 where
   Stood : (used : Bool) → stood ≡ Some used → StaysButFaults old new → l ≡ k → result ≡ Ok used → Verifies old k new l stood learned answer Fits result
   Learned : (used : Bool) → stood ≡ None → Judges old new k.agreement answer (Ok used) → Fits used → l ≡ learned used → result ≡ Ok used
       → Verifies old k new l stood learned answer Fits result

@@ -1,5 +1,6 @@
 -- A format, call by call.
-use Rattle.std.proofs.Common.{◌≡◌, ℕ, ◌+◌, ◌-◌, ◌*◌, ◌<◌, ◌≤◌, List, [], ◌∷◌, ◌++◌, length, drop, set, Some, None, Result, Ok, Err, Bool, true, false, arith, refl, sym, ap, ◌∙◌, ltb}
+use Rattle.std.proofs.Common.{◌≡◌, ℕ, ◌+◌, ◌-◌, ◌*◌, ◌<◌, ◌≤◌, List, [], ◌∷◌, ◌++◌, length, drop, set, Some, None, Result, Ok, Err, Bool, true, false, arith}
+use Rattle.std.proofs.Common.{refl, sym, ap, ◌∙◌, ltb}
 use Rattle.std.specs.Prelude.{IsTrue, OnOk, is_err, if◌then◌else◌}
 use Rattle.std.proofs.lemmas.List.{append_assoc, drop_more, get_or_append_left, set-append_right}
 use Rattle.std.proofs.lemmas.List.FromFn.{map-range_with_len_more}
@@ -26,14 +27,16 @@ unfolding format_fault
 named device blocks inodes fault e =
     go (bad_inodes inodes) (ltb blocks (least_blocks inodes)) (ltb (most_blocks device) blocks) e
   where
-    go : (a b c : Bool) → (if a then Some (NotMultiple inodes) else if b then Some (TooSmall (least_blocks inodes)) else if c then Some (TooLarge (most_blocks device)) else None) ≡ Some fault
+    go : (a b c : Bool) → (if a then Some (NotMultiple inodes) else if b then Some (TooSmall (least_blocks inodes)) else if c then Some
+        (TooLarge (most_blocks device)) else None) ≡ Some fault
         → (fault ≡ WriteFault → ⊥) × (fault ≡ OutOfMemory → ⊥)
     go true b c e = (λ f. cc, λ f. cc)
     go false true c e = (λ f. cc, λ f. cc)
     go false false true e = (λ f. cc, λ f. cc)
     go false false false e = cc
 
-pub ends-refused : (blocks inodes : ℕ) (d : DiskState) (fault : FormatFault) → format_fault d.blocks blocks inodes ≡ Some fault → FormatEnds blocks inodes d d (Err fault)
+pub ends-refused : (blocks inodes : ℕ) (d : DiskState) (fault : FormatFault) → format_fault d.blocks blocks inodes ≡ Some fault
+    → FormatEnds blocks inodes d d (Err fault)
 ends-refused blocks inodes d (TooSmall least) e = record { why = e; stays = StaysButFaults-refl d; faults = refl }
 ends-refused blocks inodes d (TooLarge most) e = record { why = e; stays = StaysButFaults-refl d; faults = refl }
 ends-refused blocks inodes d (NotMultiple bad) e = record { why = e; stays = StaysButFaults-refl d; faults = refl }
@@ -67,7 +70,8 @@ formatted-more blocks inodes n old low =
     ∙ sym (append_assoc cells (cell ∷ []) (drop (n + 1) old))
     ∙ ap (λ l. l ++ drop (n + 1) old) (sym (first-more blocks inodes n))
 
-pub written-none : {E : Type 0} (blocks inodes : ℕ) (old new : DiskState) (result : Result (Unit {0}) E) → is_err result ≡ false → MakesReady old new (blocks + 1) result
+pub written-none : {E : Type 0} (blocks inodes : ℕ) (old new : DiskState) (result : Result (Unit {0}) E) → is_err result ≡ false
+    → MakesReady old new (blocks + 1) result
     → HasWritten blocks inodes 0 old new
 unfolding first_formatted
 written-none blocks inodes old new result ok ready = record {
@@ -78,24 +82,28 @@ written-none blocks inodes old new result ok ready = record {
 }
 
 -- the images of one write more
-pub adds-more : (blocks inodes n : ℕ) (old mid new : DiskState) (cell : Cell) {result : Result (Unit {0}) Failed} → IsDisk new → n < blocks → HasWritten blocks inodes n old mid
+pub adds-more : (blocks inodes n : ℕ) (old mid new : DiskState) (cell : Cell) {result : Result (Unit {0}) Failed} → IsDisk new → n < blocks
+    → HasWritten blocks inodes n old mid
     → cell ≡ formatted_cell blocks inodes n → Writes mid new n cell result → Adds (IsFreshCell blocks inodes) old new
 adds-more blocks inodes n old mid new cell is low has same w =
     let ok = IsFreshCell blocks inodes in
     Adds-trans ok old mid new has.adds (Adds-writes ok mid new n cell is w (record { low = low; is = same }))
 
-pub written-more : (blocks inodes n : ℕ) (old mid new : DiskState) (cell : Cell) (result : Result (Unit {0}) Failed) → is_err result ≡ false → IsDisk old → IsDisk new → n < blocks → blocks ≤ old.blocks
+pub written-more : (blocks inodes n : ℕ) (old mid new : DiskState) (cell : Cell) (result : Result (Unit {0}) Failed) → is_err result ≡ false → IsDisk old
+    → IsDisk new → n < blocks → blocks ≤ old.blocks
     → HasWritten blocks inodes n old mid → cell ≡ formatted_cell blocks inodes n → Writes mid new n cell result → HasWritten blocks inodes (n + 1) old new
 written-more blocks inodes n old mid new cell result ok was is low fits has same w = record {
   adds = adds-more blocks inodes n old mid new cell is low has same w;
   room = (let e = w.spare in let f = has.room in omega arith);
-  now = λ tells. ok_part result ok w.ok ∙ ap (λ c. set mid.now n c) same ∙ ap (λ l. set l n (formatted_cell blocks inodes n)) (has.now tells) ∙ formatted-more blocks inodes n old.now (let e = was.whole tells in omega arith);
+  now = λ tells. ok_part result ok w.ok ∙ ap (λ c. set mid.now n c) same ∙ ap (λ l. set l n (formatted_cell blocks inodes n)) (has.now tells)
+      ∙ formatted-more blocks inodes n old.now (let e = was.whole tells in omega arith);
   moment = (let e = w.moment in let f = has.moment in omega arith);
 }
 
 -- The flush
 
-pub adds-flush : (blocks inodes n : ℕ) (old mid new : DiskState) {result : Result (Unit {0}) Failed} → IsDisk new → HasWritten blocks inodes n old mid → Flushes mid new result → Adds (IsFreshCell blocks inodes) old new
+pub adds-flush : (blocks inodes n : ℕ) (old mid new : DiskState) {result : Result (Unit {0}) Failed} → IsDisk new → HasWritten blocks inodes n old mid
+    → Flushes mid new result → Adds (IsFreshCell blocks inodes) old new
 adds-flush blocks inodes n old mid new is has f =
     let ok = IsFreshCell blocks inodes in
     Adds-trans ok old mid new has.adds (Adds-flushes ok mid new is f)
@@ -107,4 +115,5 @@ cells-formatted blocks inodes n old mid new all has same tells b low =
     let cells : new.now ≡ formatted blocks inodes ++ drop blocks old.now =
     same ∙ has.now tells ∙ ap (λ k. first_formatted blocks inodes k ++ drop k old.now) all in
     let inside = length-first_formatted blocks inodes blocks in
-    ap (λ l. cell_at l b) cells ∙ get_or_append_left (formatted blocks inodes) (drop blocks old.now) no_cell b (omega arith) ∙ cell_at-formatted blocks inodes b low
+    ap (λ l. cell_at l b) cells ∙ get_or_append_left (formatted blocks inodes) (drop blocks old.now) no_cell b (omega arith)
+    ∙ cell_at-formatted blocks inodes b low

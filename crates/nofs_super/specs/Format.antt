@@ -1,5 +1,6 @@
 -- What a format leaves on a device.
-use Rattle.std.specs.Prelude.{◌≡◌, ℕ, ◌+◌, ◌*◌, ◌/◌, ◌<◌, ◌≤◌, ◌==◌, if◌then◌else◌, nat_le, List, [], ◌++◌, map, drop, length, None, Some, Result, Ok, Err, IsTrue}
+use Rattle.std.specs.Prelude.{◌≡◌, ℕ, ◌+◌, ◌*◌, ◌/◌, ◌<◌, ◌≤◌, ◌==◌, if◌then◌else◌, nat_le, List, [], ◌++◌, map, drop, length, None, Some, Result, Ok, Err}
+use Rattle.std.specs.Prelude.{IsTrue}
 use Rattle.std.specs.List.{range_with_len}
 use Rattle.std.proofs.lemmas.List.FromFn.{get_or-map-range_with_len, length-map-range_with_len}
 use Rattle.std.proofs.Common.{arith}
@@ -28,7 +29,11 @@ first_records = put_number 4 264 1 (put_number 8 256 2 (put_number 4 8 2 (put_nu
 
 -- a block of the inode table after a format
 unfoldable pub table_cell : ℕ → Cell
-table_cell block = record { payload = if block == 1 then first_records else zeros 1024; tag = tag_bytes (record { kind = Table; inode = 0; generation = 0; slot = block; stamp = 0 }) }
+table_cell block = record {
+  payload = if block == 1 then first_records else zeros 1024;
+  tag =
+      tag_bytes (record { kind = Table; inode = 0; generation = 0; slot = block; stamp = 0 });
+}
 
 -- the superblock that a format writes
 abbrev pub fresh_super : ℕ → ℕ → SuperBlock

@@ -50,7 +50,8 @@ is_geometry-parts device blocks inodes e =
     go (bad_inodes inodes) refl (ltb blocks (least_blocks inodes)) refl (ltb (most_blocks device) blocks) refl e
   where
     go : (a : Bool) → bad_inodes inodes ≡ a → (b : Bool) → ltb blocks (least_blocks inodes) ≡ b → (c : Bool) → ltb (most_blocks device) blocks ≡ c
-        → is_none (if a then Some (NotMultiple inodes) else if b then Some (TooSmall (least_blocks inodes)) else if c then Some (TooLarge (most_blocks device)) else None) ≡ true → IsGeometry device blocks inodes
+        → is_none (if a then Some (NotMultiple inodes) else if b then Some (TooSmall (least_blocks inodes)) else if c then Some
+        (TooLarge (most_blocks device)) else None) ≡ true → IsGeometry device blocks inodes
     go true ea b eb c ec e = cc
     go false ea true eb c ec e = cc
     go false ea false eb true ec e = cc

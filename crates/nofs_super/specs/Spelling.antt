@@ -1,5 +1,6 @@
 -- What spells a superblock: what is written is read, and nothing else spells it.
-use Rattle.std.proofs.Common.{◌≡◌, ℕ, zero, suc, ◌+◌, ◌-◌, ◌^◌, ◌<◌, ◌≤◌, ◌==◌, Bool, true, false, cond, not, ◌&&◌, List, [], ◌∷◌, length, take, drop, get_or, replicate, Option, Some, None, Result, Ok, Err, lit≤, arith, refl, subst, sym, ap, ◌∙◌, inl, inr, eqb, ltb, leb}
+use Rattle.std.proofs.Common.{◌≡◌, ℕ, zero, suc, ◌+◌, ◌-◌, ◌^◌, ◌<◌, ◌≤◌, ◌==◌, Bool, true, false, cond, not, ◌&&◌, List, [], ◌∷◌, length, take, drop, get_or}
+use Rattle.std.proofs.Common.{replicate, Option, Some, None, Result, Ok, Err, lit≤, arith, refl, subst, sym, ap, ◌∙◌, inl, inr, eqb, ltb, leb}
 use Rattle.std.specs.Prelude.{position, slice_index, slice_range, nat_eq, is_none, IfOk, if◌then◌else◌}
 use Rattle.std.specs.Option.{option_map, option_or}
 use Rattle.std.specs.List.{list_all, prefix_len}
@@ -7,7 +8,8 @@ use Rattle.std.proofs.lemmas.Bool.{and_parts, cases_lt, eqb-true, leb-false, le-
 use Rattle.std.proofs.lemmas.List.{ext_get_or, get_or-drop, get_or-take, length-drop, length-replicate, length-take-le}
 use Rattle.std.proofs.lemmas.List.Sums.{prefix_len_passes}
 use lib.Pointwise.{bytes_decides, pointwise}
-use Rattle.nofs_disk.specs.Number.{IsBytes, IsBytes-put_number, IsBytes-zeros, length-put_number, length-zeros, number_at, number_at-put_after, number_at-put_same, put_bytes, put_bytes-byte, put_number, zeros}
+use Rattle.nofs_disk.specs.Number.{IsBytes, IsBytes-put_number, IsBytes-zeros, length-put_number, length-zeros, number_at, number_at-put_after}
+use Rattle.nofs_disk.specs.Number.{number_at-put_same, put_bytes, put_bytes-byte, put_number, zeros}
 use Rattle.nofs_disk.specs.OneSpelling.{number_at-same}
 use Rattle.nofs_disk.specs.Parts.{drop-put_bytes, range-put_behind, range-put_front, length-put_bytes, range-zeros, take-put_bytes_first, take-put_number}
 use Rattle.nofs_super.specs.declared.superblock.SuperBlock.{SuperBlock}
@@ -26,7 +28,8 @@ prefix_all (suc k) = let e = prefix_all k in omega arith
 
 no_fault : (k : ℕ) → position (λ byte. not (byte == 0)) (zeros k) ≡ None
 unfolding zeros
-no_fault k = rw (le-ltb (prefix_len (λ x. not (not (x == 0))) (replicate k 0)) (length {A = ℕ} (replicate k 0)) (let e = prefix_all k in let f : length {A = ℕ} (replicate k 0) ≡ k = length-replicate k 0 in omega arith))
+no_fault k = rw (le-ltb (prefix_len (λ x. not (not (x == 0))) (replicate k 0)) (length {A = ℕ} (replicate k 0)) (let e =
+    prefix_all k in let f : length {A = ℕ} (replicate k 0) ≡ k = length-replicate k 0 in omega arith))
 
 module _ (it : SuperBlock) (version : it.version < 2 ^ 32) (blocks : it.blocks < 2 ^ 64) (inodes : it.inodes < 2 ^ 64) (mount : it.mount < 2 ^ 64) where
   p1 : List ℕ
@@ -128,8 +131,27 @@ module _ (it : SuperBlock) (version : it.version < 2 ^ 32) (blocks : it.blocks <
   check_super-payload device can =
       let g = can.geometry in
       let fits = g.fits in
-      let bound : IsGeometry (2 ^ 64 - 1) it.blocks it.inodes = record { multiple = g.multiple; some_inodes = g.some_inodes; most_inodes = g.most_inodes; table = g.table; some_blocks = g.some_blocks; most_blocks = g.most_blocks; fits = omega arith } in
-      rw (← whole_is, has_it, numbers_are, can.version, no_rest, is_geometry-from (2 ^ 64 - 1) it.blocks it.inodes bound, le-ltb device it.blocks fits, lt-leb (2 ^ 24 - 1) it.mount can.mount)
+      let bound : IsGeometry (2 ^ 64 - 1) it.blocks it.inodes =
+      record {
+        multiple = g.multiple;
+        some_inodes = g.some_inodes;
+        most_inodes = g.most_inodes;
+        table = g.table;
+        some_blocks =
+            g.some_blocks;
+        most_blocks = g.most_blocks;
+        fits = omega arith;
+      } in
+      rw (
+        ← whole_is,
+        has_it,
+        numbers_are,
+        can.version,
+        no_rest,
+        is_geometry-from (2 ^ 64 - 1) it.blocks it.inodes bound,
+        le-ltb device it.blocks fits,
+        lt-leb (2 ^ 24 - 1) it.mount can.mount,
+      )
 
 -- What is read, spelled it
 
@@ -139,19 +161,31 @@ pub record IsFine (device : ℕ) (payload : List ℕ) (it : SuperBlock) : Type 0
   pub can : CanMount device it
 
 -- the rows from the geometry on
-numbers-fine : (device : ℕ) (payload : List ℕ) (it got : SuperBlock) → super_in payload ≡ it → is_super payload ≡ true → is_version it.version ≡ true → check_numbers device it ≡ Ok got → IsFine device payload got
+numbers-fine : (device : ℕ) (payload : List ℕ) (it got : SuperBlock) → super_in payload ≡ it → is_super payload ≡ true → is_version it.version ≡ true
+    → check_numbers device it ≡ Ok got → IsFine device payload got
 unfolding super_of
 numbers-fine device payload it got numbers spelled version e =
     go (is_geometry (2 ^ 64 - 1) it.blocks it.inodes) refl (ltb device it.blocks) refl (leb (2 ^ 24 - 1) it.mount) refl e
   where
     go : (a : Bool) → is_geometry (2 ^ 64 - 1) it.blocks it.inodes ≡ a → (b : Bool) → ltb device it.blocks ≡ b → (c : Bool) → leb (2 ^ 24 - 1) it.mount ≡ c
-        → (if not a then Err (BadGeometry it.blocks it.inodes) else if b then Err (DeviceTooSmall device) else if c then Err (MountsSpent it.mount) else Ok it) ≡ Ok got → IsFine device payload got
+        → (if not a then Err (BadGeometry it.blocks it.inodes) else if b then Err (DeviceTooSmall device) else if c then Err (MountsSpent it.mount)
+        else Ok it) ≡ Ok got → IsFine device payload got
     go false ea b eb c ec e = cc
     go true ea true eb c ec e = cc
     go true ea false eb true ec e = cc
     go true ea false eb false ec e =
         let g = is_geometry-parts (2 ^ 64 - 1) it.blocks it.inodes ea in
-        let on_device : IsGeometry device it.blocks it.inodes = record { multiple = g.multiple; some_inodes = g.some_inodes; most_inodes = g.most_inodes; table = g.table; some_blocks = g.some_blocks; most_blocks = g.most_blocks; fits = ltb-false device it.blocks eb } in
+        let on_device : IsGeometry device it.blocks it.inodes =
+        record {
+          multiple = g.multiple;
+          some_inodes = g.some_inodes;
+          most_inodes = g.most_inodes;
+          table = g.table;
+          some_blocks =
+              g.some_blocks;
+          most_blocks = g.most_blocks;
+          fits = ltb-false device it.blocks eb;
+        } in
         let same : it ≡ got = cc in
         let fine : IsFine device payload it = record {
           spelled = rw (spelled, numbers);
@@ -172,16 +206,19 @@ unfolding check_super
 check_super-fine device payload got e = go (has_magic payload) refl (is_version (super_in payload).version) refl e
   where
     go : (a : Bool) → has_magic payload ≡ a → (b : Bool) → is_version (super_in payload).version ≡ b
-        → (if not a then Err (BadMagic (take 8 payload)) else if not b then Err (BadVersion (super_in payload).version) else check_rest device (super_in payload) (rest_fault payload)) ≡ Ok got
+        → (if not a then Err (BadMagic (take 8 payload)) else if not b then Err (BadVersion (super_in payload).version) else check_rest device
+        (super_in payload) (rest_fault payload)) ≡ Ok got
         → IsFine device payload got
     go false ea b eb e = cc
     go true ea false eb e = cc
     go true ea true eb e = rest-fine device payload (super_in payload) got refl ea eb (rest_fault payload) refl e
 
 -- what a check answers where it ends well
-pub if-spelled : (device : ℕ) (payload other : List ℕ) (T : Type 0) (result : Result SuperBlock MountFault) → result ≡ check_super device payload → (T → payload ≡ other)
+pub if-spelled : (device : ℕ) (payload other : List ℕ) (T : Type 0) (result : Result SuperBlock MountFault) → result ≡ check_super device payload
+    → (T → payload ≡ other)
     → IfOk result (λ it. T → super_of other ≡ Some it)
-if-spelled device payload other T (Ok it) e same = λ t. let fine = check_super-fine device payload it (sym e) in subst (λ (l : List ℕ). super_of l ≡ Some it) (same t) fine.spelled
+if-spelled device payload other T (Ok it) e same = λ t. let fine =
+    check_super-fine device payload it (sym e) in subst (λ (l : List ℕ). super_of l ≡ Some it) (same t) fine.spelled
 if-spelled device payload other T (Err fault) e same = tt
 
 pub if-mountable : (device : ℕ) (payload : List ℕ) (result : Result SuperBlock MountFault) → result ≡ check_super device payload → IfOk result (CanMount device)
@@ -206,13 +243,15 @@ not-not false e = cc
 all_zero : (xs : List ℕ) → position (λ byte. not (byte == 0)) xs ≡ None → (k : ℕ) → k < length xs → get_or xs k 0 ≡ 0
 all_zero xs e k low = go (ltb (prefix_len (λ x. not (not (x == 0))) xs) (length xs)) refl e
   where
-    go : (b : Bool) → ltb (prefix_len (λ x. not (not (x == 0))) xs) (length xs) ≡ b → cond b (Some (prefix_len (λ x. not (not (x == 0))) xs)) None ≡ None → get_or xs k 0 ≡ 0
+    go : (b : Bool) → ltb (prefix_len (λ x. not (not (x == 0))) xs) (length xs) ≡ b → cond b (Some (prefix_len (λ x. not (not (x == 0))) xs)) None ≡ None
+        → get_or xs k 0 ≡ 0
     go true eb e = cc
     go false eb e =
         let whole : length xs ≤ prefix_len (λ x. not (not (x == 0))) xs = ltb-false (prefix_len (λ x. not (not (x == 0))) xs) (length xs) eb in
         eqb-true (get_or xs k 0) 0 (not-not (eqb (get_or xs k 0) 0) (prefix_len_passes (λ x. not (not (x == 0))) xs k 0 (omega arith)))
 
-range_zero : (xs : List ℕ) (a b : ℕ) → b ≤ length xs → position (λ byte. not (byte == 0)) (slice_range xs a b) ≡ None → (k : ℕ) → a ≤ k → k < b → get_or xs k 0 ≡ 0
+range_zero : (xs : List ℕ) (a b : ℕ) → b ≤ length xs → position (λ byte. not (byte == 0)) (slice_range xs a b) ≡ None → (k : ℕ) → a ≤ k → k < b
+    → get_or xs k 0 ≡ 0
 range_zero xs a b fits e k from to =
     let len = length-take-le (b - a) (drop a xs) (let d = length-drop a xs in omega arith) in
     let at : a + (k - a) ≡ k = omega arith in
@@ -225,9 +264,11 @@ record NoRest (payload : List ℕ) : Type 0 where
   high : position (λ byte. not (byte == 0)) (slice_range payload 40 1024) ≡ None
 
 no_rest-parts : (payload : List ℕ) → rest_fault payload ≡ None → NoRest payload
-no_rest-parts payload e = go (position (λ byte. not (byte == 0)) (slice_range payload 12 16)) refl (position (λ byte. not (byte == 0)) (slice_range payload 40 1024)) refl e
+no_rest-parts payload e = go (position (λ byte. not (byte == 0)) (slice_range payload 12 16)) refl
+    (position (λ byte. not (byte == 0)) (slice_range payload 40 1024)) refl e
   where
-    go : (a : Option ℕ) → position (λ byte. not (byte == 0)) (slice_range payload 12 16) ≡ a → (b : Option ℕ) → position (λ byte. not (byte == 0)) (slice_range payload 40 1024) ≡ b
+    go : (a : Option ℕ) → position (λ byte. not (byte == 0)) (slice_range payload 12 16) ≡ a → (b : Option ℕ)
+        → position (λ byte. not (byte == 0)) (slice_range payload 40 1024) ≡ b
         → option_or (option_map (λ at. 12 + at) a) (option_map (λ at. 40 + at) b) ≡ None → NoRest payload
     go (Some x) ea b eb e = cc
     go None ea (Some y) eb e = cc
@@ -262,7 +303,8 @@ parts-same xs ys it is_x is_y x y =
     ext_get_or 0 xs ys (is_x.len ∙ sym is_y.len) (λ k low.
     let l = is_x.len in
     let same : super_in xs ≡ super_in ys = x.numbers ∙ sym y.numbers in
-    let part : (n at : ℕ) → number_at n at xs ≡ number_at n at ys → at ≤ k → k < at + n → slice_index xs k ≡ slice_index ys k = λ n at e a b. number_at-same n at xs ys is_x.each is_y.each e k a b in
+    let part : (n at : ℕ) → number_at n at xs ≡ number_at n at ys → at ≤ k → k < at + n → slice_index xs k ≡ slice_index ys k =
+    λ n at e a b. number_at-same n at xs ys is_x.each is_y.each e k a b in
     elim (cases_lt k 8) [
       | inl a ↦ sym (get_or-take 8 xs k 0 a) ∙ ap (λ p. get_or p k 0) (x.first ∙ sym y.first) ∙ get_or-take 8 ys k 0 a
       | inr b ↦ elim (cases_lt k 12) [

@@ -1,5 +1,6 @@
 -- The superblock, as the payload of block 0 spells it.
-use Rattle.std.specs.Prelude.{◌≡◌, ℕ, ◌+◌, ◌-◌, ◌^◌, ◌<◌, ◌==◌, if◌then◌else◌, Bool, true, not, ◌&&◌, ◌||◌, nat_lt, nat_le, List, take, position, codes, nat_eq, Option, Some, None, is_none, Result, Ok, Err, slice_range}
+use Rattle.std.specs.Prelude.{◌≡◌, ℕ, ◌+◌, ◌-◌, ◌^◌, ◌<◌, ◌==◌, if◌then◌else◌, Bool, true, not, ◌&&◌, ◌||◌, nat_lt, nat_le, List, take, position, codes}
+use Rattle.std.specs.Prelude.{nat_eq, Option, Some, None, is_none, Result, Ok, Err, slice_range}
 use Rattle.std.specs.Option.{option_map, option_or}
 use lib.Pointwise.{pointwise}
 use Rattle.nofs_disk.specs.Number.{number_at}

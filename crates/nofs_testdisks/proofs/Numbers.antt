@@ -15,9 +15,11 @@ of-in payload it e = go (is_super payload) e
     go true h = cc
     go false h = cc
 
-pub numbers-read : (old new : DiskState) (it : SuperBlock) → StaysButFaults old new → CanMount old.blocks it → (IsTrue old.tells → super_of (cell_at old.now 0).payload ≡ Some it) → IsAt new it
+pub numbers-read : (old new : DiskState) (it : SuperBlock) → StaysButFaults old new → CanMount old.blocks it
+    → (IsTrue old.tells → super_of (cell_at old.now 0).payload ≡ Some it) → IsAt new it
 unfolding super_at
 numbers-read old new it s can spelled = record {
   geometry = subst (λ (n : ℕ). IsGeometry n it.blocks it.inodes) (sym s.disk.blocks) can.geometry;
-  same = λ t. ap (λ (X : List _). super_in (cell_at X 0).payload) s.cells.now ∙ of-in (cell_at old.now 0).payload it (spelled (subst (λ (b : Bool). IsTrue b) s.disk.tells t));
+  same = λ t. ap (λ (X : List _). super_in (cell_at X 0).payload) s.cells.now
+      ∙ of-in (cell_at old.now 0).payload it (spelled (subst (λ (b : Bool). IsTrue b) s.disk.tells t));
 }

@@ -1,5 +1,6 @@
 -- What a test chooses of two lists in one: for users of a turn whose entries name their callers.
-use Rattle.std.proofs.Common.{◌≡◌, ℕ, ◌+◌, ◌≤◌, List, [], ◌∷◌, Bool, true, false, cond, ◌&&◌, refl, sym, ap, ◌∙◌, arith, ltb, leb, ltb-true, ltb-false, lt-ltb, le-ltb}
+use Rattle.std.proofs.Common.{◌≡◌, ℕ, ◌+◌, ◌≤◌, List, [], ◌∷◌, Bool, true, false, cond, ◌&&◌, refl, sym, ap, ◌∙◌, arith, ltb, leb, ltb-true, ltb-false}
+use Rattle.std.proofs.Common.{lt-ltb, le-ltb}
 use Rattle.std.specs.Prelude.{filter}
 use Rattle.std.proofs.lemmas.Bool.{leb-true, le-leb}
 use Rattle.nofs_turn.specs.Lists.{rises, merge_in, merge, numbered, entries_of, chosen}
@@ -16,7 +17,8 @@ module _ {E : Type 0} where
   entries_of-numbered n [] = refl
   entries_of-numbered n (e ∷ es) = λ i. e ∷ entries_of-numbered (n + 1) es i
 
-  filter_one : (f : E → Bool) (b : Bool) (x : ℕ × E) (xs : List (ℕ × E)) → filter f (entries_of xs) ≡ entries_of (chosen f xs) → cond b (x.1 ∷ filter f (entries_of xs)) (filter f (entries_of xs)) ≡ entries_of (cond b (x ∷ chosen f xs) (chosen f xs))
+  filter_one : (f : E → Bool) (b : Bool) (x : ℕ × E) (xs : List (ℕ × E)) → filter f (entries_of xs) ≡ entries_of (chosen f xs)
+      → cond b (x.1 ∷ filter f (entries_of xs)) (filter f (entries_of xs)) ≡ entries_of (cond b (x ∷ chosen f xs) (chosen f xs))
   filter_one f true x xs h = λ i. x.1 ∷ h i
   filter_one f false x xs h = h
 
@@ -37,9 +39,11 @@ module _ {E : Type 0} where
   goes_of : (low : ℕ) (xs : List (ℕ × E)) → rises low xs ≡ true → Goes low xs
   unfolding Goes
   goes_of low [] e = tt
-  goes_of low (x ∷ xs) e = let t = both_true (leb low x.0) (rises (x.0 + 1) xs) e in (leb-true low x.0 t.0, goes_less x.0 (x.0 + 1) xs (omega arith) (goes_of (x.0 + 1) xs t.1))
+  goes_of low (x ∷ xs) e = let t = both_true (leb low x.0) (rises (x.0 + 1) xs) e in
+      (leb-true low x.0 t.0, goes_less x.0 (x.0 + 1) xs (omega arith) (goes_of (x.0 + 1) xs t.1))
 
-  goes_one : (low : ℕ) (x y : ℕ × E) (ys : List (ℕ × E)) (b : Bool) → ltb x.0 y.0 ≡ b → low ≤ x.0 → Goes low (y ∷ ys) → (y.0 ≤ x.0 → Goes y.0 (merge_in x ys)) → Goes low (cond b (x ∷ y ∷ ys) (y ∷ merge_in x ys))
+  goes_one : (low : ℕ) (x y : ℕ × E) (ys : List (ℕ × E)) (b : Bool) → ltb x.0 y.0 ≡ b → low ≤ x.0 → Goes low (y ∷ ys)
+      → (y.0 ≤ x.0 → Goes y.0 (merge_in x ys)) → Goes low (cond b (x ∷ y ∷ ys) (y ∷ merge_in x ys))
   unfolding Goes
   goes_one low x y ys true e le up more = let l = ltb-true x.0 y.0 e in (le, (omega arith, up.1))
   goes_one low x y ys false e le up more = (up.0, more (ltb-false x.0 y.0 e))
@@ -77,18 +81,22 @@ module _ {E : Type 0} where
   chosen_first true x zs up = sym (first_in x zs up)
   chosen_first false x zs up = refl
 
-  chosen_later : (fx fy : Bool) (x y : ℕ × E) (zs ws : List (ℕ × E)) → y.0 ≤ x.0 → ws ≡ cond fx (merge_in x zs) zs → cond fy (y ∷ ws) ws ≡ cond fx (merge_in x (cond fy (y ∷ zs) zs)) (cond fy (y ∷ zs) zs)
+  chosen_later : (fx fy : Bool) (x y : ℕ × E) (zs ws : List (ℕ × E)) → y.0 ≤ x.0 → ws ≡ cond fx (merge_in x zs) zs
+      → cond fy (y ∷ ws) ws ≡ cond fx (merge_in x (cond fy (y ∷ zs) zs)) (cond fy (y ∷ zs) zs)
   chosen_later true true x y zs ws le h = (λ i. y ∷ h i) ∙ sym (later_in x y zs le)
   chosen_later true false x y zs ws le h = h
   chosen_later false true x y zs ws le h = λ i. y ∷ h i
   chosen_later false false x y zs ws le h = h
 
-  chosen_one : (f : E → Bool) (x y : ℕ × E) (ys : List (ℕ × E)) (b : Bool) → ltb x.0 y.0 ≡ b → Goes y.0 ys → chosen f (merge_in x ys) ≡ cond (f x.1) (merge_in x (chosen f ys)) (chosen f ys)
+  chosen_one : (f : E → Bool) (x y : ℕ × E) (ys : List (ℕ × E)) (b : Bool) → ltb x.0 y.0 ≡ b → Goes y.0 ys
+      → chosen f (merge_in x ys) ≡ cond (f x.1) (merge_in x (chosen f ys)) (chosen f ys)
       → chosen f (cond b (x ∷ y ∷ ys) (y ∷ merge_in x ys)) ≡ cond (f x.1) (merge_in x (chosen f (y ∷ ys))) (chosen f (y ∷ ys))
-  chosen_one f x y ys true e up h = let l = ltb-true x.0 y.0 e in chosen_first (f x.1) x (chosen f (y ∷ ys)) (goes_cond (x.0 + 1) (f y.1) y (chosen f ys) (omega arith) (goes_chosen y.0 f ys up))
+  chosen_one f x y ys true e up h = let l = ltb-true x.0 y.0 e in chosen_first (f x.1) x (chosen f (y ∷ ys))
+      (goes_cond (x.0 + 1) (f y.1) y (chosen f ys) (omega arith) (goes_chosen y.0 f ys up))
   chosen_one f x y ys false e up h = chosen_later (f x.1) (f y.1) x y (chosen f ys) (chosen f (merge_in x ys)) (ltb-false x.0 y.0 e) h
 
-  chosen-merge_in : (low : ℕ) (f : E → Bool) (x : ℕ × E) (ys : List (ℕ × E)) → Goes low ys → chosen f (merge_in x ys) ≡ cond (f x.1) (merge_in x (chosen f ys)) (chosen f ys)
+  chosen-merge_in : (low : ℕ) (f : E → Bool) (x : ℕ × E) (ys : List (ℕ × E)) → Goes low ys
+      → chosen f (merge_in x ys) ≡ cond (f x.1) (merge_in x (chosen f ys)) (chosen f ys)
   unfolding Goes
   chosen-merge_in low f x [] up = refl
   chosen-merge_in low f x (y ∷ ys) up = chosen_one f x y ys (ltb x.0 y.0) refl up.1 (chosen-merge_in y.0 f x ys up.1)
@@ -133,4 +141,5 @@ module _ {E : Type 0} where
   joined_own f xs ys e k none = chosen-merge 0 f xs ys (goes_of 0 xs e) (goes_of 0 ys k) ∙ ap (λ zs. merge zs (chosen f ys)) none
 
   pub joined_other : (f : E → Bool) (xs ys : List (ℕ × E)) → rises 0 xs ≡ true → rises 0 ys ≡ true → chosen f ys ≡ [] → chosen f (merge xs ys) ≡ chosen f xs
-  joined_other f xs ys e k none = chosen-merge 0 f xs ys (goes_of 0 xs e) (goes_of 0 ys k) ∙ (ap (merge (chosen f xs)) none ∙ merge_nil 0 (chosen f xs) (rises_chosen 0 f xs e))
+  joined_other f xs ys e k none = chosen-merge 0 f xs ys (goes_of 0 xs e) (goes_of 0 ys k)
+      ∙ (ap (merge (chosen f xs)) none ∙ merge_nil 0 (chosen f xs) (rises_chosen 0 f xs e))

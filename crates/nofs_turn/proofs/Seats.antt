@@ -1,5 +1,6 @@
 -- Seats that are split and joined keep the rule, and what stands at the end.
-use Rattle.std.proofs.Common.{◌≡◌, ◌≢◌, ℕ, zero, suc, ◌+◌, ◌-◌, ◌*◌, ◌^◌, ◌<◌, List, [], ◌∷◌, length, set, Option, Some, false, refl, sym, ap, ◌∙◌, subst, ⊎_elim, inl, inr, arith, drop}
+use Rattle.std.proofs.Common.{◌≡◌, ◌≢◌, ℕ, zero, suc, ◌+◌, ◌-◌, ◌*◌, ◌^◌, ◌<◌, List, [], ◌∷◌, length, set, Option, Some, false, refl, sym, ap, ◌∙◌, subst}
+use Rattle.std.proofs.Common.{⊎_elim, inl, inr, arith, drop}
 use Rattle.std.proofs.lemmas.Bool.Decides.{nat_tests}
 use mathlib.Core.Option.{some, some-injective, some-ne-none}
 use mathlib.Core.List.{IsPrefix}
@@ -43,13 +44,36 @@ module _ {T E F : Type 0} (entries : T → List E) (fixed : T → F) (f : F) (st
         small = r.small;
         grown = r.grown;
         home = r.home;
-        holds = λ t. let h = holds_still entries fixed f start seats s.views r.holder id v w at refl (r.holds t) in (h.0, at_longer cut (n ∷ []) r.holder h.0 h.1, h.2);
+        holds = λ t. let h = holds_still entries fixed f start seats s.views r.holder id v w at refl (r.holds t) in
+            (h.0, at_longer cut (n ∷ []) r.holder h.0 h.1, h.2);
         each = λ j u e. ⊎_elim
             (seats_stay entries fixed f start seats (Sits f start seats r.log r.taken r.holder) s.views id w
-            (inr record { same_fixed = x.same_fixed; same_start = x.same_start; same_seats = x.same_seats; seen = x.seen; heard = x.heard; rising = x.rising; mine = x.mine; stands = x.stands; turn = x.turn })
+            (inr record {
+              same_fixed = x.same_fixed;
+              same_start = x.same_start;
+              same_seats = x.same_seats;
+              seen = x.seen;
+              heard = x.heard;
+              rising =
+                  x.rising;
+              mine = x.mine;
+              stands = x.stands;
+              turn = x.turn;
+            })
             (λ i y _ k. r.each i y k) j u)
             (λ (t : n ≡ u). subst (Sits f start seats r.log r.taken r.holder j) t
-            (inr record { same_fixed = x.same_fixed; same_start = x.same_start; same_seats = x.same_seats; seen = x.seen; heard = x.heard; rising = tt; mine = tt; stands = omega arith; turn = λ h. absurd (off h) }))
+            (inr record {
+              same_fixed = x.same_fixed;
+              same_start = x.same_start;
+              same_seats = x.same_seats;
+              seen = x.seen;
+              heard = x.heard;
+              rising =
+                  tt;
+              mine = tt;
+              stands = omega arith;
+              turn = λ h. absurd (off h);
+            }))
             (at_snoc cut n u j e);
         all_places = λ q.
             let t = total_snoc (λ (u : V). times q u.mine) cut n in
@@ -63,7 +87,8 @@ module _ {T E F : Type 0} (entries : T → List E) (fixed : T → F) (f : F) (st
             omega arith;
       }
 
-  pub joins : (id : ℕ) (v : V) (other : ℕ) (w : V) → 0 < v.stands → v.has ≡ false → 0 < w.stands → w.has ≡ false → w.splits ≡ 0 → Joins Rule id v other w (united v w) spent
+  pub joins : (id : ℕ) (v : V) (other : ℕ) (w : V) → 0 < v.stands → v.has ≡ false → 0 < w.stands → w.has ≡ false → w.splits ≡ 0
+      → Joins Rule id v other w (united v w) spent
   joins id v other w live rests live' rests' whole s r at apart there =
       let both = united v w in
       let cut = set s.views id both in
@@ -82,7 +107,8 @@ module _ {T E F : Type 0} (entries : T → List E) (fixed : T → F) (f : F) (st
         small = r.small;
         grown = r.grown;
         home = r.home;
-        holds = λ t. let h = holds_still entries fixed f start seats s.views r.holder id v both at refl (r.holds t) in holds_still entries fixed f start seats cut r.holder other w spent there (sym rests') h;
+        holds = λ t. let h = holds_still entries fixed f start seats s.views r.holder id v both at refl (r.holds t)
+            in holds_still entries fixed f start seats cut r.holder other w spent there (sym rests') h;
         each = seats_stay entries fixed f start seats (Sits f start seats r.log r.taken r.holder) cut other spent (inl refl)
             (λ j u _ e. seats_stay entries fixed f start seats (Sits f start seats r.log r.taken r.holder) s.views id both
             (inr record {
@@ -92,7 +118,9 @@ module _ {T E F : Type 0} (entries : T → List E) (fixed : T → F) (f : F) (st
               seen = x.seen;
               heard = y.seen;
               mine = stands_merge r.log v.mine w.mine x.mine y.mine;
-              rising = rises_merge 0 (length r.log) v.mine w.mine x.rising y.rising (λ q. let p = two_parts (λ (u : V). times q u.mine) s.views id other v w at was apart' in let all = r.all_places q in let o = once_le start (length r.log) q in omega arith);
+              rising = rises_merge 0 (length r.log) v.mine w.mine x.rising y.rising (λ q. let p =
+                  two_parts (λ (u : V). times q u.mine) s.views id other v w at was apart' in let all = r.all_places q in let o =
+                  once_le start (length r.log) q in omega arith);
               stands = omega arith;
               turn = λ h. absurd (off (sym rests ∙ h));
             })
@@ -111,7 +139,8 @@ module _ {T E F : Type 0} (entries : T → List E) (fixed : T → F) (f : F) (st
       }
 
   -- a view that stands for all passes is the only one
-  alone : (s : St) (r : Rule s) (id : ℕ) (v : V) → get_elem? s.views id ≡ some v → 0 < v.stands → v.stands ≡ v.seats → (j : ℕ) (u : V) → j ≢ id → get_elem? s.views j ≡ some u → u ≡ spent
+  alone : (s : St) (r : Rule s) (id : ℕ) (v : V) → get_elem? s.views id ≡ some v → 0 < v.stands → v.stands ≡ v.seats → (j : ℕ) (u : V) → j ≢ id
+      → get_elem? s.views j ≡ some u → u ≡ spent
   alone s r id v at live all j u apart e =
       let x = live_of entries fixed f start seats s r id v at live in
       let same = x.same_seats in
@@ -119,7 +148,8 @@ module _ {T E F : Type 0} (entries : T → List E) (fixed : T → F) (f : F) (st
       let sum = r.passes in
       ⊎_elim (λ (p : u ≡ spent). p) (λ (y : SeatFits f start seats r.log r.taken r.holder j u). let some_pass = y.stands in absurd (omega arith)) (r.each j u e)
 
-  pub ends : (id : ℕ) (v : V) (ws : List ℕ) (xs : List (Option T)) → 0 < v.stands → v.stands ≡ v.seats → v.has ≡ false → Final (Seen Rule id v) ws xs → Found entries fixed v xs
+  pub ends : (id : ℕ) (v : V) (ws : List ℕ) (xs : List (Option T)) → 0 < v.stands → v.stands ≡ v.seats → v.has ≡ false → Final (Seen Rule id v) ws xs
+      → Found entries fixed v xs
   ends id v ws xs live all rests z =
       let s = z.0 in
       let r = z.1.0 in
@@ -142,12 +172,14 @@ module _ {T E F : Type 0} (entries : T → List E) (fixed : T → F) (f : F) (st
           same_part = x.same_fixed ∙ ap Some (sym h.3);
           begins = subst (λ l. IsPrefix v.seen l) (sym h.2) x.seen;
           grown = omega arith;
-          all_mine = all_numbered (length r.log - start) start 0 (length r.log) r.log v.mine x.rising x.mine mine (omega arith) ∙ (λ i. numbered (sym same i) (drop (sym same i) (sym h.2 i)));
+          all_mine = all_numbered (length r.log - start) start 0 (length r.log) r.log v.mine x.rising x.mine mine (omega arith)
+              ∙ (λ i. numbered (sym same i) (drop (sym same i) (sym h.2 i)));
         },
       )
     where
       free_at : (s : St) (r : Rule s) → get_elem? s.views id ≡ some v → r.taken < 2 → r.taken ≡ 0
-      free_at s r at bit = let never : r.taken ≡ 1 → ⊥ = λ t. let lt = not_all entries fixed f start seats s r id v at live rests t in omega arith in omega arith
+      free_at s r at bit = let never : r.taken ≡ 1 → ⊥ = λ t. let lt =
+          not_all entries fixed f start seats s r id v at live rests t in omega arith in omega arith
 
 -- the maker's seat is as the others, once it has split them
 pub last_is : {E F : Type 0} (v : View E F) (seats : ℕ) → Deals v 0 seats → v ≡ newcomer v
@@ -176,15 +208,28 @@ starts {T} {E} {F} entries fixed x seats some_seat small = record {
 
     one : (j : ℕ) (v : View E F) → get_elem? (maker (fixed x) (entries x) seats ∷ []) j ≡ some v → Sits (fixed x) (length (entries x)) seats (entries x) 0 0 j v
     one zero v e = subst (Sits (fixed x) (length (entries x)) seats (entries x) 0 0 0) (some-injective _ _ e)
-        (inr record { same_fixed = refl; same_start = refl; same_seats = refl; seen = prefix_self (entries x); heard = (entries x, refl); rising = tt; mine = tt; stands = omega arith; turn = λ h. absurd (off h) })
+        (inr record {
+          same_fixed = refl;
+          same_start = refl;
+          same_seats = refl;
+          seen = prefix_self (entries x);
+          heard = (entries x, refl);
+          rising = tt;
+          mine =
+              tt;
+          stands = omega arith;
+          turn = λ h. absurd (off h);
+        })
     one (suc j) v e = absurd (some-ne-none v (sym e))
 
     once_nothing : (n q : ℕ) → once n n q ≡ 0
     once_nothing n q = grind (arith, nat_tests)
 
 -- the same, at a value and a word that are known
-pub starts_as : {T E F : Type 0} (entries : T → List E) (fixed : T → F) (x kept : T) (seats word : ℕ) (slots : List (Option T)) → kept ≡ x → word ≡ length (entries x) → slots ≡ Some x ∷ [] → word < 2 ^ 63 → 0 < seats
+pub starts_as : {T E F : Type 0} (entries : T → List E) (fixed : T → F) (x kept : T) (seats word : ℕ) (slots : List (Option T)) → kept ≡ x
+    → word ≡ length (entries x) → slots ≡ Some x ∷ [] → word < 2 ^ 63 → 0 < seats
     → TurnHolds entries fixed (fixed kept) (length (entries kept)) seats (opening (2 * word ∷ []) slots (maker (fixed kept) (entries kept) seats))
 starts_as {T} entries fixed x kept seats word slots same is only small some_seat =
-    subst (λ (q : T × ℕ × List (Option T)). TurnHolds entries fixed (fixed q.0) (length (entries q.0)) seats (opening (2 * q.1 ∷ []) q.2 (maker (fixed q.0) (entries q.0) seats)))
+    subst (λ (q : T × ℕ × List (Option T)). TurnHolds entries fixed (fixed q.0) (length (entries q.0)) seats
+    (opening (2 * q.1 ∷ []) q.2 (maker (fixed q.0) (entries q.0) seats)))
     (λ i. (sym same i, sym is i, sym only i)) (starts entries fixed x seats some_seat (omega arith))

@@ -1,5 +1,6 @@
 -- Each step of a turn keeps its rule.
-use Rattle.std.proofs.Common.{◌≡◌, ◌≢◌, ℕ, zero, suc, ◌+◌, ◌-◌, ◌*◌, ◌^◌, ◌<◌, List, [], ◌∷◌, ◌++◌, length, set, Option, Some, Bool, true, false, true≢false, refl, sym, ap, ◌∙◌, subst, ⊎_elim, inl, inr, arith, drop, length-drop, ltb, ltb-true}
+use Rattle.std.proofs.Common.{◌≡◌, ◌≢◌, ℕ, zero, suc, ◌+◌, ◌-◌, ◌*◌, ◌^◌, ◌<◌, List, [], ◌∷◌, ◌++◌, length, set, Option, Some, Bool, true, false, true≢false}
+use Rattle.std.proofs.Common.{refl, sym, ap, ◌∙◌, subst, ⊎_elim, inl, inr, arith, drop, length-drop, ltb, ltb-true}
 use Rattle.std.specs.Prelude.{bit_or, slice_index, cond}
 use mathlib.Core.Option.{Option as Home, some, none, some-injective, some-ne-none}
 use mathlib.Core.Logic.{dite}
@@ -20,7 +21,8 @@ first_carried d [] = d
 first_carried d (x ∷ xs) = x.1
 
 -- what a list carries first is one thing
-pub same_carried : {X : Type 0} (l : List (ℕ × Option X)) (x y : X) (k m : ℕ) (xs ys : List (ℕ × Option X)) → l ≡ (k, Some x) ∷ xs → l ≡ (m, Some y) ∷ ys → x ≡ y
+pub same_carried : {X : Type 0} (l : List (ℕ × Option X)) (x y : X) (k m : ℕ) (xs ys : List (ℕ × Option X)) → l ≡ (k, Some x) ∷ xs → l ≡ (m, Some y) ∷ ys
+    → x ≡ y
 same_carried {X} l x y k m xs ys p q = let e : ◌≡◌ {A = Option X} (Some x) (Some y) = ap (λ l. first_carried (Some x) l) (sym p ∙ q) in cc
 
 pub off : false ≡ true → ⊥
@@ -52,24 +54,29 @@ module _ {T E F : Type 0} (entries : T → List E) (fixed : T → F) (f : F) (st
 
   -- what is known of a seat that has the turn
   pub holder_of : (s : St) (r : Rule s) (id : ℕ) (v : V) → get_elem? s.views id ≡ some v → v.has ≡ true → SeatFits f start seats r.log r.taken r.holder id v
-  holder_of s r id v at has = ⊎_elim (λ (e : v ≡ spent). absurd (off (sym (ap (λ (u : V). u.has) e) ∙ has))) (λ (x : SeatFits f start seats r.log r.taken r.holder id v). x) (r.each id v at)
+  holder_of s r id v at has = ⊎_elim (λ (e : v ≡ spent). absurd (off (sym (ap (λ (u : V). u.has) e) ∙ has)))
+      (λ (x : SeatFits f start seats r.log r.taken r.holder id v). x) (r.each id v at)
 
   pub live_of : (s : St) (r : Rule s) (id : ℕ) (v : V) → get_elem? s.views id ≡ some v → 0 < v.stands → SeatFits f start seats r.log r.taken r.holder id v
-  live_of s r id v at some_pass = ⊎_elim (λ (e : v ≡ spent). let z : v.stands ≡ 0 = ap (λ (u : V). u.stands) e in absurd (omega arith)) (λ (x : SeatFits f start seats r.log r.taken r.holder id v). x) (r.each id v at)
+  live_of s r id v at some_pass = ⊎_elim (λ (e : v ≡ spent). let z : v.stands ≡ 0 = ap (λ (u : V). u.stands) e in absurd (omega arith))
+      (λ (x : SeatFits f start seats r.log r.taken r.holder id v). x) (r.each id v at)
 
-  pub seats_stay : (P : ℕ → V → Type 0) (vs : List V) (id : ℕ) (w : V) → P id w → ((j : ℕ) (u : V) → j ≢ id → get_elem? vs j ≡ some u → P j u) → (j : ℕ) (u : V) → get_elem? (set vs id w) j ≡ some u → P j u
+  pub seats_stay : (P : ℕ → V → Type 0) (vs : List V) (id : ℕ) (w : V) → P id w → ((j : ℕ) (u : V) → j ≢ id → get_elem? vs j ≡ some u → P j u)
+      → (j : ℕ) (u : V) → get_elem? (set vs id w) j ≡ some u → P j u
   seats_stay P vs id w mine others j u e = ⊎_elim
       (λ (t : (j ≡ id) × (w ≡ u)). subst (λ (x : ℕ × V). P x.0 x.1) (λ i. (sym t.0 i, t.1 i)) mine)
       (λ (t : (j ≢ id) × (get_elem? vs j ≡ some u)). others j u t.0 t.1)
       (at_set vs id j w u e)
 
-  pub same_places : (vs : List V) (id : ℕ) (v w : V) → get_elem? vs id ≡ some v → w.mine ≡ v.mine → (x : ℕ) → total (λ (u : V). times x u.mine) (set vs id w) ≡ total (λ (u : V). times x u.mine) vs
+  pub same_places : (vs : List V) (id : ℕ) (v w : V) → get_elem? vs id ≡ some v → w.mine ≡ v.mine → (x : ℕ)
+      → total (λ (u : V). times x u.mine) (set vs id w) ≡ total (λ (u : V). times x u.mine) vs
   same_places vs id v w at e x =
       let g : times x w.mine ≡ times x v.mine = ap (times x) e in
       let t = total_set (λ (u : V). times x u.mine) vs id v w at in
       omega arith
 
-  pub same_passes : (vs : List V) (id : ℕ) (v w : V) → get_elem? vs id ≡ some v → w.stands + w.splits ≡ v.stands + v.splits → total (λ (u : V). u.stands + u.splits) (set vs id w) ≡ total (λ (u : V). u.stands + u.splits) vs
+  pub same_passes : (vs : List V) (id : ℕ) (v w : V) → get_elem? vs id ≡ some v → w.stands + w.splits ≡ v.stands + v.splits
+      → total (λ (u : V). u.stands + u.splits) (set vs id w) ≡ total (λ (u : V). u.stands + u.splits) vs
   same_passes vs id v w at e = let t = total_set (λ (u : V). u.stands + u.splits) vs id v w at in omega arith
 
   -- some view has the turn, at k
@@ -82,11 +89,24 @@ module _ {T E F : Type 0} (entries : T → List E) (fixed : T → F) (f : F) (st
       (w, ap (get_elem? (set vs id w)) here ∙ set_here vs id w (at_below vs id v at), same ∙ (ap (λ (u : V). u.has) is ∙ h.2)))
       (λ other. (h.0, set_else vs id k w other ∙ h.1, h.2))
 
-  fits_looked : (log : List E) (taken holder id n : ℕ) (v : V) → SeatFits f start seats log taken holder id v → SeatFits f start seats log taken holder id (looked v n)
-  fits_looked log taken holder id n v x = record { same_fixed = x.same_fixed; same_start = x.same_start; same_seats = x.same_seats; seen = x.seen; heard = x.heard; rising = x.rising; mine = x.mine; stands = x.stands; turn = x.turn }
+  fits_looked : (log : List E) (taken holder id n : ℕ) (v : V) → SeatFits f start seats log taken holder id v
+      → SeatFits f start seats log taken holder id (looked v n)
+  fits_looked log taken holder id n v x = record {
+    same_fixed = x.same_fixed;
+    same_start = x.same_start;
+    same_seats = x.same_seats;
+    seen = x.seen;
+    heard =
+        x.heard;
+    rising = x.rising;
+    mine = x.mine;
+    stands = x.stands;
+    turn = x.turn;
+  }
 
   -- a step that changes one view in nothing but its looks
-  unmoved : (s : St) (r : Rule s) (id n : ℕ) (v : V) → get_elem? s.views id ≡ some v → 0 < v.stands → (ws : List ℕ) → ws ≡ (2 * length r.log + r.taken) ∷ [] → Rule record { words = ws; homes = s.homes; views = set s.views id (looked v n) }
+  unmoved : (s : St) (r : Rule s) (id n : ℕ) (v : V) → get_elem? s.views id ≡ some v → 0 < v.stands → (ws : List ℕ) → ws ≡ (2 * length r.log + r.taken) ∷ []
+      → Rule record { words = ws; homes = s.homes; views = set s.views id (looked v n) }
   unmoved s r id n v at live ws same = record {
     log = r.log;
     taken = r.taken;
@@ -97,7 +117,8 @@ module _ {T E F : Type 0} (entries : T → List E) (fixed : T → F) (f : F) (st
     grown = r.grown;
     home = r.home;
     holds = λ t. holds_still s.views r.holder id v (looked v n) at refl (r.holds t);
-    each = seats_stay (Sits f start seats r.log r.taken r.holder) s.views id (looked v n) (inr (fits_looked r.log r.taken r.holder id n v (live_of s r id v at live))) (λ j u _ e. r.each j u e);
+    each = seats_stay (Sits f start seats r.log r.taken r.holder) s.views id (looked v n)
+        (inr (fits_looked r.log r.taken r.holder id n v (live_of s r id v at live))) (λ j u _ e. r.each j u e);
     all_places = λ x. same_places s.views id v (looked v n) at refl x ∙ r.all_places x;
     passes = same_passes s.views id v (looked v n) at refl ∙ r.passes;
   }
@@ -106,11 +127,17 @@ module _ {T E F : Type 0} (entries : T → List E) (fixed : T → F) (f : F) (st
   looks slots id me live s r _ at _ =
       let n : ℕ = word s in
       let is = word_is s r in
-      let long = prefix_length me.0.seen r.log (live_of s r id me.0 at live).seen in
-      (looked me.0 n, keeps, tt, unmoved s r id n me.0 at live (set s.words 0 n) (rw is (ap (λ ws. set ws 0 (2 * length r.log + r.taken)) r.words)), (refl, omega arith))
+      let long = prefix_length me.0.seen r.log (live_of s r id me.0 at live).seen in (
+        looked me.0 n,
+        keeps,
+        tt,
+        unmoved s r id n me.0 at live (set s.words 0 n) (rw is (ap (λ ws. set ws 0 (2 * length r.log + r.taken)) r.words)),
+        (refl, omega arith),
+      )
 
   -- the taking of a turn that was free
-  taken_free : (s : St) (r : Rule s) (id n : ℕ) (v : V) → get_elem? s.views id ≡ some v → 0 < v.stands → r.taken ≡ 0 → Rule record { words = (2 * length r.log + 1) ∷ []; homes = none ∷ []; views = set s.views id (took v n r.log) }
+  taken_free : (s : St) (r : Rule s) (id n : ℕ) (v : V) → get_elem? s.views id ≡ some v → 0 < v.stands → r.taken ≡ 0
+      → Rule record { words = (2 * length r.log + 1) ∷ []; homes = none ∷ []; views = set s.views id (took v n r.log) }
   taken_free s r id n v at live free =
       let x = live_of s r id v at live in
       let w = took v n r.log in record {
@@ -124,7 +151,18 @@ module _ {T E F : Type 0} (entries : T → List E) (fixed : T → F) (f : F) (st
         home = λ z. absurd (omega arith);
         holds = λ _. (w, set_here s.views id w (at_below s.views id v at), refl);
         each = seats_stay (Sits f start seats r.log 1 id) s.views id w
-            (inr record { same_fixed = x.same_fixed; same_start = x.same_start; same_seats = x.same_seats; seen = prefix_self r.log; heard = x.heard; rising = x.rising; mine = x.mine; stands = x.stands; turn = λ _. (refl, refl, refl) })
+            (inr record {
+              same_fixed = x.same_fixed;
+              same_start = x.same_start;
+              same_seats = x.same_seats;
+              seen = prefix_self r.log;
+              heard =
+                  x.heard;
+              rising = x.rising;
+              mine = x.mine;
+              stands = x.stands;
+              turn = λ _. (refl, refl, refl);
+            })
             (λ j u _ e. waits j u (r.each j u e));
         all_places = λ y. same_places s.views id v w at refl y ∙ r.all_places y;
         passes = same_passes s.views id v w at refl ∙ r.passes;
@@ -132,7 +170,19 @@ module _ {T E F : Type 0} (entries : T → List E) (fixed : T → F) (f : F) (st
     where
       waits : (j : ℕ) (u : V) → Sits f start seats r.log r.taken r.holder j u → Sits f start seats r.log 1 id j u
       waits j u = ⊎_elim (λ (e : u ≡ spent). inl e)
-          (λ (y : SeatFits f start seats r.log r.taken r.holder j u). inr record { same_fixed = y.same_fixed; same_start = y.same_start; same_seats = y.same_seats; seen = y.seen; heard = y.heard; rising = y.rising; mine = y.mine; stands = y.stands; turn = λ h. let t = (y.turn h).0 in absurd (omega arith) })
+          (λ (y : SeatFits f start seats r.log r.taken r.holder j u). inr record {
+            same_fixed = y.same_fixed;
+            same_start = y.same_start;
+            same_seats =
+                y.same_seats;
+            seen = y.seen;
+            heard = y.heard;
+            rising = y.rising;
+            mine = y.mine;
+            stands = y.stands;
+            turn =
+                λ h. let t = (y.turn h).0 in absurd (omega arith);
+          })
 
   -- where the turn is taken, the seat that takes it in vain does not stand for all
   pub not_all : (s : St) (r : Rule s) (id : ℕ) (v : V) → get_elem? s.views id ≡ some v → 0 < v.stands → v.has ≡ false → r.taken ≡ 1 → v.stands < v.seats
@@ -140,7 +190,8 @@ module _ {T E F : Type 0} (entries : T → List E) (fixed : T → F) (f : F) (st
       let x = live_of s r id v at live in
       let h = r.holds taken in
       let y = holder_of s r r.holder h.0 h.1 h.2 in
-      let apart : id ≢ r.holder = λ e. let is : v ≡ h.0 = some-injective v h.0 (sym at ∙ (ap (get_elem? s.views) e ∙ h.1)) in off (sym has ∙ (ap (λ (u : V). u.has) is ∙ h.2)) in
+      let apart : id ≢ r.holder = λ e. let is : v ≡ h.0 = some-injective v h.0 (sym at ∙ (ap (get_elem? s.views) e ∙ h.1)) in off
+      (sym has ∙ (ap (λ (u : V). u.has) is ∙ h.2)) in
       let both = two_parts (λ (u : V). u.stands + u.splits) s.views id r.holder v h.0 at h.1 apart in
       let all = r.passes in
       let some_other : 0 < h.0.stands = y.stands in
@@ -148,9 +199,11 @@ module _ {T E F : Type 0} (entries : T → List E) (fixed : T → F) (f : F) (st
       omega arith
 
   abbrev Tried : ℕ → ℕ → V → St → Type 0
-  Tried slots id v s = (w : V) × (a : Act (Option T)) × Valid s.homes [] a × Rule (stepped s 0 (bit_or (word s) 1) id [] w a) × Takes entries fixed (step slots 0 1 0 none) (v, []) (word s) (w, carried_after [] a)
+  Tried slots id v s = (w : V) × (a : Act (Option T)) × Valid s.homes [] a × Rule (stepped s 0 (bit_or (word s) 1) id [] w a) × Takes entries fixed
+      (step slots 0 1 0 none) (v, []) (word s) (w, carried_after [] a)
 
-  tries_at : (slots id : ℕ) (v : V) → 0 < v.stands → v.has ≡ false → Allows Rule slots id (v, []) 0 (λ n. bit_or n 1) (Takes entries fixed (step slots 0 1 0 none) (v, []))
+  tries_at : (slots id : ℕ) (v : V) → 0 < v.stands → v.has ≡ false
+      → Allows Rule slots id (v, []) 0 (λ n. bit_or n 1) (Takes entries fixed (step slots 0 1 0 none) (v, []))
   tries_at slots id v live has s r _ at _ = dite (ℕ_discrete r.taken 0) free busy
     where
       n : ℕ
@@ -167,14 +220,17 @@ module _ {T E F : Type 0} (entries : T → List E) (fixed : T → F) (f : F) (st
           let x = r.home z in
           let w = took v n (entries x.0) in
           let live' = live_of s r id v at live in
-          let after : Rule record { words = (2 * length r.log + 1) ∷ []; homes = none ∷ []; views = set s.views id w } = subst (λ xs. Rule record { words = (2 * length r.log + 1) ∷ []; homes = none ∷ []; views = set s.views id (took v n xs) }) (sym x.2) (taken_free s r id n v at live z) in
+          let after : Rule record { words = (2 * length r.log + 1) ∷ []; homes = none ∷ []; views = set s.views id w } =
+          subst (λ xs. Rule record { words = (2 * length r.log + 1) ∷ []; homes = none ∷ []; views = set s.views id (took v n xs) }) (sym x.2)
+          (taken_free s r id n v at live z) in
           let is = word_is s r in
           let small = r.small in
           let long : length (entries x.0) ≡ length r.log = ap length x.2 in (
             w,
             takes 0 (Some x.0),
             ap (λ hs. get_elem? hs 0) x.1,
-            subst (λ (q : List ℕ × List (Home (Option T))). Rule record { words = q.0; homes = q.1; views = set s.views id w }) (λ i. (sym words_after i, ap (λ hs. set hs 0 none) (sym x.1) i)) after,
+            subst (λ (q : List ℕ × List (Home (Option T))). Rule record { words = q.0; homes = q.1; views = set s.views id w })
+                (λ i. (sym words_after i, ap (λ hs. set hs 0 none) (sym x.1) i)) after,
             inl (x.0, omega arith, refl, subst (λ l. IsPrefix v.seen l) (sym x.2) live'.seen, live'.same_fixed ∙ ap Some (sym x.3), omega arith),
           )
 
@@ -190,11 +246,15 @@ module _ {T E F : Type 0} (entries : T → List E) (fixed : T → F) (f : F) (st
             inr (omega arith, refl, not_all s r id v at live has one),
           )
 
-  pub tries : (slots id : ℕ) (me : M) → 0 < me.0.stands → me.0.has ≡ false → me.1 ≡ [] → Allows Rule slots id me 0 (λ n. bit_or n 1) (Takes entries fixed (step slots 0 1 0 none) me)
-  tries slots id me live has empty = subst (λ c. Allows Rule slots id (me.0, c) 0 (λ n. bit_or n 1) (Takes entries fixed (step slots 0 1 0 none) (me.0, c))) (sym empty) (tries_at slots id me.0 live has)
+  pub tries : (slots id : ℕ) (me : M) → 0 < me.0.stands → me.0.has ≡ false → me.1 ≡ []
+      → Allows Rule slots id me 0 (λ n. bit_or n 1) (Takes entries fixed (step slots 0 1 0 none) me)
+  tries slots id me live has empty = subst (λ c. Allows Rule slots id (me.0, c) 0 (λ n. bit_or n 1) (Takes entries fixed (step slots 0 1 0 none) (me.0, c)))
+      (sym empty) (tries_at slots id me.0 live has)
 
-  given : (s : St) (r : Rule s) (id : ℕ) (v : V) (y : T) → get_elem? s.views id ≡ some v → v.has ≡ true → v.fixed ≡ Some (fixed y) → IsPrefix v.seen (entries y) → length (entries y) < 2 ^ 63
-      → Rule record { words = (2 * length (entries y)) ∷ []; homes = some (Some y) ∷ []; views = set s.views id (gave v (entries y)) } × (rises 0 (gave v (entries y)).mine ≡ true)
+  given : (s : St) (r : Rule s) (id : ℕ) (v : V) (y : T) → get_elem? s.views id ≡ some v → v.has ≡ true → v.fixed ≡ Some (fixed y)
+      → IsPrefix v.seen (entries y) → length (entries y) < 2 ^ 63
+      → Rule record { words = (2 * length (entries y)) ∷ []; homes = some (Some y) ∷ []; views = set s.views id (gave v (entries y)) } ×
+      (rises 0 (gave v (entries y)).mine ≡ true)
   given s r id v y at has same pre small =
       let x = holder_of s r id v at has in
       let w = gave v (entries y) in
@@ -204,8 +264,10 @@ module _ {T E F : Type 0} (entries : T → List E) (fixed : T → F) (f : F) (st
       let grown = r.grown in
       let here = (x.turn has).1 in
       let rest : length (drop (length r.log) (entries y)) ≡ length (entries y) - length r.log = length-drop (length r.log) (entries y) in
-      let up' : Rises 0 (length (entries y)) (v.mine ++ numbered (length r.log) (drop (length r.log) (entries y))) = rises_append 0 (length r.log) (length (entries y)) v.mine (drop (length r.log) (entries y)) (omega arith) (omega arith) x.rising in
-      let up : Rises 0 (length (entries y)) w.mine = subst (λ (l : List E). Rises 0 (length (entries y)) (v.mine ++ numbered (length l) (drop (length l) (entries y)))) (sym seen) up' in (
+      let up' : Rises 0 (length (entries y)) (v.mine ++ numbered (length r.log) (drop (length r.log) (entries y))) =
+      rises_append 0 (length r.log) (length (entries y)) v.mine (drop (length r.log) (entries y)) (omega arith) (omega arith) x.rising in
+      let up : Rises 0 (length (entries y)) w.mine = subst (λ (l : List E). Rises 0 (length (entries y))
+      (v.mine ++ numbered (length l) (drop (length l) (entries y)))) (sym seen) up' in (
         record {
           log = entries y;
           taken = 0;
@@ -224,14 +286,16 @@ module _ {T E F : Type 0} (entries : T → List E) (fixed : T → F) (f : F) (st
                 seen = prefix_self (entries y);
                 heard = prefix_trans v.heard r.log (entries y) x.heard pre';
                 rising = up;
-                mine = subst (λ (l : List E). Stands (entries y) (v.mine ++ numbered (length l) (drop (length l) (entries y)))) (sym seen) (stands_given r.log (entries y) v.mine pre' x.mine);
+                mine = subst (λ (l : List E). Stands (entries y) (v.mine ++ numbered (length l) (drop (length l) (entries y)))) (sym seen)
+                    (stands_given r.log (entries y) v.mine pre' x.mine);
                 stands = x.stands;
                 turn = λ h. absurd (off h);
               })
               (λ j u apart e. waits (λ l. pre') here j u apart (r.each j u e));
           all_places = λ q.
               let t = total_set (λ (u : V). times q u.mine) s.views id v w at in
-              let g : times q w.mine ≡ times q (v.mine ++ numbered (length r.log) (drop (length r.log) (entries y))) = ap (λ (l : List E). times q (v.mine ++ numbered (length l) (drop (length l) (entries y)))) seen in
+              let g : times q w.mine ≡ times q (v.mine ++ numbered (length r.log) (drop (length r.log) (entries y))) =
+              ap (λ (l : List E). times q (v.mine ++ numbered (length l) (drop (length l) (entries y)))) seen in
               let p = places_more q start v.mine r.log (entries y) pre' longer grown in
               let was = r.all_places q in
               omega arith;
@@ -240,7 +304,8 @@ module _ {T E F : Type 0} (entries : T → List E) (fixed : T → F) (f : F) (st
         rises_test 0 (length (entries y)) w.mine up,
       )
     where
-      waits : (ℕ → IsPrefix r.log (entries y)) → id ≡ r.holder → (j : ℕ) (u : V) → j ≢ id → Sits f start seats r.log r.taken r.holder j u → Sits f start seats (entries y) 0 id j u
+      waits : (ℕ → IsPrefix r.log (entries y)) → id ≡ r.holder → (j : ℕ) (u : V) → j ≢ id → Sits f start seats r.log r.taken r.holder j u
+          → Sits f start seats (entries y) 0 id j u
       waits pre' here j u apart = ⊎_elim (λ (e : u ≡ spent). inl e)
           (λ (z : SeatFits f start seats r.log r.taken r.holder j u). inr record {
             same_fixed = z.same_fixed;
@@ -254,7 +319,8 @@ module _ {T E F : Type 0} (entries : T → List E) (fixed : T → F) (f : F) (st
             turn = λ h. absurd (apart ((z.turn h).1 ∙ sym here));
           })
 
-  gives_at : (slots id : ℕ) (v : V) (y : T) (new : ℕ) → slots ≡ 1 → v.has ≡ true → v.fixed ≡ Some (fixed y) → IsPrefix v.seen (entries y) → length (entries y) < 2 ^ 63 → new ≡ 2 * length (entries y)
+  gives_at : (slots id : ℕ) (v : V) (y : T) (new : ℕ) → slots ≡ 1 → v.has ≡ true → v.fixed ≡ Some (fixed y) → IsPrefix v.seen (entries y)
+      → length (entries y) < 2 ^ 63 → new ≡ 2 * length (entries y)
       → Allows Rule slots id (v, (0, Some y) ∷ []) 0 (λ _. new) (λ _. Gives entries (step slots 0 new 0 none) (v, (0, Some y) ∷ []) new)
   gives_at slots id v y new one has same pre small is s r wide at _ = let done = given s r id v y at has same pre small in (
     gave v (entries y),
@@ -279,9 +345,12 @@ module _ {T E F : Type 0} (entries : T → List E) (fixed : T → F) (f : F) (st
       same_one : (y y' : T) → ◌≡◌ {A = List (ℕ × Option T)} ((0, Some y) ∷ []) ((0, Some y') ∷ []) → y ≡ y'
       same_one y y' e = let p : ◌≡◌ {A = Option T} (Some y) (Some y') = ap (λ l. first_carried (Some y) l) e in cc
 
-  pub gives_home : (slots id : ℕ) (me : M) (y : T) (new : ℕ) → slots ≡ 1 → me.1 ≡ (0, Some y) ∷ [] → me.0.has ≡ true → me.0.fixed ≡ Some (fixed y) → IsPrefix me.0.seen (entries y) → length (entries y) < 2 ^ 63 → new ≡ 2 * length (entries y)
+  pub gives_home : (slots id : ℕ) (me : M) (y : T) (new : ℕ) → slots ≡ 1 → me.1 ≡ (0, Some y) ∷ [] → me.0.has ≡ true → me.0.fixed ≡ Some (fixed y)
+      → IsPrefix me.0.seen (entries y) → length (entries y) < 2 ^ 63 → new ≡ 2 * length (entries y)
       → Allows Rule slots id me 0 (λ _. new) (λ _. Gives entries (step slots 0 new 0 none) me new)
-  gives_home slots id me y new one carries has same pre small is = subst (λ c. Allows Rule slots id (me.0, c) 0 (λ _. new) (λ _. Gives entries (step slots 0 new 0 none) (me.0, c) new)) (sym carries) (gives_at slots id me.0 y new one has same pre small is)
+  gives_home slots id me y new one carries has same pre small is =
+      subst (λ c. Allows Rule slots id (me.0, c) 0 (λ _. new) (λ _. Gives entries (step slots 0 new 0 none) (me.0, c) new)) (sym carries)
+      (gives_at slots id me.0 y new one has same pre small is)
 
   -- what was heard counts as seen
   pub settles : (slots id : ℕ) (me : M) → 0 < me.0.stands → Allows Rule slots id me 0 (λ n. n) (Settles (step slots 0 0 0 none) me)
@@ -331,5 +400,6 @@ module _ {T E F : Type 0} (entries : T → List E) (fixed : T → F) (f : F) (st
       whole xs ys zs e p = by_test (ltb (length xs) (length ys)) refl
         where
           by_test : (b : Bool) → ltb (length xs) (length ys) ≡ b → cond b ys xs ≡ zs
-          by_test true t = let l = ltb-true (length xs) (length ys) t in let m = prefix_length ys zs p in let n : length xs ≡ length zs = ap length e in absurd (omega arith)
+          by_test true t = let l = ltb-true (length xs) (length ys) t in let m = prefix_length ys zs p in let n : length xs ≡ length zs =
+              ap length e in absurd (omega arith)
           by_test false t = e

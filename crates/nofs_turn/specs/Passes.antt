@@ -19,7 +19,8 @@ pub record Ran {E F Out : Type 0} (tells : F → List E → List E → Out → T
   pub now : w ≡ record v { seen = after; mine = v.mine ++ numbered (length before) (drop (length before) after); looks = looks_now; last = 2 * length before }
 
 -- A section ran on the value x, and y is what it left. Beside its answer stands the number of entries
-pub record RanOnce {T E F Out : Type 0} (entries : T → List E) (fixed : T → F) (tells : F → List E → List E → Out → Type 0) (x y : T) (answer : Out × ℕ) : Type 0 where
+pub record RanOnce {T E F Out : Type 0} (entries : T → List E) (fixed : T → F) (tells : F → List E → List E → Out → Type 0) (x y : T) (answer : Out × ℕ)
+    : Type 0 where
   pub same_part : fixed y ≡ fixed x
   pub keeps : IsPrefix (entries x) (entries y)
   pub at_most_one : length (entries y) ≤ length (entries x) + 1

@@ -45,7 +45,8 @@ module _ {T E F : Type 0} where
 
   abbrev pub TakesFree : (T → List E) → (T → F) → View E F → ℕ → Me (Option T) (View E F) → Type 0
   TakesFree entries fixed v found after =
-      (x : T) × (found ≡ 2 * length (entries x)) × (after ≡ (took v found (entries x), (0, Some x) ∷ [])) × IsPrefix v.seen (entries x) × (v.fixed ≡ Some (fixed x)) × (length (entries x) < 2 ^ 63)
+      (x : T) × (found ≡ 2 * length (entries x)) × (after ≡ (took v found (entries x), (0, Some x) ∷ [])) × IsPrefix v.seen (entries x) ×
+      (v.fixed ≡ Some (fixed x)) × (length (entries x) < 2 ^ 63)
 
   abbrev pub TakesBusy : View E F → ℕ → Me (Option T) (View E F) → Type 0
   TakesBusy v found after = (found % 2 ≡ 1) × (after ≡ (looked v found, [])) × (v.stands < v.seats)
@@ -59,4 +60,5 @@ module _ {T E F : Type 0} where
 
   -- what was heard counts as seen, and what was seen and heard are beginnings of it
   abbrev pub Settles : Step (Option T) → Me (Option T) (View E F) → ℕ → Me (Option T) (View E F) → Type 0
-  Settles st me found after = (after ≡ (settled me.0, me.1)) × IsPrefix me.0.seen after.0.seen × IsPrefix me.0.heard after.0.seen × (rises 0 me.0.mine ≡ true) × (me.0.stands ≤ me.0.seats)
+  Settles st me found after = (after ≡ (settled me.0, me.1)) × IsPrefix me.0.seen after.0.seen × IsPrefix me.0.heard after.0.seen ×
+      (rises 0 me.0.mine ≡ true) × (me.0.stands ≤ me.0.seats)

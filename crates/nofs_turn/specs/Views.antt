@@ -10,7 +10,20 @@ module _ {E F : Type 0} where
 
   -- the maker's seat
   abbrev pub maker : F → List E → ℕ → View E F
-  maker f xs seats = record { fixed = Some f; start = length xs; seats = seats; seen = xs; heard = []; mine = []; has = false; splits = seats - 1; stands = 1; looks = 0; last = 0 }
+  maker f xs seats = record {
+    fixed = Some f;
+    start = length xs;
+    seats = seats;
+    seen = xs;
+    heard = [];
+    mine = [];
+    has = false;
+    splits = seats - 1;
+    stands =
+        1;
+    looks = 0;
+    last = 0;
+  }
 
   -- one look more, which found n
   abbrev pub looked : View E F → ℕ → View E F
@@ -30,7 +43,20 @@ module _ {E F : Type 0} where
 
   -- a seat of a turn that was made over the list xs, with the part f
   abbrev pub fresh : F → List E → ℕ → View E F
-  fresh f xs seats = record { fixed = Some f; start = length xs; seats = seats; seen = xs; heard = []; mine = []; has = false; splits = 0; stands = 1; looks = 0; last = 0 }
+  fresh f xs seats = record {
+    fixed = Some f;
+    start = length xs;
+    seats = seats;
+    seen = xs;
+    heard = [];
+    mine = [];
+    has = false;
+    splits = 0;
+    stands =
+        1;
+    looks = 0;
+    last = 0;
+  }
 
   -- a seat split from v
   abbrev pub newcomer : View E F → View E F

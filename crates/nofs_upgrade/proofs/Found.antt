@@ -1,5 +1,6 @@
 -- Each image of a crash is one that was there, or such an image with version 2.
-use Rattle.std.proofs.Common.{◌≡◌, ◌≢◌, ℕ, ◌+◌, ◌<◌, Bool, true, false, eqb, eqb-true, eq-eqb, List, length, set, IsTrue, Some, Ok, inl, inr, refl, sym, ap, ◌∙◌, subst, subst₂, arith, Contains}
+use Rattle.std.proofs.Common.{◌≡◌, ◌≢◌, ℕ, ◌+◌, ◌<◌, Bool, true, false, eqb, eqb-true, eq-eqb, List, length, set, IsTrue, Some, Ok, inl, inr, refl, sym, ap}
+use Rattle.std.proofs.Common.{◌∙◌, subst, subst₂, arith, Contains}
 use Rattle.std.proofs.lemmas.Bool.{cases_lt}
 use Rattle.std.proofs.lemmas.List.{get_or-set_same, get_or-set_other, length-set}
 use Rattle.nofs_disk.specs.Adds.{Adds, WasOr}

@@ -1,5 +1,6 @@
 -- The body that spells a step is read as that step.
-use Rattle.std.proofs.Common.{◌≡◌, ℕ, ◌+◌, ◌^◌, ◌<◌, ◌≤◌, ◌==◌, ◌&&◌, nat_lt, nat_le, List, [], ◌∷◌, ◌++◌, length, take, drop, append-nil, length-append, Bool, true, false, Option, Some, None, Result, Ok, Err, IfOk, if◌then◌else◌, refl, sym, ap, ap₂, ◌∙◌, arith}
+use Rattle.std.proofs.Common.{◌≡◌, ℕ, ◌+◌, ◌^◌, ◌<◌, ◌≤◌, ◌==◌, ◌&&◌, nat_lt, nat_le, List, [], ◌∷◌, ◌++◌, length, take, drop, append-nil, length-append}
+use Rattle.std.proofs.Common.{Bool, true, false, Option, Some, None, Result, Ok, Err, IfOk, if◌then◌else◌, refl, sym, ap, ap₂, ◌∙◌, arith}
 use Rattle.std.specs.Prelude.{slice_index}
 use Rattle.std.proofs.lemmas.Bool.{eq-eqb, le-leb, le-ltb, lt-ltb}
 use Rattle.std.proofs.lemmas.List.{drop_at, drop-drop, get_or-drop, take_at}
@@ -11,7 +12,9 @@ use Rattle.nofs_inode.specs.declared.inode.FileKind.TheVariants.{File, Directory
 use Rattle.nofs_machine.specs.declared.steps.Step.{Step}
 use Rattle.nofs_machine.specs.declared.steps.Step.TheVariants as step
 use Rattle.nofs_wire.specs.Replies.{number_bytes, kind_byte, name_bytes}
-use Rattle.nofs_wire.specs.Requests.{◌>>=◌, where_ends, name_length, name_at, kind_of, inode_of, generation_of, look_of, make_of, link_of, drop_of, rename_of, list_of, get_of, put_of, resize_of, stat_of, flush_of, see_inode_of, see_block_of, named_of, handled_of, step_by, step_of}
+use Rattle.nofs_wire.specs.Requests.{◌>>=◌, where_ends, name_length, name_at, kind_of, inode_of, generation_of, look_of, make_of, link_of, drop_of, rename_of}
+use Rattle.nofs_wire.specs.Requests.{list_of, get_of, put_of, resize_of, stat_of, flush_of, see_inode_of, see_block_of, named_of, handled_of, step_by}
+use Rattle.nofs_wire.specs.Requests.{step_of}
 use Rattle.nofs_wire.specs.Spelled.{head_bytes, request_bytes, IsHandle, FitsBody}
 use Rattle.nofs_wire.proofs.Framing.{length-number_bytes}
 

@@ -1,5 +1,7 @@
 -- A body that is read as a step is the one body that spells it.
-use Rattle.std.proofs.Common.{◌≡◌, ℕ, zero, suc, ◌+◌, ◌<◌, ◌≤◌, ◌==◌, nat_lt, nat_le, List, [], ◌∷◌, ◌++◌, length, take, drop, append-nil, length-drop, take-append-drop, drop_of_length-le, drop-cons, Bool, true, false, Option, Some, None, Result, Ok, Err, IfOk, IfSome, ◌⊎◌, inl, inr, if◌then◌else◌, refl, sym, ap, ap₂, ◌∙◌, arith, eqb-true, leb-true}
+use Rattle.std.proofs.Common.{◌≡◌, ℕ, zero, suc, ◌+◌, ◌<◌, ◌≤◌, ◌==◌, nat_lt, nat_le, List, [], ◌∷◌, ◌++◌, length, take, drop, append-nil, length-drop}
+use Rattle.std.proofs.Common.{take-append-drop, drop_of_length-le, drop-cons, Bool, true, false, Option, Some, None, Result, Ok, Err, IfOk, IfSome, ◌⊎◌, inl}
+use Rattle.std.proofs.Common.{inr, if◌then◌else◌, refl, sym, ap, ap₂, ◌∙◌, arith, eqb-true, leb-true}
 use Rattle.std.specs.Prelude.{slice_index}
 use Rattle.std.specs.Int.{byte_at, bytes_low_first}
 use Rattle.std.proofs.lemmas.Bool.{and_parts, ltb-true, ltb-false}
@@ -13,7 +15,9 @@ use Rattle.nofs_inode.specs.declared.inode.FileKind.TheVariants.{File, Directory
 use Rattle.nofs_machine.specs.declared.steps.Step.{Step}
 use Rattle.nofs_machine.specs.declared.steps.Step.TheVariants as step
 use Rattle.nofs_wire.specs.Replies.{number_bytes, kind_byte, name_bytes}
-use Rattle.nofs_wire.specs.Requests.{◌>>=◌, where_ends, name_length, has_name, name_at, kind_of, inode_of, generation_of, look_of, make_of, link_of, drop_of, rename_of, list_of, get_of, put_of, resize_of, stat_of, flush_of, see_inode_of, see_block_of, named_of, handled_of, step_by, step_of}
+use Rattle.nofs_wire.specs.Requests.{◌>>=◌, where_ends, name_length, has_name, name_at, kind_of, inode_of, generation_of, look_of, make_of, link_of, drop_of}
+use Rattle.nofs_wire.specs.Requests.{rename_of, list_of, get_of, put_of, resize_of, stat_of, flush_of, see_inode_of, see_block_of, named_of, handled_of}
+use Rattle.nofs_wire.specs.Requests.{step_by, step_of}
 use Rattle.nofs_wire.specs.Spelled.{head_bytes, request_bytes}
 
 byte_at-lt : (j x : ℕ) → byte_at j x < 256

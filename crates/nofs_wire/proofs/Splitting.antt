@@ -1,5 +1,6 @@
 -- A frame in front depends on its own bytes alone, so frames are split from the front one by one.
-use Rattle.std.proofs.Common.{◌≡◌, ℕ, zero, suc, ◌+◌, ◌≤◌, List, [], ◌∷◌, ◌++◌, length, take, drop, map, append_assoc, length-append, length-drop, nat_lt, nat_le, ◌&&◌, Bool, true, false, Option, Some, None, if◌then◌else◌, refl, sym, ap, ◌∙◌, arith}
+use Rattle.std.proofs.Common.{◌≡◌, ℕ, zero, suc, ◌+◌, ◌≤◌, List, [], ◌∷◌, ◌++◌, length, take, drop, map, append_assoc, length-append, length-drop, nat_lt}
+use Rattle.std.proofs.Common.{nat_le, ◌&&◌, Bool, true, false, Option, Some, None, if◌then◌else◌, refl, sym, ap, ◌∙◌, arith}
 use Rattle.std.specs.Prelude.{option_to_list}
 use Rattle.std.proofs.lemmas.Bool.{and_parts, leb-true, le-leb, le-ltb, ltb-false}
 use Rattle.std.proofs.lemmas.List.{drop_at, drop-append-le, drop-take, length-take-le, map-append, take-append-drop, take_at}

@@ -1,5 +1,6 @@
 -- The step that the body of a frame spells (docs/FORMAT.md, "Frames").
-use Rattle.std.specs.Prelude.{ℕ, ◌+◌, List, length, take, drop, Bool, ◌==◌, ◌&&◌, nat_lt, nat_le, Option, Some, None, option_and_then, if◌then◌else◌, slice_index}
+use Rattle.std.specs.Prelude.{ℕ, ◌+◌, List, length, take, drop, Bool, ◌==◌, ◌&&◌, nat_lt, nat_le, Option, Some, None, option_and_then, if◌then◌else◌}
+use Rattle.std.specs.Prelude.{slice_index}
 use Rattle.nofs_disk.specs.Number.{number_at}
 use Rattle.nofs_inode.specs.declared.inode.FileKind.{FileKind}
 use Rattle.nofs_inode.specs.declared.inode.FileKind.TheVariants.{File, Directory}

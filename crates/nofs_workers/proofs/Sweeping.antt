@@ -1,5 +1,6 @@
 -- A sweep goes on, batch by batch.
-use Rattle.std.proofs.Common.{◌≡◌, ℕ, ◌+◌, ◌-◌, ◌<◌, ◌≤◌, List, [], ◌++◌, length, get_or, take, map, Bool, true, false, refl, sym, ap, ◌∙◌, subst, arith, append_assoc}
+use Rattle.std.proofs.Common.{◌≡◌, ℕ, ◌+◌, ◌-◌, ◌<◌, ◌≤◌, List, [], ◌++◌, length, get_or, take, map, Bool, true, false, refl, sym, ap, ◌∙◌, subst, arith}
+use Rattle.std.proofs.Common.{append_assoc}
 use Rattle.std.proofs.lemmas.List.{append-nil, map-append, length-append, length-take-le, get_or-take, get_or_append_left, get_or-append-add}
 use Rattle.std.proofs.lemmas.Bool.{true≢false}
 use mathlib.Core.Logic.{dite}
@@ -50,16 +51,19 @@ module _ (Item : ℕ → ℕ → Type 0) (kind : ElementKind) where
         elements = a.elements ++ b.elements;
         at_most = let le = b.at_most in omega arith;
         whole = λ e. let w = b.whole e in omega arith;
-        ordered = joined 0 a.elements b.elements a.ordered (subst (λ p. AreOrdered Item kind p b.elements) (let e : place ≡ 0 + length a.elements = omega arith in e) b.ordered);
+        ordered = joined 0 a.elements b.elements a.ordered (subst (λ p. AreOrdered Item kind p b.elements) (let e : place ≡ 0 + length a.elements =
+            omega arith in e) b.ordered);
         makes = record {
           made = a.makes.made ++ b.makes.made;
           more = b.makes.more ∙ ap (λ l. l ++ b.makes.made) a.makes.more ∙ append_assoc old a.makes.made b.makes.made;
-          steps = map-append step_of a.makes.made b.makes.made ∙ ap (λ l. l ++ map step_of b.makes.made) a.makes.steps ∙ ap (λ l. map (see_of kind) a.elements ++ l) b.makes.steps ∙ sym (map-append (see_of kind) a.elements b.elements);
+          steps = map-append step_of a.makes.made b.makes.made ∙ ap (λ l. l ++ map step_of b.makes.made) a.makes.steps
+              ∙ ap (λ l. map (see_of kind) a.elements ++ l) b.makes.steps ∙ sym (map-append (see_of kind) a.elements b.elements);
         };
       }
 
   -- a sweep that was short is one of more places too
-  pub sweeps-short : (place count more : ℕ) (old new : List Made) → count ≤ more → Sweeps Item kind place count true old new → Sweeps Item kind place more true old new
+  pub sweeps-short : (place count more : ℕ) (old new : List Made) → count ≤ more → Sweeps Item kind place count true old new
+      → Sweeps Item kind place more true old new
   sweeps-short place count more old new le s = record {
     elements = s.elements;
     at_most = let l = s.at_most in omega arith;

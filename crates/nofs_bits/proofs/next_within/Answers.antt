@@ -15,7 +15,8 @@ returns-in-Some-clause-least c =
 
 pub returns-in_default-clause-none : goal.returns-in_default-clause-none
 returns-in_default-clause-none c none at low below =
-    none_of_map c.args.words.now c.args.places c.args.from c.in-Some.at (truths c.args.words.now c.args.places) refl c.in-Some.ensures.least at low (omega arith)
+    none_of_map c.args.words.now c.args.places c.args.from c.in-Some.at (truths c.args.words.now c.args.places) refl c.in-Some.ensures.least at low
+    (omega arith)
 
 pub returns-in_default-2-clause-none : goal.returns-in_default-2-clause-none
 returns-in_default-2-clause-none c none at low below =

@@ -2,4 +2,11 @@ use Rattle.nofs_cases_laws.proofs.HomesCases.{make-homes-case, link-homes-case, 
 use Rattle.nofs_cases_laws.proofs.law_home_cases.Goals as goal
 
 pub returns : goal.returns
-returns c = record { make = make-homes-case; link = link-homes-case; rename = rename-homes-case; drop_name = drop-name-homes-case; drop_file = drop-file-homes-case }
+returns c = record {
+  make = make-homes-case;
+  link = link-homes-case;
+  rename = rename-homes-case;
+  drop_name = drop-name-homes-case;
+  drop_file =
+      drop-file-homes-case;
+}

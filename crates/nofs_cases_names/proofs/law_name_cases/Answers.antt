@@ -2,4 +2,14 @@ use Rattle.nofs_cases_names.proofs.NameCases.{make-case, bare-case, rename-case,
 use Rattle.nofs_cases_names.proofs.law_name_cases.Goals as goal
 
 pub returns : goal.returns
-returns c = record { make = make-case; bare = bare-case; rename = rename-case; homes = name-homes-case; link = link-case; drop_name = drop-name-case; drop_file = drop-file-case; entries = entries-case }
+returns c = record {
+  make = make-case;
+  bare = bare-case;
+  rename = rename-case;
+  homes = name-homes-case;
+  link = link-case;
+  drop_name =
+      drop-name-case;
+  drop_file = drop-file-case;
+  entries = entries-case;
+}

@@ -2,4 +2,13 @@ use Rattle.nofs_cases_steps.proofs.StateCases.{homes-case, good-case, moves-case
 use Rattle.nofs_cases_steps.proofs.law_state_cases.Goals as goal
 
 pub returns : goal.returns
-returns c = record { homes = homes-case; good = good-case; moves = moves-case; grow = grow-case; shrink = shrink-case; fresh = fresh-case; pieces = pieces-case }
+returns c = record {
+  homes = homes-case;
+  good = good-case;
+  moves = moves-case;
+  grow = grow-case;
+  shrink = shrink-case;
+  fresh = fresh-case;
+  pieces =
+      pieces-case;
+}

@@ -1,4 +1,5 @@
-use Rattle.nofs_law_machine.proofs.Shown.{names-shown, new-names-shown, contents-shown, large-files-shown, elements-shown, failed-read, failed-flush, given-to-slot}
+use Rattle.nofs_law_machine.proofs.Shown.{names-shown, new-names-shown, contents-shown, large-files-shown, elements-shown, failed-read, failed-flush}
+use Rattle.nofs_law_machine.proofs.Shown.{given-to-slot}
 use Rattle.nofs_law_machine.proofs.law_examples.Goals as goal
 
 pub returns-clause-names : goal.returns-clause-names

@@ -13,7 +13,8 @@ returns-in-Ok-clause-met g c =
     let met : IsTrue (S c.args.disk).tells → IsMet (S c.format.new.disk) = formatted_met c.args.numbers.blocks c.args.numbers.inodes (S c.args.disk)
     (S c.format.new.disk) e.ends e.adds e.cells in
     if-ok c.mount.result (λ m. (m.found.value ≡ c.format.new.disk) × (m.first ≡ 0) × (m.core.books.history.entries ≡ []))
-    (λ m. IsTrue (S c.args.disk).tells → IsMet (S m.found.value)) c.mount.ensures.mount (λ m p tells. subst (λ (d : g.row.D.Denot). IsMet (S d)) (sym p.0) (met tells))
+    (λ m. IsTrue (S c.args.disk).tells → IsMet (S m.found.value)) c.mount.ensures.mount
+    (λ m p tells. subst (λ (d : g.row.D.Denot). IsMet (S d)) (sym p.0) (met tells))
 
 pub returns-in-Ok-clause-refused : goal.returns-in-Ok-clause-refused
 returns-in-Ok-clause-refused g c =

@@ -19,15 +19,18 @@ returns-clause-out g c =
     (ap (λ (h : HistoryState). h.entries) c.history.ensures) (read.made, read.adds, read.read) c.close-closed.ensures.adds c.line_of.ensures
 
 pub returns-then-out_of_memory-clause-follows : goal.returns-then-out_of_memory-clause-follows
-returns-then-out_of_memory-clause-follows g c = read-short _ c.read_files-reads.result _ _ _ _ _ _ _ (ap (λ (h : HistoryState). h.entries) c.ended.ensures.history)
+returns-then-out_of_memory-clause-follows g c = read-short _ c.read_files-reads.result _ _ _ _ _ _ _
+    (ap (λ (h : HistoryState). h.entries) c.ended.ensures.history)
     c.ended.ensures.text c.read_files-reads.ensures.reads c.close-closed.ensures.adds
 
 pub returns-then-not-closed-clause-follows : goal.returns-then-not-closed-clause-follows
-returns-then-not-closed-clause-follows g c = read-short _ c.read_files-reads.result _ _ _ _ _ _ _ (ap (λ (h : HistoryState). h.entries) c.ended-then-not-closed.ensures.history)
+returns-then-not-closed-clause-follows g c = read-short _ c.read_files-reads.result _ _ _ _ _ _ _
+    (ap (λ (h : HistoryState). h.entries) c.ended-then-not-closed.ensures.history)
     c.ended-then-not-closed.ensures.text c.read_files-reads.ensures.reads c.close-closed.ensures.adds
 
 pub returns-in_default-clause-follows : goal.returns-in_default-clause-follows
-returns-in_default-clause-follows g c = read-short _ c.read_files-reads.result _ _ _ _ _ _ _ (ap (λ (h : HistoryState). h.entries) c.ended-in_default.ensures.history)
+returns-in_default-clause-follows g c = read-short _ c.read_files-reads.result _ _ _ _ _ _ _
+    (ap (λ (h : HistoryState). h.entries) c.ended-in_default.ensures.history)
     c.ended-in_default.ensures.text c.read_files-reads.ensures.reads c.close-closed.ensures.adds
 
 pub returns-clause-follows : goal.returns-clause-follows

@@ -17,7 +17,8 @@ returns-in-Ok-clause-ends g c =
     let e = w.ensures in
     mounted-ends (disk c.args.disk) found _ _ _ w.result.status _ c.in-Ok.ensures.mount.2
     (subst (λ d. MountEnds found (disk d) (sink c.args.sink.now) (sink w.new.sink) w.result.status w.result.history) (sym e.disk.0)
-    (written-ends found (disk ran.disk) _ _ c.in-Ok.mount.first w.result.status ran.history _ e.disk.1 c.run_drill.ensures.ends e.named e.device e.faulty e.sink))
+    (written-ends found (disk ran.disk) _ _ c.in-Ok.mount.first w.result.status ran.history _ e.disk.1 c.run_drill.ensures.ends e.named e.device e.faulty
+    e.sink))
 
 pub returns-in-Ok-clause-headline : goal.returns-in-Ok-clause-headline
 returns-in-Ok-clause-headline g c =
@@ -27,9 +28,12 @@ returns-in-Ok-clause-headline g c =
     let ran = c.run_drill.result in
     let w = c.written in
     let e = w.ensures in
-    drill-headline S c.args.start c.args.steps c.args.disk m.found.value (S w.result.disk) w.result.status w.result.history c.in-Ok.ensures.formatted c.in-Ok.ensures.met
-    (subst (λ (d : g.row.D.Denot). IfSome w.result.history (λ h. ∥ IsHeadlineOf (FollowsDrill c.args.start c.args.steps) found (S d) w.result.status h ∥₁)) (sym e.disk.0)
-    (drill-of c.args.start c.args.steps found (S m.core.disk) (S ran.disk) m.first w.result.status m.core.books ran.text ran.history w.result.history c.in-Ok.ensures.mount.0
+    drill-headline S c.args.start c.args.steps c.args.disk m.found.value (S w.result.disk)
+    w.result.status w.result.history c.in-Ok.ensures.formatted c.in-Ok.ensures.met
+    (subst (λ (d : g.row.D.Denot). IfSome w.result.history (λ h. ∥ IsHeadlineOf (FollowsDrill c.args.start c.args.steps) found (S d) w.result.status h ∥₁))
+    (sym e.disk.0)
+    (drill-of c.args.start c.args.steps found (S m.core.disk) (S ran.disk)
+    m.first w.result.status m.core.books ran.text ran.history w.result.history c.in-Ok.ensures.mount.0
     e.disk.1 m.stands c.run_drill.ensures.ends c.run_drill.ensures.follows c.run_drill.ensures.closed e.unsaid (λ d. (e.done d).0)))
 
 pub returns-in-Ok-clause-done : goal.returns-in-Ok-clause-done

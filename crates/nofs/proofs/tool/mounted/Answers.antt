@@ -20,7 +20,8 @@ returns-clause-ends g c =
     let w = c.written in
     let e = w.ensures in
     subst (λ d. MountEnds found (disk d) (sink c.args.sink.now) (sink w.new.sink) w.result.status w.result.history) (sym e.disk.0)
-    (written-ends found (disk ran.disk) _ _ c.args.mount.first w.result.status ran.history _ e.disk.1 c.run_session.ensures.ends e.named e.device e.faulty e.sink)
+    (written-ends found (disk ran.disk) _ _ c.args.mount.first w.result.status ran.history _ e.disk.1 c.run_session.ensures.ends e.named e.device e.faulty
+    e.sink)
 
 pub returns-clause-headline : goal.returns-clause-headline
 returns-clause-headline g c =
@@ -42,6 +43,9 @@ returns-clause-part g c = λ ended.
     let e = w.ensures in
     let old = sink c.args.sink.now in
     let new = sink w.new.sink in
-    told-text old new (λ text. (lines : List (List Line)) × IsSessionRun c.args.session c.args.mount.core.books.at.inodes c.args.mount.core.books.at.blocks false lines
-    ran.history.entries × (text ≡ session_text c.args.session ran.history.entries)) (λ x. Says old new (session_text c.args.session x.entries)) ran.text ran.history
-    w.result.history w.result.status e.disk.1 e.unsaid e.says c.run_session.ensures.ran (λ t told says. subst (λ (l : List ℕ). Says old new l) told.2 says) ended
+    told-text old new (λ text. (lines : List (List Line)) × IsSessionRun c.args.session c.args.mount.core.books.at.inodes c.args.mount.core.books.at.blocks
+    false lines
+    ran.history.entries × (text ≡ session_text c.args.session ran.history.entries)) (λ x. Says old new (session_text c.args.session x.entries))
+    ran.text ran.history
+    w.result.history w.result.status e.disk.1 e.unsaid e.says c.run_session.ensures.ran (λ t told says. subst (λ (l : List ℕ). Says old new l) told.2 says)
+    ended

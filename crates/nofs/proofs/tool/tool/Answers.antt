@@ -43,13 +43,15 @@ returns-in-Some-New-clause-complete g c = λ ready none.
 
 pub returns-in-Some-Upgrade-clause-complete : goal.returns-in-Some-Upgrade-clause-complete
 returns-in-Some-Upgrade-clause-complete g c = λ ready none.
-    let task : task_in (map string_bytes c.args.words.now) ≡ Some Upgrade = sym c.task_of.ensures ∙ (c.in-Some-Upgrade.is ∙ ap Some c.in-Some-Upgrade.field-0-is) in
+    let task : task_in (map string_bytes c.args.words.now) ≡ Some Upgrade =
+    sym c.task_of.ensures ∙ (c.in-Some-Upgrade.is ∙ ap Some c.in-Some-Upgrade.field-0-is) in
     let r = subst (λ (t : Option Request). IsReady t (g.S.Source.state c.args.source.now) TEXT_LIMIT (g.D.Disk.state c.args.disk)) task ready in
     upgrade-completes _ _ _ _ _ _ _ none r c.upgrade_outcome.ensures.ends
 
 pub returns-in-Some-Upgrade-clause-refused : goal.returns-in-Some-Upgrade-clause-refused
 returns-in-Some-Upgrade-clause-refused g c = λ e.
-    let task : task_in (map string_bytes c.args.words.now) ≡ Some Upgrade = sym c.task_of.ensures ∙ (c.in-Some-Upgrade.is ∙ ap Some c.in-Some-Upgrade.field-0-is) in (
+    let task : task_in (map string_bytes c.args.words.now) ≡ Some Upgrade =
+    sym c.task_of.ensures ∙ (c.in-Some-Upgrade.is ∙ ap Some c.in-Some-Upgrade.field-0-is) in (
       c.upgrade_outcome.ensures.history,
       subst (λ (t : Option Request). IsRefusedTask t (g.D.Disk.state c.args.disk) (g.D.Disk.state c.upgrade_outcome.result.disk)) (sym task)
           (c.upgrade_outcome.ensures.ends.refused e),
@@ -57,7 +59,8 @@ returns-in-Some-Upgrade-clause-refused g c = λ e.
 
 pub returns-in-Some-Salvage-clause-complete : goal.returns-in-Some-Salvage-clause-complete
 returns-in-Some-Salvage-clause-complete g c = λ ready none.
-    let task : task_in (map string_bytes c.args.words.now) ≡ Some Salvage = sym c.task_of.ensures ∙ (c.in-Some-Salvage.is ∙ ap Some c.in-Some-Salvage.field-0-is) in
+    let task : task_in (map string_bytes c.args.words.now) ≡ Some Salvage =
+    sym c.task_of.ensures ∙ (c.in-Some-Salvage.is ∙ ap Some c.in-Some-Salvage.field-0-is) in
     let r = subst (λ (t : Option Request). IsReady t (g.S.Source.state c.args.source.now) TEXT_LIMIT (g.D.Disk.state c.args.disk)) task ready in
     let e = c.salvage_outcome.ensures.ends in
     scan-completes None _ _ TEXT_LIMIT _ _ _ _ _ _ none r e.device e.sink e.refused e.named
@@ -74,7 +77,8 @@ returns-in-Some-Wire-clause-said g c =
     let S = g.S.Source.state in
     let K = g.K.Sink.state in
     let w = c.wire_outcome in
-    subst (λ (t : Option Request). Said t (S c.args.source.now) (S w.new.source) TEXT_LIMIT (K c.args.sink.now) (K w.new.sink) w.result.status w.result.history) (sym task) (record {
+    subst (λ (t : Option Request). Said t (S c.args.source.now) (S w.new.source) TEXT_LIMIT (K c.args.sink.now) (K w.new.sink)
+    w.result.status w.result.history) (sym task) (record {
       usage = λ e. absurd (w.ensures.ends.named.1 e);
       source = λ e. tt;
       too_long = λ e. tt;

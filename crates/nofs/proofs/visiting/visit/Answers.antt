@@ -21,6 +21,8 @@ pub returns-in-Err-clause-served : goal.returns-in-Err-clause-served
 returns-in-Err-clause-served g c =
     let at = c.args.mount.core.books.at in
     let same = c.in-Err.ensures.unvisited in
-    let none : g.G.Visits.visited c.args.visitor.now c.attend.new.visitor [] [] = subst (λ (v : g.row.G.Denot). g.G.Visits.visited c.args.visitor.now v [] []) (sym same.1)
+    let none : g.G.Visits.visited c.args.visitor.now c.attend.new.visitor [] [] =
+    subst (λ (v : g.row.G.Denot). g.G.Visits.visited c.args.visitor.now v [] []) (sym same.1)
     (g.G.Visits.visited_none c.args.visitor.now [] c.requires) in
-    visit-none (g.G.Visits.visited c.args.visitor.now c.attend.new.visitor []) at.inodes at.blocks true _ _ (ap (λ m. m.core.books.history.entries) same.0) refl none
+    visit-none (g.G.Visits.visited c.args.visitor.now c.attend.new.visitor []) at.inodes at.blocks true _ _ (ap (λ m. m.core.books.history.entries) same.0)
+    refl none

@@ -38,7 +38,8 @@ returns-clause-served g c =
     let source_is : c.source-1.given.0 ≡ v.new.visitor.source.now = c.source-1.given.1 (sym one) ∙ c.take_back.ensures in
     let sink_is : c.sink-1.given.0 ≡ v.new.visitor.sink.now = c.sink-1.given.1 (sym two) ∙ c.take_back-2.ensures in
     let all : steps_by 1 c.end-disk.result.1.entries ≡ steps_by 1 H = ap (λ (h : HistoryState). steps_by 1 h.entries) c.end-disk.ensures.is.1 in
-    subst (λ (x : g.row.Q.Denot × g.row.K.Denot × List Made). Serves 16777216 v.new.visitor.end (Q c.args.source.now).left (Q x.0).left (K c.args.sink.now).given (K x.1).given [] x.2)
+    subst (λ (x : g.row.Q.Denot × g.row.K.Denot × List Made). Serves 16777216 v.new.visitor.end (Q c.args.source.now).left (Q x.0).left
+    (K c.args.sink.now).given (K x.1).given [] x.2)
     (λ i. (sym source_is i, sym sink_is i, sym all i)) made.2.serves
 
 pub returns-clause-ran : goal.returns-clause-ran
@@ -60,7 +61,8 @@ returns-clause-ran g c =
       closes = r.closes;
       closed = r.closed;
       made = record {
-        visited = serves-wired 16777216 v.new.visitor.end left new_left (K c.args.sink.now).given (K v.new.visitor.sink.now).given (steps_by 1 r.served) seen.2.serves;
+        visited = serves-wired 16777216 v.new.visitor.end left new_left (K c.args.sink.now).given (K v.new.visitor.sink.now).given (steps_by 1 r.served)
+            seen.2.serves;
         inodes_seen = r.made.inodes_seen;
         blocks_seen = r.made.blocks_seen;
         others = r.made.others;

@@ -49,5 +49,6 @@ invariant_of-self c =
     let now = ap (λ w. truths w places) c.deref.ensures.value ∙ returns c in (
       c.self.invariant.0,
       counted.0 ∙ ap count_set (sym (returns c)),
-      subst (λ (bits : List Bool). IsFirst bits c.first_after-self-inside.result) (sym (returns c)) (c.first_after-self-inside.ensures c.args.self.now now least),
+      subst (λ (bits : List Bool). IsFirst bits c.first_after-self-inside.result) (sym (returns c))
+          (c.first_after-self-inside.ensures c.args.self.now now least),
     )

@@ -11,7 +11,8 @@ returns c =
     let low = c.requires in
     let len = c.told-payload in
     let fits : 64 * at ≤ length old = omega arith in
-    let put : c.write_bytes_at.new.bytes ≡ put_bytes (64 * at) (zeros 64) old = c.write_bytes_at.ensures ∙ ap (λ part. put_bytes (64 * at) part old) c.clear.ensures in
+    let put : c.write_bytes_at.new.bytes ≡ put_bytes (64 * at) (zeros 64) old =
+    c.write_bytes_at.ensures ∙ ap (λ part. put_bytes (64 * at) part old) c.clear.ensures in
     record {
       put = put;
       empty = ap (λ l. entry_in l at) put ∙ ap entry_of (entry_bytes-put at (zeros 64) old (length-zeros 64) fits) ∙ entry_of-zeros;

@@ -10,15 +10,18 @@ pub returns-then-is_root : goal.returns-then-is_root
 returns-then-is_root c = sym (c.loop-directory.invariant.0 ∙ root-is (files_in c.args.cells.now) c.loop-directory.here (sym c.if-is_root.ensures))
 
 pub returns-then-is_special : goal.returns-then-is_special
-returns-then-is_special c = sym (c.loop-directory.invariant.0 ∙ special-is (files_in c.args.cells.now) c.loop-directory.here (sym c.if-is_root.ensures) (sym c.if-is_special.ensures))
+returns-then-is_special c = sym (c.loop-directory.invariant.0
+    ∙ special-is (files_in c.args.cells.now) c.loop-directory.here (sym c.if-is_root.ensures) (sym c.if-is_special.ensures))
 
 pub returns-in-None : goal.returns-in-None
 returns-in-None c =
-    sym (c.loop-directory.invariant.0 ∙ linked-is (files_in c.args.cells.now) c.loop-directory.here (sym c.if-is_root.ensures) (sym c.if-is_special.ensures) ∙ c.in-None.ensures.none refl)
+    sym (c.loop-directory.invariant.0 ∙ linked-is (files_in c.args.cells.now) c.loop-directory.here (sym c.if-is_root.ensures) (sym c.if-is_special.ensures)
+    ∙ c.in-None.ensures.none refl)
 
 pub loop-directory-preserved : goal.loop-directory-preserved
 loop-directory-preserved c = (
-  c.loop-directory.invariant.0 ∙ linked-is (files_in c.args.cells.now) c.loop-directory.here (sym c.if-is_root.ensures) (sym c.if-is_special.ensures) ∙ c.in-Some.ensures.parent.same,
+  c.loop-directory.invariant.0 ∙ linked-is (files_in c.args.cells.now) c.loop-directory.here (sym c.if-is_root.ensures) (sym c.if-is_special.ensures)
+      ∙ c.in-Some.ensures.parent.same,
   c.in-Some.ensures.parent.directory,
 )
 

@@ -12,12 +12,18 @@ use Rattle.nofs_names.proofs.Dropped.{drop-ends}
 use Rattle.nofs_names.proofs.drops.drop_link.Goals as goal
 
 pub with_record-requires-clause-spelling : goal.with_record-requires-clause-spelling
-with_record-requires-clause-spelling g c = subst HasRecordSpelling (sym c.relinked.ensures) (relinked-spells c.args.found.now.record (link_to c.args.directory c.args.found.now.entry c.args.generation) c.args.found.now.kind c.requires.finds.known.1 c.requires.finds.known.0.spelled)
+with_record-requires-clause-spelling g c = subst HasRecordSpelling (sym c.relinked.ensures)
+    (relinked-spells c.args.found.now.record (link_to c.args.directory c.args.found.now.entry c.args.generation)
+    c.args.found.now.kind c.requires.finds.known.1 c.requires.finds.known.0.spelled)
 
 pub returns-in-Ok : goal.returns-in-Ok
-returns-in-Ok g c = drop-ends (g.D.Disk.state c.args.core.now.disk) (g.D.Disk.state c.read_block.new.disk) (g.D.Disk.state c.write_two.new.core.disk) c.args.core.now.books c.write_two.new.core.books c.args.directory c.args.generation c.args.name.now c.args.it.now c.args.pointer
+returns-in-Ok g c = drop-ends (g.D.Disk.state c.args.core.now.disk) (g.D.Disk.state c.read_block.new.disk) (g.D.Disk.state c.write_two.new.core.disk)
+    c.args.core.now.books c.write_two.new.core.books c.args.directory c.args.generation c.args.name.now c.args.it.now c.args.pointer
     c.args.cell.now c.read_block.new.last.cell c.with_record.new.table c.args.found.now c.write_two.result
-    (g.met.D.Disk.is_disk c.read_block.new.disk) (g.met.D.Disk.is_disk c.write_two.new.core.disk) c.read_block.ensures.stays c.requires.safe c.requires.going c.requires.finds.directory c.requires.finds.generation c.requires.finds.there c.requires.finds.known.0 c.requires.finds.found c.requires.finds.no_names c.requires.keeps (let a = c.requires.clears.area.0 in omega (arith, a)) c.requires.clears.held c.requires.clears.cleared
+    (g.met.D.Disk.is_disk c.read_block.new.disk) (g.met.D.Disk.is_disk c.write_two.new.core.disk)
+    c.read_block.ensures.stays c.requires.safe c.requires.going c.requires.finds.directory c.requires.finds.generation c.requires.finds.there
+    c.requires.finds.known.0 c.requires.finds.found c.requires.finds.no_names c.requires.keeps (let a = c.requires.clears.area.0 in omega (arith, a))
+    c.requires.clears.held c.requires.clears.cleared
     (λ t. c.in-Ok.ensures.cell t ∙ ap (λ (n : ℕ). cell_at (g.D.Disk.state c.args.core.now.disk).now (1 + n)) c.from-block.ensures)
     (subst (λ (q : Record). RecordIn c.read_block.new.last.cell c.args.found.now.inode q c.with_record.new.table) c.relinked.ensures c.with_record.ensures.here)
     c.with_record.ensures.tag c.requires.finds.rows
@@ -25,5 +31,7 @@ returns-in-Ok g c = drop-ends (g.D.Disk.state c.args.core.now.disk) (g.D.Disk.st
     ((c.args.pointer.block, c.args.cell.now) ∷ (1 + n, c.with_record.new.table) ∷ []) c.write_two.result) c.from-block.ensures c.write_two.ensures)
 
 pub returns-in-Err : goal.returns-in-Err
-returns-in-Err g c = goes-read (g.D.Disk.state c.args.core.now.disk) (g.D.Disk.state c.read_block.new.disk) c.args.core.now.books (step.Drop c.args.directory c.args.generation c.args.name.now) (g.met.D.Disk.is_disk c.args.core.now.disk) c.requires.safe c.read_block.ensures.stays c.requires.going c.in-Err.ensures.cause
+returns-in-Err g c = goes-read (g.D.Disk.state c.args.core.now.disk) (g.D.Disk.state c.read_block.new.disk) c.args.core.now.books
+    (step.Drop c.args.directory c.args.generation c.args.name.now) (g.met.D.Disk.is_disk c.args.core.now.disk)
+    c.requires.safe c.read_block.ensures.stays c.requires.going c.in-Err.ensures.cause
     (λ tells H p o why e. absurd (let n = c.requires.finds.rows tells H p o p.world in cc (n, e)))

@@ -10,29 +10,56 @@ use Rattle.nofs_names.proofs.Renamings.{rename-bad, rename-bad-new, rename-unope
 use Rattle.nofs_names.proofs.renames.rename_with_room.Goals as goal
 
 pub returns-then-core : goal.returns-then-core
-returns-then-core g c = goes-stopped (g.D.Disk.state c.args.core.now.disk) (g.D.Disk.state c.args.core.now.disk) c.args.core.now.books (step.Rename c.args.directory c.args.generation c.args.old.now c.args.new.now) (g.met.D.Disk.is_disk c.args.core.now.disk) c.requires.safe (StaysButFaults-refl (g.D.Disk.state c.args.core.now.disk)) c.if-core.true
+returns-then-core g c = goes-stopped (g.D.Disk.state c.args.core.now.disk) (g.D.Disk.state c.args.core.now.disk) c.args.core.now.books
+    (step.Rename c.args.directory c.args.generation c.args.old.now c.args.new.now) (g.met.D.Disk.is_disk c.args.core.now.disk) c.requires.safe
+    (StaysButFaults-refl (g.D.Disk.state c.args.core.now.disk)) c.if-core.true
 
 pub returns-then-not-name_ok : goal.returns-then-not-name_ok
-returns-then-not-name_ok g c = rename-bad (g.D.Disk.state c.args.core.now.disk) c.args.core.now.books c.args.directory c.args.generation c.args.old.now c.args.new.now (g.met.D.Disk.is_disk c.args.core.now.disk) c.requires.safe c.if-core.false (sym c.if-not-name_ok.ensures.value)
+returns-then-not-name_ok g c = rename-bad (g.D.Disk.state c.args.core.now.disk)
+    c.args.core.now.books c.args.directory c.args.generation c.args.old.now c.args.new.now (g.met.D.Disk.is_disk c.args.core.now.disk)
+    c.requires.safe c.if-core.false (sym c.if-not-name_ok.ensures.value)
 
 pub returns-then-not-name_ok-2 : goal.returns-then-not-name_ok-2
-returns-then-not-name_ok-2 g c = rename-bad-new (g.D.Disk.state c.args.core.now.disk) c.args.core.now.books c.args.directory c.args.generation c.args.old.now c.args.new.now (g.met.D.Disk.is_disk c.args.core.now.disk) c.requires.safe c.if-core.false (sym c.if-not-name_ok.ensures.value) (sym c.if-not-name_ok-2.ensures.value)
+returns-then-not-name_ok-2 g c = rename-bad-new (g.D.Disk.state c.args.core.now.disk)
+    c.args.core.now.books c.args.directory c.args.generation c.args.old.now c.args.new.now (g.met.D.Disk.is_disk c.args.core.now.disk)
+    c.requires.safe c.if-core.false (sym c.if-not-name_ok.ensures.value) (sym c.if-not-name_ok-2.ensures.value)
 
 pub returns-in-Err : goal.returns-in-Err
-returns-in-Err g c = rename-unopened (g.D.Disk.state c.args.core.now.disk) c.args.core.now.books c.args.directory c.args.generation c.args.old.now c.args.new.now (g.met.D.Disk.is_disk c.args.core.now.disk) c.requires.safe c.if-core.false (sym c.if-not-name_ok.ensures.value) (sym c.if-not-name_ok-2.ensures.value) (g.D.Disk.state c.open_directory.new.disk) c.open_directory.new.last c.open_directory.result c.in-Err.why c.open_directory.ensures c.in-Err.is
+returns-in-Err g c = rename-unopened (g.D.Disk.state c.args.core.now.disk)
+    c.args.core.now.books c.args.directory c.args.generation c.args.old.now c.args.new.now (g.met.D.Disk.is_disk c.args.core.now.disk)
+    c.requires.safe c.if-core.false (sym c.if-not-name_ok.ensures.value) (sym c.if-not-name_ok-2.ensures.value) (g.D.Disk.state c.open_directory.new.disk)
+    c.open_directory.new.last c.open_directory.result c.in-Err.why c.open_directory.ensures c.in-Err.is
 
 pub returns-in-Err-find_pair : goal.returns-in-Err-find_pair
-returns-in-Err-find_pair g c = rename-missing (g.D.Disk.state c.args.core.now.disk) c.args.core.now.books c.args.directory c.args.generation c.args.old.now c.args.new.now (g.met.D.Disk.is_disk c.args.core.now.disk) c.requires.safe c.if-core.false (sym c.if-not-name_ok.ensures.value) (sym c.if-not-name_ok-2.ensures.value) (g.D.Disk.state c.open_directory.new.disk) c.open_directory.new.last c.in-Ok.it c.in-Ok.ensures (g.D.Disk.state c.find_pair.new.disk) c.find_pair.new.names c.find_pair.new.records c.find_pair.result c.in-Err-find_pair.why c.find_pair.ensures c.in-Err-find_pair.is
+returns-in-Err-find_pair g c = rename-missing (g.D.Disk.state c.args.core.now.disk)
+    c.args.core.now.books c.args.directory c.args.generation c.args.old.now c.args.new.now (g.met.D.Disk.is_disk c.args.core.now.disk)
+    c.requires.safe c.if-core.false (sym c.if-not-name_ok.ensures.value) (sym c.if-not-name_ok-2.ensures.value) (g.D.Disk.state c.open_directory.new.disk)
+    c.open_directory.new.last c.in-Ok.it c.in-Ok.ensures (g.D.Disk.state c.find_pair.new.disk)
+    c.find_pair.new.names c.find_pair.new.records c.find_pair.result c.in-Err-find_pair.why c.find_pair.ensures c.in-Err-find_pair.is
 
 pub rename_found-requires-clause-rows : goal.rename_found-requires-clause-rows
-rename_found-requires-clause-rows g c = rename-passes (g.D.Disk.state c.args.core.now.disk) c.args.core.now.books c.args.directory c.args.generation c.args.old.now c.args.new.now (g.met.D.Disk.is_disk c.args.core.now.disk) c.requires.safe c.if-core.false (sym c.if-not-name_ok.ensures.value) (sym c.if-not-name_ok-2.ensures.value) (g.D.Disk.state c.open_directory.new.disk) c.open_directory.new.last c.in-Ok.it c.in-Ok.ensures (g.D.Disk.state c.find_pair.new.disk) c.find_pair.new.names c.find_pair.new.records (g.D.Disk.state c.find_unused.new.disk) c.find_unused.new.names c.find_unused.new.records c.in-Ok-find_pair.found c.in-Ok-find_pair.ensures c.in-Ok-find_unused.field-0 c.in-Ok-find_unused.ensures
+rename_found-requires-clause-rows g c = rename-passes (g.D.Disk.state c.args.core.now.disk)
+    c.args.core.now.books c.args.directory c.args.generation c.args.old.now c.args.new.now (g.met.D.Disk.is_disk c.args.core.now.disk)
+    c.requires.safe c.if-core.false (sym c.if-not-name_ok.ensures.value) (sym c.if-not-name_ok-2.ensures.value) (g.D.Disk.state c.open_directory.new.disk)
+    c.open_directory.new.last c.in-Ok.it c.in-Ok.ensures (g.D.Disk.state c.find_pair.new.disk) c.find_pair.new.names c.find_pair.new.records
+    (g.D.Disk.state c.find_unused.new.disk) c.find_unused.new.names c.find_unused.new.records c.in-Ok-find_pair.found c.in-Ok-find_pair.ensures
+    c.in-Ok-find_unused.field-0 c.in-Ok-find_unused.ensures
 
 pub returns-in-Ok-find_unused : goal.returns-in-Ok-find_unused
 returns-in-Ok-find_unused g c =
     let a = (g.D.Disk.state c.args.core.now.disk) in
     let b = g.D.Disk.state c.find_unused.new.disk in
-    let stays = StaysButFaults-trans a (g.D.Disk.state c.find_pair.new.disk) b (StaysButFaults-trans a (g.D.Disk.state c.open_directory.new.disk) (g.D.Disk.state c.find_pair.new.disk) c.in-Ok.ensures.stays c.in-Ok-find_pair.ensures.stays) c.in-Ok-find_unused.ensures.stays in
-    goes-after a b (reads-keep a b stays) (g.D.Disk.state c.rename_found.new.core.disk) c.args.core.now.books c.rename_found.new.core.books (step.Rename c.args.directory c.args.generation c.args.old.now c.args.new.now) no_claims (done_answer reply.Renamed c.rename_found.result) c.rename_found.ensures
+    let stays = StaysButFaults-trans a (g.D.Disk.state c.find_pair.new.disk) b
+    (StaysButFaults-trans a (g.D.Disk.state c.open_directory.new.disk) (g.D.Disk.state c.find_pair.new.disk)
+    c.in-Ok.ensures.stays c.in-Ok-find_pair.ensures.stays) c.in-Ok-find_unused.ensures.stays in
+    goes-after a b (reads-keep a b stays) (g.D.Disk.state c.rename_found.new.core.disk) c.args.core.now.books c.rename_found.new.core.books
+    (step.Rename c.args.directory c.args.generation c.args.old.now c.args.new.now) no_claims (done_answer reply.Renamed c.rename_found.result)
+    c.rename_found.ensures
 
 pub returns-in-Err-find_unused : goal.returns-in-Err-find_unused
-returns-in-Err-find_unused g c = rename-exists (g.D.Disk.state c.args.core.now.disk) c.args.core.now.books c.args.directory c.args.generation c.args.old.now c.args.new.now (g.met.D.Disk.is_disk c.args.core.now.disk) c.requires.safe c.if-core.false (sym c.if-not-name_ok.ensures.value) (sym c.if-not-name_ok-2.ensures.value) (g.D.Disk.state c.open_directory.new.disk) c.open_directory.new.last c.in-Ok.it c.in-Ok.ensures (g.D.Disk.state c.find_pair.new.disk) c.find_pair.new.names c.find_pair.new.records (g.D.Disk.state c.find_unused.new.disk) c.find_unused.new.names c.find_unused.new.records c.in-Ok-find_pair.found c.in-Ok-find_pair.ensures c.find_unused.result c.in-Err-find_unused.why c.find_unused.ensures c.in-Err-find_unused.is
+returns-in-Err-find_unused g c = rename-exists (g.D.Disk.state c.args.core.now.disk)
+    c.args.core.now.books c.args.directory c.args.generation c.args.old.now c.args.new.now (g.met.D.Disk.is_disk c.args.core.now.disk)
+    c.requires.safe c.if-core.false (sym c.if-not-name_ok.ensures.value) (sym c.if-not-name_ok-2.ensures.value) (g.D.Disk.state c.open_directory.new.disk)
+    c.open_directory.new.last c.in-Ok.it c.in-Ok.ensures (g.D.Disk.state c.find_pair.new.disk) c.find_pair.new.names c.find_pair.new.records
+    (g.D.Disk.state c.find_unused.new.disk) c.find_unused.new.names c.find_unused.new.records c.in-Ok-find_pair.found c.in-Ok-find_pair.ensures
+    c.find_unused.result c.in-Err-find_unused.why c.find_unused.ensures c.in-Err-find_unused.is

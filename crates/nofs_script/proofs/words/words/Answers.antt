@@ -22,4 +22,5 @@ spaces-preserved c =
 pub returns : goal.returns
 returns c =
     let words = c.spaces.words.items in
-    full _ (words_of c.spaces.rest.now) _ c.spaces.invariant.0 (omega (arith, length-map words piece_of, c.spaces.invariant.1, c.len.ensures, c.spaces-test.false))
+    full _ (words_of c.spaces.rest.now) _ c.spaces.invariant.0
+    (omega (arith, length-map words piece_of, c.spaces.invariant.1, c.len.ensures, c.spaces-test.false))

@@ -18,14 +18,16 @@ loop-user-init g c = record {
     refl,
     stand,
     subst (λ n. Gathers v (view_of c.args.begun.pass) n) (omega arith) gathers,
-    subst (λ (l : List (List Line)). UsersGathered [] c.args.begun.out_of_memory c.args.begun.out_of_memory l (view_of c.args.begun.pass) (view_of c.args.begun.pass)) (sym c.requires.lines) (users-none c.args.begun.out_of_memory (view_of c.args.begun.pass)),
+    subst (λ (l : List (List Line)). UsersGathered [] c.args.begun.out_of_memory c.args.begun.out_of_memory l (view_of c.args.begun.pass)
+        (view_of c.args.begun.pass)) (sym c.requires.lines) (users-none c.args.begun.out_of_memory (view_of c.args.begun.pass)),
   );
 }
 
 pub join_way-requires : goal.join_way-requires
 join_way-requires g c =
     let is : c.loop-user.users.items ≡ c.pop.new.self.items ++ c.in-Some.user ∷ [] = search rules in
-    let own = (all-end (λ w. w.client.steps.steps.pass.turn.now ≡ c.args.shared.now.turn) c.loop-user.users.items c.pop.new.self.items c.in-Some.user is c.loop-user.invariant.ways).1 in
+    let own = (all-end (λ w. w.client.steps.steps.pass.turn.now ≡ c.args.shared.now.turn)
+    c.loop-user.users.items c.pop.new.self.items c.in-Some.user is c.loop-user.invariant.ways).1 in
     record { of = (c.loop-user.invariant.of, ap (λ s. s.pass.turn.now) c.into_inner-steps.ensures.steps ∙ own) }
 
 pub loop-user-preserved : goal.loop-user-preserved
@@ -34,15 +36,18 @@ loop-user-preserved g c =
     let is : c.loop-user.users.items ≡ c.pop.new.self.items ++ c.in-Some.user ∷ [] = search rules in
     record {
       of = c.join_way.ensures.of;
-      ways = (all-end (λ w. w.client.steps.steps.pass.turn.now ≡ c.args.shared.now.turn) c.loop-user.users.items c.pop.new.self.items c.in-Some.user is i.ways).0;
+      ways = (all-end (λ w. w.client.steps.steps.pass.turn.now ≡ c.args.shared.now.turn)
+          c.loop-user.users.items c.pop.new.self.items c.in-Some.user is i.ways).0;
       room = search rules;
       gathered = λ v scripts count one absent gathers stand.
           (let (done, rest, whole, st, ga, ug) = i.gathered v scripts count one absent gathers stand in
           let (script, rest2, rest_is, run, st2) = stand-pop (1 + length done) rest c.loop-user.users.items c.pop.new.self.items c.in-Some.user is st in
-          let step = gather-step done _ _ _ _ _ _ _ _ _ script (1 + length done) _ count v _ _ _ (view_of (steps_in c.in-Some.user).pass.pass) _ one ga ug c.join_way.ensures.joined
+          let step = gather-step done _ _ _ _ _ _ _ _ _ script (1 + length done) _ count v _ _ _ (view_of (steps_in c.in-Some.user).pass.pass)
+          _ one ga ug c.join_way.ensures.joined
           (ap (λ s. s.pass.caller) c.into_inner-steps.ensures.steps ∙ run.back.0) refl
           (absent (1 + length done) (omega arith) (let n = ap length whole in let m = ap length rest_is in omega (arith, n, m, length-append done rest)))
-          (ap (λ s. view_of s.pass.pass) c.into_inner-steps.ensures.steps) c.into_inner-steps.ensures.lines c.into_inner-steps.ensures.out_of_memory c.either.ensures (search rules)
+          (ap (λ s. view_of s.pass.pass) c.into_inner-steps.ensures.steps)
+          c.into_inner-steps.ensures.lines c.into_inner-steps.ensures.out_of_memory c.either.ensures (search rules)
           run.back.1 run.some run.all in (
             done ++ script ∷ [],
             rest2,
@@ -59,5 +64,6 @@ returns-clause-gathered g c v scripts count one absent gathers stand =
     let none : c.loop-user.users.items ≡ [] = search rules in
     let is : scripts ≡ done = whole ∙ (ap (λ l. done ++ l) (stand-none _ rest _ none st) ∙ append-nil done) in (
       subst (λ l. Gathers v (view_of c.loop-user.whole.pass) (count + length l)) (sym is) ga,
-      subst (λ l. UsersGathered l c.args.begun.out_of_memory c.loop-user.whole.out_of_memory c.loop-user.whole.lines.items (view_of c.args.begun.pass) (view_of c.loop-user.whole.pass)) (sym is) ug,
+      subst (λ l. UsersGathered l c.args.begun.out_of_memory c.loop-user.whole.out_of_memory c.loop-user.whole.lines.items (view_of c.args.begun.pass)
+          (view_of c.loop-user.whole.pass)) (sym is) ug,
     )

@@ -1,4 +1,5 @@
-use Rattle.std.proofs.Common.{rules, ◌≡◌, ◌∙◌, ℕ, ◌+◌, List, [], ◌∷◌, ◌++◌, All, eqb-true, true, length, map, vec_len, refl, sym, ap, subst, arith, append_assoc, append-nil}
+use Rattle.std.proofs.Common.{rules, ◌≡◌, ◌∙◌, ℕ, ◌+◌, List, [], ◌∷◌, ◌++◌, All, eqb-true, true, length, map, vec_len, refl, sym, ap, subst, arith}
+use Rattle.std.proofs.Common.{append_assoc, append-nil}
 use Rattle.std.proofs.lemmas.List.Elements.{All-push}
 use Rattle.nofs_shared.proofs.Walking.{nil-of}
 use Rattle.nofs_client.specs.Commands.{AreWellFormed}
@@ -38,16 +39,22 @@ loop-alloc-preserved g c =
       new = c.seat-way.ensures.rest.1;
       len = search rules;
       room = search rules;
-      ways = subst (λ l. All (λ w. w.client.steps.steps.pass.turn.now ≡ c.args.shared.now.turn) l) (sym made) (All-push (λ w. w.client.steps.steps.pass.turn.now ≡ c.args.shared.now.turn) c.loop-alloc.users.items c.new.result i.ways (ap (λ w. w.pass.turn.now) c.new.ensures.steps ∙ c.seat-way.ensures.way.0));
+      ways = subst (λ l. All (λ w. w.client.steps.steps.pass.turn.now ≡ c.args.shared.now.turn) l) (sym made)
+          (All-push (λ w. w.client.steps.steps.pass.turn.now ≡ c.args.shared.now.turn) c.loop-alloc.users.items c.new.result i.ways
+          (ap (λ w. w.pass.turn.now) c.new.ensures.steps ∙ c.seat-way.ensures.way.0));
       ready = (
         c.in-Some.plan ∷ i.ready.0,
         i.ready.1 ∙ (ap (λ l. l ++ i.ready.0) is ∙ append_assoc c.pop.new.self.items (c.in-Some.plan ∷ []) i.ready.0),
         λ v all.
             (let r = i.ready.2 v all in
             let s = c.seat-way.ensures.seen v r.1 in (
-              stand-more (1 + vec_len c.pop.new.self) (1 + vec_len c.loop-alloc.plans) c.in-Some.plan.commands (map (λ p. p.commands) i.ready.0) _ c.loop-alloc.users.items c.new.result made (omega (arith, long))
+              stand-more (1 + vec_len c.pop.new.self) (1 + vec_len c.loop-alloc.plans) c.in-Some.plan.commands (map (λ p. p.commands) i.ready.0)
+                  _ c.loop-alloc.users.items c.new.result made (omega (arith, long))
                   (record {
-                    new = (ap (λ w. w.pass.caller) c.new.ensures.steps ∙ (c.seat-way.ensures.way.1 ∙ search rules), ap (λ w. view_of w.pass.pass) c.new.ensures.steps ∙ s.0);
+                    new = (
+                      ap (λ w. w.pass.caller) c.new.ensures.steps ∙ (c.seat-way.ensures.way.1 ∙ search rules),
+                      ap (λ w. view_of w.pass.pass) c.new.ensures.steps ∙ s.0,
+                    );
                     script_is = c.new.ensures.commands;
                     no_lines = c.new.ensures.fresh.0;
                   }) r.0,
@@ -65,5 +72,9 @@ returns-clause-ready g c v all =
     let long : vec_len c.loop-alloc.plans ≡ length c.loop-alloc.plans.items = search rules in
     let none = nil-of c.loop-alloc.plans.items (sym long ∙ none_left) in
     let whole : c.args.plans.items ≡ i.ready.0 = i.ready.1 ∙ ap (λ l. l ++ i.ready.0) none in
-    let first : 1 + vec_len c.loop-alloc.plans ≡ 1 = omega (arith, none_left) in
-    (stand-of 1 (map (λ p. p.commands) i.ready.0) (map (λ p. p.commands) c.args.plans.items) c.loop-alloc.users.items (ap (map (λ p. p.commands)) (sym whole)) (stand-at (1 + vec_len c.loop-alloc.plans) 1 (map (λ p. p.commands) i.ready.0) c.loop-alloc.users.items first r.0), r.1)
+    let first : 1 + vec_len c.loop-alloc.plans ≡ 1 = omega (arith, none_left) in (
+      stand-of 1 (map (λ p. p.commands) i.ready.0) (map (λ p. p.commands) c.args.plans.items) c.loop-alloc.users.items
+          (ap (map (λ p. p.commands)) (sym whole)) (stand-at (1 + vec_len c.loop-alloc.plans) 1 (map (λ p. p.commands) i.ready.0)
+          c.loop-alloc.users.items first r.0),
+      r.1,
+    )

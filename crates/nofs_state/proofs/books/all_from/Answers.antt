@@ -4,7 +4,11 @@ use Rattle.nofs_state.proofs.Maps.{sets-begins, sets-goes, sets-ends}
 use Rattle.nofs_state.proofs.books.all_from.Goals as goal
 
 pub loop-place-init : goal.loop-place-init
-loop-place-init c = (subst (λ (bits : List Bool). SetsFrom c.args.places c.args.from c.args.from bits) (sym (c.in_ok-bits.ensures {u = tt})) (sets-begins c.args.places c.args.from), le_refl c.args.from)
+loop-place-init c = (
+  subst (λ (bits : List Bool). SetsFrom c.args.places c.args.from c.args.from bits) (sym (c.in_ok-bits.ensures {u = tt}))
+      (sets-begins c.args.places c.args.from),
+  le_refl c.args.from,
+)
 
 pub loop-place-preserved : goal.loop-place-preserved
 loop-place-preserved c = (

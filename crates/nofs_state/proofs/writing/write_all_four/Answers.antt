@@ -3,8 +3,12 @@ use Rattle.nofs_state.proofs.TwoWrites.{first-fails, then-others}
 use Rattle.nofs_state.proofs.writing.write_all_four.Goals as goal
 
 pub returns-in-Ok : goal.returns-in-Ok
-returns-in-Ok g c = then-others (g.D.Disk.state c.args.disk.now) (g.D.Disk.state c.write.new.self) (g.D.Disk.state c.write_all_three.new.disk) c.args.block c.args.cell.now ((c.args.other, c.args.second.now) ∷ (c.args.above, c.args.third.now) ∷ (c.args.table, c.args.fourth.now) ∷ []) c.write_all_three.result
+returns-in-Ok g c = then-others (g.D.Disk.state c.args.disk.now) (g.D.Disk.state c.write.new.self) (g.D.Disk.state c.write_all_three.new.disk)
+    c.args.block c.args.cell.now ((c.args.other, c.args.second.now) ∷ (c.args.above, c.args.third.now) ∷ (c.args.table, c.args.fourth.now) ∷ [])
+    c.write_all_three.result
     (g.met.D.Disk.is_disk c.write.new.self) c.in-Ok.ensures c.write_all_three.ensures
 
 pub returns-in-Err : goal.returns-in-Err
-returns-in-Err g c = first-fails (g.D.Disk.state c.args.disk.now) (g.D.Disk.state c.write.new.self) c.args.block c.args.cell.now ((c.args.other, c.args.second.now) ∷ (c.args.above, c.args.third.now) ∷ (c.args.table, c.args.fourth.now) ∷ []) c.in-Err.failed (g.met.D.Disk.is_disk c.write.new.self) c.in-Err.ensures
+returns-in-Err g c = first-fails (g.D.Disk.state c.args.disk.now) (g.D.Disk.state c.write.new.self) c.args.block c.args.cell.now
+    ((c.args.other, c.args.second.now) ∷ (c.args.above, c.args.third.now) ∷ (c.args.table, c.args.fourth.now) ∷ []) c.in-Err.failed
+    (g.met.D.Disk.is_disk c.write.new.self) c.in-Err.ensures

@@ -19,7 +19,8 @@ returns-in_err-progress-clause-partly g c =
     let room : is_out_of_memory c.step-reply.result ≡ false = grind arith in (
       made ++ (c.in-Some.step, c.step-reply.result) ∷ [],
       made-more _ _ _ made c.in-Some.step c.step-reply.result more room c.step-reply.ensures.made,
-      Asked-more c.args.command.now (start_of c.args.command.now) made c.in-Some.step c.step-reply.result asked (ap (asks c.args.command.now) (sym is) ∙ asks-it),
+      Asked-more c.args.command.now (start_of c.args.command.now) made c.in-Some.step c.step-reply.result asked
+          (ap (asks c.args.command.now) (sym is) ∙ asks-it),
     )
 
 pub loop-progress-preserved : goal.loop-progress-preserved
@@ -29,8 +30,10 @@ loop-progress-preserved g c =
     let room : is_out_of_memory c.step-reply.result ≡ false = grind arith in (
       made ++ (c.in-Some.step, c.step-reply.result) ∷ [],
       made-more _ _ _ made c.in-Some.step c.step-reply.result more room c.step-reply.ensures.made,
-      Asked-more c.args.command.now (start_of c.args.command.now) made c.in-Some.step c.step-reply.result asked (ap (asks c.args.command.now) (sym is) ∙ asks-it),
-      c.in_ok-progress.ensures.is ∙ ap (λ p. progress_after c.args.command.now p c.step-reply.result) is ∙ sym (progress-more _ made c.in-Some.step c.step-reply.result),
+      Asked-more c.args.command.now (start_of c.args.command.now) made c.in-Some.step c.step-reply.result asked
+          (ap (asks c.args.command.now) (sym is) ∙ asks-it),
+      c.in_ok-progress.ensures.is ∙ ap (λ p. progress_after c.args.command.now p c.step-reply.result) is
+          ∙ sym (progress-more _ made c.in-Some.step c.step-reply.result),
       c.in_ok-progress.ensures.stands,
       g.met.S.Steps.goes_on _ _ _ goes c.step-reply.ensures.goes,
     )

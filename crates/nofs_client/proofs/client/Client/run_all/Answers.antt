@@ -10,7 +10,8 @@ returns-in_err-run-clause-some g c =
     let (ms, more, asked) = c.run.ensures.partly in
     let commands = c.args.commands.now in
     let lt : c.loop-command.command-index < length commands = rw c.as_slice-command-items.ensures at c.loop-command-test.true in
-    let is : c.command-item.result ≡ get_or commands c.loop-command.command-index c.command-item.result = rw c.as_slice-command-items.ensures at c.command-item.is in
+    let is : c.command-item.result ≡ get_or commands c.loop-command.command-index c.command-item.result =
+    rw c.as_slice-command-items.ensures at c.command-item.is in
     runs-in-part commands c.loop-command.command-index c.command-item.result _ _ _ ms _ _ lt is all more asked
 
 pub returns-in_err-run-clause-lines_follow : goal.returns-in_err-run-clause-lines_follow
@@ -22,7 +23,8 @@ returns-in_err-push-clause-some g c =
     let (ms, more, run) = c.in_ok-run.ensures.ran in
     let commands = c.args.commands.now in
     let lt : c.loop-command.command-index < length commands = rw c.as_slice-command-items.ensures at c.loop-command-test.true in
-    let is : c.command-item.result ≡ get_or commands c.loop-command.command-index c.command-item.result = rw c.as_slice-command-items.ensures at c.command-item.is in
+    let is : c.command-item.result ≡ get_or commands c.loop-command.command-index c.command-item.result =
+    rw c.as_slice-command-items.ensures at c.command-item.is in
     rw c.in_err-push.ensures.unchanged (runs-in-part commands c.loop-command.command-index c.command-item.result _ _ _ ms _ _ lt is all more run.asked)
 
 pub returns-in_err-push-clause-lines_follow : goal.returns-in_err-push-clause-lines_follow

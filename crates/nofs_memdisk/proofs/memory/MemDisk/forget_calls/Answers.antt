@@ -23,8 +23,10 @@ invariant_of-self-2 c =
       counted = old.counted;
       kept = let e = old.kept in let l = c.clear.ensures.capacity in omega arith;
       sized = sized_base c.copy_from_slice.new.self.items c.clear.new.self.items c.clear.ensures.items
-          (subst Sized (sym is_now) (λ b low. sized_now old.base.items old.calls.items old.sized b (let w = old.whole in let p = ap length old.present in omega arith)));
+          (subst Sized (sym is_now) (λ b low. sized_now old.base.items old.calls.items old.sized b (let w = old.whole in let p =
+          ap length old.present in omega arith)));
     }
 
 pub returns-then-made-eq0 : goal.returns-then-made-eq0
-returns-then-made-eq0 c = forgets_none (parts_of c.args.self.now) (nil_from_length c.args.self.now.calls.items (let l = c.len-made.ensures in let t = c.if-made-eq0.true in grind (arith, common_steps)))
+returns-then-made-eq0 c = forgets_none (parts_of c.args.self.now)
+    (nil_from_length c.args.self.now.calls.items (let l = c.len-made.ensures in let t = c.if-made-eq0.true in grind (arith, common_steps)))

@@ -16,7 +16,8 @@ invariant_of-self c =
     let now = after_none mid.base.items mid.calls.items none in
     let len = length-set mid.base.items block cell in
     let Sized : List Cell → Type 0 = λ l. (b : ℕ) → b < length l → IsSizedCell (cell_at l b) in
-    let sized : Sized mid.base.items = λ b low. subst (λ (l : List Cell). IsSizedCell (cell_at l b)) now (sized_now mid.base.items mid.calls.items mid.sized b low) in
+    let sized : Sized mid.base.items = λ b low. subst (λ (l : List Cell). IsSizedCell (cell_at l b)) now
+    (sized_now mid.base.items mid.calls.items mid.sized b low) in
     record {
       present = ap (λ l. set l block cell) (mid.present ∙ now) ∙ sym (after_none (set mid.base.items block cell) mid.calls.items none);
       whole = ap (λ l. length (set l block cell)) (mid.present ∙ now);

@@ -28,32 +28,44 @@ invariant_of-self g c = record {
   room = c.take_room.ensures.kept;
   safe = safe-history c.args.self.now.core.books c.take_room.new.history (g.D.Disk.state c.args.self.now.core.disk) c.args.self.now.safe;
   stands = ∥∥₁_elim c.args.self.now.stands ∥∥₁_prop (λ m.
-      ∣ mount-history (g.D.Disk.state c.args.self.now.found.value) (g.D.Disk.state c.args.self.now.core.disk) c.args.self.now.first c.args.self.now.core.books c.take_room.new.history c.take_room.ensures.stays.1 c.take_room.ensures.stays.0 m ∣₁);
+      ∣ mount-history (g.D.Disk.state c.args.self.now.found.value) (g.D.Disk.state c.args.self.now.core.disk)
+      c.args.self.now.first c.args.self.now.core.books c.take_room.new.history c.take_room.ensures.stays.1 c.take_room.ensures.stays.0 m ∣₁);
 }
 
 pub invariant_of-self-in-Some : goal.invariant_of-self-in-Some
 invariant_of-self-in-Some g c = record {
-  few = few-left c.args.caller (see_step c.args.evidence.now.kind (verdict_at c.args.evidence.now.verdicts c.args.at).item) c.commit_in.result c.take_room.new.history.entries c.commit_in.new.core.books.history.entries c.in-Some.left c.commit_in.ensures.adds c.in-Some.ensures.few;
+  few = few-left c.args.caller (see_step c.args.evidence.now.kind (verdict_at c.args.evidence.now.verdicts c.args.at).item)
+      c.commit_in.result c.take_room.new.history.entries c.commit_in.new.core.books.history.entries c.in-Some.left c.commit_in.ensures.adds
+      c.in-Some.ensures.few;
   room = (let a = c.in-Some.ensures.room in let b = c.commit_in.ensures.room in omega (arith, a, b));
   safe = c.commit_in.ensures.safe;
-  stands = ∥∥₁_elim c.requires.own.stood ∥∥₁_prop (λ then. ∥∥₁_elim c.args.self.now.stands ∥∥₁_prop (λ m. ∣ c.commit_in.ensures.keeps c.args.self.now.found.value c.args.self.now.first then
-      (mount-history (g.D.Disk.state c.args.self.now.found.value) (g.D.Disk.state c.args.self.now.core.disk) c.args.self.now.first c.args.self.now.core.books c.take_room.new.history c.take_room.ensures.stays.1 c.take_room.ensures.stays.0 m) ∣₁));
+  stands = ∥∥₁_elim c.requires.own.stood ∥∥₁_prop (λ then. ∥∥₁_elim c.args.self.now.stands ∥∥₁_prop
+      (λ m. ∣ c.commit_in.ensures.keeps c.args.self.now.found.value c.args.self.now.first then
+      (mount-history (g.D.Disk.state c.args.self.now.found.value) (g.D.Disk.state c.args.self.now.core.disk)
+      c.args.self.now.first c.args.self.now.core.books c.take_room.new.history c.take_room.ensures.stays.1 c.take_room.ensures.stays.0 m) ∣₁));
 }
 
 pub returns-in-None-clause-commits : goal.returns-in-None-clause-commits
-returns-in-None-clause-commits g c = ∣ commit-unmade (g.D.Disk.state c.args.self.now.found.value) (g.D.Disk.state c.args.self.now.core.disk) c.args.self.now.core.books _ c.args.evidence.now.kind (verdict_at c.args.evidence.now.verdicts c.args.at).item c.args.used ∣₁
+returns-in-None-clause-commits g c = ∣ commit-unmade (g.D.Disk.state c.args.self.now.found.value) (g.D.Disk.state c.args.self.now.core.disk)
+    c.args.self.now.core.books _ c.args.evidence.now.kind (verdict_at c.args.evidence.now.verdicts c.args.at).item c.args.used ∣₁
 
 pub returns-clause-commits : goal.returns-clause-commits
 returns-clause-commits g c = ∥∥₁_elim c.requires.own.stood ∥∥₁_prop (λ then. ∥∥₁_elim c.args.self.now.stands ∥∥₁_prop (λ m.
-    ∣ commit-beside (g.D.Disk.state c.args.self.now.found.value) (g.D.Disk.state c.args.self.now.core.disk) c.args.self.now.core.books c.commit_in.new.core.books c.take_room.new.history c.args.evidence.now.kind (verdict_at c.args.evidence.now.verdicts c.args.at).item c.args.used c.commit_in.result
+    ∣ commit-beside (g.D.Disk.state c.args.self.now.found.value) (g.D.Disk.state c.args.self.now.core.disk)
+    c.args.self.now.core.books c.commit_in.new.core.books c.take_room.new.history c.args.evidence.now.kind
+    (verdict_at c.args.evidence.now.verdicts c.args.at).item c.args.used c.commit_in.result
     (c.commit_in.ensures.commits c.args.self.now.found.value c.args.self.now.first then
-    (mount-history (g.D.Disk.state c.args.self.now.found.value) (g.D.Disk.state c.args.self.now.core.disk) c.args.self.now.first c.args.self.now.core.books c.take_room.new.history c.take_room.ensures.stays.1 c.take_room.ensures.stays.0 m)) ∣₁))
+    (mount-history (g.D.Disk.state c.args.self.now.found.value) (g.D.Disk.state c.args.self.now.core.disk)
+    c.args.self.now.first c.args.self.now.core.books c.take_room.new.history c.take_room.ensures.stays.1 c.take_room.ensures.stays.0 m)) ∣₁))
 
 pub returns-in-None-clause-adds : goal.returns-in-None-clause-adds
-returns-in-None-clause-adds g c = adds-none c.args.caller (see_step c.args.evidence.now.kind (verdict_at c.args.evidence.now.verdicts c.args.at).item) c.args.self.now.core.books.history.entries c.take_room.new.history.entries c.take_room.ensures.stays.0
+returns-in-None-clause-adds g c = adds-none c.args.caller (see_step c.args.evidence.now.kind (verdict_at c.args.evidence.now.verdicts c.args.at).item)
+    c.args.self.now.core.books.history.entries c.take_room.new.history.entries c.take_room.ensures.stays.0
 
 pub returns-clause-adds : goal.returns-clause-adds
-returns-clause-adds g c = subst (λ (H : List Entry1). AddsStep c.args.caller (see_step c.args.evidence.now.kind (verdict_at c.args.evidence.now.verdicts c.args.at).item) c.commit_in.result H c.commit_in.new.core.books.history.entries) c.take_room.ensures.stays.0 c.commit_in.ensures.adds
+returns-clause-adds g c = subst (λ (H : List Entry1). AddsStep c.args.caller
+    (see_step c.args.evidence.now.kind (verdict_at c.args.evidence.now.verdicts c.args.at).item)
+    c.commit_in.result H c.commit_in.new.core.books.history.entries) c.take_room.ensures.stays.0 c.commit_in.ensures.adds
 
 pub returns-in-None-clause-sweeps : goal.returns-in-None-clause-sweeps
 returns-in-None-clause-sweeps g c = λ e some.
@@ -63,7 +75,8 @@ returns-in-None-clause-sweeps g c = λ e some.
 pub returns-clause-sweeps : goal.returns-clause-sweeps
 returns-clause-sweeps g c =
     let same = c.step_of-step.ensures ∙ ap (see_step c.args.evidence.now.kind) c.item-item.ensures in
-    sweep-served c.args.caller (see_step c.args.evidence.now.kind (verdict_at c.args.evidence.now.verdicts c.args.at).item) c.commit_in.result c.args.self.now.kept c.in-Some.left
+    sweep-served c.args.caller (see_step c.args.evidence.now.kind (verdict_at c.args.evidence.now.verdicts c.args.at).item)
+    c.commit_in.result c.args.self.now.kept c.in-Some.left
     (λ e some. sym c.in-Some.is ∙ c.take_room.ensures.sweep (ap (λ (s : Step). is_of_sweep c.args.caller s) same ∙ e) some) (λ e. c.commit_in.ensures.sees)
 
 pub returns-clause-others : goal.returns-clause-others
@@ -72,11 +85,15 @@ returns-clause-others g c = λ e.
     c.in-Some.ensures.others (ap (λ (s : Step). is_of_sweep c.args.caller s) same ∙ e)
 
 pub returns-in-None-clause-own : goal.returns-in-None-clause-own
-returns-in-None-clause-own g c = earlier-on c.requires.own c.take_room.new.history.start c.args.self.now.core.books.at c.take_room.new.history.entries c.take_room.ensures.stays.1 refl
-    (subst (λ (H : List Entry1). IsPrefix c.args.self.now.core.books.history.entries H) (sym c.take_room.ensures.stays.0) (prefix_self c.args.self.now.core.books.history.entries))
+returns-in-None-clause-own g c = earlier-on c.requires.own c.take_room.new.history.start c.args.self.now.core.books.at c.take_room.new.history.entries
+    c.take_room.ensures.stays.1 refl
+    (subst (λ (H : List Entry1). IsPrefix c.args.self.now.core.books.history.entries H) (sym c.take_room.ensures.stays.0)
+    (prefix_self c.args.self.now.core.books.history.entries))
 
 pub returns-clause-own : goal.returns-clause-own
-returns-clause-own g c = earlier-on c.requires.own c.commit_in.new.core.books.history.start c.commit_in.new.core.books.at c.commit_in.new.core.books.history.entries
+returns-clause-own g c = earlier-on c.requires.own c.commit_in.new.core.books.history.start c.commit_in.new.core.books.at
+    c.commit_in.new.core.books.history.entries
     (c.commit_in.ensures.same.0 ∙ c.take_room.ensures.stays.1) c.commit_in.ensures.same.1
     (subst (λ (H : List Entry1). IsPrefix H c.commit_in.new.core.books.history.entries) c.take_room.ensures.stays.0
-    (adds-prefix c.args.caller (see_step c.args.evidence.now.kind (verdict_at c.args.evidence.now.verdicts c.args.at).item) c.commit_in.result c.take_room.new.history.entries c.commit_in.new.core.books.history.entries c.commit_in.ensures.adds))
+    (adds-prefix c.args.caller (see_step c.args.evidence.now.kind (verdict_at c.args.evidence.now.verdicts c.args.at).item)
+    c.commit_in.result c.take_room.new.history.entries c.commit_in.new.core.books.history.entries c.commit_in.ensures.adds))

@@ -14,32 +14,39 @@ invariant_of-self g c = record {
   room = c.take_room.ensures.kept;
   safe = safe-history c.args.self.now.core.books c.take_room.new.history (g.D.Disk.state c.args.self.now.core.disk) c.args.self.now.safe;
   stands = ∥∥₁_elim c.args.self.now.stands ∥∥₁_prop (λ m.
-      ∣ mount-history (g.D.Disk.state c.args.self.now.found.value) (g.D.Disk.state c.args.self.now.core.disk) c.args.self.now.first c.args.self.now.core.books c.take_room.new.history c.take_room.ensures.stays.1 c.take_room.ensures.stays.0 m ∣₁);
+      ∣ mount-history (g.D.Disk.state c.args.self.now.found.value) (g.D.Disk.state c.args.self.now.core.disk)
+      c.args.self.now.first c.args.self.now.core.books c.take_room.new.history c.take_room.ensures.stays.1 c.take_room.ensures.stays.0 m ∣₁);
 }
 
 pub invariant_of-self-in-Some : goal.invariant_of-self-in-Some
 invariant_of-self-in-Some g c = record {
-  few = few-left c.args.caller c.args.step c.step_in.result c.take_room.new.history.entries c.step_in.new.core.books.history.entries c.in-Some.left c.step_in.ensures.adds c.in-Some.ensures.few;
+  few = few-left c.args.caller c.args.step c.step_in.result c.take_room.new.history.entries c.step_in.new.core.books.history.entries c.in-Some.left
+      c.step_in.ensures.adds c.in-Some.ensures.few;
   room = (let a = c.in-Some.ensures.room in let b = c.step_in.ensures.room in omega (arith, a, b));
   safe = c.step_in.ensures.safe;
   stands = ∥∥₁_elim c.args.self.now.stands ∥∥₁_prop (λ m. ∣ c.step_in.ensures.keeps c.args.self.now.found.value c.args.self.now.first
-      (mount-history (g.D.Disk.state c.args.self.now.found.value) (g.D.Disk.state c.args.self.now.core.disk) c.args.self.now.first c.args.self.now.core.books c.take_room.new.history c.take_room.ensures.stays.1 c.take_room.ensures.stays.0 m) ∣₁);
+      (mount-history (g.D.Disk.state c.args.self.now.found.value) (g.D.Disk.state c.args.self.now.core.disk)
+      c.args.self.now.first c.args.self.now.core.books c.take_room.new.history c.take_room.ensures.stays.1 c.take_room.ensures.stays.0 m) ∣₁);
 }
 
 pub returns-in-None-clause-adds : goal.returns-in-None-clause-adds
-returns-in-None-clause-adds g c = adds-none c.args.caller c.args.step c.args.self.now.core.books.history.entries c.take_room.new.history.entries c.take_room.ensures.stays.0
+returns-in-None-clause-adds g c = adds-none c.args.caller c.args.step c.args.self.now.core.books.history.entries c.take_room.new.history.entries
+    c.take_room.ensures.stays.0
 
 pub returns-in-Some-clause-adds : goal.returns-in-Some-clause-adds
-returns-in-Some-clause-adds g c = subst (λ (H : List Entry1). AddsStep c.args.caller c.args.step c.step_in.result H c.step_in.new.core.books.history.entries) c.take_room.ensures.stays.0 c.step_in.ensures.adds
+returns-in-Some-clause-adds g c = subst (λ (H : List Entry1). AddsStep c.args.caller c.args.step c.step_in.result H c.step_in.new.core.books.history.entries)
+    c.take_room.ensures.stays.0 c.step_in.ensures.adds
 
 pub returns-in-None-clause-claims : goal.returns-in-None-clause-claims
-returns-in-None-clause-claims g c = λ q. ∣ unowned-none (g.D.Disk.state c.args.self.now.core.disk).now c.args.self.now.core.books.history.entries c.take_room.new.history.entries c.take_room.ensures.stays.0 ∣₁
+returns-in-None-clause-claims g c = λ q. ∣ unowned-none (g.D.Disk.state c.args.self.now.core.disk).now c.args.self.now.core.books.history.entries
+    c.take_room.new.history.entries c.take_room.ensures.stays.0 ∣₁
 
 pub returns-in-Some-clause-claims : goal.returns-in-Some-clause-claims
 returns-in-Some-clause-claims g c = λ q. ∥∥₁_elim c.args.self.now.stands ∥∥₁_prop (λ m.
     ∣ subst (λ (H : List Entry1). Unowned (g.D.Disk.state c.args.self.now.core.disk).now H c.step_in.new.core.books.history.entries) c.take_room.ensures.stays.0
     (c.step_in.ensures.claims c.args.self.now.found.value c.args.self.now.first
-    (mount-history (g.D.Disk.state c.args.self.now.found.value) (g.D.Disk.state c.args.self.now.core.disk) c.args.self.now.first c.args.self.now.core.books c.take_room.new.history c.take_room.ensures.stays.1 c.take_room.ensures.stays.0 m) q) ∣₁)
+    (mount-history (g.D.Disk.state c.args.self.now.found.value) (g.D.Disk.state c.args.self.now.core.disk)
+    c.args.self.now.first c.args.self.now.core.books c.take_room.new.history c.take_room.ensures.stays.1 c.take_room.ensures.stays.0 m) q) ∣₁)
 
 pub returns-in-Some-clause-sweeps : goal.returns-in-Some-clause-sweeps
 returns-in-Some-clause-sweeps g c = sweep-served c.args.caller c.args.step c.step_in.result c.args.self.now.kept c.in-Some.left
@@ -58,5 +65,6 @@ pub returns-in-None-clause-causes : goal.returns-in-None-clause-causes
 returns-in-None-clause-causes g c = causes-unroomed (g.D.Disk.state c.args.self.now.core.disk) c.args.self.now.core.books c.take_room.new.history
 
 pub returns-in-Some-clause-causes : goal.returns-in-Some-clause-causes
-returns-in-Some-clause-causes g c = causes-roomed (g.D.Disk.state c.args.self.now.core.disk) (g.D.Disk.state c.step_in.new.core.disk) c.args.self.now.core.books c.step_in.new.core.books
+returns-in-Some-clause-causes g c = causes-roomed (g.D.Disk.state c.args.self.now.core.disk) (g.D.Disk.state c.step_in.new.core.disk)
+    c.args.self.now.core.books c.step_in.new.core.books
     c.step_in.result c.take_room.new.history c.step_in.ensures.causes

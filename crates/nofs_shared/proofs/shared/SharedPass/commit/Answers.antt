@@ -13,7 +13,8 @@ pub returns-clause-made : goal.returns-clause-made
 returns-clause-made g c = ran_made _ _ _ _ _ (commit-step _ _ _ _ _ _ c.with.ensures.ran)
 
 pub returns-clause-own : goal.returns-clause-own
-returns-clause-own g c = knows-on _ (λ f xs ys p. g.V.Serves.is_of_more c.args.evidence.now f xs ys p) _ _ (seat-stays _ _ _ _ c.with.ensures.ran) c.requires.own
+returns-clause-own g c = knows-on _ (λ f xs ys p. g.V.Serves.is_of_more c.args.evidence.now f xs ys p) _ _ (seat-stays _ _ _ _ c.with.ensures.ran)
+    c.requires.own
 
 pub returns-clause-right : goal.returns-clause-right
 returns-clause-right g c = commit-ran _ _ _ _ _ _ c.with.ensures.ran

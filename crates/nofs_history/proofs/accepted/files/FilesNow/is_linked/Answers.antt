@@ -6,5 +6,6 @@ use Rattle.nofs_history.proofs.accepted.files.FilesNow.is_linked.Goals as goal
 
 pub returns : goal.returns
 returns c = subst (λ (b : Bool). IfOk c.has_pair.result (λ is. is ≡ b))
-    (sym (any_same (λ l. files.is_pair (kept_files_of c.args.self.now) c.args.inode l) c.args.link.now (files.links_of (kept_files_of c.args.self.now) c.args.inode)))
+    (sym (any_same (λ l. files.is_pair (kept_files_of c.args.self.now) c.args.inode l) c.args.link.now
+    (files.links_of (kept_files_of c.args.self.now) c.args.inode)))
     c.has_pair.ensures
