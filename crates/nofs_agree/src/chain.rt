@@ -87,6 +87,9 @@ fn has_agreed_link<D: Disk>(
     requires last { IsLast (D.state disk.old) last.old }
     ensures { TellsAgreed (D.state disk.old) (D.state disk.new) known.now (λ X. list_any (is_agreed_link (files.files_in X) inode) it.now.links) last.new result }
 {
+    if it.kind.is_none() {
+        return Ok(false);
+    }
     for place in 0..4 {
         if is_agreed_link(disk, at, known, inode, it, &it.links[place], last)? {
             return Ok(true);

@@ -59,6 +59,9 @@ fn learn_above<D: Disk>(
 {
     let mut last = LastRead::NONE;
     let it = read_inode(disk, at, inode, &mut last)?;
+    if it.kind.is_none() {
+        return Ok(());
+    }
     for place in 0..4 {
         let link = it.links[place];
         learn_link(disk, at, known, inode, &it, &link, &mut last)?;
