@@ -197,17 +197,25 @@ fn calls_for(rt: &HostRuntime, blocks: &[u64]) -> Result<u64, Fail> {
     Ok(disk.file().calls())
 }
 
-// The first window is read whole, any other where three of its cells were read alone, or many of the one beside it.
+// The first window is read whole, any other where a cell of it was read alone lately, or many of the one beside it; after windows
+// that were of no use, where more of its cells were.
 #[test]
 fn a_window_is_read_whole_where_other_cells_of_it_are_likely(rt: HostRuntime) -> Result<(), Fail> {
-    let rows: [(&[u64], u64); 6] = [
+    let rows: [(&[u64], u64); 7] = [
         (&[0, 1, 63], 1),
-        (&[0, 640, 700, 641], 4),
-        (&[0, 640, 700, 641, 699, 642, 643, 698], 5),
-        (&[0, 64, 0, 64], 3),
+        (&[0, 640], 2),
+        (&[0, 640, 700, 641, 699, 642, 643, 698], 3),
+        (&[0, 64, 0, 64, 65], 3),
         (
             &[0, 1, 2, 3, 4, 5, 6, 7, 8, 9, 10, 11, 12, 13, 14, 15, 64, 65],
             2,
+        ),
+        (
+            &[
+                0, 64, 65, 128, 129, 192, 193, 256, 257, 320, 321, 384, 385, 448, 449, 512, 513,
+                640, 641, 642, 643,
+            ],
+            20,
         ),
         (&[0, 200, 300, 400, 500, 600, 700, 800, 900, 1_000, 200], 11),
     ];

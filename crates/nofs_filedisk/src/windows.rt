@@ -2,9 +2,11 @@
 //!
 //! Promise: each window that has a number shows the bytes of the file, also after a write.
 //!
-//! A window takes fifty times what a cell takes to read, so it is read only where its other cells are likely to be asked for: where
-//! no window is kept yet, where many cells of the one beside it were read, or where some of its own were read alone lately. Any other
-//! cell is read alone. So reads without neighbours, which an image can ask for as well as an honest order, cost a cell each.
+//! A window takes some fifteen times what a cell takes to read, so it is read only where its other cells are likely to be asked for:
+//! where no window is kept yet, where many cells of the one beside it were read, or where some of its own were read alone lately. Any
+//! other cell is read alone. How many those some are is learned: one at first, twice as many after each window that was given up
+//! with few reads, and one again after a window that was of use. So reads without neighbours, which an image can ask for as well as
+//! an honest order, cost a cell each.
 ghost use Rattle.std.specs.Prelude.{◌≡◌, ◌≢◌, ◌+◌, ◌*◌, ◌/◌, ◌%◌, ◌<◌, ◌≤◌, All, IfOk, IfSome, IsFalse, IsTrue, List, None, OnErr, OnOk, Some, length, slice_get, slice_range, ℕ};
 ghost use Rattle.nofs_disk.specs.Disk.{Rose};
 ghost use Rattle.nofs_disk.specs.Number.{put_bytes};
@@ -31,11 +33,11 @@ const WINDOWS: usize = 8;
 /// After so many reads of a window the one beside it is read whole.
 const MANY: u64 = 16;
 
+/// A window with fewer reads was of no use.
+const FEW: u64 = 8;
+
 /// How many of the cells that were read alone are remembered.
 const REMEMBERED: usize = 16;
-
-/// After so many of them in one window that is read whole.
-const SOME: usize = 3;
 
 /// The bytes of 64 cells of a file.
 #[derive(Drop)]
@@ -63,6 +65,8 @@ pub struct Windows {
 struct Lone {
     numbers: [Option<u64>; REMEMBERED],
     next: usize,
+    // After so many of them in one window that is read whole.
+    wanted: usize,
     ghost turn: { next < 16 },
 }
 
@@ -71,12 +75,22 @@ impl Lone {
     const NONE: Lone = Lone {
         numbers: [None; REMEMBERED],
         next: 0,
+        wanted: 1,
     };
 
     // Whether some of the last cells that were read alone lie in a window.
     fn has_some(&self, number: u64) -> bool {
         let is_here = |it: &&Option<u64>| **it == Some(number);
-        self.numbers.iter().filter(is_here).count() >= SOME
+        self.numbers.iter().filter(is_here).count() >= self.wanted
+    }
+
+    // A window was given up after so many reads.
+    fn weigh(&mut self, reads: u64) {
+        self.wanted = if reads < FEW {
+            (2 * self.wanted.min(REMEMBERED)).min(REMEMBERED)
+        } else {
+            1
+        };
     }
 
     // A cell of a window was read alone.
@@ -326,6 +340,9 @@ impl Windows {
     {
         let at = self.next;
         self.next = (at + 1) % WINDOWS;
+        if self.windows[at].number.is_some() {
+            self.lone.weigh(self.windows[at].reads);
+        }
         self.windows[at].load(file, number)?;
         Ok(at)
     }
