@@ -80,7 +80,7 @@ fn write_all_out<R: Wait, V: Serves>(pass: &mut SharedPass<'_, R, V>) -> u64 {
     let mut blocks = 0;
     for _ in 0..10 {
         match pass.write_out() {
-            Ok(Some(_)) => blocks += 1,
+            Ok(Some(_)) => blocks = u64::saturating_add(blocks, 1),
             _ => return blocks,
         }
     }
