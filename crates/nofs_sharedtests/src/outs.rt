@@ -77,14 +77,13 @@ fn a_pass_of_a_mount_over_a_cache_writes_out_too(rt: HostRuntime) -> Result<(), 
 
 // Writes out until nothing is left: how many blocks.
 fn write_all_out<R: Wait, V: Serves>(pass: &mut SharedPass<'_, R, V>) -> u64 {
-    let mut blocks = 0;
-    for _ in 0..10 {
+    for blocks in 0..10 {
         match pass.write_out() {
-            Ok(Some(_)) => blocks = u64::saturating_add(blocks, 1),
+            Ok(Some(_)) => {}
             _ => return blocks,
         }
     }
-    blocks
+    10
 }
 
 // The mount finds memory to begin, for two puts and for six write-outs. So a later write-out that says `None` did not ask it.
