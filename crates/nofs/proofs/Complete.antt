@@ -5,7 +5,7 @@ use Rattle.std.specs.Prelude.{◌==◌, is_none, unwrap_or}
 use Rattle.std.specs.Io.KnownBytes.{Consumes, IsAtEnd}
 use Rattle.std.proofs.lemmas.Bool.{and_parts, le-ltb, lt-leb}
 use Rattle.nofs_disk.specs.Disk.{DiskState, Rose, cell_at}
-use Rattle.nofs_super.specs.Geometry.{IsGeometry, is_geometry, is_geometry-from, is_geometry-parts}
+use Rattle.nofs_super.specs.Geometry.{IsGeometry, on_device, is_geometry, is_geometry-from, is_geometry-parts}
 use Rattle.nofs_super.specs.Super.{check_rest, check_super, has_magic, is_super, is_version, rest_fault, super_in}
 use Rattle.nofs_super.specs.declared.superblock.SuperBlock.{SuperBlock}
 use Rattle.nofs_super.specs.declared.superblock.MountFault.{MountFault}
@@ -68,15 +68,7 @@ check-fine device payload spelled g low = go (has_magic payload) refl (is_versio
     it = super_in payload
 
     wide : is_geometry (2 ^ 64 - 1) it.blocks it.inodes ≡ true
-    wide = is_geometry-from (2 ^ 64 - 1) it.blocks it.inodes (record {
-      multiple = g.multiple;
-      some_inodes = g.some_inodes;
-      most_inodes = g.most_inodes;
-      table = g.table;
-      some_blocks = g.some_blocks;
-      most_blocks = g.most_blocks;
-      fits = (let m = g.most_blocks in omega (arith, m));
-    })
+    wide = let m = g.most_blocks in is_geometry-from (2 ^ 64 - 1) it.blocks it.inodes (on_device device (2 ^ 64 - 1) g (omega arith))
 
     numbers : check_rest device it None ≡ Ok it
     numbers = rw (wide, le-ltb device it.blocks g.fits, lt-leb (2 ^ 24 - 1) it.mount low)

@@ -19,8 +19,8 @@ use Rattle.nofs_shared.specs.Owned.{done_of, is_by, steps_by}
 use Rattle.nofs_serve.specs.Served.{TeamMade, TeamServed}
 use Rattle.nofs_serve.proofs.Teaming.{team-unserved}
 use Rattle.nofs.specs.declared.reads.FileRead.{FileRead}
-use Rattle.nofs.specs.Drill.{AddsOwn, AreRead, AreReadings, GoesOn, IsDrillFollowed, IsFileRead, IsOneStep, IsReadFollowed, ReadsBy, drill_session, gets_from}
-use Rattle.nofs.specs.Drill.{is_reading}
+use Rattle.nofs.specs.Drill.{AddsOwn, AreRead, AreReadings, GoesOn, IsDrillFollowed, IsFileRead, IsLookedUp, IsOneStep, IsReadFollowed, ReadsBy}
+use Rattle.nofs.specs.Drill.{drill_session, found_in, gets_from, is_reading}
 use Rattle.nofs.proofs.Sessions.{adds-others, sweeps-shorter}
 
 -- an entry of caller 0 is its last step
@@ -169,6 +169,31 @@ reads-more {A} {E} f Next s r H K L it made one some more = record {
     go : (m : Result (Option FileRead) E) → IfOk m (λ read. Next it read more.made) → IfOk m (λ read. Leads f Next s read ((s, r) ∷ more.made))
     go (Ok read) next = (r, more.made, refl, subst (λ o. GoesOn Next o read more.made) (sym some) next)
     go (Err e) next = tt
+
+-- the step of a name that was looked up
+looked : {E : Type 0} (d g : ℕ) (name : List ℕ) (o : Option Found) (H K : List Entry1)
+    → ReadsBy {T = Option Found} {E = E} (IsLookedUp d g name) (Ok o) H K
+    → (r : Reply) × ReadsBy {T = Reply} {E = E} (IsOneStep (step.Look d g name)) (Ok r) H K × (o ≡ found_in r)
+looked d g name o H K x = let (r, is, found) = x.read in (r, record { made = x.made; adds = x.adds; readings = x.readings; read = is }, found)
+
+pub look-end : {E : Type 0} (Next : Found → Option FileRead → List Made → Type 0) (d g : ℕ) (name : List ℕ) (o : Option Found) (H K : List Entry1)
+    → ReadsBy {T = Option Found} {E = E} (IsLookedUp d g name) (Ok o) H K → o ≡ None
+    → ReadsBy {T = Option FileRead} {E = E} (Leads found_in Next (step.Look d g name)) (Ok None) H K
+look-end {E} Next d g name o H K x none =
+    let one = looked {E = E} d g name o H K x in
+    reads-end found_in Next (step.Look d g name) one.0 H K one.1 (sym one.2 ∙ none)
+
+pub look-more : {E : Type 0} (Next : Found → Option FileRead → List Made → Type 0) (d g : ℕ) (name : List ℕ) (o : Option Found) (it : Found)
+    (made : Result (Option FileRead) E) (H K L : List Entry1) → ReadsBy {T = Option Found} {E = E} (IsLookedUp d g name) (Ok o) H K → o ≡ Some it
+    → ReadsBy (Next it) made K L → ReadsBy (Leads found_in Next (step.Look d g name)) made H L
+look-more {E} Next d g name o it made H K L x some more =
+    let one = looked {E = E} d g name o H K x in
+    reads-more found_in Next (step.Look d g name) one.0 H K L it made one.1 (sym one.2 ∙ some) more
+
+-- less is said of the same steps
+pub reads-as : {T U E : Type 0} (Is : T → List Made → Type 0) (Says : U → List Made → Type 0) (t : T) (u : U) (H K : List Entry1)
+    → ReadsBy {T = T} {E = E} Is (Ok t) H K → ((made : List Made) → Is t made → Says u made) → ReadsBy {T = U} {E = E} Says (Ok u) H K
+reads-as Is Says t u H K r says = record { made = r.made; adds = r.adds; readings = r.readings; read = says r.made r.read }
 
 -- the file of a user was read, and kept at the end of these
 abbrev pub Pushed : {T E : Type 0} → ℕ → Result T E → List Entry1 → List Entry1 → List (Option FileRead) → List (Option FileRead) → Type 0

@@ -62,65 +62,42 @@ serves-wired most e left new_left given new_given made s = subst (IsWired left n
 
 -- The end, by the status
 
+-- what a status says of the end, which holds of each end with this status
+module _ (s : ℕ) (P : WireEnd → Bool → Type 0) where
+  told : (7 ≡ s → ⊥) → (6 ≡ s → (f : Bool) → P ended.SourceFault f) → (8 ≡ s → (f : Bool) → P ended.TooLong f)
+      → (2 ≡ s → (at : ℕ) (f : Bool) → P (ended.Cut at) f × P (ended.Bad at) f)
+      → (3 ≡ s → P ended.SinkFault true × P ended.End true) → (5 ≡ s → P ended.SinkFault false) → (0 ≡ s → P ended.End false)
+      → (b : Bool) (e : WireEnd) (f : Bool) → wire_status b e f ≡ s → P e f
+  told wanting source long torn device sink end true e f h = absurd (wanting h)
+  told wanting source long torn device sink end false ended.SourceFault f h = source h f
+  told wanting source long torn device sink end false ended.TooLong f h = long h f
+  told wanting source long torn device sink end false (ended.Cut at) f h = (torn h at f).0
+  told wanting source long torn device sink end false (ended.Bad at) f h = (torn h at f).1
+  told wanting source long torn device sink end false ended.OutOfMemory f h = absurd (wanting h)
+  told wanting source long torn device sink end false ended.SinkFault true h = (device h).0
+  told wanting source long torn device sink end false ended.SinkFault false h = sink h
+  told wanting source long torn device sink end false ended.End true h = (device h).1
+  told wanting source long torn device sink end false ended.End false h = end h
+
 six : (b : Bool) (e : WireEnd) (f : Bool) → wire_status b e f ≡ 6 → e ≡ ended.SourceFault
-six true e f h = absurd (cc h)
-six false ended.SourceFault f h = refl
-six false ended.TooLong f h = absurd (cc h)
-six false (ended.Cut at) f h = absurd (cc h)
-six false (ended.Bad at) f h = absurd (cc h)
-six false ended.OutOfMemory f h = absurd (cc h)
-six false ended.SinkFault true h = absurd (cc h)
-six false ended.SinkFault false h = absurd (cc h)
-six false ended.End true h = absurd (cc h)
-six false ended.End false h = absurd (cc h)
+six = told 6 (λ e f. e ≡ ended.SourceFault) (λ h. cc h) (λ h f. refl) (λ h. absurd (cc h)) (λ h. absurd (cc h)) (λ h. absurd (cc h)) (λ h. absurd (cc h))
+    (λ h. absurd (cc h))
 
 eight : (b : Bool) (e : WireEnd) (f : Bool) → wire_status b e f ≡ 8 → e ≡ ended.TooLong
-eight true e f h = absurd (cc h)
-eight false ended.SourceFault f h = absurd (cc h)
-eight false ended.TooLong f h = refl
-eight false (ended.Cut at) f h = absurd (cc h)
-eight false (ended.Bad at) f h = absurd (cc h)
-eight false ended.OutOfMemory f h = absurd (cc h)
-eight false ended.SinkFault true h = absurd (cc h)
-eight false ended.SinkFault false h = absurd (cc h)
-eight false ended.End true h = absurd (cc h)
-eight false ended.End false h = absurd (cc h)
+eight = told 8 (λ e f. e ≡ ended.TooLong) (λ h. cc h) (λ h. absurd (cc h)) (λ h f. refl) (λ h. absurd (cc h)) (λ h. absurd (cc h)) (λ h. absurd (cc h))
+    (λ h. absurd (cc h))
 
 five : (b : Bool) (e : WireEnd) (f : Bool) → wire_status b e f ≡ 5 → (e ≡ ended.SinkFault) × (f ≡ false)
-five true e f h = absurd (cc h)
-five false ended.SourceFault f h = absurd (cc h)
-five false ended.TooLong f h = absurd (cc h)
-five false (ended.Cut at) f h = absurd (cc h)
-five false (ended.Bad at) f h = absurd (cc h)
-five false ended.OutOfMemory f h = absurd (cc h)
-five false ended.SinkFault true h = absurd (cc h)
-five false ended.SinkFault false h = (refl, refl)
-five false ended.End true h = absurd (cc h)
-five false ended.End false h = absurd (cc h)
+five = told 5 (λ e f. (e ≡ ended.SinkFault) × (f ≡ false)) (λ h. cc h) (λ h. absurd (cc h)) (λ h. absurd (cc h)) (λ h. absurd (cc h)) (λ h. absurd (cc h))
+    (λ h. (refl, refl)) (λ h. absurd (cc h))
 
 three : (b : Bool) (e : WireEnd) (f : Bool) → wire_status b e f ≡ 3 → f ≡ true
-three true e f h = absurd (cc h)
-three false ended.SourceFault f h = absurd (cc h)
-three false ended.TooLong f h = absurd (cc h)
-three false (ended.Cut at) f h = absurd (cc h)
-three false (ended.Bad at) f h = absurd (cc h)
-three false ended.OutOfMemory f h = absurd (cc h)
-three false ended.SinkFault true h = refl
-three false ended.SinkFault false h = absurd (cc h)
-three false ended.End true h = refl
-three false ended.End false h = absurd (cc h)
+three = told 3 (λ e f. f ≡ true) (λ h. cc h) (λ h. absurd (cc h)) (λ h. absurd (cc h)) (λ h. absurd (cc h)) (λ h. (refl, refl)) (λ h. absurd (cc h))
+    (λ h. absurd (cc h))
 
 pub zero-end : (b : Bool) (e : WireEnd) (f : Bool) → wire_status b e f ≡ 0 → (e ≡ ended.End) × (f ≡ false)
-zero-end true e f h = absurd (cc h)
-zero-end false ended.SourceFault f h = absurd (cc h)
-zero-end false ended.TooLong f h = absurd (cc h)
-zero-end false (ended.Cut at) f h = absurd (cc h)
-zero-end false (ended.Bad at) f h = absurd (cc h)
-zero-end false ended.OutOfMemory f h = absurd (cc h)
-zero-end false ended.SinkFault true h = absurd (cc h)
-zero-end false ended.SinkFault false h = absurd (cc h)
-zero-end false ended.End true h = absurd (cc h)
-zero-end false ended.End false h = (refl, refl)
+zero-end = told 0 (λ e f. (e ≡ ended.End) × (f ≡ false)) (λ h. cc h) (λ h. absurd (cc h)) (λ h. absurd (cc h)) (λ h. absurd (cc h)) (λ h. absurd (cc h))
+    (λ h. absurd (cc h)) (λ h. (refl, refl))
 
 -- a bad frame, or one that is cut
 abbrev pub IsTorn : WireEnd → Type 0
@@ -129,16 +106,8 @@ IsTorn (ended.Bad at) = Unit {0}
 IsTorn _ = ⊥
 
 two : (b : Bool) (e : WireEnd) (f : Bool) → wire_status b e f ≡ 2 → IsTorn e
-two true e f h = absurd (cc h)
-two false ended.SourceFault f h = absurd (cc h)
-two false ended.TooLong f h = absurd (cc h)
-two false (ended.Cut at) f h = tt
-two false (ended.Bad at) f h = tt
-two false ended.OutOfMemory f h = absurd (cc h)
-two false ended.SinkFault true h = absurd (cc h)
-two false ended.SinkFault false h = absurd (cc h)
-two false ended.End true h = absurd (cc h)
-two false ended.End false h = absurd (cc h)
+two = told 2 (λ e f. IsTorn e) (λ h. cc h) (λ h. absurd (cc h)) (λ h. absurd (cc h)) (λ h at f. (tt, tt)) (λ h. absurd (cc h)) (λ h. absurd (cc h))
+    (λ h. absurd (cc h))
 
 -- a status of frames is none of these two
 named : (b : Bool) (e : WireEnd) (f : Bool) → IsStatus (wire_status b e f) × (wire_status b e f ≢ 1) × (wire_status b e f ≢ 4)
@@ -187,13 +156,13 @@ pub wire-refused : (old new : DiskState) (source : SourceState) (sink_old sink_n
     → WireEnds old new source source sink_old sink_new status h
 wire-refused old new source sink_old sink_new status h none kinds device refused =
     subst (λ (o : Option HistoryState). WireEnds old new source source sink_old sink_new status o) (sym none) (record {
-      named = (is-status kinds, not-one kinds);
+      named = (is-status kinds, λ e. absurd (let low = (between kinds).0 in omega (arith, low, e)));
       run = tt;
-      stood = λ s. absurd (not-these kinds s);
-      source = λ e. absurd (not-six kinds e);
-      too_long = λ e. absurd (not-eight kinds e);
+      stood = λ s. absurd (not-these s);
+      source = λ e. absurd (not-these (inr (inr (inr (inl e)))));
+      too_long = λ e. absurd (not-these (inr (inr (inr (inr e)))));
       device = λ e. (tt, device e);
-      sink = λ e. absurd (not-five kinds e);
+      sink = λ e. absurd (not-these (inr (inr (inl e))));
       refused = λ e. (refl, refused e);
     })
   where
@@ -202,42 +171,18 @@ wire-refused old new source sink_old sink_new status h none kinds device refused
     is-status (inr (inl e)) = inr (inr (inr (inr (inl e))))
     is-status (inr (inr e)) = inr (inr (inr (inr (inr (inr (inr (inl e)))))))
 
-    not-one : (status ≡ 3) ⊎ (status ≡ 4) ⊎ (status ≡ 7) → status ≡ 1 → ⊥
-    not-one (inl a) e = omega (arith, a, e)
-    not-one (inr (inl a)) e = omega (arith, a, e)
-    not-one (inr (inr a)) e = omega (arith, a, e)
+    -- of the statuses beside 4 they lie between 3 and 7, and none is 5 or 6
+    between : (status ≡ 3) ⊎ (status ≡ 4) ⊎ (status ≡ 7) → (3 ≤ status) × (status ≤ 7) × (status ≢ 5) × (status ≢ 6)
+    between (inl a) = (omega (arith, a), omega (arith, a), (λ e. absurd (omega (arith, a, e))), (λ e. absurd (omega (arith, a, e))))
+    between (inr (inl a)) = (omega (arith, a), omega (arith, a), (λ e. absurd (omega (arith, a, e))), (λ e. absurd (omega (arith, a, e))))
+    between (inr (inr a)) = (omega (arith, a), omega (arith, a), (λ e. absurd (omega (arith, a, e))), (λ e. absurd (omega (arith, a, e))))
 
-    not-six : (status ≡ 3) ⊎ (status ≡ 4) ⊎ (status ≡ 7) → status ≡ 6 → ⊥
-    not-six (inl a) e = omega (arith, a, e)
-    not-six (inr (inl a)) e = omega (arith, a, e)
-    not-six (inr (inr a)) e = omega (arith, a, e)
-
-    not-eight : (status ≡ 3) ⊎ (status ≡ 4) ⊎ (status ≡ 7) → status ≡ 8 → ⊥
-    not-eight (inl a) e = omega (arith, a, e)
-    not-eight (inr (inl a)) e = omega (arith, a, e)
-    not-eight (inr (inr a)) e = omega (arith, a, e)
-
-    not-five : (status ≡ 3) ⊎ (status ≡ 4) ⊎ (status ≡ 7) → status ≡ 5 → ⊥
-    not-five (inl a) e = omega (arith, a, e)
-    not-five (inr (inl a)) e = omega (arith, a, e)
-    not-five (inr (inr a)) e = omega (arith, a, e)
-
-    not-zero : (status ≡ 3) ⊎ (status ≡ 4) ⊎ (status ≡ 7) → status ≡ 0 → ⊥
-    not-zero (inl a) e = omega (arith, a, e)
-    not-zero (inr (inl a)) e = omega (arith, a, e)
-    not-zero (inr (inr a)) e = omega (arith, a, e)
-
-    not-two : (status ≡ 3) ⊎ (status ≡ 4) ⊎ (status ≡ 7) → status ≡ 2 → ⊥
-    not-two (inl a) e = omega (arith, a, e)
-    not-two (inr (inl a)) e = omega (arith, a, e)
-    not-two (inr (inr a)) e = omega (arith, a, e)
-
-    not-these : (status ≡ 3) ⊎ (status ≡ 4) ⊎ (status ≡ 7) → (status ≡ 0) ⊎ (status ≡ 2) ⊎ (status ≡ 5) ⊎ (status ≡ 6) ⊎ (status ≡ 8) → ⊥
-    not-these k (inl e) = not-zero k e
-    not-these k (inr (inl e)) = not-two k e
-    not-these k (inr (inr (inl e))) = not-five k e
-    not-these k (inr (inr (inr (inl e)))) = not-six k e
-    not-these k (inr (inr (inr (inr e)))) = not-eight k e
+    not-these : (status ≡ 0) ⊎ (status ≡ 2) ⊎ (status ≡ 5) ⊎ (status ≡ 6) ⊎ (status ≡ 8) → ⊥
+    not-these (inl e) = let low = (between kinds).0 in omega (arith, low, e)
+    not-these (inr (inl e)) = let low = (between kinds).0 in omega (arith, low, e)
+    not-these (inr (inr (inl e))) = (between kinds).2 e
+    not-these (inr (inr (inr (inl e)))) = (between kinds).3 e
+    not-these (inr (inr (inr (inr e)))) = let high = (between kinds).1 in omega (arith, high, e)
 
 -- whole frames come to their end: none is torn
 torn-none : (e : WireEnd) (left new_left given new_given : Option (List ℕ)) (made : List Made) (text : List ℕ) → left ≡ Some text → rest_of text ≡ []

@@ -51,3 +51,31 @@ mounted-ends old found new sink_old sink_new status h later m = record {
   sink = m.sink;
   refused = λ e. absurd (not-refused status m.named e);
 }
+
+module _ {D : Type 0} (state : D → DiskState) where
+  -- a run at a mount, whose disk was handed back when its text was written
+  pub run-ends : (found ran last : D) (sink_old sink_new : SinkState) (first status : ℕ) (history : HistoryState) (h : Option HistoryState)
+      → last ≡ ran → h ≡ Some history
+      → ∥ Finished (state found) (state ran) first history ∥₁
+      → (status ≡ 0) ⊎ (status ≡ 3) ⊎ (status ≡ 5) ⊎ (status ≡ 7)
+      → (status ≡ 3 → has_fault history.entries ≡ true)
+      → (has_fault history.entries ≡ true → (status ≡ 3) ⊎ (status ≡ 7))
+      → (status ≡ 5 → Rose sink_old.faults sink_new.faults × (has_fault history.entries ≡ false))
+      → MountEnds (state found) (state last) sink_old sink_new status h
+  run-ends found ran last sink_old sink_new first status history h same stood ends named device faulty sink =
+      subst (λ d. MountEnds (state found) (state d) sink_old sink_new status h) (sym same)
+      (written-ends (state found) (state ran) sink_old sink_new first status history h stood ends named device faulty sink)
+
+  -- the mount found the device as it was
+  pub old-ends : {Refused : Type 0} (old found ran last : D) (sink_old sink_new : SinkState) (first status : ℕ) (history : HistoryState)
+      (h : Option HistoryState) → found ≡ old → last ≡ ran → h ≡ Some history
+      → ∥ Finished (state found) (state ran) first history ∥₁
+      → (status ≡ 0) ⊎ (status ≡ 3) ⊎ (status ≡ 5) ⊎ (status ≡ 7)
+      → (status ≡ 3 → has_fault history.entries ≡ true)
+      → (has_fault history.entries ≡ true → (status ≡ 3) ⊎ (status ≡ 7))
+      → (status ≡ 5 → Rose sink_old.faults sink_new.faults × (has_fault history.entries ≡ false))
+      → SessionEnds Refused (state old) (state last) sink_old sink_new status h
+  old-ends old found ran last sink_old sink_new first status history h was same stood ends named device faulty sink =
+      mounted-ends (state old) (state old) (state last) sink_old sink_new status h (omega arith)
+      (subst (λ f. MountEnds (state f) (state last) sink_old sink_new status h) was
+      (run-ends found ran last sink_old sink_new first status history h same stood ends named device faulty sink))

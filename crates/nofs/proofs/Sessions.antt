@@ -69,18 +69,19 @@ pub run-closed : (scripts : List (List Command)) (inodes blocks : ℕ) (out clos
 run-closed scripts inodes blocks out closed lines before served all flush empty t adds is =
     let made : TeamMade scripts inodes blocks out lines (λ c. steps_by c served) = subst
     (λ (h : List Entry1). TeamMade scripts inodes blocks out lines (λ c. steps_by c (drop (length h) served))) empty t.made in
+    let team : TeamMade scripts inodes blocks (out || not closed) lines (λ c. steps_by c served) = record {
+      begun = made.begun;
+      served = λ e. made.served (neither out (not closed) e).0;
+      inodes_seen = sweeps-shorter _ _ inodes out (out || not closed) _ (λ e. (neither out (not closed) e).0) made.inodes_seen;
+      blocks_seen = sweeps-shorter _ _ blocks out (out || not closed) _ (λ e. (neither out (not closed) e).0) made.blocks_seen;
+      others = made.others;
+    } in
     record {
       served = served;
       flush = flush;
       closes = adds;
       closed = λ e. twice (is_out_of_memory flush) (ap not (sym is) ∙ (neither out (not closed) e).1);
-      team = record {
-        begun = made.begun;
-        served = λ e. made.served (neither out (not closed) e).0;
-        inodes_seen = sweeps-shorter _ _ inodes out (out || not closed) _ (λ e. (neither out (not closed) e).0) made.inodes_seen;
-        blocks_seen = sweeps-shorter _ _ blocks out (out || not closed) _ (λ e. (neither out (not closed) e).0) made.blocks_seen;
-        others = made.others;
-      };
+      team = team;
     }
 
 -- an entry of another caller leaves a caller's steps

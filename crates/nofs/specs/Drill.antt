@@ -66,6 +66,10 @@ abbrev pub IsReadAt : Found → Option FileRead → List Made → Type 0
 IsReadAt f read made =
     (r : Reply) × (rest : List Made) × (made ≡ (step.Stat f.inode f.generation, r) ∷ rest) × GoesOn (IsWholeRead f) (stat_in r) read rest
 
+-- a name of directory d was looked up, which found this
+abbrev pub IsLookedUp : ℕ → ℕ → List ℕ → Option Found → List Made → Type 0
+IsLookedUp d generation name found made = (r : Reply) × (made ≡ (step.Look d generation name, r) ∷ []) × (found ≡ found_in r)
+
 -- the file was looked up in its directory, and then read
 abbrev pub IsReadIn : Found → Option FileRead → List Made → Type 0
 IsReadIn d read made =

@@ -13,30 +13,17 @@ use Rattle.nofs_upgrade.specs.declared.fault.UpgradeFault.{UpgradeFault}
 use Rattle.nofs_upgrade.specs.declared.fault.UpgradeFault.TheVariants as upgrade
 use Rattle.nofs.specs.declared.begin.Cause.{Cause}
 use Rattle.nofs.specs.declared.begin.Cause.TheVariants as cause
+use Rattle.nofs.specs.declared.faults.FixedLine.{FixedLine}
+use Rattle.nofs.specs.declared.faults.FixedLine.TheVariants as fixed
 
--- of words that are no command
-unfoldable pub usage_line : List ℕ
-usage_line = codes "usage: nofs IMAGE new BLOCKS INODES | run | scan | drill START STEPS | upgrade | salvage [PREFIX] | wire\n"
-
--- of a source that failed
-unfoldable pub source_fault_line : List ℕ
-source_fault_line = codes "source fault\n"
-
--- of a session that is too long
-unfoldable pub too_long_line : List ℕ
-too_long_line = codes "session longer than 16777216 bytes\n"
-
--- of a device that failed before a mount stood
-unfoldable pub device_fault_line : List ℕ
-device_fault_line = codes "device fault\n"
-
--- of an upgrade that ended well
-unfoldable pub upgraded_line : List ℕ
-upgraded_line = codes "upgraded\n"
-
--- of a disk that an upgrade finds upgraded
-unfoldable pub already_line : List ℕ
-already_line = codes "upgrade: already version 2\n"
+-- a line that is always the same
+unfoldable pub fixed_line : FixedLine → List ℕ
+fixed_line fixed.Usage =
+    codes "usage: nofs IMAGE new BLOCKS INODES | run | scan | drill START STEPS | upgrade | salvage [PREFIX] | wire\n"
+fixed_line fixed.SourceFault = codes "source fault\n"
+fixed_line fixed.TooLong = codes "session longer than 16777216 bytes\n"
+fixed_line fixed.DeviceFault = codes "device fault\n"
+fixed_line fixed.Upgraded = codes "upgraded\n"
 
 -- a line of words and a number
 abbrev pub number_line : List ℕ → ℕ → List ℕ
@@ -53,6 +40,10 @@ script_words script.TooManyUsers = codes "too many users"
 script_words script.TooMuchAsked = codes "too much asked"
 script_words script.TooManyCommands = codes "too many commands"
 
+-- the eight bytes that were found, in hexadecimal
+abbrev pub magic_line : List ℕ → List ℕ
+magic_line found = codes "mount: bad magic " ++ encode_lower found ++ codes "\n"
+
 -- of a text that is no session: its first bad line, counted from 1
 unfoldable pub script_line : ScriptFault → List ℕ
 script_line fault = codes "line " ++ decimal fault.line ++ codes ": " ++ script_words fault.kind ++ codes "\n"
@@ -62,12 +53,8 @@ abbrev pub format_line : FormatFault → List ℕ
 format_line (format.TooSmall least) = number_line (codes "format: too small, least ") least
 format_line (format.TooLarge most) = number_line (codes "format: too large, most ") most
 format_line (format.NotMultiple inodes) = number_line (codes "format: bad inodes ") inodes
-format_line format.WriteFault = device_fault_line
+format_line format.WriteFault = fixed_line fixed.DeviceFault
 format_line format.OutOfMemory = []
-
--- the eight bytes that were found, in hexadecimal
-abbrev pub magic_line : List ℕ → List ℕ
-magic_line found = codes "mount: bad magic " ++ encode_lower found ++ codes "\n"
 
 -- the numbers that no format takes
 abbrev pub geometry_line : ℕ → ℕ → List ℕ
@@ -85,13 +72,13 @@ mount_line (mount.BadGeometry blocks inodes) = geometry_line blocks inodes
 mount_line (mount.DeviceTooSmall has) = number_line (codes "mount: device too small, has ") has
 mount_line (mount.MountsSpent found) = number_line (codes "mount: mounts spent, number ") found
 mount_line (mount.BadRest at) = rest_line at
-mount_line mount.ReadFault = device_fault_line
-mount_line mount.WriteFault = device_fault_line
+mount_line mount.ReadFault = fixed_line fixed.DeviceFault
+mount_line mount.WriteFault = fixed_line fixed.DeviceFault
 mount_line mount.OutOfMemory = []
 
 -- of a device that was not formatted and mounted
 abbrev pub cause_line : Cause → List ℕ
-cause_line cause.Device = device_fault_line
+cause_line cause.Device = fixed_line fixed.DeviceFault
 cause_line cause.NoMemory = []
 cause_line (cause.Format fault) = format_line fault
 cause_line (cause.Mount fault) = mount_line fault
@@ -99,4 +86,4 @@ cause_line (cause.Mount fault) = mount_line fault
 -- of an upgrade that was refused
 abbrev pub upgrade_line : UpgradeFault → List ℕ
 upgrade_line (upgrade.Mount fault) = mount_line fault
-upgrade_line upgrade.Already = already_line
+upgrade_line upgrade.Already = codes "upgrade: already version 2\n"

@@ -19,7 +19,8 @@ use Rattle.nofs.specs.Begin.{status_of}
 use Rattle.nofs.specs.Counts.{counts_line}
 use Rattle.nofs.specs.Drill.{IsDrilled}
 use Rattle.nofs.specs.Entries.{session_text}
-use Rattle.nofs.specs.Lines.{cause_line, script_line, source_fault_line, too_long_line, upgrade_line, upgraded_line, usage_line}
+use Rattle.nofs.specs.Lines.{cause_line, fixed_line, script_line, upgrade_line}
+use Rattle.nofs.specs.declared.faults.FixedLine.TheVariants as fixed
 use Rattle.nofs.specs.Salvaging.{walk_text}
 use Rattle.nofs.specs.Tool.{UnlessWire, WithSession, WithText}
 use Rattle.nofs.specs.Upgrading.{upgrade_status}
@@ -42,7 +43,7 @@ SaysCause old new status = (cause : Cause) × (status_of cause ≡ status) × Sa
 
 -- the line of an upgrade, or of a refused one
 abbrev pub SaysUpgrade : SinkState → SinkState → ℕ → Type 0
-SaysUpgrade old new status = ((status ≡ 5) × Says old new upgraded_line)
+SaysUpgrade old new status = ((status ≡ 5) × Says old new (fixed_line fixed.Upgraded))
     ⊎ ((why : UpgradeFault) × (upgrade_status why ≡ status) × SaysOrNot old new (upgrade_line why))
 
 -- the text of a session by its history
@@ -83,9 +84,9 @@ SaysText (Some (New blocks inodes)) source_old source_new limit old new h = With
 -- frames were served it took their replies alone, at each status (`IsWireRun`)
 pub record Said (task : Option Request) (source_old source_new : SourceState) (limit : ℕ) (old new : SinkState) (status : ℕ) (h : Option HistoryState) : Type 0
   where
-    pub usage : status ≡ 1 → Says old new usage_line
-    pub source : status ≡ 6 → UnlessWire task (Says old new source_fault_line)
-    pub too_long : status ≡ 8 → UnlessWire task (Says old new too_long_line)
+    pub usage : status ≡ 1 → Says old new (fixed_line fixed.Usage)
+    pub source : status ≡ 6 → UnlessWire task (Says old new (fixed_line fixed.SourceFault))
+    pub too_long : status ≡ 8 → UnlessWire task (Says old new (fixed_line fixed.TooLong))
     pub script : status ≡ 2 → UnlessWire task (WithText source_old source_new limit (λ text. SaysFault old new text))
     pub refused : (status ≡ 3) ⊎ (status ≡ 4) → h ≡ None → SaysRefusal task old new status
     pub part : (status ≡ 3) ⊎ (status ≡ 5) → (x : HistoryState) → h ≡ Some x → SaysText task source_old source_new limit old new h

@@ -17,7 +17,8 @@ use Rattle.nofs.specs.Entries.{session_text, has_fault}
 use Rattle.nofs_state.specs.declared.books.Counts.{Counts}
 use Rattle.nofs.specs.Counts.{CountsDisk, counts_line}
 use Rattle.nofs_upgrade.specs.Upgrades.{IsUpgraded}
-use Rattle.nofs.specs.Lines.{upgraded_line}
+use Rattle.nofs.specs.Lines.{fixed_line}
+use Rattle.nofs.specs.declared.faults.FixedLine.TheVariants as fixed
 use Rattle.nofs.specs.Upgrading.{IsRefusedUpgrade}
 use Rattle.nofs.specs.Whole.{IsMet}
 use Rattle.nofs.specs.Drill.{IsDrillDone}
@@ -127,7 +128,7 @@ IsDone (Some Scan) source_old source_new limit old new found last h = IsScanned 
 IsDone (Some (Drill start steps)) source_old source_new limit old new found last h = IsDrillDone start steps h old new
 IsDone (Some Salvage) source_old source_new limit old new found last h = IsFaultless h
 IsDone (Some Wire) source_old source_new limit old new found last h = IsFaultless h
-IsDone (Some Upgrade) source_old source_new limit old new found last h = IsUpgraded found last × AppendsAll old new upgraded_line
+IsDone (Some Upgrade) source_old source_new limit old new found last h = IsUpgraded found last × AppendsAll old new (fixed_line fixed.Upgraded)
 IsDone (Some Run) source_old source_new limit old new found last h = WithText source_old source_new limit (λ text.
     WithSession text (λ session. IsAnswered session h old new))
 IsDone (Some (New blocks inodes)) source_old source_new limit old new found last h = WithText source_old source_new limit (λ text.

@@ -4,7 +4,8 @@ use Rattle.nofs_disk.specs.Disk.{DiskState, KeepsCells, Rose, cell_at}
 use Rattle.nofs_super.specs.declared.superblock.MountFault.TheVariants as fault
 use Rattle.nofs_io.specs.Calls.{SinkState}
 use Rattle.nofs_io.specs.Texts.{AppendsAll}
-use Rattle.nofs.specs.Lines.{upgraded_line}
+use Rattle.nofs.specs.Lines.{fixed_line}
+use Rattle.nofs.specs.declared.faults.FixedLine.TheVariants as fixed
 use Rattle.nofs_upgrade.specs.Upgrades.{IsUpgraded, StaysOrUpgrades, check_upgrade}
 use Rattle.nofs_upgrade.specs.declared.fault.UpgradeFault.{UpgradeFault}
 use Rattle.nofs_upgrade.specs.declared.fault.UpgradeFault.TheVariants as why
@@ -24,7 +25,7 @@ IsRefusedUpgrade old new = KeepsCells old new
 -- what comes of an upgrade: at status 0 it was made and the sink took its line
 pub record UpgradeEnds (old new : DiskState) (sink_old sink_new : SinkState) (status : ℕ) : Type 0 where
   pub named : (status ≡ 0) ⊎ (status ≡ 3) ⊎ (status ≡ 4) ⊎ (status ≡ 5) ⊎ (status ≡ 7)
-  pub done : status ≡ 0 → IsUpgraded old new × AppendsAll sink_old sink_new upgraded_line
+  pub done : status ≡ 0 → IsUpgraded old new × AppendsAll sink_old sink_new (fixed_line fixed.Upgraded)
   pub device : status ≡ 3 → Rose old.faults new.faults
   pub refused : status ≡ 4 → IsRefusedUpgrade old new
   pub sink : status ≡ 5 → IsUpgraded old new × Rose sink_old.faults sink_new.faults

@@ -7,20 +7,19 @@
 ghost use Rattle.std.specs.Prelude.{◌≡◌, ◌≤◌, ◌∷◌, ◌++◌, ◌+◌, [], false, sum_by, count_by, All, List, map, vec_len, IfOk, IfSome, OnOk};
 ghost use Rattle.nofs_client.specs.Commands.{AreWellFormed};
 ghost use Rattle.nofs_gen.specs.Script.{script_of as script_in};
-ghost use Rattle.nofs_serve.specs.Served.{TeamServed};
 ghost use Rattle.nofs.specs.Serving.{IsClosed};
 ghost use Rattle.nofs.specs.Whole.{Finished};
 ghost use Rattle.nofs.specs.Drill.{IsDrillFollowed, IsDrilled, IsReadFollowed, IsReadOut, drill_line, drill_session, is_refused_line, size_told, sum_told, wrong_told};
 
 use crate::reads::{FileRead, read_files};
-use crate::serve::{Ran, close, ended};
+use crate::serve::{Ran, close, ended, serve_users};
 use crate::tally::{drill_text, numbers_of};
 use nofs_client::LineList;
 use nofs_disk::Disk;
 use nofs_gen::script_of;
 use nofs_lists::Content;
 use nofs_machine::History;
-use nofs_serve::{Plan, Served, Sweeps, WriteOuts, serve};
+use nofs_serve::{Plan, Served};
 use nofs_shared::Mount;
 use nofs_workers::OpenGate;
 use std::alloc::{AllocError, Global};
@@ -62,31 +61,6 @@ fn drill_plans(alloc: Global, start: u64, steps: u64) -> Result<Vec<Plan<OpenGat
     push_plan(alloc, start, steps, 3, &mut plans)?;
     push_plan(alloc, start, steps, 4, &mut plans)?;
     Ok(plans)
-}
-
-// Serves users, each beside the sweeps and the flusher.
-fn serve_users<R: Threads + Wait + Sync, D: Disk + Drop + Send>(
-    rt: &R,
-    alloc: Global,
-    mount: Mount<D>,
-    plans: Vec<Plan<OpenGate>>,
-) -> Served<Mount<D>>
-    requires few { vec_len plans ≤ 8 }
-    requires formed { All (λ p. AreWellFormed p.commands) plans.items }
-    ensures same { (result.mount.found.value ≡ mount.found.value) × (result.mount.first ≡ mount.first) }
-    ensures served { TeamServed (map (λ p. p.commands) plans.items) mount.core.books.at.inodes mount.core.books.at.blocks result.out_of_memory result.lines.items mount.core.books.history.entries result.mount.core.books.history.entries }
-{
-    let at = mount.numbers();
-    let sweeps = Sweeps {
-        inodes: at.inodes,
-        blocks: at.blocks,
-        gates: (OpenGate, OpenGate),
-    };
-    let outs = WriteOuts {
-        turns: at.blocks,
-        gate: OpenGate,
-    };
-    serve(rt, alloc, mount, plans, sweeps, outs)
 }
 
 // The line, where memory was found for all that it takes.

@@ -4,7 +4,7 @@
 
 ghost use Rattle.std.specs.Prelude.{◌≡◌, ◌++◌, IfOk, OnOk, string_bytes};
 ghost use Rattle.std.specs.Fmt.{decimal};
-ghost use Rattle.nofs.specs.Lines.{already_line, cause_line, device_fault_line, format_line, geometry_line, magic_line, mount_line, number_line, rest_line, script_line, script_words, source_fault_line, too_long_line, upgrade_line, upgraded_line, usage_line};
+ghost use Rattle.nofs.specs.Lines.{cause_line, fixed_line, format_line, geometry_line, magic_line, mount_line, number_line, rest_line, script_line, script_words, upgrade_line};
 
 use crate::begin::Cause;
 use nofs_script::{ScriptFault, ScriptKind};
@@ -12,52 +12,35 @@ use nofs_super::{FormatFault, MountFault};
 use nofs_upgrade::UpgradeFault;
 use std::alloc::{AllocError, Global};
 
-/// The line of words that are no command.
-#[tactic(auto, unfolding(crate::specs::Lines::usage_line))]
-pub fn usage() -> &'static str
-    ensures { result.now ≡ usage_line }
-{
-    "usage: nofs IMAGE new BLOCKS INODES | run | scan | drill START STEPS | upgrade | salvage [PREFIX] | wire\n"
+/// A line that is always the same.
+#[derive(Clone, Copy, Debug, PartialEq, Eq)]
+pub enum FixedLine {
+    /// Of words that are no command.
+    Usage,
+    /// Of a source that failed.
+    SourceFault,
+    /// Of a session that is too long.
+    TooLong,
+    /// Of a device that failed before a mount stood.
+    DeviceFault,
+    /// Of an upgrade that ended well.
+    Upgraded,
 }
 
-/// The line of a source that failed.
-#[tactic(auto, unfolding(crate::specs::Lines::source_fault_line))]
-pub fn source_fault() -> &'static str
-    ensures { result.now ≡ source_fault_line }
+/// The text of such a line.
+#[tactic(auto, unfolding(crate::specs::Lines::fixed_line))]
+pub fn fixed_text(line: FixedLine) -> &'static str
+    ensures { result.now ≡ fixed_line line }
 {
-    "source fault\n"
-}
-
-/// The line of a session that is too long.
-#[tactic(auto, unfolding(crate::specs::Lines::too_long_line))]
-pub fn too_long() -> &'static str
-    ensures { result.now ≡ too_long_line }
-{
-    "session longer than 16777216 bytes\n"
-}
-
-/// The line of a device that failed before a mount stood.
-#[tactic(auto, unfolding(crate::specs::Lines::device_fault_line))]
-pub fn device_fault() -> &'static str
-    ensures { result.now ≡ device_fault_line }
-{
-    "device fault\n"
-}
-
-/// The line of an upgrade that ended well.
-#[tactic(auto, unfolding(crate::specs::Lines::upgraded_line))]
-pub fn upgraded() -> &'static str
-    ensures { result.now ≡ upgraded_line }
-{
-    "upgraded\n"
-}
-
-// The line of a disk that an upgrade finds upgraded.
-#[tactic(auto, unfolding(crate::specs::Lines::already_line))]
-fn already() -> &'static str
-    ensures { result.now ≡ already_line }
-{
-    "upgrade: already version 2\n"
+    match line {
+        FixedLine::Usage => {
+            "usage: nofs IMAGE new BLOCKS INODES | run | scan | drill START STEPS | upgrade | salvage [PREFIX] | wire\n"
+        }
+        FixedLine::SourceFault => "source fault\n",
+        FixedLine::TooLong => "session longer than 16777216 bytes\n",
+        FixedLine::DeviceFault => "device fault\n",
+        FixedLine::Upgraded => "upgraded\n",
+    }
 }
 
 fn push_number(alloc: Global, text: &mut String, words: &str, number: u64) -> Result<(), AllocError>
@@ -112,7 +95,7 @@ fn format_text(alloc: Global, fault: FormatFault) -> Result<String, AllocError>
         FormatFault::TooSmall { least } => number_text(alloc, "format: too small, least ", least),
         FormatFault::TooLarge { most } => number_text(alloc, "format: too large, most ", most),
         FormatFault::NotMultiple { inodes } => number_text(alloc, "format: bad inodes ", inodes),
-        FormatFault::WriteFault => String::from_str(alloc, device_fault()),
+        FormatFault::WriteFault => String::from_str(alloc, fixed_text(FixedLine::DeviceFault)),
         FormatFault::OutOfMemory => Ok(String::new(alloc)),
     }
 }
@@ -163,7 +146,7 @@ fn mount_text(alloc: Global, fault: MountFault) -> Result<String, AllocError>
         }
         MountFault::BadRest { at } => rest_text(alloc, at),
         MountFault::ReadFault | MountFault::WriteFault => {
-            String::from_str(alloc, device_fault())
+            String::from_str(alloc, fixed_text(FixedLine::DeviceFault))
         }
         MountFault::OutOfMemory => Ok(String::new(alloc)),
     }
@@ -174,7 +157,7 @@ pub fn cause_text(alloc: Global, cause: Cause) -> Result<String, AllocError>
     ensures { IfOk result (λ text. string_bytes text ≡ cause_line cause) }
 {
     match cause {
-        Cause::Device => String::from_str(alloc, device_fault()),
+        Cause::Device => String::from_str(alloc, fixed_text(FixedLine::DeviceFault)),
         Cause::NoMemory => Ok(String::new(alloc)),
         Cause::Format(fault) => format_text(alloc, fault),
         Cause::Mount(fault) => mount_text(alloc, fault),
@@ -187,6 +170,6 @@ pub fn upgrade_text(alloc: Global, fault: UpgradeFault) -> Result<String, AllocE
 {
     match fault {
         UpgradeFault::Mount(fault) => mount_text(alloc, fault),
-        UpgradeFault::Already => String::from_str(alloc, already()),
+        UpgradeFault::Already => String::from_str(alloc, "upgrade: already version 2\n"),
     }
 }

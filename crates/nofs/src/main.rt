@@ -25,7 +25,7 @@ mod wiring;
 mod words;
 
 use crate::cached::{tool_cached, tool_mirrored};
-use crate::faults::{device_fault, usage};
+use crate::faults::{FixedLine, fixed_text};
 use crate::image::{Image, image_of};
 use crate::tool::Outcome;
 use crate::words::task_of;
@@ -74,10 +74,10 @@ fn command(words: &[String]) -> Option<(Image<'_>, &[String])> {
 fn run_cached<R: Threads + Wait + Sync, S: Source, K: Sink, D: Disk + Drop + Send>(
     rt: &R,
     alloc: Global,
+    disk: D,
     words: &[String],
     source: &mut S,
     sink: &mut K,
-    disk: D,
 ) -> u8 {
     match Cached::new(alloc, disk) {
         Ok(cached) => {
@@ -114,14 +114,14 @@ fn run_in_memory<R: Threads + Wait + Sync, S: Source, K: Sink>(
     sink: &mut K,
 ) -> u8 {
     match MemDisk::new(alloc, MEMORY_BLOCKS) {
-        Ok(disk) => run_cached(rt, alloc, words, source, sink, disk),
+        Ok(disk) => run_cached(rt, alloc, disk, words, source, sink),
         Err(_) => NO_MEMORY,
     }
 }
 
 // The line and the status of a device that can't be used.
 fn no_device<K: Sink>(sink: &mut K) -> u8 {
-    let _told = write_all(sink, device_fault().as_bytes());
+    let _told = write_all(sink, fixed_text(FixedLine::DeviceFault).as_bytes());
     3
 }
 
@@ -138,7 +138,7 @@ fn run_in_file<R: Threads + Wait + Sync, S: Source, K: Sink>(
         return no_device(sink);
     };
     match FileDisk::over(alloc, file) {
-        Ok(disk) => run_cached(rt, alloc, words, source, sink, disk),
+        Ok(disk) => run_cached(rt, alloc, disk, words, source, sink),
         Err(_) => NO_MEMORY,
     }
 }
@@ -197,7 +197,7 @@ fn main(rt: HostRuntime) -> ExitCode {
         Err(_) => Vec::new(rt.alloc()),
     };
     let Some((image, rest)) = command(&words) else {
-        let _told = write_all(&mut sink, usage().as_bytes());
+        let _told = write_all(&mut sink, fixed_text(FixedLine::Usage).as_bytes());
         return ExitCode::from(1);
     };
     let alloc = rt.alloc();

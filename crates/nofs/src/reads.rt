@@ -9,7 +9,7 @@ ghost use Rattle.nofs_machine.specs.Machine as machine;
 ghost use Rattle.nofs_machine.specs.Steps.{is_out_of_memory};
 ghost use Rattle.nofs_machine.specs.declared.steps.Step.TheVariants as step;
 ghost use Rattle.nofs.specs.declared.reads.FileRead.{FileRead as ReadOf};
-ghost use Rattle.nofs.specs.Drill.{AreRead, IsFileRead, IsOneStep, IsReadAt, IsReadIn, IsWholeRead, ReadsBy, found_in as found_by, gets_from, is_reading, stat_in as stat_by};
+ghost use Rattle.nofs.specs.Drill.{AreRead, IsFileRead, IsLookedUp, IsOneStep, IsReadAt, IsReadIn, IsWholeRead, ReadsBy, found_in as found_by, gets_from, is_reading, stat_in as stat_by};
 
 use nofs_disk::Disk;
 use nofs_lists::Name;
@@ -97,13 +97,16 @@ fn read_slots<D: Disk + Drop>(
     Ok(replies)
 }
 
+// What comes of reading a file: none where a look or the stat was refused.
+type MaybeRead = Result<Option<FileRead>, AllocError>;
+
 // Reads the file, whose size was told.
 fn read_whole<D: Disk + Drop>(
     alloc: Global,
     mount: &mut Mount<D>,
     found: Found,
     stat: Stat,
-) -> Result<Option<FileRead>, AllocError>
+) -> MaybeRead
     ensures reads { ReadsBy (IsWholeRead found stat) result mount.old.core.books.history.entries mount.new.core.books.history.entries }
     ensures same { (mount.new.found ≡ mount.old.found) × (mount.new.first ≡ mount.old.first) }
 {
@@ -116,11 +119,7 @@ fn read_whole<D: Disk + Drop>(
 }
 
 // Reads the file that was found.
-fn read_found<D: Disk + Drop>(
-    alloc: Global,
-    mount: &mut Mount<D>,
-    found: Found,
-) -> Result<Option<FileRead>, AllocError>
+fn read_found<D: Disk + Drop>(alloc: Global, mount: &mut Mount<D>, found: Found) -> MaybeRead
     ensures reads { ReadsBy (IsReadAt found) result mount.old.core.books.history.entries mount.new.core.books.history.entries }
     ensures same { (mount.new.found ≡ mount.old.found) × (mount.new.first ≡ mount.old.first) }
 {
@@ -135,44 +134,44 @@ fn read_found<D: Disk + Drop>(
     }
 }
 
-// Looks up the file in its directory and reads it.
-fn read_in<D: Disk + Drop>(
+// Looks up a name in a directory.
+fn look_up<D: Disk + Drop>(
     alloc: Global,
     mount: &mut Mount<D>,
-    directory: Found,
-) -> Result<Option<FileRead>, AllocError>
-    ensures reads { ReadsBy (IsReadIn directory) result mount.old.core.books.history.entries mount.new.core.books.history.entries }
+    name: &[u8],
+    directory: u32,
+    generation: u64,
+) -> Result<Option<Found>, AllocError>
+    ensures reads { ReadsBy (IsLookedUp directory generation name.now) result mount.old.core.books.history.entries mount.new.core.books.history.entries }
     ensures same { (mount.new.found ≡ mount.old.found) × (mount.new.first ≡ mount.old.first) }
 {
     let look = Step::Look {
-        directory: directory.inode,
-        generation: directory.generation,
-        name: Name::from_slice(alloc, b"f")?,
+        directory,
+        generation,
+        name: Name::from_slice(alloc, name)?,
     };
     let reply = ask(alloc, mount, look)?;
-    match found_in(&reply) {
+    Ok(found_in(&reply))
+}
+
+// Looks up the file in its directory and reads it.
+fn read_in<D: Disk + Drop>(alloc: Global, mount: &mut Mount<D>, directory: Found) -> MaybeRead
+    ensures reads { ReadsBy (IsReadIn directory) result mount.old.core.books.history.entries mount.new.core.books.history.entries }
+    ensures same { (mount.new.found ≡ mount.old.found) × (mount.new.first ≡ mount.old.first) }
+{
+    match look_up(alloc, mount, b"f", directory.inode, directory.generation)? {
         None => Ok(None),
         Some(found) => read_found(alloc, mount, found),
     }
 }
 
 // Looks up the directory of a user and reads the file in it.
-fn read_file<D: Disk + Drop>(
-    alloc: Global,
-    mount: &mut Mount<D>,
-    user: u32,
-) -> Result<Option<FileRead>, AllocError>
+fn read_file<D: Disk + Drop>(alloc: Global, mount: &mut Mount<D>, user: u32) -> MaybeRead
     requires { user ≤ 4 }
     ensures reads { ReadsBy (IsFileRead user) result mount.old.core.books.history.entries mount.new.core.books.history.entries }
     ensures same { (mount.new.found ≡ mount.old.found) × (mount.new.first ≡ mount.old.first) }
 {
-    let look = Step::Look {
-        directory: 1,
-        generation: 1,
-        name: Name::from_slice(alloc, &[b'0' + user as u8])?,
-    };
-    let reply = ask(alloc, mount, look)?;
-    match found_in(&reply) {
+    match look_up(alloc, mount, &[b'0' + user as u8], 1, 1)? {
         None => Ok(None),
         Some(directory) => read_in(alloc, mount, directory),
     }

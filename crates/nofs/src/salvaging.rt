@@ -7,9 +7,9 @@ ghost use Rattle.std.specs.Prelude.{◌≡◌, ◌≢◌, ◌++◌, ℕ, Bool, L
 ghost use Rattle.std.specs.Fn.{FnReturnsAt};
 ghost use Rattle.std.specs.Fmt.{decimal};
 ghost use Rattle.nofs.specs.Words.{picks_in};
-ghost use Rattle.nofs.specs.Salvaging.{AreReads, IsWalkTold, loss_line, losses_text, walk_text as walk_text_in};
 ghost use Rattle.nofs.specs.Serving.{IsClosed};
 ghost use Rattle.nofs.specs.Visits.{IsVisitFollowed};
+ghost use Rattle.nofs.specs.Salvaging.{AreReads, IsWalkTold, loss_line, losses_text, walk_text as walk_text_in};
 ghost use Rattle.nofs.specs.Whole.{Finished};
 
 use crate::serve::{Ran, ended};
@@ -19,7 +19,7 @@ use nofs_disk::Disk;
 use nofs_lists::{Content, Name};
 use nofs_machine::Steps;
 use nofs_salvage::{All, Loss, NameFilter, NameRule, Prefix, Report, SalvageFault, salvage};
-use nofs_script::line_text;
+use nofs_script::{line_text, push_number};
 use nofs_serve::{Visited, Visits};
 use nofs_shared::Mount;
 use std::alloc::{AllocError, Global};
@@ -50,18 +50,6 @@ impl<P: Fn(&[u8]) -> bool, R: NameRule> Visits for Walker<'_, P, R> {
     fn visit<S: Steps>(&mut self, steps: &mut S) {
         self.told = salvage(self.alloc, steps, self.filter);
     }
-}
-
-fn push_number(
-    alloc: Global,
-    text: &mut Vec<u8>,
-    words: &str,
-    number: u64,
-) -> Result<(), AllocError>
-    ensures { OnOk result (text.new.items ≡ text.old.items ++ (words.now ++ decimal number)) }
-{
-    text.extend_from_slice(words.as_bytes())?;
-    text.extend_from_slice(number.to_string(alloc)?.as_bytes())
 }
 
 fn push_slot(alloc: Global, text: &mut Vec<u8>, inode: u32, slot: u64) -> Result<(), AllocError>

@@ -3,24 +3,12 @@
 //! Promise: the line spells the counts that it is given.
 
 ghost use Rattle.std.specs.Prelude.{◌≡◌, ◌++◌, IfOk, OnOk};
-ghost use Rattle.std.specs.Fmt.{decimal};
 ghost use Rattle.nofs.specs.Counts.{counts_line, kind_text};
 
 use nofs_lists::Content;
+use nofs_script::push_number;
 use nofs_state::Counts;
 use std::alloc::{AllocError, Global};
-
-fn push_number(
-    alloc: Global,
-    text: &mut Vec<u8>,
-    words: &str,
-    number: u64,
-) -> Result<(), AllocError>
-    ensures { OnOk result (text.new.items ≡ text.old.items ++ (words.now ++ decimal number)) }
-{
-    text.extend_from_slice(words.as_bytes())?;
-    text.extend_from_slice(number.to_string(alloc)?.as_bytes())
-}
 
 // Adds how many of one kind are used, free and not examined.
 fn push_counts(

@@ -13,6 +13,7 @@ ghost use Rattle.nofs_client.specs.Commands.{AreWellFormed};
 ghost use Rattle.nofs_client.specs.declared.lines.Line.{Line};
 ghost use Rattle.nofs_script.specs.Sessions.{IsSession};
 ghost use Rattle.nofs_script.specs.Text.{text_of};
+ghost use Rattle.nofs_serve.specs.Served.{TeamServed};
 ghost use Rattle.nofs_shared.specs.Added.{AddsStep};
 ghost use Rattle.nofs_shared.specs.Forms.{is_fault as is_fault_in};
 ghost use Rattle.nofs_state.specs.declared.books.Counts.{Counts};
@@ -129,8 +130,8 @@ pub fn has_fault_in(history: &History) -> bool
     false
 }
 
-// Serves users, each beside the sweeps and the flusher, and makes all durable. The flusher writes out as often as the disk has blocks.
-fn serve_and_close<R: Threads + Wait + Sync, D: Disk + Drop + Send>(
+/// Serves users, each beside the sweeps and the flusher, which writes out as often as the disk has blocks.
+pub fn serve_users<R: Threads + Wait + Sync, D: Disk + Drop + Send>(
     rt: &R,
     alloc: Global,
     mount: Mount<D>,
@@ -138,10 +139,8 @@ fn serve_and_close<R: Threads + Wait + Sync, D: Disk + Drop + Send>(
 ) -> Served<Mount<D>>
     requires few { vec_len plans ≤ 8 }
     requires formed { All (λ p. AreWellFormed p.commands) plans.items }
-    requires new { mount.core.books.history.entries ≡ [] }
     ensures same { (result.mount.found.value ≡ mount.found.value) × (result.mount.first ≡ mount.first) }
-    ensures ran { IsSessionRun (map (λ p. p.commands) plans.items) mount.core.books.at.inodes mount.core.books.at.blocks result.out_of_memory result.lines.items result.mount.core.books.history.entries }
-    ensures closed { result.out_of_memory ≡ false → IsClosed (D.state result.mount.core.disk) result.mount.core.books.history.entries }
+    ensures served { TeamServed (map (λ p. p.commands) plans.items) mount.core.books.at.inodes mount.core.books.at.blocks result.out_of_memory result.lines.items mount.core.books.history.entries result.mount.core.books.history.entries }
 {
     let at = mount.numbers();
     let sweeps = Sweeps {
@@ -153,12 +152,28 @@ fn serve_and_close<R: Threads + Wait + Sync, D: Disk + Drop + Send>(
         turns: at.blocks,
         gate: OpenGate,
     };
+    serve(rt, alloc, mount, plans, sweeps, outs)
+}
+
+// Serves users, and makes all durable.
+fn serve_and_close<R: Threads + Wait + Sync, D: Disk + Drop + Send>(
+    rt: &R,
+    alloc: Global,
+    mount: Mount<D>,
+    plans: Vec<Plan<OpenGate>>,
+) -> Served<Mount<D>>
+    requires new { mount.core.books.history.entries ≡ [] }
+    requires few { vec_len plans ≤ 8 }
+    requires formed { All (λ p. AreWellFormed p.commands) plans.items }
+    ensures same { (result.mount.found.value ≡ mount.found.value) × (result.mount.first ≡ mount.first) }
+    ensures ran { IsSessionRun (map (λ p. p.commands) plans.items) mount.core.books.at.inodes mount.core.books.at.blocks result.out_of_memory result.lines.items result.mount.core.books.history.entries }
+    ensures closed { result.out_of_memory ≡ false → IsClosed (D.state result.mount.core.disk) result.mount.core.books.history.entries }
+{
     let Served {
-        mount,
+        mut mount,
         lines,
         out_of_memory,
-    } = serve(rt, alloc, mount, plans, sweeps, outs);
-    let mut mount = mount;
+    } = serve_users(rt, alloc, mount, plans);
     let closed = close(alloc, &mut mount);
     Served {
         mount,

@@ -3,8 +3,7 @@
 //! Promise: its numbers are those of the definition, for what was read and a plain replay of the history. A number that 64 bits
 //! can't hold is told as want of memory: no file system is that large.
 
-ghost use Rattle.std.specs.Prelude.{◌≡◌, ◌≤◌, ◌<◌, ◌+◌, ◌*◌, ◌++◌, IfOk, OnOk, take, flat_map, if◌then◌else◌, sum, sum_by, count_by};
-ghost use Rattle.std.specs.Fmt.{decimal};
+ghost use Rattle.std.specs.Prelude.{◌≡◌, ◌≤◌, ◌<◌, ◌+◌, ◌*◌, IfOk, take, flat_map, if◌then◌else◌, sum, sum_by, count_by};
 ghost use Rattle.nofs_machine.specs.Machine.{cut_of};
 ghost use Rattle.nofs_gen.specs.Replay.{slot_value};
 ghost use Rattle.nofs.specs.Drill.{drill_line, is_bytes_read as is_bytes_in, is_hole_read as is_hole_in, is_refused_line, is_value_read as is_value_in, size_told as size_of, slot_sum as slot_sum_of, slots_sum as slots_sum_of, slots_wrong as slots_wrong_of, sum_told as sum_of, wrong_told as wrong_of};
@@ -15,6 +14,7 @@ use nofs_gen::{ValueList, replay};
 use nofs_lists::Content;
 use nofs_machine::{History, Reply};
 use nofs_model::Value;
+use nofs_script::push_number;
 use std::alloc::{AllocError, Global};
 
 /// The numbers of a drill's line.
@@ -245,18 +245,6 @@ pub fn numbers_of(
         sum: sums(reads)?,
         wrong: wrongs(alloc, history, reads)?,
     })
-}
-
-fn push_number(
-    alloc: Global,
-    text: &mut Vec<u8>,
-    words: &str,
-    number: u64,
-) -> Result<(), AllocError>
-    ensures { OnOk result (text.new.items ≡ text.old.items ++ (words.now ++ decimal number)) }
-{
-    text.extend_from_slice(words.as_bytes())?;
-    text.extend_from_slice(number.to_string(alloc)?.as_bytes())
 }
 
 /// The line of a drill.

@@ -15,15 +15,16 @@ mod recorder;
 mod salvages;
 mod second;
 mod statuses;
-mod unready;
 mod walks;
 
+use crate::tests::disks::{failing, fault};
 use crate::tool::{Outcome, tool};
 use byteorder::ByteOrder;
 use nofs_disk::{Cell, Disk};
 use nofs_io::{MemSink, MemSource};
-use nofs_memdisk::{CallKind, FaultAt, MemDisk};
+use nofs_memdisk::{CallKind, MemDisk};
 use std::alloc::{AllocError, Global};
+use std::process::Abort;
 use std::sync::Wait;
 use std::test::Fail;
 use std::thread::Threads;
@@ -74,87 +75,101 @@ pub fn run_with<R: Threads + Wait + Sync, D: Disk + Drop + Send>(
 pub const USAGE: &str =
     "usage: nofs IMAGE new BLOCKS INODES | run | scan | drill START STEPS | upgrade | salvage [PREFIX] | wire\n";
 
+/// Runs on a disk, which is to print these lines and to end with this status: the disk then.
+pub fn prints<R: Threads + Wait + Sync + Abort + AllocGlobal, D: Disk + Drop + Send>(
+    rt: &R,
+    disk: D,
+    command: &str,
+    session: &str,
+    lines: &str,
+    status: u8,
+) -> Result<D, Fail> {
+    let (ended, sink, disk) = run_on(rt, rt.alloc(), command, session.as_bytes(), disk)?;
+    assert_eq!(rt; sink.bytes(), lines.as_bytes(), "{command}: {session}");
+    assert_eq!(rt; ended, status, "{command}: {session}");
+    Ok(disk)
+}
+
+pub const SESSION: &str = "put @ 0 616263\nget @ 0 3\nfsync @";
+
+pub const LINES: &str = "put 3\ngot bytes:616263\nsynced\n";
+
+/// A command on a disk of 4,096 blocks, its session, what it prints, and its status.
+const RUNS: [(&str, &str, &str, u8); 22] = [
+    ("new 16 4", "", "", 0),
+    ("new 64 16", SESSION, LINES, 0),
+    ("new 64 16", "get @ 0 10\nstat @", "got\nstat file 0 0\n", 0),
+    (
+        "new 64 16",
+        "put @ 1022 aabbccdd\nget @ 1020 6\nstat @",
+        "put 4\ngot bytes:0000aabb bytes:ccdd\nstat file 1026 0\n",
+        0,
+    ),
+    (
+        "new 64 16",
+        "size @ 5000\nget @ 0 5000\nput @ 2048 ff\nget @ 2047 3",
+        "sized 5000\ngot hole:1024 hole:1024 hole:1024 hole:1024 hole:904\nput 1\ngot hole:1 bytes:ff00\n",
+        0,
+    ),
+    (
+        "new 64 16",
+        "size @ 73728\nput @ 7168 01\nput @ 8192 02\nput @ 72704 03\nput @ 73728 04\nget @ 8191 2\nsize @ 73729",
+        "sized 73728\nput 1\nput 1\nput 1\nrefused 12 too large, stored 0\ngot bytes:00 bytes:02\nrefused 12 too large\n",
+        0,
+    ),
+    (
+        "new 64 16",
+        "make /a\nlink /a /b\nlink /a /c\nlink /a /d\nlink /a /e\nstat /a\nmake /xxxxxxxxxxxxxxxxxxxxxxxxxxxxxxxxxxxxxxxxxxxxxxxx\nmake /xxxxxxxxxxxxxxxxxxxxxxxxxxxxxxxxxxxxxxxxxxxxxxxxx",
+        "made\nlinked\nlinked\nlinked\nrefused 10 too many links\nstat file 0 4\nmade\nrefused 8 bad name\n",
+        0,
+    ),
+    (
+        "new 16 4",
+        "make /a\nmake /b\nmake /c",
+        "made\nmade\nrefused 16 inodes full, unchecked 0\n",
+        0,
+    ),
+    (
+        "new 64 16",
+        "mkdir /d\nmake /d/a\nmake /d/b\nrename /d/a c\nlist /d\nlist /\ndrop /d\ndrop /d/b\nmake /d/x\nlist /d",
+        "made\nmade\nmade\nrenamed\nnames c b\nnames d/\nrefused 7 not empty\ndropped\nmade\nnames c x\n",
+        0,
+    ),
+    (
+        "new 64 16",
+        "put @ 2048 01\nmake /a\nmake /a\nget / 0 1\nlist /a\nstat /q",
+        "refused 13 past end, stored 0\nmade\nrefused 4 exists\nrefused 6 is a directory\nrefused 5 not a directory\nrefused 1 missing\n",
+        0,
+    ),
+    (
+        "new 64 16",
+        "put @ 0 616263\nfrob",
+        "line 2: unknown command\n",
+        2,
+    ),
+    ("new 16", "", USAGE, 1),
+    ("new 64 016", "", USAGE, 1),
+    ("scan 1", "", USAGE, 1),
+    ("run 1", "", USAGE, 1),
+    ("new -16 4", "", USAGE, 1),
+    ("new 16 6", "", "format: bad inodes 6\n", 4),
+    ("new 16 64", "", "format: too small, least 18\n", 4),
+    ("new 5000 16", "", "format: too large, most 4096\n", 4),
+    ("run", "", "mount: bad magic 0000000000000000\n", 4),
+    ("scan", "", "mount: bad magic 0000000000000000\n", 4),
+    (
+        "new 64 16",
+        "mkdir /src\nmake /src/main.rs\nput /src/main.rs 0 666e206d61696e28297b7d0a\nfsync /src/main.rs\nrename /src/main.rs lib.rs\nlist /src\nuser\nmkdir /doc\nmake /doc/a\nput /doc/a 0 7465787400\nlink /doc/a /doc/b\ndrop /doc/a\nget /doc/b 0 100\nlist /doc",
+        "made\nmade\nput 12\nsynced\nrenamed\nnames lib.rs\nmade\nmade\nput 5\nlinked\ndropped\ngot bytes:7465787400\nnames b\n",
+        0,
+    ),
+];
+
 #[test]
 fn each_run_prints_its_lines_and_ends_with_its_status(rt: HostRuntime) -> Result<(), Fail> {
-    let alloc = rt.alloc();
-    for (command, session, want, status) in [
-        ("new 16 4", "", "", 0),
-        (
-            "new 64 16",
-            "put @ 0 616263\nget @ 0 3\nfsync @",
-            "put 3\ngot bytes:616263\nsynced\n",
-            0,
-        ),
-        ("new 64 16", "get @ 0 10\nstat @", "got\nstat file 0 0\n", 0),
-        (
-            "new 64 16",
-            "put @ 1022 aabbccdd\nget @ 1020 6\nstat @",
-            "put 4\ngot bytes:0000aabb bytes:ccdd\nstat file 1026 0\n",
-            0,
-        ),
-        (
-            "new 64 16",
-            "size @ 5000\nget @ 0 5000\nput @ 2048 ff\nget @ 2047 3",
-            "sized 5000\ngot hole:1024 hole:1024 hole:1024 hole:1024 hole:904\nput 1\ngot hole:1 bytes:ff00\n",
-            0,
-        ),
-        (
-            "new 64 16",
-            "size @ 73728\nput @ 7168 01\nput @ 8192 02\nput @ 72704 03\nput @ 73728 04\nget @ 8191 2\nsize @ 73729",
-            "sized 73728\nput 1\nput 1\nput 1\nrefused 12 too large, stored 0\ngot bytes:00 bytes:02\nrefused 12 too large\n",
-            0,
-        ),
-        (
-            "new 64 16",
-            "make /a\nlink /a /b\nlink /a /c\nlink /a /d\nlink /a /e\nstat /a\nmake /xxxxxxxxxxxxxxxxxxxxxxxxxxxxxxxxxxxxxxxxxxxxxxxx\nmake /xxxxxxxxxxxxxxxxxxxxxxxxxxxxxxxxxxxxxxxxxxxxxxxxx",
-            "made\nlinked\nlinked\nlinked\nrefused 10 too many links\nstat file 0 4\nmade\nrefused 8 bad name\n",
-            0,
-        ),
-        (
-            "new 16 4",
-            "make /a\nmake /b\nmake /c",
-            "made\nmade\nrefused 16 inodes full, unchecked 0\n",
-            0,
-        ),
-        (
-            "new 64 16",
-            "mkdir /d\nmake /d/a\nmake /d/b\nrename /d/a c\nlist /d\nlist /\ndrop /d\ndrop /d/b\nmake /d/x\nlist /d",
-            "made\nmade\nmade\nrenamed\nnames c b\nnames d/\nrefused 7 not empty\ndropped\nmade\nnames c x\n",
-            0,
-        ),
-        (
-            "new 64 16",
-            "put @ 2048 01\nmake /a\nmake /a\nget / 0 1\nlist /a\nstat /q",
-            "refused 13 past end, stored 0\nmade\nrefused 4 exists\nrefused 6 is a directory\nrefused 5 not a directory\nrefused 1 missing\n",
-            0,
-        ),
-        (
-            "new 64 16",
-            "put @ 0 616263\nfrob",
-            "line 2: unknown command\n",
-            2,
-        ),
-        ("new 16", "", USAGE, 1),
-        ("new 64 016", "", USAGE, 1),
-        ("scan 1", "", USAGE, 1),
-        ("run 1", "", USAGE, 1),
-        ("new -16 4", "", USAGE, 1),
-        ("new 16 6", "", "format: bad inodes 6\n", 4),
-        ("new 16 64", "", "format: too small, least 18\n", 4),
-        ("new 5000 16", "", "format: too large, most 4096\n", 4),
-        ("run", "", "mount: bad magic 0000000000000000\n", 4),
-        ("scan", "", "mount: bad magic 0000000000000000\n", 4),
-        (
-            "new 64 16",
-            "mkdir /src\nmake /src/main.rs\nput /src/main.rs 0 666e206d61696e28297b7d0a\nfsync /src/main.rs\nrename /src/main.rs lib.rs\nlist /src\nuser\nmkdir /doc\nmake /doc/a\nput /doc/a 0 7465787400\nlink /doc/a /doc/b\ndrop /doc/a\nget /doc/b 0 100\nlist /doc",
-            "made\nmade\nput 12\nsynced\nrenamed\nnames lib.rs\nmade\nmade\nput 5\nlinked\ndropped\ngot bytes:7465787400\nnames b\n",
-            0,
-        ),
-    ] {
-        let disk = MemDisk::new(alloc, 4096)?;
-        let (ended, sink, _) = run_on(&rt, alloc, command, session.as_bytes(), disk)?;
-        assert_eq!(rt; sink.bytes(), want.as_bytes(), "{command}: {session}");
-        assert_eq!(rt; ended, status, "{command}: {session}");
+    for (command, session, want, status) in RUNS {
+        let disk = MemDisk::new(rt.alloc(), 4096)?;
+        prints(&rt, disk, command, session, want, status)?;
     }
     Ok(())
 }
@@ -170,15 +185,13 @@ fn a_scan_counts_what_a_session_left(rt: HostRuntime) -> Result<(), Fail> {
         ),
         (
             "new 64 16",
-            "put @ 0 616263\nget @ 0 3\nfsync @",
+            SESSION,
             "inodes used 2 free 14 unchecked 0, blocks used 6 free 58 unchecked 0\n",
         ),
     ] {
         let disk = MemDisk::new(alloc, 4096)?;
         let (_, _, disk) = run_on(&rt, alloc, command, session.as_bytes(), disk)?;
-        let (ended, sink, _) = run_on(&rt, alloc, "scan", b"".as_slice(), disk)?;
-        assert_eq!(rt; sink.bytes(), want.as_bytes(), "{command}: {session}");
-        assert_eq!(rt; ended, 0);
+        prints(&rt, disk, "scan", "", want, 0)?;
     }
     Ok(())
 }
@@ -206,23 +219,6 @@ fn a_put_that_finds_no_block_says_how_full_the_disk_is(rt: HostRuntime) -> Resul
     Ok(())
 }
 
-#[test]
-fn a_write_that_fails_stops_the_mount(rt: HostRuntime) -> Result<(), Fail> {
-    let alloc = rt.alloc();
-    let mut disk = MemDisk::new(alloc, 4096)?;
-    disk.fail_at(&[FaultAt {
-        call: CallKind::Write,
-        number: 18,
-        taken: false,
-    }])?;
-    let session = b"make /a\nget @ 0 1".as_slice();
-    let (status, sink, _) = run_on(&rt, alloc, "new 16 4", session, disk)?;
-    let want = "refused 19 write fault\nrefused 20 stopped\n";
-    assert_eq!(rt; sink.bytes(), want.as_bytes());
-    assert_eq!(rt; status, 3);
-    Ok(())
-}
-
 /// Whether a crash may leave some block with one of several contents.
 fn has_choice(disk: &MemDisk) -> bool {
     for block in 5..64 {
@@ -235,16 +231,8 @@ fn has_choice(disk: &MemDisk) -> bool {
 
 #[test]
 fn a_flush_that_fails_at_the_end_is_told_by_the_status(rt: HostRuntime) -> Result<(), Fail> {
-    let alloc = rt.alloc();
-    let mut disk = MemDisk::new(alloc, 4096)?;
-    disk.fail_at(&[FaultAt {
-        call: CallKind::Flush,
-        number: 3,
-        taken: false,
-    }])?;
-    let (status, sink, disk) = run_on(&rt, alloc, "new 64 16", b"put @ 0 616263".as_slice(), disk)?;
-    assert_eq!(rt; sink.bytes(), b"put 3\n".as_slice());
-    assert_eq!(rt; status, 3);
+    let disk = failing(rt.alloc(), 4096, fault(CallKind::Flush, 3, false))?;
+    let disk = prints(&rt, disk, "new 64 16", "put @ 0 616263", "put 3\n", 3)?;
     assert!(rt; has_choice(&disk));
     Ok(())
 }

@@ -8,15 +8,16 @@ ghost use Rattle.std.specs.Prelude.{◌≡◌, ◌≢◌, ◌+◌, ◌≤◌, �
 ghost use Rattle.nofs_disk.specs.Disk.{KeepsCells, Rose};
 ghost use Rattle.nofs_io.specs.Texts.{AppendsAll, TakesJust};
 ghost use Rattle.nofs_script.specs.Sessions.{IsSession};
+ghost use Rattle.nofs.specs.Words.{picks_in, task_in};
 ghost use Rattle.nofs_upgrade.specs.Upgrades.{StaysOrUpgrades};
 ghost use Rattle.nofs.specs.Begin.{status_of as status_in};
 ghost use Rattle.nofs.specs.Salvaging.{AreReads, IsSalvaged};
 ghost use Rattle.nofs.specs.Visits.{FollowsVisit};
 ghost use Rattle.nofs.specs.Wiring.{WireEnds};
-ghost use Rattle.nofs.specs.Words.{picks_in, task_in};
 ghost use Rattle.nofs.specs.Entries.{has_fault};
 ghost use Rattle.nofs.specs.Drill.{IsDrillDone};
-ghost use Rattle.nofs.specs.Lines.{source_fault_line, too_long_line};
+ghost use Rattle.nofs.specs.declared.faults.FixedLine.TheVariants as fixed;
+ghost use Rattle.nofs.specs.Lines.{fixed_line};
 ghost use Rattle.nofs.specs.Said.{Said, Says, SaysCause, SaysCounts, SaysDrill, SaysFault, SaysOrNot, SaysSession, SaysWalk};
 ghost use Rattle.nofs.specs.Headline.{HeadlineIn, HeadlineOf, IsDrillHeadline, IsHeadline, IsHeadlineOf};
 ghost use Rattle.nofs.specs.Complete.{IsReady, NoneRose};
@@ -24,7 +25,7 @@ ghost use Rattle.nofs.specs.Tool.{HasFaultOf, HasSession, IsBad, IsDone, IsFault
 
 use crate::begin::{Numbers, Refused, format_and_mount, mount, status_of};
 use crate::drill::run_drill;
-use crate::faults::{cause_text, script_text, source_fault, too_long, usage};
+use crate::faults::{FixedLine, cause_text, fixed_text, script_text};
 use crate::salvaging::run_salvage;
 use crate::serve::{Ran, has_fault_in, run_scan, run_session};
 use crate::upgrading::upgrade_outcome;
@@ -218,8 +219,8 @@ fn session_outcome<R: Threads + Wait + Sync, K: Sink, D: Disk + Drop + Send>(
     requires { IsSession session }
     ensures headline { IfSome result.history (HeadlineOf D.state numbers session disk (D.state result.disk) result.status) }
     ensures ends { SessionEnds (IsRefusedBy numbers (D.state disk) (D.state result.disk)) (D.state disk) (D.state result.disk) (K.state sink.old) (K.state sink.new) result.status result.history }
-    ensures done { result.status ≡ 0 → IsAnswered session result.history (K.state sink.old) (K.state sink.new) }
     ensures unserved { result.history ≡ None → SaysCause (K.state sink.old) (K.state sink.new) result.status }
+    ensures done { result.status ≡ 0 → IsAnswered session result.history (K.state sink.old) (K.state sink.new) }
     ensures part { (result.status ≡ 3) ⊎ (result.status ≡ 5) → SaysSession (K.state sink.old) (K.state sink.new) session result.history }
 {
     match numbers {
@@ -248,7 +249,7 @@ fn text_outcome<R: Threads + Wait + Sync, K: Sink, D: Disk + Drop + Send>(
 {
     match parse(alloc, text) {
         Ok(session) => session_outcome(rt, alloc, sink, disk, numbers, session),
-        Err(ParseFault::Script(fault)) => told_text(sink, disk, 2, script_text(alloc, fault)),
+        Err(ParseFault::Wrong(fault)) => told_text(sink, disk, 2, script_text(alloc, fault)),
         Err(ParseFault::OutOfMemory) => told(sink, disk, 7, ""),
     }
 }
@@ -277,8 +278,8 @@ fn source_outcome<R: Threads + Wait + Sync, S: Source, K: Sink, D: Disk + Drop +
         WithSession text (λ session. IsAnswered session result.history (K.state sink.old) (K.state sink.new))) }
     ensures untouched { (result.status ≡ 2) ⊎ (result.status ≡ 6) ⊎ (result.status ≡ 8) → (result.disk ≡ disk) × (result.history ≡ None) }
     ensures refused { result.status ≡ 4 → (result.history ≡ None) × IsRefusedBy numbers (D.state disk) (D.state result.disk) }
-    ensures fault { result.status ≡ 6 → Says (K.state sink.old) (K.state sink.new) source_fault_line }
-    ensures long { result.status ≡ 8 → Says (K.state sink.old) (K.state sink.new) too_long_line }
+    ensures fault { result.status ≡ 6 → Says (K.state sink.old) (K.state sink.new) (fixed_line fixed.SourceFault) }
+    ensures long { result.status ≡ 8 → Says (K.state sink.old) (K.state sink.new) (fixed_line fixed.TooLong) }
     ensures bad { result.status ≡ 2 → WithText (S.state source.old) (S.state source.new) TEXT_LIMIT (λ text. SaysFault (K.state sink.old) (K.state sink.new) text) }
     ensures unserved { (result.status ≡ 3) ⊎ (result.status ≡ 4) → result.history ≡ None → SaysCause (K.state sink.old) (K.state sink.new) result.status }
     ensures part { (result.status ≡ 3) ⊎ (result.status ≡ 5) → WithText (S.state source.old) (S.state source.new) TEXT_LIMIT (λ text.
@@ -286,8 +287,8 @@ fn source_outcome<R: Threads + Wait + Sync, S: Source, K: Sink, D: Disk + Drop +
 {
     match read_all(alloc, source, TEXT_LIMIT) {
         Ok(text) => text_outcome(rt, alloc, sink, disk, numbers, &text),
-        Err(ReadFault::Source) => told(sink, disk, 6, source_fault()),
-        Err(ReadFault::TooLong) => told(sink, disk, 8, too_long()),
+        Err(ReadFault::Source) => told(sink, disk, 6, fixed_text(FixedLine::SourceFault)),
+        Err(ReadFault::TooLong) => told(sink, disk, 8, fixed_text(FixedLine::TooLong)),
         Err(ReadFault::OutOfMemory) => told(sink, disk, 7, ""),
     }
 }
@@ -419,7 +420,7 @@ pub fn tool<R: Threads + Wait + Sync, S: Source, K: Sink, D: Disk + Drop + Send>
         → (result.status ≡ 0) ⊎ (result.status ≡ 7) }
 {
     match task_of(words) {
-        None => told(sink, disk, 1, usage()),
+        None => told(sink, disk, 1, fixed_text(FixedLine::Usage)),
         Some(Request::New { blocks, inodes }) => {
             let numbers = Numbers { blocks, inodes };
             source_outcome(rt, alloc, source, sink, disk, Some(numbers))

@@ -5,11 +5,12 @@
 ghost use Rattle.std.specs.Prelude.{◌≡◌, ◌⊎◌, None};
 ghost use Rattle.nofs_disk.specs.Disk.{Rose};
 ghost use Rattle.nofs_io.specs.Texts.{AppendsAll};
-ghost use Rattle.nofs.specs.Lines.{upgraded_line};
+ghost use Rattle.nofs.specs.Lines.{fixed_line};
+ghost use Rattle.nofs.specs.declared.faults.FixedLine.TheVariants as fixed;
 ghost use Rattle.nofs.specs.Said.{Says, SaysUpgrade};
 ghost use Rattle.nofs.specs.Upgrading.{UpgradeEnds, upgrade_status as status_in};
 
-use crate::faults::{upgrade_text, upgraded};
+use crate::faults::{FixedLine, fixed_text, upgrade_text};
 use crate::tool::{Outcome, say, told_text};
 use nofs_disk::Disk;
 use nofs_io::Sink;
@@ -32,12 +33,12 @@ fn status_of(why: UpgradeFault) -> u8
 
 // The status after the line of an upgrade was written.
 fn said<K: Sink>(sink: &mut K) -> u8
-    ensures done { result ≡ 0 → AppendsAll (K.state sink.old) (K.state sink.new) upgraded_line }
-    ensures says { Says (K.state sink.old) (K.state sink.new) upgraded_line }
+    ensures done { result ≡ 0 → AppendsAll (K.state sink.old) (K.state sink.new) (fixed_line fixed.Upgraded) }
+    ensures says { Says (K.state sink.old) (K.state sink.new) (fixed_line fixed.Upgraded) }
     ensures sink { result ≡ 5 → Rose (K.state sink.old).faults (K.state sink.new).faults }
     ensures named { (result ≡ 0) ⊎ (result ≡ 5) }
 {
-    match say(sink, upgraded().as_bytes()) {
+    match say(sink, fixed_text(FixedLine::Upgraded).as_bytes()) {
         Ok(()) => 0,
         Err(_) => 5,
     }

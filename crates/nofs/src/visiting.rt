@@ -29,14 +29,14 @@ fn visit<R: Threads + Wait + Sync, D: Disk + Drop + Send, G: Visits>(
     ensures served { VisitServed (G.visited visitor.old visitor.new []) mount.core.books.at.inodes mount.core.books.at.blocks result.out_of_memory mount.core.books.history.entries result.mount.core.books.history.entries }
 {
     let at = mount.numbers();
+    let outs = WriteOuts {
+        turns: at.blocks,
+        gate: OpenGate,
+    };
     let sweeps = Sweeps {
         inodes: at.inodes,
         blocks: at.blocks,
         gates: (OpenGate, OpenGate),
-    };
-    let outs = WriteOuts {
-        turns: at.blocks,
-        gate: OpenGate,
     };
     match attend(rt, alloc, mount, visitor, sweeps, outs) {
         Ok(visited) => visited,

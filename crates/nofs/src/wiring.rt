@@ -7,13 +7,13 @@ ghost use Rattle.std.specs.Prelude.{◌≡◌, ◌≢◌, ◌⊎◌, ◌+◌, �
 ghost use Rattle.nofs_disk.specs.Disk.{Rose};
 ghost use Rattle.nofs_wire.specs.Serves.{Serves};
 ghost use Rattle.nofs_shared.specs.Owned.{steps_by};
+ghost use Rattle.nofs.specs.Visits.{FollowsVisit, IsVisitRun};
+ghost use Rattle.nofs.specs.Wiring.{IsWired, WireEnds, end_status, wire_status};
 ghost use Rattle.nofs.specs.Entries.{has_fault};
 ghost use Rattle.nofs.specs.Headline.{IsHeadlineOf};
 ghost use Rattle.nofs.specs.Said.{SaysCause};
 ghost use Rattle.nofs.specs.Serving.{IsClosed};
-ghost use Rattle.nofs.specs.Visits.{FollowsVisit, IsVisitRun};
 ghost use Rattle.nofs.specs.Whole.{Finished};
-ghost use Rattle.nofs.specs.Wiring.{IsWired, WireEnds, end_status, wire_status};
 
 use crate::begin::mount;
 use crate::serve::has_fault_in;

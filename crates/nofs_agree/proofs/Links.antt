@@ -47,10 +47,7 @@ module _ (P Q : BackLink → Bool) (empty : (l : BackLink) → is_empty_link l �
 
   none-full : (links : List BackLink) → count_by full links ≡ 0 → list_any (λ l. P l && Q l) links ≡ false
   none-full [] e = refl
-  none-full (x ∷ xs) e =
-      let n = counted x xs in
-      let rest = none-full xs (omega (arith, e, n)) in
-      go (is_empty_link x) refl (omega (arith, e, n)) rest
+  none-full (x ∷ xs) e = let n = counted x xs in go (is_empty_link x) refl (omega (arith, e, n)) (none-full xs (omega (arith, e, n)))
     where
       go : (b : Bool) → is_empty_link x ≡ b → weight b ≡ 0 → list_any (λ l. P l && Q l) xs ≡ false → ((P x && Q x) || list_any (λ l. P l && Q l) xs) ≡ false
       go true ex h rest = rw (empty x ex) rest
@@ -86,15 +83,24 @@ first-decides X i r same kind spelled =
     let live : AllowsRecord (Some Directory) r = subst (λ (k : Option FileKind). AllowsRecord k r) kind spelled in
     sym (any-links X i r same) ∙ first-any (is_pair (files_in X) i) (λ l. agreed (files_in X) l.directory) (empty-unpaired X i) r.links live.allowed.1
 
-four : (b : Bool) (r : Record) → length r.links ≡ 4 → length (record_or_free (cond b (Some r) None)).links ≡ 4
-four true r e = e
-four false r e = refl
+-- what holds of the free record and of each one that is read from bytes holds of every record in the table
+module _ (P : Record → Type 0) (free : P free_record) (read : (at : ℕ) (payload : List ℕ) → P (fields_in at payload)) where
+  held : (b : Bool) (r : Record) → P r → P (record_or_free (cond b (Some r) None))
+  held true r p = p
+  held false r p = free
+
+  pub every-record : (X : Image) (i : ℕ) → P (inode X i)
+  unfolding inode record_at record_of
+  every-record X i = go (is_inode X i)
+    where
+      go : (b : Bool) → P (cond b (record_or_free (record_of ((i - 1) % 4) (cell_at X (1 + (i - 1) / 4)).payload)) free_record)
+      go true = held _ _ (read (256 * ((i - 1) % 4)) (cell_at X (1 + (i - 1) / 4)).payload)
+      go false = free
+
+links-read : (at : ℕ) (payload : List ℕ) → length (fields_in at payload).links ≡ 4
+unfolding fields_in
+links-read at payload = refl
 
 -- a record has four places for back links
 pub four-links : (X : Image) (i : ℕ) → length (inode X i).links ≡ 4
-unfolding inode record_at record_of fields_in
-four-links X i = go (is_inode X i)
-  where
-    go : (b : Bool) → length (cond b (record_or_free (record_of ((i - 1) % 4) (cell_at X (1 + (i - 1) / 4)).payload)) free_record).links ≡ 4
-    go true = four _ (fields_in (256 * ((i - 1) % 4)) (cell_at X (1 + (i - 1) / 4)).payload) refl
-    go false = refl
+four-links = every-record (λ r. length r.links ≡ 4) refl links-read

@@ -30,8 +30,8 @@ pub fn check_chain<D: Disk>(
     known: &Known,
     inode: u32,
 ) -> Result<bool, Failed>
-    requires numbers { IsAt (D.state disk.old) at.now }
     requires known { length known.now ≡ at.now.inodes }
+    requires numbers { IsAt (D.state disk.old) at.now }
     ensures stays { StaysButFaults (D.state disk.old) (D.state disk.new) }
     ensures agreed { IfOk result (λ answer. IsTrue (D.state disk.old).tells → AreTrue (D.state disk.old).now known.now → answer ≡ files.agreed (files.files_in (D.state disk.old).now) inode) }
     ensures cause { OnErr result (Rose (D.state disk.old).faults (D.state disk.new).faults) }
@@ -47,7 +47,7 @@ pub fn check_chain<D: Disk>(
     if is_special(inode) {
         return Ok(false);
     }
-    has_agreed_link(disk, at, known, inode, &it, &mut last)
+    any_agreed_link(disk, at, known, inode, &it, &mut last)
 }
 
 // Whether this is the root or the label file, and live as such.
@@ -74,7 +74,7 @@ pub(crate) fn is_special(inode: u32) -> bool
 }
 
 // Whether some back link of the inode is a pair with an agreed directory.
-fn has_agreed_link<D: Disk>(
+fn any_agreed_link<D: Disk>(
     disk: &mut D,
     at: &SuperBlock,
     known: &Known,
@@ -82,8 +82,8 @@ fn has_agreed_link<D: Disk>(
     it: &Record,
     last: &mut LastRead,
 ) -> Result<bool, Failed>
-    requires record { KnowsInode (D.state disk.old) at.now inode it.now }
     requires known { length known.now ≡ at.now.inodes }
+    requires record { KnowsInode (D.state disk.old) at.now inode it.now }
     requires last { IsLast (D.state disk.old) last.old }
     ensures { TellsAgreed (D.state disk.old) (D.state disk.new) known.now (λ X. list_any (is_agreed_link (files.files_in X) inode) it.now.links) last.new result }
 {

@@ -32,8 +32,8 @@ pub fn learn_chain<D: Disk>(
     requires numbers { IsAt (D.state disk.old) at.now }
     requires known { length known.old ≡ at.now.inodes }
     ensures stays { StaysButFaults (D.state disk.old) (D.state disk.new) }
-    ensures agreed { IfOk result (λ answer. IsTrue (D.state disk.old).tells → AreTrue (D.state disk.old).now known.old → answer ≡ files.agreed (files.files_in (D.state disk.old).now) inode) }
     ensures learns { Learns (D.state disk.old) known.old known.new }
+    ensures agreed { IfOk result (λ answer. IsTrue (D.state disk.old).tells → AreTrue (D.state disk.old).now known.old → answer ≡ files.agreed (files.files_in (D.state disk.old).now) inode) }
     ensures knows { IfOk result (λ answer. 1 ≤ inode → inode ≤ at.now.inodes → told known.new inode ≡ Some answer) }
     ensures cause { OnErr result (Rose (D.state disk.old).faults (D.state disk.new).faults) }
 {

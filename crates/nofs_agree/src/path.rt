@@ -59,8 +59,15 @@ pub fn find_slot<D: Disk>(
         Place::UnderRecord { at: above, place } => {
             find_under_record(disk, at, inode, it, above, place, last)
         }
-        Place::UnderChild { child, place } => {
-            find_under_child(disk, at, inode, it, child, place, last)
+        Place::UnderChild { child, place: n } => {
+            match find_under_record(disk, at, inode, it, 9, child, last)? {
+                PathAnswer::Hole => Ok(PathAnswer::Hole),
+                PathAnswer::Lost => Ok(PathAnswer::Lost),
+                PathAnswer::Holds(_) => {
+                    let pointer = read_pointer(&last.cell.payload, n as u32);
+                    judge(disk, at, inode, it, place, pointer, last)
+                }
+            }
         }
     }
 }
@@ -73,8 +80,8 @@ fn find_in_record<D: Disk>(
     place: u64,
     last: &mut LastRead,
 ) -> Result<PathAnswer, Failed>
-    requires known { KnowsInode (D.state disk.old) at.now inode it.now }
     requires place { place < 10 }
+    requires known { KnowsInode (D.state disk.old) at.now inode it.now }
     requires last { IsLast (D.state disk.old) last.old }
     ensures { FindsSlot (D.state disk.old) (D.state disk.new) at.now (λ X. slots.find X inode (slots.InRecord place)) last.new result }
 {
@@ -82,6 +89,44 @@ fn find_in_record<D: Disk>(
     judge(disk, at, inode, it, Place::InRecord(place), pointer, last)
 }
 
+// What stands in the slot at a place with this pointer.
+fn judge<D: Disk>(
+    disk: &mut D,
+    at: &SuperBlock,
+    inode: u32,
+    it: &Record,
+    place: Place,
+    pointer: Pointer,
+    last: &mut LastRead,
+) -> Result<PathAnswer, Failed>
+    requires place { IsPlace place }
+    requires known { KnowsInode (D.state disk.old) at.now inode it.now }
+    requires last { IsLast (D.state disk.old) last.old }
+    ensures { FindsSlot (D.state disk.old) (D.state disk.new) at.now (λ X. slots.judged X inode (place_path place) pointer) last.new result }
+{
+    let Pointer { block, stamp } = pointer;
+    if block == 0 && stamp == 0 {
+        return Ok(PathAnswer::Hole);
+    }
+    if it.kind.is_none() || block < 1 + at.inodes / 4 || block >= at.blocks {
+        return Ok(PathAnswer::Lost);
+    }
+    read_block(disk, block, last)?;
+    let wanted = Tag {
+        kind: kind_in(it, place),
+        inode,
+        generation: it.generation,
+        slot: slot_number(place),
+        stamp,
+    };
+    if is_tag(&last.cell.tag, &wanted) {
+        Ok(PathAnswer::Holds(pointer))
+    } else {
+        Ok(PathAnswer::Lost)
+    }
+}
+
+// What stands in a slot below one of the record.
 fn find_under_record<D: Disk>(
     disk: &mut D,
     at: &SuperBlock,
@@ -104,66 +149,5 @@ fn find_under_record<D: Disk>(
             let here = Place::UnderRecord { at: above, place };
             judge(disk, at, inode, it, here, pointer, last)
         }
-    }
-}
-
-fn find_under_child<D: Disk>(
-    disk: &mut D,
-    at: &SuperBlock,
-    inode: u32,
-    it: &Record,
-    child: u64,
-    place: u64,
-    last: &mut LastRead,
-) -> Result<PathAnswer, Failed>
-    requires known { KnowsInode (D.state disk.old) at.now inode it.now }
-    requires place { IsPlace (Place.UnderChild child place) }
-    requires last { IsLast (D.state disk.old) last.old }
-    ensures { FindsSlot (D.state disk.old) (D.state disk.new) at.now (λ X. slots.find X inode (slots.Under (slots.child child) place)) last.new result }
-{
-    match find_under_record(disk, at, inode, it, 9, child, last)? {
-        PathAnswer::Hole => Ok(PathAnswer::Hole),
-        PathAnswer::Lost => Ok(PathAnswer::Lost),
-        PathAnswer::Holds(_) => {
-            let pointer = read_pointer(&last.cell.payload, place as u32);
-            let here = Place::UnderChild { child, place };
-            judge(disk, at, inode, it, here, pointer, last)
-        }
-    }
-}
-
-// What stands in the slot at a place with this pointer.
-fn judge<D: Disk>(
-    disk: &mut D,
-    at: &SuperBlock,
-    inode: u32,
-    it: &Record,
-    place: Place,
-    pointer: Pointer,
-    last: &mut LastRead,
-) -> Result<PathAnswer, Failed>
-    requires known { KnowsInode (D.state disk.old) at.now inode it.now }
-    requires place { IsPlace place }
-    requires last { IsLast (D.state disk.old) last.old }
-    ensures { FindsSlot (D.state disk.old) (D.state disk.new) at.now (λ X. slots.judged X inode (place_path place) pointer) last.new result }
-{
-    if pointer.block == 0 && pointer.stamp == 0 {
-        return Ok(PathAnswer::Hole);
-    }
-    if it.kind.is_none() || pointer.block < 1 + at.inodes / 4 || pointer.block >= at.blocks {
-        return Ok(PathAnswer::Lost);
-    }
-    read_block(disk, pointer.block, last)?;
-    let wanted = Tag {
-        kind: kind_in(it, place),
-        inode,
-        generation: it.generation,
-        slot: slot_number(place),
-        stamp: pointer.stamp,
-    };
-    if is_tag(&last.cell.tag, &wanted) {
-        Ok(PathAnswer::Holds(pointer))
-    } else {
-        Ok(PathAnswer::Lost)
     }
 }

@@ -1,11 +1,9 @@
 //! Reads of blocks and of inode records. The block that was read last isn't read again.
 ghost use Rattle.std.specs.Prelude.{◌≡◌, ◌<◌, IsTrue, Some};
-ghost use Rattle.nofs_inode.specs.InodeRecords.{HasRecordSpelling};
-ghost use Rattle.nofs_model.specs.Cells.{record_at};
 ghost use Rattle.nofs_agree.specs.Reading.{IsAt, IsLast, ReadsBlock, ReadsInode};
 
 use nofs_disk::{Cell, Disk, Failed};
-use nofs_inode::{FREE_RECORD, Record, read_record};
+use nofs_inode::{FREE_RECORD, Record, record_at};
 use nofs_super::SuperBlock;
 
 /// The block that was read last, and its cell.
@@ -63,16 +61,4 @@ pub fn read_inode<D: Disk>(
     }
     read_block(disk, 1 + (number - 1) / 4, last)?;
     Ok(record_at(&last.cell.payload, ((number - 1) % 4) as u32))
-}
-
-#[tactic(auto, unfolding(nofs_inode::specs::InodeRecords::record_at))]
-fn record_at(payload: &[u8; 1024], index: u32) -> Record
-    requires { index < 4 }
-    ensures value { result ≡ record_at payload.now index }
-    ensures spelled { HasRecordSpelling result }
-{
-    match read_record(payload, index) {
-        None => FREE_RECORD,
-        Some(it) => it,
-    }
 }

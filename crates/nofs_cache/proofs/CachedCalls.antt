@@ -1,5 +1,5 @@
 -- What a cached disk knows after each of its calls, and what the call did.
-use Rattle.std.proofs.Common.{◌≡◌, ℕ, ◌+◌, ◌-◌, ◌*◌, ◌^◌, ◌<◌, ◌≤◌, List, ◌∷◌, length, ap, arith, refl, sym, ◌∙◌, Option, Result, Ok}
+use Rattle.std.proofs.Common.{◌≡◌, ℕ, ◌+◌, ◌-◌, ◌*◌, ◌^◌, ◌<◌, ◌≤◌, List, ◌∷◌, length, ap, arith, refl, sym, ◌∙◌, Option, Result, Ok, Err}
 use Rattle.std.specs.Prelude.{Bool, OnErr, OnOk, is_ok}
 use Rattle.std.specs.declared.snapshot.Snapshot.{Snapshot}
 use Rattle.nofs_disk.specs.Chains.{IsSameDisk-refl}
@@ -12,7 +12,7 @@ use Rattle.nofs_cache.specs.declared.dirty.DirtyBlocks.{DirtyBlocks}
 use Rattle.nofs_cache.specs.declared.dirty.DirtyEntry.{DirtyEntry}
 use Rattle.nofs_cache.specs.declared.past.CacheCall.{CacheCall}
 use Rattle.nofs_cache.specs.declared.past.CacheCall.TheVariants.{Write, Flush}
-use Rattle.nofs_cache.specs.Cache.{IsMarked, LeavesAll, SettlesDirty, TakesOut, WrittenBack, began, cache_state, ended_at}
+use Rattle.nofs_cache.specs.Cache.{IsMarked, LeavesAll, SettlesDirty, TakesOut, WroteOne, WrittenBack, began, cache_state, ended_at}
 use Rattle.nofs_cache.specs.DirtyBlocks.{block_count, entries_of, room_of}
 use Rattle.nofs_cache.specs.DirtyEntries.{HasCell, IsClean, PutsDirtyEntry}
 use Rattle.nofs_cache.specs.Laws.{CacheKeeps, cache_is}
@@ -21,6 +21,11 @@ use Rattle.nofs_cache.proofs.CacheCalls.{cache_ready, kept_same, kept_stays, mar
 use Rattle.nofs_cache.proofs.CacheFlushes.{cache_flushes, cache_writes_out, kept_flush, kept_writes_back}
 use Rattle.nofs_cache.proofs.CacheLeaves.{leaves_during, leaves_now, marked_last}
 use Rattle.nofs_cache.proofs.CacheWrites.{cache_writes, placed_distinct, put_len, write_kept}
+
+-- a part of what holds where a call succeeded
+part_of_ok : {A P Q : Type 0} (result : Result A Failed) → OnOk result P → (P → Q) → OnOk result Q
+part_of_ok (Ok x) holds part = part holds
+part_of_ok (Err failed) holds part = tt
 
 -- what the ghost fields of a cached disk say
 abbrev pub Holds : DiskState → DiskState → List CacheCall → DirtyBlocks → ℕ → ℕ → Type 0
@@ -136,10 +141,11 @@ module _ {D : Type 0} {δ : Ghosts D} (old : Cached D δ) where
   below_reads {new} {block} {into} {result} clean reads = reads_below under new first calls before old.spare block into result clean reads old.kept old.marked
 
   pub out_does : {new : DiskState} {after : List DirtyEntry} {result : Result (Option ℕ) Failed} → WrittenBack under new before after
-      → TakesOut before after result → OnErr result (Rose under.faults new.faults) → OnOk result (new.faults ≡ under.faults) → 1 ≤ old.spare
+      → TakesOut before after result → OnErr result (Rose under.faults new.faults) → OnOk result (WroteOne under new before after) → 1 ≤ old.spare
       → WritesOut seen (cache_state new first calls after (old.spare - 1)) result
-  out_does {new} {after} {result} wrote out cause no_fault some =
-      cache_writes_out under new first calls before after old.spare (old.spare - 1) result wrote out cause no_fault old.marked (omega arith)
+  out_does {new} {after} {result} wrote out cause one some =
+      cache_writes_out under new first calls before after old.spare (old.spare - 1) result wrote out cause
+      (part_of_ok result one (λ (w : WroteOne under new before after). w.no_fault)) old.marked (omega arith)
 
   -- a write of a cell, and its snapshot
   module _ {b at : ℕ} {cell : Cell} (dirty : DirtyBlocks) (snap : Snapshot Cell) (is : IsDisk under) (low : b < under.blocks) (some : 1 ≤ old.spare)

@@ -1,5 +1,5 @@
 -- What a cached disk holds, and what a crash may leave of it.
-use Rattle.std.specs.Prelude.{◌≡◌, ◌⊎◌, ℕ, ◌+◌, ◌*◌, ◌<◌, ◌≤◌, ◌==◌, if◌then◌else◌, Bool, true, false, List, [], ◌∷◌, ◌++◌, length, map, slice_set}
+use Rattle.std.specs.Prelude.{◌≡◌, ◌⊎◌, ℕ, ◌+◌, ◌-◌, ◌*◌, ◌<◌, ◌≤◌, ◌==◌, if◌then◌else◌, Bool, true, false, List, [], ◌∷◌, ◌++◌, length, map, take, slice_set}
 use Rattle.std.specs.Prelude.{slice_index_or, Contains, Option, None, Some, Result, Ok, Err, IsPermutation, OnOk, OnErr}
 use Rattle.nofs_disk.specs.declared.Failed.{Failed}
 use Rattle.nofs_disk.specs.declared.tag.Cell.{Cell}
@@ -9,6 +9,8 @@ use Rattle.nofs_disk.specs.Moments.{AtEach}
 use Rattle.nofs_cache.specs.declared.past.CacheCall.{CacheCall}
 use Rattle.nofs_cache.specs.declared.past.CacheCall.TheVariants.{Write, Flush}
 use Rattle.nofs_cache.specs.declared.dirty.DirtyEntry.{DirtyEntry}
+use Rattle.nofs_cache.specs.declared.dirty.DirtyBlocks.{DirtyBlocks}
+use Rattle.nofs_cache.specs.DirtyBlocks.{block_count, entries_of, room_of}
 use Rattle.nofs_cache.specs.DirtyEntries.{IsClean, dirty_entry_at}
 
 -- the present cells, and for each block the cells that it may hold
@@ -141,6 +143,35 @@ abbrev pub TakesOut : List DirtyEntry → List DirtyEntry → Result (Option ℕ
 TakesOut before after (Ok None) = (before ≡ []) × (after ≡ [])
 TakesOut before after (Ok (Some block)) = (0 < length before) × IsPermutation (block ∷ map (λ e. e.block) after) (map (λ e. e.block) before)
 TakesOut before after (Err failed) = (0 < length before) × (after ≡ before)
+
+-- the dirty blocks became a front of what they were, of as many blocks and with as much room
+pub record Shrinks (before after : DirtyBlocks) : Type 0 where
+  pub front : entries_of after ≡ take (length (entries_of after)) (entries_of before)
+  pub no_more : length (entries_of after) ≤ length (entries_of before)
+  pub blocks : block_count after ≡ block_count before
+  pub room : room_of before ≤ room_of after
+
+-- at most one call was made below
+pub record SpendsOne (old new : DiskState) (before after : List DirtyEntry) : Type 0 where
+  pub one : old.spare ≤ new.spare + 1
+  pub all : old.spare + length after ≤ new.spare + length before + 1
+
+-- a write below was done: one entry is less, and no fault was added
+pub record WroteOne (old new : DiskState) (before after : List DirtyEntry) : Type 0 where
+  pub fewer : length after ≡ length before - 1
+  pub spare : old.spare + length after ≤ new.spare + length before
+  pub no_fault : new.faults ≡ old.faults
+
+-- every write below was done
+pub record WroteAll (old new : DiskState) (before after : List DirtyEntry) : Type 0 where
+  pub clean : after ≡ []
+  pub spare : old.spare ≤ new.spare + length before
+  pub no_fault : new.faults ≡ old.faults
+
+-- a write below failed, after some
+pub record Stopped (old new : DiskState) (before after : List DirtyEntry) : Type 0 where
+  pub spare : old.spare + length after ≤ new.spare + length before + 1
+  pub cause : Rose old.faults new.faults
 
 -- every dirty cell was written below, and then the disk below was flushed
 pub record SettlesDirty (old new : DiskState) (before after : List DirtyEntry) (result : Result (Unit {0}) Failed) : Type 0 where

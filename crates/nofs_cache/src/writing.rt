@@ -3,11 +3,11 @@
 //! Promise: a block is clean only once its cell was written below, and a call that fails below
 //! leaves its block dirty. Any order is safe: what is written below is always the cell that a read
 //! gives. A flush writes in rising order, so that neighbouring cells follow one another.
-ghost use Rattle.std.specs.Prelude.{◌≡◌, ◌+◌, ◌-◌, ◌<◌, ◌≤◌, [], OnOk, OnErr, length, map, take};
+ghost use Rattle.std.specs.Prelude.{◌≡◌, ◌+◌, ◌<◌, ◌≤◌, OnOk, OnErr, length, map};
 ghost use Rattle.nofs_disk.specs.Disk.{Rose};
 ghost use Rattle.nofs_cache.specs.DirtyBlocks.{block_count, entries_of, room_of};
 ghost use Rattle.nofs_cache.specs.DirtyEntries.{BlocksFall};
-ghost use Rattle.nofs_cache.specs.Cache.{WrittenBack, WritesRising, SettlesDirty, TakesOut};
+ghost use Rattle.nofs_cache.specs.Cache.{WrittenBack, WritesRising, SettlesDirty, TakesOut, Shrinks, SpendsOne, WroteOne, WroteAll, Stopped};
 
 use crate::dirty::{DirtyBlocks, DirtyEntry};
 use nofs_disk::{Disk, Failed};
@@ -18,16 +18,10 @@ pub fn write_back<D: Disk>(under: &mut D, dirty: &mut DirtyBlocks) -> Result<Opt
     requires spare { 1 ≤ (D.state under.old).spare }
     ensures writes_back { WrittenBack (D.state under.old) (D.state under.new) (entries_of dirty.old) (entries_of dirty.new) }
     ensures out { TakesOut (entries_of dirty.old) (entries_of dirty.new) result }
-    ensures front { entries_of dirty.new ≡ take (length (entries_of dirty.new)) (entries_of dirty.old) }
-    ensures blocks { block_count dirty.new ≡ block_count dirty.old }
-    ensures room { room_of dirty.old ≤ room_of dirty.new }
-    ensures fewer { OnOk result (length (entries_of dirty.new) ≡ length (entries_of dirty.old) - 1) }
-    ensures no_more { length (entries_of dirty.new) ≤ length (entries_of dirty.old) }
-    ensures spare { (D.state under.old).spare ≤ (D.state under.new).spare + 1 }
-    ensures spare_all { (D.state under.old).spare + length (entries_of dirty.new) ≤ (D.state under.new).spare + length (entries_of dirty.old) + 1 }
-    ensures spare_ok { OnOk result ((D.state under.old).spare + length (entries_of dirty.new) ≤ (D.state under.new).spare + length (entries_of dirty.old)) }
+    ensures shrinks { Shrinks dirty.old dirty.new }
+    ensures spends { SpendsOne (D.state under.old) (D.state under.new) (entries_of dirty.old) (entries_of dirty.new) }
+    ensures wrote { OnOk result (WroteOne (D.state under.old) (D.state under.new) (entries_of dirty.old) (entries_of dirty.new)) }
     ensures cause { OnErr result (Rose (D.state under.old).faults (D.state under.new).faults) }
-    ensures no_fault { OnOk result ((D.state under.new).faults ≡ (D.state under.old).faults) }
 {
     match dirty.last() {
         None => Ok(None),
@@ -47,15 +41,9 @@ pub fn write_back_all<D: Disk>(under: &mut D, dirty: &mut DirtyBlocks) -> Result
     requires blocks { block_count dirty.old ≡ (D.state under.old).blocks }
     requires spare { length (entries_of dirty.old) ≤ (D.state under.old).spare }
     ensures writes_back { WrittenBack (D.state under.old) (D.state under.new) (entries_of dirty.old) (entries_of dirty.new) }
-    ensures front { entries_of dirty.new ≡ take (length (entries_of dirty.new)) (entries_of dirty.old) }
-    ensures blocks { block_count dirty.new ≡ block_count dirty.old }
-    ensures room { room_of dirty.old ≤ room_of dirty.new }
-    ensures clean { OnOk result (entries_of dirty.new ≡ []) }
-    ensures no_more { length (entries_of dirty.new) ≤ length (entries_of dirty.old) }
-    ensures spare_ok { OnOk result ((D.state under.old).spare ≤ (D.state under.new).spare + length (entries_of dirty.old)) }
-    ensures spare_err { OnErr result ((D.state under.old).spare + length (entries_of dirty.new) ≤ (D.state under.new).spare + length (entries_of dirty.old) + 1) }
-    ensures cause { OnErr result (Rose (D.state under.old).faults (D.state under.new).faults) }
-    ensures no_fault { OnOk result ((D.state under.new).faults ≡ (D.state under.old).faults) }
+    ensures shrinks { Shrinks dirty.old dirty.new }
+    ensures wrote { OnOk result (WroteAll (D.state under.old) (D.state under.new) (entries_of dirty.old) (entries_of dirty.new)) }
+    ensures stopped { OnErr result (Stopped (D.state under.old) (D.state under.new) (entries_of dirty.old) (entries_of dirty.new)) }
 {
     for _ in 0..dirty.len() {
         match write_back(under, dirty) {

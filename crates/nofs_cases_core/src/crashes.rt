@@ -37,10 +37,7 @@ pub fn crashed_put(alloc: Global) -> Result<MemDisk, Unmade>
 pub fn second_mount(alloc: Global) -> Result<Mount<MemDisk>, Unmade>
     ensures { IfOk result (λ m. ∥ Crashed m.found.value ∥₁) }
 {
-    let left = match crashed_put(alloc) {
-        Ok(left) => left,
-        Err(why) => return Err(why),
-    };
+    let left = crashed_put(alloc)?;
     match Mount::begin(alloc, left, 0) {
         Ok(mount) => Ok(mount),
         Err(BeginFault { disk: _, cause }) => Err(Unmade::NotMounted(cause)),

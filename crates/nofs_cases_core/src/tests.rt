@@ -1,9 +1,10 @@
 //! The instance is there.
-use super::{formatted_put, second_mount, two_mounts};
+use super::{Unmade, formatted_put, second_mount, two_mounts};
 use nofs_machine::{Reply, Step};
 use nofs_memdisk::MemDisk;
 use nofs_shared::Mount;
 use std::alloc::Global;
+use std::process::Abort;
 
 // Whether the first slot of the label file begins with what was put, and a byte that was not.
 fn has_the_bytes(mount: &mut Mount<MemDisk>, alloc: Global) -> bool {
@@ -18,22 +19,23 @@ fn has_the_bytes(mount: &mut Mount<MemDisk>, alloc: Global) -> bool {
     }
 }
 
-#[test]
-fn the_mount_is_made_and_has_the_bytes(rt: HostRuntime) {
-    let Ok(mut mount) = formatted_put(rt.alloc()) else {
+// The mount is made, with so many entries and the bytes.
+fn check(rt: &impl Abort, alloc: Global, made: Result<Mount<MemDisk>, Unmade>, entries: u64) {
+    let Ok(mut mount) = made else {
         panic!(rt; "not made")
     };
-    assert_eq!(rt; mount.history().len(), 2);
-    assert!(rt; has_the_bytes(&mut mount, rt.alloc()));
+    assert_eq!(rt; mount.history().len(), entries);
+    assert!(rt; has_the_bytes(&mut mount, alloc));
+}
+
+#[test]
+fn the_mount_is_made_and_has_the_bytes(rt: HostRuntime) {
+    check(&rt, rt.alloc(), formatted_put(rt.alloc()), 2);
 }
 
 #[test]
 fn the_mount_of_what_a_crash_left_has_the_bytes_and_no_entry(rt: HostRuntime) {
-    let Ok(mut mount) = second_mount(rt.alloc()) else {
-        panic!(rt; "not made")
-    };
-    assert_eq!(rt; mount.history().len(), 0);
-    assert!(rt; has_the_bytes(&mut mount, rt.alloc()));
+    check(&rt, rt.alloc(), second_mount(rt.alloc()), 0);
 }
 
 #[test]

@@ -24,15 +24,7 @@ use Rattle.nofs_cases_laws.specs.DeepCase.{deep_table, deep_entries, root_leaf, 
 -- The disk
 
 abbrev deep_root : Record
-deep_root = record {
-  generation = 1;
-  kind = Some Folder;
-  links = no_links;
-  size = 0;
-  direct = null ∷ null ∷ null ∷ null ∷ null ∷ null ∷ null ∷ null ∷ [];
-  leaf = leaf_pointer;
-  top = null;
-}
+deep_root = record (root_record null) { leaf = leaf_pointer }
 
 abbrev deep_file : Record
 deep_file = file_record (first_links 1 128 1)

@@ -1,19 +1,18 @@
 -- The root of the formatted disk, and a disk with one name.
-use Rattle.std.proofs.Common.{◌≡◌, ◌^◌, ℕ, Bool, true, false, cond, eqb, List, [], ◌∷◌, ◌++◌, Some, is_some, refl, sym, ap, ◌∙◌, subst, arith, Contains}
+use Rattle.std.proofs.Common.{Option, ◌≡◌, ◌^◌, ℕ, Bool, true, false, cond, eqb, List, [], ◌∷◌, ◌++◌, Some, is_some, refl, sym, ap, ◌∙◌, subst, arith, Contains}
 use Rattle.nofs_inode.specs.declared.inode.FileKind.TheVariants.{File, Directory}
-use Rattle.nofs_model.specs.Cells.{Record, null, is_live}
-use Rattle.nofs_model.specs.Image.{Image, inode, files_in, agreed, value, FileState}
+use Rattle.nofs_model.specs.Cells.{Record, Entry, null, is_live}
+use Rattle.nofs_model.specs.Image.{Image, inode, files_in, agreed, value, names, FileState}
 use Rattle.nofs_model.specs.declared.value.Value.{Value}
 use Rattle.nofs_model.specs.declared.value.Value.TheVariants.{Bytes}
 use Rattle.nofs_machine.specs.Meta.{Meta, Is, meta_of}
 use Rattle.nofs_machine.specs.Machine.{link_to}
 use Rattle.nofs_machine.specs.History.{agreed_files, since, since_meta, stands, is_generation, last_in}
-use Rattle.nofs_machine.specs.Allowed.{IsAllowed, IsFolderMeta, meta_link}
+use Rattle.nofs_machine.specs.Allowed.{IsAllowed, IsFolderMeta, SureLink, meta_link}
 use Rattle.nofs_law_maps.proofs.Fresh.{sole-is}
 use Rattle.nofs_law_untouched.proofs.Matching.{gen-of}
 use Rattle.nofs_crashlaw.proofs.Unflushed.{law-unflushed}
 use Rattle.nofs_law_paths.specs.Finds.{SureChain, SureName, SureRoot, SureEntry}
-use Rattle.nofs_law_paths.proofs.Finds.{as-link}
 use Rattle.nofs_cases_steps.specs.Images.{z, first_image}
 use Rattle.nofs_cases_steps.specs.Worlds.{no_links, block_two}
 use Rattle.nofs_cases_names.specs.Names.{short_entry_bytes, name_table, name_image, one_link}
@@ -97,19 +96,29 @@ not-folder meta e f =
     let h : false ≡ true = subst IsFolderMeta (sym e) f in
     cc h
 
-sure : SureName name_image [] 0 3 (2 ^ 40) 0 (link_to 1 0 1) a
-sure = record {
+only-value : (v : Value) → Contains (since name_image [] 0 1 1 0) v → v ≡ Bytes (short_entry_bytes 97 ++ z 960)
+only-value v has =
+    let e : value name_image 1 0 ≡ v = sole-is (value name_image 1 0) v
+    (subst (λ (vs : List Value). Contains vs v) (base-since name_image 1 1 0 _ (name-inode 1) refl refl) has) in
+    sym e ∙ name-value
+
+sure-link : SureLink name_image [] 0 3 (2 ^ 40) 0 (link_to 1 0 1)
+sure-link = record {
   file_stands = file-stands;
   directory_stands = root-stands;
   folders = root-metas;
   older = λ meta has f. absurd (not-folder meta (file-metas meta has) f);
   linked = λ meta has none. subst (λ (q : Meta). meta_link q 0 none ≡ link_to 1 0 1) (file-metas meta has) refl;
   range = omega arith;
-  cell = λ v has.
-      let e : value name_image 1 0 ≡ v = sole-is (value name_image 1 0) v
-      (subst (λ (vs : List Value). Contains vs v) (base-since name_image 1 1 0 _ (name-inode 1) refl refl) has) in
-      (short_entry_bytes 97 ++ z 960, sym e ∙ name-value, first-entry);
+  cell = λ v has. (
+    short_entry_bytes 97 ++ z 960,
+    only-value v has,
+    subst (λ (o : Option Entry). names o 3 (2 ^ 40) ≡ true) (sym first-entry) refl,
+  );
 }
+
+sure : SureName name_image [] 0 3 (2 ^ 40) 0 (link_to 1 0 1) a
+sure = record { sure = sure-link; entry = λ v has. (short_entry_bytes 97 ++ z 960, only-value v has, first-entry) }
 
 root-chain : SureChain name_image [] 0 1
 root-chain = SureRoot root-stands root-metas
@@ -123,6 +132,5 @@ name-path-case = (
   first-allowed,
   root-chain,
   sure,
-  SureEntry (2 ^ 40) 0 (link_to 1 0 1) refl
-      (as-link name_image [] 0 name_image first-allowed 3 (2 ^ 40) 0 (link_to 1 0 1) a sure) root-chain,
+  SureEntry (2 ^ 40) 0 (link_to 1 0 1) refl sure-link root-chain,
 )

@@ -131,15 +131,8 @@ full-inode i = root-inode name_table full_cell (file_record one_link) name-recor
 
 -- the root with two blocks
 abbrev wide_record : Record
-wide_record = record {
-  generation = 1;
-  kind = Some Folder;
-  links = no_links;
-  size = 0;
-  direct = block_two 1 ∷ third_block ∷ null ∷ null ∷ null ∷ null ∷ null ∷ null ∷ [];
-  leaf = null;
-  top = null;
-}
+wide_record =
+    record (root_record (block_two 1)) { direct = block_two 1 ∷ third_block ∷ null ∷ null ∷ null ∷ null ∷ null ∷ null ∷ [] }
 
 hole-records : HasRecords hole_table wide_record (label_record 0 null) (file_record far_links)
 unfolding record_at record_of fields_in link_in pointer_in number_at

@@ -110,19 +110,7 @@ left_after (suc m) X = Picks may_after_put 16 X
 
 -- after the Put
 abbrev pub put_state : DiskState
-put_state = record {
-  blocks = 16;
-  moment = 4;
-  spare = 6;
-  faults = 0;
-  tells = true;
-  now = put_image;
-  may = may_after_put;
-  was = λ m. first_image;
-  left = left_after;
-  dirty = [];
-  holds_back = false;
-}
+put_state = record (still 4 6) { now = put_image; may = may_after_put; left = left_after }
 
 -- After a mount.
 abbrev pub FirstStageCase : Type 0

@@ -8,6 +8,7 @@ use Rattle.nofs_machine.specs.declared.history.Claims.{Claims}
 use Rattle.nofs_law_new_names.specs.Holes.{MakeLies, EntryInHole}
 use Rattle.nofs_cases_steps.specs.Images.{z, image_of, first_image, label_bytes, pointer_bytes, stamp_bytes, table_of}
 use Rattle.nofs_cases_steps.specs.Worlds.{root_file, first_files, block_two}
+use Rattle.nofs_cases_steps.specs.LeafCase.{block_three}
 use Rattle.nofs_cases_names.specs.Names.{short_entry_bytes, file_bytes, link_bytes}
 use Rattle.nofs_cases_names.specs.NameCases.{a}
 
@@ -29,7 +30,7 @@ deep_image = image_of deep_table deep_entries root_leaf
 
 -- block 3, with the stamp 2 ^ 40 + 2
 abbrev pub leaf_pointer : Pointer
-leaf_pointer = record { block = 3; stamp = 2 ^ 40 + 2 }
+leaf_pointer = record block_three { stamp = 2 ^ 40 + 2 }
 
 -- inode 3 and both blocks are claimed
 abbrev pub deep_claims : Claims

@@ -24,15 +24,7 @@ use Rattle.nofs_cases_steps.proofs.Leaves.{other-pointer}
 use Rattle.nofs_cases_steps.proofs.FileCases.{first-inode, first-empty, first-free, first-match, first-old, no-holds}
 
 abbrev pub leaf_record : Record
-leaf_record = record {
-  generation = 2;
-  kind = Some File;
-  links = no_links;
-  size = 8193;
-  direct = null ∷ null ∷ null ∷ null ∷ null ∷ null ∷ null ∷ null ∷ [];
-  leaf = block_three;
-  top = null;
-}
+leaf_record = record (label_record 8193 null) { leaf = block_three }
 
 leaf-records : HasRecords leaf_table (root_record null) leaf_record free_record
 unfolding record_at record_of fields_in link_in pointer_in number_at

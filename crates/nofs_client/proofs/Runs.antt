@@ -36,6 +36,13 @@ pub made-more : (old mid new ms : List Made) (s : Step) (r : Reply) → mid ≡ 
 made-more old mid new ms s r h room more =
     more ∙ ap (λ b. if b then mid else mid ++ (s, r) ∷ []) room ∙ ap (λ l. l ++ (s, r) ∷ []) h ∙ append_assoc old ms ((s, r) ∷ [])
 
+-- one more step of a command is made
+pub step-more : (c : Command) (p : Progress) (old mid new ms : List Made) (s : Step) (r : Reply) → mid ≡ old ++ ms → Asked c (start_of c) ms
+    → p ≡ progress c (map made_reply ms) → asks c p ≡ Do s → is_out_of_memory r ≡ false → new ≡ with_made mid s r
+    → (new ≡ old ++ (ms ++ (s, r) ∷ [])) × Asked c (start_of c) (ms ++ (s, r) ∷ [])
+step-more c p old mid new ms s r h asked is asks-it room more =
+    (made-more old mid new ms s r h room more, Asked-more c (start_of c) ms s r asked (ap (asks c) (sym is) ∙ asks-it))
+
 -- one more command is run
 pub driven-more : (cs : List Command) (c : Command) (ms more : List Made) (ls : List Line) (l : Line) → IsDriven cs ms ls → IsCommandRun c more l
     → IsDriven (cs ++ c ∷ []) (ms ++ more) (ls ++ l ∷ [])

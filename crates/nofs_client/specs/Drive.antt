@@ -16,9 +16,10 @@ use Rattle.nofs_client.specs.declared.progress.See.{See}
 use Rattle.nofs_client.specs.declared.progress.See.TheVariants as see
 use Rattle.nofs_client.specs.declared.task.Task.{Task}
 use Rattle.nofs_client.specs.declared.task.Task.TheVariants as task
-use Rattle.nofs_client.specs.Task.{first_task, refused}
+use Rattle.nofs_client.specs.Task.{TaskStands, first_task, refused}
 use Rattle.nofs_client.specs.Asks.{task_asks}
 use Rattle.nofs_client.specs.Answers.{task_after}
+use Rattle.nofs_client.specs.Commands.{IsWellFormed}
 
 -- a task of which no step was answered Full or InodesFull yet
 abbrev pub fresh_progress : Task → Progress
@@ -103,6 +104,17 @@ drive_of c replies = asks c (progress c replies)
 abbrev pub Answers : Next → Reply → Type 0
 Answers (Do s) r = Fits s r × (is_out_of_memory r ≡ false)
 Answers (Say line) r = ⊥
+
+-- a well formed command, its task and the reply to the task's step
+pub record IsAnswered (c : Command) (t : Task) (r : Reply) : Type 0 where
+  pub formed : IsWellFormed c
+  pub stands : TaskStands c t
+  pub fits : Answers (task_asks c t) r
+
+-- where a command stands next is this, and its task stands
+pub record StandsAs (c : Command) (wanted next : Progress) : Type 0 where
+  pub is : next ≡ wanted
+  pub stands : TaskStands c next.task
 
 -- each reply answers the step that is asked for after the replies before it
 abbrev pub AllAnswer : Command → Progress → List Reply → Type 0

@@ -55,21 +55,22 @@ RunsTo c old new line = (made : List Made) × (new ≡ old ++ made) × IsCommand
 abbrev pub RunsPartly : Command → List Made → List Made → Type 0
 RunsPartly c old new = (made : List Made) × (new ≡ old ++ made) × Asked c (start_of c) made
 
--- just the steps of the commands were made, and the line of each was added
-pub record RunsAll (commands : List Command) (old new : List Made) (old_lines new_lines : List Line) : Type 0 where
+-- just steps that these commands may make were made, and their lines were added
+pub record RunsBy (is_driven : List Command → List Made → List Line → Type 0) (commands : List Command) (old new : List Made)
+    (old_lines new_lines : List Line) : Type 0 where
   pub made : List Made
   pub said : List Line
   pub more : new ≡ old ++ made
   pub more_lines : new_lines ≡ old_lines ++ said
-  pub driven : IsDriven commands made said
+  pub driven : is_driven commands made said
+
+-- just the steps of the commands were made, and the line of each was added
+abbrev pub RunsAll : List Command → List Made → List Made → List Line → List Line → Type 0
+RunsAll = RunsBy IsDriven
 
 -- just steps of the commands were made, so far as they came, and the line was added of each that was run
-pub record RunsSome (commands : List Command) (old new : List Made) (old_lines new_lines : List Line) : Type 0 where
-  pub made : List Made
-  pub said : List Line
-  pub more : new ≡ old ++ made
-  pub more_lines : new_lines ≡ old_lines ++ said
-  pub driven : IsPartlyDriven commands made said
+abbrev pub RunsSome : List Command → List Made → List Made → List Line → List Line → Type 0
+RunsSome = RunsBy IsPartlyDriven
 
 -- the line where one is said here, and else what is said later
 abbrev pub chosen : Next → List Reply → Option (Line × List Reply) → Option (Line × List Reply)

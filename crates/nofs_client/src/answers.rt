@@ -9,7 +9,7 @@ ghost use Rattle.nofs_client.specs.Places.{looks, new_looks};
 ghost use Rattle.nofs_client.specs.Task.{TaskStands, IsActing, IsPutting, IsLinking, HasTwoPaths};
 ghost use Rattle.nofs_client.specs.Asks.{act_of, link_step, put_at, within_slot, task_asks};
 ghost use Rattle.nofs_client.specs.Answers.{handle_of as handle_in, looked as looked_by, looked_new as looked_new_by, getting as getting_from, task_after_stat as sized_by, acted as acted_by, next_stage as stage_after, linked as linked_by, stored as stored_of, after_put as put_after, after_get as get_after, got_here, listing as listing_from, after_list as list_after, task_after as after_task};
-ghost use Rattle.nofs_client.specs.Drive.{Answers};
+ghost use Rattle.nofs_client.specs.Drive.{Answers, IsAnswered};
 
 use crate::commands::Command;
 use crate::lines::{GotPart, GotParts, Line, ListPart, ListParts};
@@ -160,11 +160,7 @@ fn stored(command: &Command, at: Handle, done: u64) -> Task
     ensures stands { TaskStands command.now result }
 {
     match command {
-        Command::Put {
-            path: _,
-            offset,
-            bytes,
-        } => {
+        Command::Put { offset, bytes, .. } => {
             let length = bytes.as_slice().len() as u64;
             let within = (*offset % SLOT + done) % SLOT;
             let next = done + (SLOT - within).min(length - done);
@@ -330,9 +326,7 @@ pub fn task_after(
     task: Task,
     reply: &Reply,
 ) -> Result<Task, AllocError>
-    requires formed { IsWellFormed command.now }
-    requires stands { TaskStands command.now task }
-    requires fits { Answers (task_asks command.now task) reply.now }
+    requires { IsAnswered command.now task reply.now }
     ensures is { IfOk result (λ next. next ≡ after_task command.now task reply.now) }
     ensures stands { IfOk result (TaskStands command.now) }
 {

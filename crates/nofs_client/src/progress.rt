@@ -5,7 +5,7 @@ ghost use Rattle.nofs_machine.specs.declared.replies.Reply.TheVariants.{Refused}
 ghost use Rattle.nofs_client.specs.Commands.{IsWellFormed};
 ghost use Rattle.nofs_client.specs.Task.{TaskStands, refused as refused_by};
 ghost use Rattle.nofs_client.specs.Asks.{IsAsked, task_asks};
-ghost use Rattle.nofs_client.specs.Drive.{Answers, goes_on as is_going_on, start_of, fresh_progress as fresh_of, step_answered as ended_by, examines_block as block_seen, examines_inode as inode_seen, step_before_repeat, asks as asks_of, stored_by, after_step as step_after, after_refused as refused_after, after_see as see_after, progress_after as after_of};
+ghost use Rattle.nofs_client.specs.Drive.{Answers, IsAnswered, StandsAs, goes_on as is_going_on, start_of, fresh_progress as fresh_of, step_answered as ended_by, examines_block as block_seen, examines_inode as inode_seen, step_before_repeat, asks as asks_of, stored_by, after_step as step_after, after_refused as refused_after, after_see as see_after, progress_after as after_of};
 
 use crate::answers::task_after;
 use crate::commands::Command;
@@ -78,21 +78,6 @@ fn goes_on(unverified: u64, last: Option<u64>) -> bool
     }
 }
 
-fn ended(
-    alloc: Global,
-    command: &Command,
-    progress: Progress,
-    reply: &Reply,
-) -> Result<Progress, AllocError>
-    requires formed { IsWellFormed command.now }
-    requires stands { TaskStands command.now progress.task }
-    requires fits { Answers (task_asks command.now progress.task) reply.now }
-    ensures is { IfOk result (λ next. next ≡ ended_by command.now progress reply.now) }
-    ensures stands { IfOk result (λ next. TaskStands command.now next.task) }
-{
-    Ok(fresh(task_after(alloc, command, progress.task, reply)?))
-}
-
 fn sees_block(progress: Progress, unverified: u64, next: u64) -> Progress
     ensures { result ≡ block_seen progress unverified next }
 {
@@ -115,89 +100,49 @@ fn sees_inode(progress: Progress, unverified: u64, next: u32) -> Progress
     }
 }
 
-fn after_full(
+/// A command and what its steps are made with.
+#[derive(Clone, Copy)]
+struct Asker<'a> {
     alloc: Global,
-    command: &Command,
-    progress: Progress,
-    refusal: &Refusal,
-    unverified: u64,
-    next: u64,
-) -> Result<Progress, AllocError>
-    requires formed { IsWellFormed command.now }
-    requires stands { TaskStands command.now progress.task }
-    requires fits { Answers (task_asks command.now progress.task) (Refused refusal.now) }
-    ensures is { IfOk result (λ after. after ≡ (if is_going_on unverified progress.full then block_seen progress unverified next else ended_by command.now progress (Refused refusal.now))) }
-    ensures stands { IfOk result (λ after. TaskStands command.now after.task) }
-{
-    if goes_on(unverified, progress.full) {
-        Ok(sees_block(progress, unverified, next))
-    } else {
-        ended(alloc, command, progress, &Reply::Refused(*refusal))
-    }
+    command: &'a Command,
 }
 
-fn after_inodes_full(
-    alloc: Global,
-    command: &Command,
-    progress: Progress,
-    refusal: &Refusal,
-    unverified: u64,
-    next: u32,
-) -> Result<Progress, AllocError>
-    requires formed { IsWellFormed command.now }
-    requires stands { TaskStands command.now progress.task }
-    requires fits { Answers (task_asks command.now progress.task) (Refused refusal.now) }
-    ensures is { IfOk result (λ after. after ≡ (if is_going_on unverified progress.inodes then inode_seen progress unverified next else ended_by command.now progress (Refused refusal.now))) }
-    ensures stands { IfOk result (λ after. TaskStands command.now after.task) }
-{
-    if goes_on(unverified, progress.inodes) {
-        Ok(sees_inode(progress, unverified, next))
-    } else {
-        ended(alloc, command, progress, &Reply::Refused(*refusal))
+impl Asker<'_> {
+    // The step of the task was answered for good.
+    fn ended(&self, progress: Progress, reply: &Reply) -> Result<Progress, AllocError>
+        requires { IsAnswered self.now.command.now progress.task reply.now }
+        ensures { IfOk result (StandsAs self.now.command.now (ended_by self.now.command.now progress reply.now)) }
+    {
+        Ok(fresh(task_after(self.alloc, self.command, progress.task, reply)?))
     }
-}
 
-fn after_refused(
-    alloc: Global,
-    command: &Command,
-    progress: Progress,
-    refusal: &Refusal,
-) -> Result<Progress, AllocError>
-    requires formed { IsWellFormed command.now }
-    requires stands { TaskStands command.now progress.task }
-    requires fits { Answers (task_asks command.now progress.task) (Refused refusal.now) }
-    ensures is { IfOk result (λ next. next ≡ refused_after command.now progress refusal.now) }
-    ensures stands { IfOk result (λ next. TaskStands command.now next.task) }
-{
-    match refusal {
-        Refusal::Full {
-            needed: _,
-            free: _,
-            unverified,
-            next,
-        } => after_full(alloc, command, progress, refusal, *unverified, *next),
-        Refusal::InodesFull { unverified, next } => {
-            after_inodes_full(alloc, command, progress, refusal, *unverified, *next as u32)
+    // A refusal for good, or for want of room that may be found yet.
+    fn after_refused(&self, progress: Progress, refusal: &Refusal) -> Result<Progress, AllocError>
+        requires { IsAnswered self.now.command.now progress.task (Refused refusal.now) }
+        ensures { IfOk result (StandsAs self.now.command.now (refused_after self.now.command.now progress refusal.now)) }
+    {
+        match *refusal {
+            Refusal::Full {
+                needed: _,
+                free: _,
+                unverified,
+                next,
+            } if goes_on(unverified, progress.full) => Ok(sees_block(progress, unverified, next)),
+            Refusal::InodesFull { unverified, next } if goes_on(unverified, progress.inodes) => {
+                Ok(sees_inode(progress, unverified, next as u32))
+            }
+            _ => self.ended(progress, &Reply::Refused(*refusal)),
         }
-        _ => ended(alloc, command, progress, &Reply::Refused(*refusal)),
     }
-}
 
-fn after_step(
-    alloc: Global,
-    command: &Command,
-    progress: Progress,
-    reply: &Reply,
-) -> Result<Progress, AllocError>
-    requires formed { IsWellFormed command.now }
-    requires stands { TaskStands command.now progress.task }
-    requires fits { Answers (task_asks command.now progress.task) reply.now }
-    ensures is { IfOk result (λ next. next ≡ step_after command.now progress reply.now) }
-    ensures stands { IfOk result (λ next. TaskStands command.now next.task) }
-{
-    match reply {
-        Reply::Refused(refusal) => after_refused(alloc, command, progress, refusal),
-        _ => ended(alloc, command, progress, reply),
+    fn after_step(&self, progress: Progress, reply: &Reply) -> Result<Progress, AllocError>
+        requires { IsAnswered self.now.command.now progress.task reply.now }
+        ensures { IfOk result (StandsAs self.now.command.now (step_after self.now.command.now progress reply.now)) }
+    {
+        match reply {
+            Reply::Refused(refusal) => self.after_refused(progress, refusal),
+            _ => self.ended(progress, reply),
+        }
     }
 }
 
@@ -248,7 +193,7 @@ pub fn after(
     ensures stands { IfOk result (λ next. TaskStands command.now next.task) }
 {
     match progress.see {
-        None => after_step(alloc, command, progress, reply),
+        None => Asker { alloc, command }.after_step(progress, reply),
         Some(_) => Ok(after_see(command, progress, reply)),
     }
 }

@@ -100,11 +100,7 @@ fn put(alloc: Global, command: &Command, at: Handle, done: u64) -> Result<Step, 
 {
     let Handle { inode, generation } = at;
     match command {
-        Command::Put {
-            path: _,
-            offset,
-            bytes,
-        } => {
+        Command::Put { offset, bytes, .. } => {
             let (offset, bytes) = (*offset, bytes.as_slice());
             let place = offset % SLOT + done;
             let within = place % SLOT;

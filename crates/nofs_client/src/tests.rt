@@ -4,7 +4,11 @@ mod answer;
 mod asked;
 mod text;
 
-use crate::tests::answer::{Answer, reply};
+use crate::tests::answer::Answer::{
+    self, Bytes, Directory, Dropped, File, Flushed, Folder, Full, Hole, InodesFull, Linked, Lost,
+    LostNames, Made, Names, No, NoMore, Renamed, Resized, Seen, Sized, Stored,
+};
+use crate::tests::answer::reply;
 use crate::tests::asked::{Asked, command};
 use crate::tests::text::{AskedSteps, note_line};
 use crate::{Client, Command, CommandList, Line, LineList, Next, Path, drive};
@@ -67,303 +71,205 @@ fn check(rt: &impl Abort, alloc: Global, table: &[Row<'_>]) -> Result<(), Fail> 
 const ON_FILES: [Row<'static>; 6] = [
     (
         Asked::Make("/d/f"),
-        &[Answer::Folder, Answer::Made],
+        &[Folder, Made],
         "look 1 1 d; make 4 9 f; made",
     ),
-    (
-        Asked::MakeDirectory("/d"),
-        &[Answer::Made],
-        "mkdir 1 1 d; made",
-    ),
+    (Asked::MakeDirectory("/d"), &[Made], "mkdir 1 1 d; made"),
     (
         Asked::Put("@", 0, b"abc"),
-        &[Answer::Stored],
+        &[Stored],
         "put 2 2 0 0; 616263; put 3",
     ),
     (
         Asked::Get("/f", 0, 3),
-        &[
-            Answer::File,
-            Answer::Sized(9),
-            Answer::Bytes(0, b"abcdefghi"),
-        ],
+        &[File, Sized(9), Bytes(0, b"abcdefghi")],
         "look 1 1 f; stat 3 7; get 3 7 0; got 616263",
     ),
     (
         Asked::Size("@", 5000),
-        &[Answer::Resized],
+        &[Resized],
         "size 2 2 5000; sized 5000",
     ),
     (
         Asked::Stat("/d"),
-        &[Answer::Folder, Answer::Directory],
+        &[Folder, Directory],
         "look 1 1 d; stat 4 9; Stat { kind: Directory, size: 0, links: 1 }",
     ),
 ];
-
-#[test]
-fn each_command_on_a_file_makes_its_steps_and_says_its_line(rt: HostRuntime) -> Result<(), Fail> {
-    check(&rt, rt.alloc(), &ON_FILES)
-}
 
 /// Commands on names and on several files.
 const ON_NAMES: [Row<'static>; 6] = [
     (
         Asked::List("/"),
-        &[Answer::Names(1), Answer::LostNames(5), Answer::NoMore],
+        &[Names(1), LostNames(5), NoMore],
         "list 1 1 0; list 1 1 2; list 1 1 6; names f d/ dead x lost 5",
     ),
     (
         Asked::Link("/f", "/d/g"),
-        &[Answer::File, Answer::Folder, Answer::Linked],
+        &[File, Folder, Linked],
         "look 1 1 f; look 1 1 d; link 4 9 3 7 g; linked",
     ),
     (
         Asked::Drop("/d/f"),
-        &[Answer::Folder, Answer::Dropped],
+        &[Folder, Dropped],
         "look 1 1 d; drop 4 9 f; dropped",
     ),
     (
         Asked::Rename("/d/f", "g"),
-        &[Answer::Folder, Answer::Renamed],
+        &[Folder, Renamed],
         "look 1 1 d; rename 4 9 f; as g; renamed",
     ),
     (
         Asked::Fsync("/d/f"),
-        &[Answer::Folder, Answer::File, Answer::Flushed],
+        &[Folder, File, Flushed],
         "look 1 1 d; look 4 9 f; flush 3 7; synced",
     ),
     (
         Asked::Move("/a", "/d/b"),
-        &[
-            Answer::File,
-            Answer::Folder,
-            Answer::Flushed,
-            Answer::Linked,
-            Answer::Flushed,
-            Answer::Dropped,
-        ],
+        &[File, Folder, Flushed, Linked, Flushed, Dropped],
         "look 1 1 a; look 1 1 d; flush 3 7; link 4 9 3 7 b; flush 3 7; drop 1 1 a; moved",
     ),
 ];
-
-#[test]
-fn each_command_on_names_makes_its_steps_and_says_its_line(rt: HostRuntime) -> Result<(), Fail> {
-    check(&rt, rt.alloc(), &ON_NAMES)
-}
 
 /// Puts that begin inside a slot, and past the last.
 const PUTS: [Row<'static>; 3] = [
     (
         Asked::Put("@", 1022, &[0xaa, 0xbb, 0xcc, 0xdd]),
-        &[Answer::Stored, Answer::Stored],
+        &[Stored, Stored],
         "put 2 2 0 1022; aabb; put 2 2 1 0; ccdd; put 4",
     ),
     (
         Asked::Put("@", 73728, &[4]),
-        &[Answer::No(Refusal::TooLarge)],
+        &[No(Refusal::TooLarge)],
         "put 2 2 72 0; 04; TooLarge stored 0",
     ),
     (
         Asked::Put("@", u64::MAX, &[1, 2]),
-        &[Answer::Stored, Answer::No(Refusal::TooLarge)],
+        &[Stored, No(Refusal::TooLarge)],
         "put 2 2 18014398509481983 1023; 01; put 2 2 18014398509481984 0; 02; TooLarge stored 1",
     ),
 ];
-
-#[test]
-fn slots_are_put_one_by_one(rt: HostRuntime) -> Result<(), Fail> {
-    check(&rt, rt.alloc(), &PUTS)
-}
 
 /// Gets over slots of all kinds, and past the end.
 const GETS: [Row<'static>; 6] = [
     (
         Asked::Get("@", 1020, 6),
         &[
-            Answer::Sized(1026),
-            Answer::Bytes(1022, &[0xaa, 0xbb]),
-            Answer::Bytes(0, &[0xcc, 0xdd]),
+            Sized(1026),
+            Bytes(1022, &[0xaa, 0xbb]),
+            Bytes(0, &[0xcc, 0xdd]),
         ],
         "stat 2 2; get 2 2 0; get 2 2 1; got 0000aabb ccdd",
     ),
     (
         Asked::Get("@", 0, 5000),
-        &[
-            Answer::Sized(5000),
-            Answer::Hole,
-            Answer::Hole,
-            Answer::Hole,
-            Answer::Hole,
-            Answer::Hole,
-        ],
+        &[Sized(5000), Hole, Hole, Hole, Hole, Hole],
         "stat 2 2; get 2 2 0; get 2 2 1; get 2 2 2; get 2 2 3; get 2 2 4; \
          got hole 1024 hole 1024 hole 1024 hole 1024 hole 904",
     ),
     (
         Asked::Get("@", 2047, 3),
-        &[Answer::Sized(5000), Answer::Hole, Answer::Bytes(0, &[0xff])],
+        &[Sized(5000), Hole, Bytes(0, &[0xff])],
         "stat 2 2; get 2 2 1; get 2 2 2; got hole 1 ff00",
     ),
     (
         Asked::Get("@", 8191, 2),
-        &[
-            Answer::Sized(73728),
-            Answer::Bytes(0, &[1]),
-            Answer::Bytes(0, &[2]),
-        ],
+        &[Sized(73728), Bytes(0, &[1]), Bytes(0, &[2])],
         "stat 2 2; get 2 2 7; get 2 2 8; got 00 02",
     ),
     (
         Asked::Get("@", 0, 10),
-        &[Answer::Sized(3), Answer::Lost],
+        &[Sized(3), Lost],
         "stat 2 2; get 2 2 0; got lost 3",
     ),
     (
         Asked::Get("@", u64::MAX, u64::MAX),
-        &[Answer::Sized(10)],
+        &[Sized(10)],
         "stat 2 2; got",
     ),
 ];
 
-#[test]
-fn slots_are_got_one_by_one(rt: HostRuntime) -> Result<(), Fail> {
-    check(&rt, rt.alloc(), &GETS)
-}
-
-/// Steps that find the disk full at first.
+/// Steps that find the disk full at first: each is repeated while less is unverified.
 const REPEATED: [Row<'static>; 4] = [
     (
         Asked::Put("@", 0, &[1]),
-        &[
-            Answer::Full(40),
-            Answer::Seen,
-            Answer::Full(39),
-            Answer::Seen,
-            Answer::Stored,
-        ],
+        &[Full(40), Seen, Full(39), Seen, Stored],
         "put 2 2 0 0; 01; block 24; put 2 2 0 0; 01; block 24; put 2 2 0 0; 01; put 1",
     ),
     (
         Asked::Put("@", 1023, &[1, 2]),
-        &[
-            Answer::Stored,
-            Answer::Full(40),
-            Answer::Seen,
-            Answer::Full(40),
-        ],
+        &[Stored, Full(40), Seen, Full(40)],
         "put 2 2 0 1023; 01; put 2 2 1 0; 02; block 24; put 2 2 1 0; 02; \
          Full { needed: 1, free: 0, unverified: 40, next: 24 } stored 1",
     ),
     (
         Asked::Make("/a"),
         &[
-            Answer::InodesFull(2),
-            Answer::Seen,
-            Answer::Full(9),
-            Answer::Seen,
-            Answer::InodesFull(1),
-            Answer::Seen,
-            Answer::Made,
+            InodesFull(2),
+            Seen,
+            Full(9),
+            Seen,
+            InodesFull(1),
+            Seen,
+            Made,
         ],
         "make 1 1 a; inode 3; make 1 1 a; block 24; make 1 1 a; inode 3; make 1 1 a; made",
     ),
     (
         Asked::Make("/a"),
-        &[Answer::InodesFull(0)],
+        &[InodesFull(0)],
         "make 1 1 a; InodesFull { unverified: 0, next: 3 }",
     ),
 ];
-
-#[test]
-fn a_step_is_repeated_while_less_is_unverified(rt: HostRuntime) -> Result<(), Fail> {
-    check(&rt, rt.alloc(), &REPEATED)
-}
 
 /// Steps that are refused when they are repeated.
 const REFUSED_AGAIN: [Row<'static>; 2] = [
     (
         Asked::Put("@", 1023, &[1, 2]),
-        &[
-            Answer::Stored,
-            Answer::Full(40),
-            Answer::No(Refusal::ReadFault),
-        ],
+        &[Stored, Full(40), No(Refusal::ReadFault)],
         "put 2 2 0 1023; 01; put 2 2 1 0; 02; block 24; ReadFault stored 1",
     ),
     (
         Asked::Put("@", 0, &[1]),
-        &[
-            Answer::Full(40),
-            Answer::Seen,
-            Answer::No(Refusal::OutOfMemory),
-            Answer::Stored,
-        ],
+        &[Full(40), Seen, No(Refusal::OutOfMemory), Stored],
         "put 2 2 0 0; 01; block 24; put 2 2 0 0; 01; no memory",
     ),
 ];
 
-#[test]
-fn a_repeated_step_ends_with_what_refuses_it(rt: HostRuntime) -> Result<(), Fail> {
-    check(&rt, rt.alloc(), &REFUSED_AGAIN)
-}
-
-/// Commands of which a step is refused.
+/// Commands of which a step is refused: it ends them.
 const REFUSED: [Row<'static>; 7] = [
     (
         Asked::Put("/f", 0, &[1]),
-        &[Answer::No(Refusal::Missing)],
+        &[No(Refusal::Missing)],
         "look 1 1 f; Missing stored 0",
     ),
-    (
-        Asked::Get("/", 0, 1),
-        &[Answer::Directory],
-        "stat 1 1; IsDirectory",
-    ),
+    (Asked::Get("/", 0, 1), &[Directory], "stat 1 1; IsDirectory"),
     (
         Asked::Get("@", 1000, 100),
-        &[
-            Answer::Sized(2000),
-            Answer::Hole,
-            Answer::No(Refusal::ReadFault),
-        ],
+        &[Sized(2000), Hole, No(Refusal::ReadFault)],
         "stat 2 2; get 2 2 0; get 2 2 1; ReadFault",
     ),
     (
         Asked::List("/"),
-        &[Answer::Names(3), Answer::Names(3)],
+        &[Names(3), Names(3)],
         "list 1 1 0; list 1 1 4; names f d/ dead x",
     ),
     (
         Asked::Move("/d", "/e"),
-        &[
-            Answer::Folder,
-            Answer::Flushed,
-            Answer::No(Refusal::IsDirectory),
-        ],
+        &[Folder, Flushed, No(Refusal::IsDirectory)],
         "look 1 1 d; flush 4 9; link 1 1 4 9 e; IsDirectory",
     ),
     (
         Asked::Move("/a", "/b"),
-        &[
-            Answer::File,
-            Answer::Flushed,
-            Answer::Linked,
-            Answer::No(Refusal::WriteFault),
-        ],
+        &[File, Flushed, Linked, No(Refusal::WriteFault)],
         "look 1 1 a; flush 3 7; link 1 1 3 7 b; flush 3 7; WriteFault",
     ),
     (
         Asked::Link("/f", "/d/g"),
-        &[Answer::File, Answer::No(Refusal::Missing)],
+        &[File, No(Refusal::Missing)],
         "look 1 1 f; look 1 1 d; Missing",
     ),
 ];
-
-#[test]
-fn a_refused_step_ends_its_command(rt: HostRuntime) -> Result<(), Fail> {
-    check(&rt, rt.alloc(), &REFUSED)
-}
 
 /// Whether a driver asks for the kind and size of the label file.
 fn asks_for_a_stat(next: Next) -> bool {
@@ -382,6 +288,22 @@ fn says_the_size(next: Next, size: u64) -> bool {
         Next::Say(Line::Stat(stat)) => stat.size == size,
         _ => false,
     }
+}
+
+#[test]
+fn each_command_makes_its_steps_and_says_its_line(rt: HostRuntime) -> Result<(), Fail> {
+    for table in [
+        ON_FILES.as_slice(),
+        &ON_NAMES,
+        &PUTS,
+        &GETS,
+        &REPEATED,
+        &REFUSED_AGAIN,
+        &REFUSED,
+    ] {
+        check(&rt, rt.alloc(), table)?;
+    }
+    Ok(())
 }
 
 #[test]
@@ -408,7 +330,7 @@ fn a_user_runs_each_command_to_its_line(rt: HostRuntime) -> Result<(), Fail> {
         size: 0,
     })?;
     commands.push(Command::Fsync { path: Path::Label })?;
-    let mut client = Client::new(stand_in(alloc, &[Answer::Resized, Answer::Flushed])?);
+    let mut client = Client::new(stand_in(alloc, &[Resized, Flushed])?);
     let mut lines = LineList::new(alloc);
     client.run_all(alloc, &commands, &mut lines)?;
     assert_eq!(rt; asked_of(client).text.as_str(), "size 2 2 0; flush 2 2; ");

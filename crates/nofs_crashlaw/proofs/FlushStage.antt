@@ -16,17 +16,16 @@ use Rattle.nofs_machine.specs.Machine.{generation_of, nothing, gives, file_after
 use Rattle.nofs_machine.specs.History.{agreed_files, files_along, mark_at, mark, mark_from, is_flushed, new_mark, last_in, is_generation, values_given}
 use Rattle.nofs_machine.specs.History.{metas_given, FilesMatch, NoWriteFault}
 use Rattle.nofs_machine.specs.Allowed.{IsAllowed}
-use Rattle.nofs_machine.specs.Marks.{IsUnderWay}
 use Rattle.nofs_machine.specs.Steady.{SteadyRest}
 use Rattle.nofs_machine.specs.declared.history.Entry1.{Entry1}
 use Rattle.nofs_machine.proofs.Lives.{along-append, values-append, metas-append}
 use Rattle.nofs_crashlaw.specs.Stage.{Stage, CellsSurvive, flush_entry, LawFlushStage}
 use Rattle.nofs_crashlaw.proofs.Below.{live-below, tag-below}
 use Rattle.nofs_crashlaw.proofs.Flushing.{flushed}
-use Rattle.nofs_crashlaw.proofs.Histories.{allowed-image, step-allowed, now-picks}
-use Rattle.nofs_crashlaw.proofs.Later.{law-later, mark-within}
+use Rattle.nofs_crashlaw.proofs.Histories.{allowed-image, now-picks}
+use Rattle.nofs_crashlaw.proofs.Later.{law-later}
 use Rattle.nofs_crashlaw.proofs.NewMark.{mark-new}
-use Rattle.nofs_crashlaw.proofs.Staging.{all-begun, same-marks, by-more, by-append, begun-append, mark-plain, le-test}
+use Rattle.nofs_crashlaw.proofs.Staging.{stage-keeps, by-more, by-append, begun-append, le-test}
 
 not-le : (a b : ℕ) → b < a → leb a b ≡ false
 not-le a b h = grind arith
@@ -147,25 +146,7 @@ module _ (B : Image) (H : List Entry1) (M : Image) (S start s caller i g : ℕ) 
           let L : ℕ → Type 0 = λ n. new.left n X in
           let p = f.during X (subst L e left) in
           let late : leb new.moment m ≡ false = not-le new.moment m (let q = f.moment in omega arith) in
-          let u : IsUnderWay H (flush_entry caller old new i g) (old.moment + 1) m = record {
-            all_begun = all-begun H old.moment (old.moment + 1) (omega arith) st.lasts.by;
-            begun_now = begun-append H (flush_entry caller old new i g) old.moment m (omega arith) st.lasts.by (omega arith);
-            same_mark = mark-plain H (flush_entry caller old new i g) m 0 0 late
-                ∙ same-marks H old.moment (old.moment + 1) m 0 0 (omega arith) (omega arith) st.lasts.by;
-            mark_within = (let w = mark-within H (old.moment + 1) 0 0 (omega arith) in omega (arith, w));
-          } in
-          (step-allowed B H (flush_entry caller old new i g) (old.moment + 1) m M S old.may old.may old.now
-          (record {
-            under_way = u;
-            mark = st.ready.survives.mark;
-            size = st.lasts.size;
-            super = st.lasts.first;
-            explained =
-                st.ready.survives.explained;
-            pick = pick;
-            files = st.ready.files;
-            proper = λ b c has. inl has;
-          })).allowed X
+          (stage-keeps B H (flush_entry caller old new i g) M S start s old is_old tells st m (omega arith) refl late old.may (λ b c has. inl has)).allowed X
           (record { len = p.len ∙ sym st.ready.survives.size; each = λ b lt. p.each b (let q = st.ready.survives.size in omega (arith, lt, q)) })
 
       end-image : m ≡ new.moment → IsAllowed B (H ++ flush_entry caller old new i g ∷ []) m X

@@ -19,6 +19,7 @@ use Rattle.nofs_law_untouched.proofs.Matching.{matched-file}
 use Rattle.nofs_crashlaw.proofs.Histories.{step-allowed, now-picks}
 use Rattle.nofs_crashlaw.proofs.Later.{law-later, mark-within}
 use Rattle.nofs_crashlaw.proofs.Marks.{stands-now}
+use Rattle.nofs_crashlaw.specs.Laws.{StepKeeps}
 use Rattle.nofs_crashlaw.specs.Stage.{AllBy, HasFiles, Lasts, Stage, CellsSurvive, LawLasts, LawStage, LawIdleStage, LawTracked}
 
 -- the cell of the image alone
@@ -73,52 +74,46 @@ pub mark-plain : (H : List Entry1) (e : Entry1) (m at best : ℕ) → (is_flushe
 mark-plain [] e m at best plain = rw plain refl
 mark-plain (h ∷ H) e m at best plain = mark-plain H e m (suc at) (cond (is_flushed h.reply && leb h.to m) (suc at) best) plain
 
+-- what a step keeps that begins from a stage, at a moment of it before any flush is done
+pub stage-keeps : (B : Image) (H : List Entry1) (e : Entry1) (M : Image) (S start s : ℕ) (old : DiskState) → IsDisk old → IsTrue old.tells
+    → Stage B H M S start s old → (m : ℕ) → old.moment < m → e.from ≡ old.moment → (is_flushed e.reply && leb e.to m) ≡ false → (after : ℕ → List Cell)
+    → OnlyProper (during (mark_at B H (old.moment + 1) M S) (given_by (files_along (agreed_files B) H) e)) old.now old.may after
+    → StepKeeps B H e (old.moment + 1) m M S after
+stage-keeps B H e M S start s old is_old tells st m lt from plain after proper =
+    let under_way : IsUnderWay H e (old.moment + 1) m = record {
+      all_begun = all-begun H old.moment (old.moment + 1) (omega arith) st.lasts.by;
+      begun_now = begun-append H e old.moment m lt st.lasts.by (omega arith);
+      same_mark = mark-plain H e m 0 0 plain ∙ same-marks H old.moment (old.moment + 1) m 0 0 (omega arith) (omega arith) st.lasts.by;
+      mark_within = (let w = mark-within H (old.moment + 1) 0 0 (omega arith) in omega (arith, w));
+    } in
+    step-allowed B H e (old.moment + 1) m M S old.may after old.now (record {
+      under_way = under_way;
+      mark = st.ready.survives.mark;
+      size = st.lasts.size;
+      super = st.lasts.first;
+      explained = st.ready.survives.explained;
+      pick = now-picks old M is_old tells st.ready.survives.size;
+      files = st.ready.files;
+      proper = proper;
+    })
+
 module _ (B : Image) (H : List Entry1) (e : Entry1) (M : Image) (S start s : ℕ) (old new : DiskState) (is_old : IsDisk old) (tells : IsTrue old.tells)
     (st : Stage B H M S start s old)
     (from : e.from ≡ old.moment) (to : e.to ≡ new.moment) (plain : is_flushed e.reply ≡ false)
     (adds : Adds (Proper (during (mark_at B H (old.moment + 1) M S) (given_by (files_along (agreed_files B) H) e)) old.now) old new) where
-  under-way : (m : ℕ) → old.moment < m → IsUnderWay H e (old.moment + 1) m
-  under-way m lt = record {
-    all_begun = all-begun H old.moment (old.moment + 1) (omega arith) st.lasts.by;
-    begun_now = begun-append H e old.moment m lt st.lasts.by (omega arith);
-    same_mark = mark-plain H e m 0 0 (λ j. plain j && leb e.to m) ∙ same-marks H old.moment (old.moment + 1) m 0 0 (omega arith) (omega arith) st.lasts.by;
-    mark_within = (let w = mark-within H (old.moment + 1) 0 0 (omega arith) in omega (arith, w));
-  }
-
-  pick : Picks old.may (length M) old.now
-  pick = now-picks old M is_old tells st.ready.survives.size
+  keeps-at : (m : ℕ) → old.moment < m → (after : ℕ → List Cell)
+      → OnlyProper (during (mark_at B H (old.moment + 1) M S) (given_by (files_along (agreed_files B) H) e)) old.now old.may after
+      → StepKeeps B H e (old.moment + 1) m M S after
+  keeps-at m lt = stage-keeps B H e M S start s old is_old tells st m lt from (λ j. plain j && leb e.to m)
 
   pub survives-step : CellsSurvive new (mark_at B (H ++ e ∷ []) (new.moment + 1) M S)
   survives-step =
-      let u = under-way (new.moment + 1) (let q = adds.later in omega arith) in
-      let r = step-allowed B H e (old.moment + 1) (new.moment + 1) M S old.may new.may old.now
-      (record {
-        under_way = u;
-        mark = st.ready.survives.mark;
-        size = st.lasts.size;
-        super = st.lasts.first;
-        explained =
-            st.ready.survives.explained;
-        pick = pick;
-        files = st.ready.files;
-        proper = adds.cells;
-      }) in
+      let r = keeps-at (new.moment + 1) (let q = adds.later in omega arith) new.may adds.cells in
       record { mark = r.mark; size = st.ready.survives.size ∙ sym adds.disk.blocks; explained = r.explained }
 
   -- an image that is left during the step
   new-image : (m : ℕ) (X : Image) → old.moment < m → m ≤ new.moment → new.left m X → IsAllowed B (H ++ e ∷ []) m X
-  new-image m X low high left = (step-allowed B H e (old.moment + 1) m M S old.may (these X old.blocks) old.now
-      (record {
-        under_way = under-way m low;
-        mark = st.ready.survives.mark;
-        size = st.lasts.size;
-        super = st.lasts.first;
-        explained =
-            st.ready.survives.explained;
-        pick = pick;
-        files = st.ready.files;
-        proper = only;
-      })).allowed X picks
+  new-image m X low high left = (keeps-at m low (these X old.blocks) only).allowed X picks
     where
       got : (length X ≡ old.blocks) × ((b : ℕ) → b < old.blocks
           → WasOr (Proper (during (mark_at B H (old.moment + 1) M S) (given_by (files_along (agreed_files B) H) e)) old.now) old b (cell_at X b))

@@ -105,8 +105,8 @@ fn spelled_entry(alloc: Global, payload: &[u8; 1024], at: u32) -> Result<Option<
     }
 }
 
-// The 64 bytes at a place.
-fn bytes_of(payload: &[u8; 1024], at: u32) -> &[u8]
+/// The 64 bytes of the entry at a place.
+pub fn bytes_of(payload: &[u8; 1024], at: u32) -> &[u8]
     requires { at < 16 }
     ensures bytes { result.now ≡ entry_bytes payload.now at }
     ensures len { length result.now ≡ 64 }
@@ -139,8 +139,8 @@ fn has_spelling(inode: u32, generation: u64, name: &[u8]) -> bool
     inode >= 1 && generation >= 1 && name_ok(name)
 }
 
-// Whether a name of this size fits, and zeros follow it.
-fn has_zeros_after(bytes: &[u8], size: usize) -> bool
+/// Whether a name of this size fits into these 64 bytes, and zeros follow it.
+pub fn has_zeros_after(bytes: &[u8], size: usize) -> bool
     requires { length bytes.now ≡ 64 }
     ensures { result ≡ has_zeros_after bytes.now size }
 {

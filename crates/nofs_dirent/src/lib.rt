@@ -9,5 +9,8 @@ mod name;
 #[cfg(test)]
 mod tests;
 
-pub use entry::{ENTRY_LIMIT, Entry, clear_entry, find_name, has_name, read_entry, write_entry};
+pub use entry::{
+    ENTRY_LIMIT, Entry, bytes_of, clear_entry, find_name, has_name, has_zeros_after, read_entry,
+    write_entry,
+};
 pub use name::name_ok;

@@ -5,10 +5,10 @@
 ghost use Rattle.std.specs.Prelude.{◌≡◌, ◌<◌, ◌^◌, IfOk, length};
 
 use crate::laying::{
-    Laid, S, content, file, lay_bytes, lay_entry, lay_pointer, lay_record, lay_super, lay_tag,
-    roots, to,
+    self, Laid, LaidTag, S, content, file, lay_bytes, lay_entry, lay_pointer, lay_record,
+    lay_super, lay_tag, roots, to,
 };
-use nofs_disk::{Cell, Kind, Tag};
+use nofs_disk::Cell;
 use nofs_super::SuperBlock;
 use std::alloc::{AllocError, Global};
 
@@ -43,13 +43,8 @@ pub fn empty(alloc: Global) -> Result<Vec<Cell>, AllocError>
 pub fn stamp_that_differs(alloc: Global) -> Result<Vec<Cell>, AllocError>
     ensures { IfOk result (λ cells. length cells.items ≡ 16) }
 {
-    let mut cells = empty(alloc)?;
-    let label = Laid {
-        size: 3,
-        direct: to(5, S + 9),
-        ..Laid::LABEL
-    };
-    lay_record(&mut cells, 2, label);
+    let label = Laid::LABEL.sized(3).with_direct(to(5, S + 9));
+    let mut cells = with_label(alloc, &SIXTEEN, label)?;
     lay_tag(&mut cells, 5, content(2, 2, 0, S));
     lay_bytes(&mut cells, 5, b"old");
     Ok(cells)
@@ -94,19 +89,15 @@ fn with_file(
     inode: u32,
     name: u8,
     generation: u64,
-    tag: Tag,
+    tag: LaidTag,
 ) -> Result<Vec<Cell>, AllocError>
     requires { generation < 2 ^ 63 }
     ensures { IfOk result (λ cells. length cells.items ≡ at.now.blocks) }
 {
     let mut cells = roots(alloc, at, 6)?;
     lay_entry(&mut cells, 6, 0, name, inode, generation);
-    let it = Laid {
-        size: 1,
-        direct: to(7, generation + 1),
-        ..file(0, generation)
-    };
-    lay_record(&mut cells, inode, it);
+    let it = file(0, generation).sized(1);
+    lay_record(&mut cells, inode, it.with_direct(to(7, generation + 1)));
     lay_tag(&mut cells, 7, tag);
     Ok(cells)
 }
@@ -117,13 +108,8 @@ fn with_file(
 pub fn residue_past_the_size(alloc: Global) -> Result<Vec<Cell>, AllocError>
     ensures { IfOk result (λ cells. length cells.items ≡ 16) }
 {
-    let mut cells = empty(alloc)?;
-    let label = Laid {
-        size: 8_192,
-        leaf: to(9, S + 1),
-        ..Laid::LABEL
-    };
-    lay_record(&mut cells, 2, label);
+    let label = Laid::LABEL.sized(8_192).with_leaf(to(9, S + 1));
+    let mut cells = with_label(alloc, &SIXTEEN, label)?;
     lay_tag(&mut cells, 9, pointers(LEAF, S + 1));
     lay_pointer(&mut cells, 9, 0, to(10, S + 2));
     lay_tag(&mut cells, 10, content(2, 2, 8, S + 2));
@@ -141,13 +127,8 @@ pub fn blocks_under_the_top(alloc: Global) -> Result<Vec<Cell>, AllocError>
         version: 2,
         ..SIXTEEN
     };
-    let mut cells = roots(alloc, &at, 6)?;
-    let label = Laid {
-        size: 205_824,
-        top: to(9, S + 1),
-        ..Laid::LABEL
-    };
-    lay_record(&mut cells, 2, label);
+    let label = Laid::LABEL.sized(205_824).with_top(to(9, S + 1));
+    let mut cells = with_label(alloc, &at, label)?;
     lay_tag(&mut cells, 9, pointers(TOP, S + 1));
     lay_pointer(&mut cells, 9, 0, to(10, S + 2));
     lay_pointer(&mut cells, 9, 1, to(11, S + 3));
@@ -160,10 +141,19 @@ pub fn blocks_under_the_top(alloc: Global) -> Result<Vec<Cell>, AllocError>
     Ok(cells)
 }
 
+// The label file has this record.
+fn with_label(alloc: Global, at: &SuperBlock, label: Laid) -> Result<Vec<Cell>, AllocError>
+    ensures { IfOk result (λ cells. length cells.items ≡ at.now.blocks) }
+{
+    let mut cells = roots(alloc, at, 6)?;
+    lay_record(&mut cells, 2, label);
+    Ok(cells)
+}
+
 // The tag of a block of the label file's pointers.
-fn pointers(slot: u64, stamp: u64) -> Tag {
-    Tag {
-        kind: Kind::Leaf,
+fn pointers(slot: u64, stamp: u64) -> LaidTag {
+    LaidTag {
+        kind: laying::LEAF,
         ..content(2, 2, slot, stamp)
     }
 }

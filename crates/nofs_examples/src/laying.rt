@@ -7,15 +7,30 @@
 //! Promise: no call changes the number of cells.
 ghost use Rattle.std.specs.Prelude.{◌≡◌, ◌<◌, ◌≤◌, IfOk, length};
 
-use nofs_disk::{
-    Cell, Kind, Pointer, Tag, write_bytes_at, write_pointer_at, write_u32_at, write_u64_at,
-};
+use nofs_disk::{Cell, Pointer, write_bytes_at, write_pointer_at, write_u32_at, write_u64_at};
 use nofs_inode::{BackLink, FileKind};
 use nofs_super::{SuperBlock, write_super};
 use std::alloc::{AllocError, Global};
 
 /// The first stamp of the first mount.
 pub(crate) const S: u64 = 1_099_511_627_776;
+
+/// The kinds of tags that examples have.
+const CONTENT: u32 = 1;
+
+pub(crate) const DIRECTORY: u32 = 2;
+
+pub(crate) const LEAF: u32 = 3;
+
+/// What a tag says, its kind by the number.
+#[derive(Clone, Copy)]
+pub(crate) struct LaidTag {
+    pub kind: u32,
+    pub inode: u32,
+    pub generation: u64,
+    pub slot: u64,
+    pub stamp: u64,
+}
 
 /// What a live record says, as far as an example needs it: two back links, and the pointers of slot
 /// 0, the leaf and the top.
@@ -41,6 +56,26 @@ impl Laid {
         leaf: Pointer::NULL,
         top: Pointer::NULL,
     };
+
+    /// The same with this size.
+    pub fn sized(self, size: u64) -> Laid {
+        Laid { size, ..self }
+    }
+
+    /// The same with this pointer of slot 0.
+    pub fn with_direct(self, direct: Pointer) -> Laid {
+        Laid { direct, ..self }
+    }
+
+    /// The same with this leaf.
+    pub fn with_leaf(self, leaf: Pointer) -> Laid {
+        Laid { leaf, ..self }
+    }
+
+    /// The same with this top.
+    pub fn with_top(self, top: Pointer) -> Laid {
+        Laid { top, ..self }
+    }
 }
 
 /// A pointer to a block with this stamp.
@@ -67,9 +102,9 @@ pub(crate) fn file(entry: u32, generation: u64) -> Laid {
 }
 
 /// The tag of a block of content.
-pub(crate) fn content(inode: u32, generation: u64, slot: u64, stamp: u64) -> Tag {
-    Tag {
-        kind: Kind::Content,
+pub(crate) fn content(inode: u32, generation: u64, slot: u64, stamp: u64) -> LaidTag {
+    LaidTag {
+        kind: CONTENT,
         inode,
         generation,
         slot,
@@ -98,8 +133,8 @@ fn lay_roots(cells: &mut [Cell], at: &SuperBlock, block: u64)
     };
     lay_record(cells, 1, root);
     lay_record(cells, 2, Laid::LABEL);
-    let tag = Tag {
-        kind: Kind::Directory,
+    let tag = LaidTag {
+        kind: DIRECTORY,
         ..content(1, 1, 0, S)
     };
     lay_tag(cells, block, tag);
@@ -162,7 +197,7 @@ fn fill_link(payload: &mut [u8; 1024], at: usize, it: BackLink)
 }
 
 /// The tag of a block.
-pub(crate) fn lay_tag(cells: &mut [Cell], block: u64, it: Tag)
+pub(crate) fn lay_tag(cells: &mut [Cell], block: u64, it: LaidTag)
     ensures { length cells.new ≡ length cells.old }
 {
     if let Some(cell) = cells.get_mut(block as usize) {
@@ -170,23 +205,12 @@ pub(crate) fn lay_tag(cells: &mut [Cell], block: u64, it: Tag)
     }
 }
 
-fn fill_tag(tag: &mut [u8; 32], it: Tag) {
-    write_u32_at(tag, 0, number_of_kind(it.kind));
+fn fill_tag(tag: &mut [u8; 32], it: LaidTag) {
+    write_u32_at(tag, 0, it.kind);
     write_u32_at(tag, 4, it.inode);
     write_u64_at(tag, 8, it.generation);
     write_u64_at(tag, 16, it.slot);
     write_u64_at(tag, 24, it.stamp);
-}
-
-fn number_of_kind(kind: Kind) -> u32 {
-    match kind {
-        Kind::Nothing => 0,
-        Kind::Content => 1,
-        Kind::Directory => 2,
-        Kind::Leaf => 3,
-        Kind::Table => 4,
-        Kind::Super => 5,
-    }
 }
 
 /// An entry of a directory's block, with a name of one letter.

@@ -5,8 +5,10 @@
 ghost use Rattle.std.specs.Prelude.{◌≡◌, IfOk, length};
 
 use crate::images::{SIXTEEN, empty};
-use crate::laying::{Laid, S, content, file, in_root, lay_entry, lay_record, lay_tag, roots, to};
-use nofs_disk::{Cell, Kind, Pointer, Tag};
+use crate::laying::{
+    DIRECTORY, Laid, LaidTag, S, content, file, in_root, lay_entry, lay_record, lay_tag, roots, to,
+};
+use nofs_disk::{Cell, Pointer};
 use nofs_inode::{BackLink, FileKind};
 use nofs_super::SuperBlock;
 use std::alloc::{AllocError, Global};
@@ -34,16 +36,8 @@ pub fn one_name_twice(alloc: Global) -> Result<Vec<Cell>, AllocError>
     let mut cells = empty(alloc)?;
     lay_entry(&mut cells, 6, 0, b'a', 3, S + 1);
     lay_entry(&mut cells, 6, 1, b'a', 4, S + 2);
-    let first = Laid {
-        size: 1,
-        ..file(0, S + 1)
-    };
-    let second = Laid {
-        size: 2,
-        ..file(1, S + 2)
-    };
-    lay_record(&mut cells, 3, first);
-    lay_record(&mut cells, 4, second);
+    lay_record(&mut cells, 3, file(0, S + 1).sized(1));
+    lay_record(&mut cells, 4, file(1, S + 2).sized(2));
     Ok(cells)
 }
 
@@ -152,9 +146,9 @@ fn directory(parent: u32, parent_generation: u64, generation: u64, direct: Point
 }
 
 // The tag of a directory's first block.
-fn entries(inode: u32, generation: u64, stamp: u64) -> Tag {
-    Tag {
-        kind: Kind::Directory,
+fn entries(inode: u32, generation: u64, stamp: u64) -> LaidTag {
+    LaidTag {
+        kind: DIRECTORY,
         ..content(inode, generation, 0, stamp)
     }
 }

@@ -82,14 +82,14 @@ fn listed_owner(owners: &[(u64, u32, u64)], block: u64) -> Option<(u32, u64)> {
 /// Compares a whole image with what is listed of it: the inodes that are agreed, the slots that say
 /// something, the blocks that have an owner, and how many inodes and blocks are used.
 fn means(
-    rt: &impl Abort,
-    alloc: Global,
+    rt: &(impl Abort + AllocGlobal),
     cells: &[Cell],
     names: &[u32],
     slots: &[(u32, u64, Says)],
     owners: &[(u64, u32, u64)],
     counts: (u64, u64),
 ) -> Result<(), Fail> {
+    let alloc = rt.alloc();
     assert!(rt; is_mountable(cells));
     for inode in 0..18 {
         assert_eq!(rt;
@@ -118,81 +118,40 @@ fn means(
 
 const ROOT: (u64, u32, u64) = (6, 1, 0);
 
+const EMPTY_ROOT: (u32, u64, Says) = (1, 0, Says::First(0));
+
+const NAMES_3: (u32, u64, Says) = (1, 0, Says::First(3));
+
 #[test]
 fn a_slot_holds_a_block_with_just_its_tag(rt: HostRuntime) -> Result<(), Fail> {
     let alloc = rt.alloc();
-    let empty_root = (1, 0, Says::First(0));
-    let names_3 = (1, 0, Says::First(3));
-    means(
-        &rt,
-        alloc,
-        &empty(alloc)?,
-        &[1, 2],
-        &[empty_root],
-        &[ROOT],
-        (2, 3),
-    )?;
-    means(
-        &rt,
-        alloc,
-        &stamp_that_differs(alloc)?,
-        &[1, 2],
-        &[empty_root, (2, 0, Says::Lost)],
-        &[ROOT],
-        (2, 3),
-    )?;
-    means(
-        &rt,
-        alloc,
-        &two_owners(alloc)?,
-        &[1, 2, 3],
-        &[names_3, (3, 0, Says::Lost)],
-        &[ROOT],
-        (3, 3),
-    )?;
-    means(
-        &rt,
-        alloc,
-        &two_owners_the_other_way(alloc)?,
-        &[1, 2, 4],
-        &[(1, 0, Says::First(4)), (4, 0, Says::Lost)],
-        &[ROOT],
-        (3, 3),
-    )?;
-    means(
-        &rt,
-        alloc,
-        &inode_made_again(alloc)?,
-        &[1, 2, 3],
-        &[names_3, (3, 0, Says::Lost)],
-        &[ROOT],
-        (3, 3),
-    )
+    let image = empty(alloc)?;
+    means(&rt, &image, &[1, 2], &[EMPTY_ROOT], &[ROOT], (2, 3))?;
+    let image = stamp_that_differs(alloc)?;
+    let slots = [EMPTY_ROOT, (2, 0, Says::Lost)];
+    means(&rt, &image, &[1, 2], &slots, &[ROOT], (2, 3))?;
+    for (image, inode, first) in [
+        (two_owners(alloc)?, 3, 3),
+        (two_owners_the_other_way(alloc)?, 4, 4),
+        (inode_made_again(alloc)?, 3, 3),
+    ] {
+        let slots = [(1, 0, Says::First(first)), (inode, 0, Says::Lost)];
+        means(&rt, &image, &[1, 2, inode], &slots, &[ROOT], (3, 3))?;
+    }
+    Ok(())
 }
 
 #[test]
 fn the_blocks_of_pointers_are_owned_too(rt: HostRuntime) -> Result<(), Fail> {
     let alloc = rt.alloc();
-    let empty_root = (1, 0, Says::First(0));
-    means(
-        &rt,
-        alloc,
-        &residue_past_the_size(alloc)?,
-        &[1, 2],
-        &[empty_root, (2, 8, Says::First(b'j'))],
-        &[ROOT, (9, 2, LEAF), (10, 2, 8)],
-        (2, 5),
-    )?;
+    let image = residue_past_the_size(alloc)?;
+    let slots = [EMPTY_ROOT, (2, 8, Says::First(b'j'))];
+    let owners = [ROOT, (9, 2, LEAF), (10, 2, 8)];
+    means(&rt, &image, &[1, 2], &slots, &owners, (2, 5))?;
     let top = blocks_under_the_top(alloc)?;
-    means(
-        &rt,
-        alloc,
-        &top,
-        &[1, 2],
-        &[empty_root, (2, 72, Says::First(b'f')), (2, 73, Says::Lost)],
-        &[ROOT, (9, 2, LEAF + 1), (10, 2, LEAF + 2), (12, 2, 72)],
-        (2, 6),
-    )?;
+    let slots = [EMPTY_ROOT, (2, 72, Says::First(b'f')), (2, 73, Says::Lost)];
+    let owners = [ROOT, (9, 2, LEAF + 1), (10, 2, LEAF + 2), (12, 2, 72)];
+    means(&rt, &top, &[1, 2], &slots, &owners, (2, 6))?;
     for (slot, want) in [
         (135, Says::Nothing),
         (136, Says::Lost),
@@ -208,62 +167,24 @@ fn the_blocks_of_pointers_are_owned_too(rt: HostRuntime) -> Result<(), Fail> {
 #[test]
 fn an_inode_has_a_name_where_an_entry_and_a_back_link_agree(rt: HostRuntime) -> Result<(), Fail> {
     let alloc = rt.alloc();
-    let names_3 = (1, 0, Says::First(3));
-    means(
-        &rt,
-        alloc,
-        &dead_second_link(alloc)?,
-        &[1, 2, 3],
-        &[names_3],
-        &[ROOT],
-        (3, 3),
-    )?;
-    means(
-        &rt,
-        alloc,
-        &one_name_twice(alloc)?,
-        &[1, 2, 3, 4],
-        &[names_3],
-        &[ROOT],
-        (4, 3),
-    )?;
-    means(
-        &rt,
-        alloc,
-        &entry_of_a_free_record(alloc)?,
-        &[1, 2],
-        &[names_3],
-        &[ROOT],
-        (2, 3),
-    )?;
-    means(
-        &rt,
-        alloc,
-        &entry_of_another_generation(alloc)?,
-        &[1, 2],
-        &[names_3],
-        &[ROOT],
-        (2, 3),
-    )?;
-    means(
-        &rt,
-        alloc,
-        &loop_of_directories(alloc)?,
-        &[1, 2],
-        &[
-            (1, 0, Says::First(0)),
-            (3, 0, Says::First(4)),
-            (4, 0, Says::First(3)),
-        ],
-        &[ROOT],
-        (2, 3),
-    )
+    let image = dead_second_link(alloc)?;
+    means(&rt, &image, &[1, 2, 3], &[NAMES_3], &[ROOT], (3, 3))?;
+    let image = one_name_twice(alloc)?;
+    means(&rt, &image, &[1, 2, 3, 4], &[NAMES_3], &[ROOT], (4, 3))?;
+    for image in [
+        entry_of_a_free_record(alloc)?,
+        entry_of_another_generation(alloc)?,
+    ] {
+        means(&rt, &image, &[1, 2], &[NAMES_3], &[ROOT], (2, 3))?;
+    }
+    let image = loop_of_directories(alloc)?;
+    let slots = [EMPTY_ROOT, (3, 0, Says::First(4)), (4, 0, Says::First(3))];
+    means(&rt, &image, &[1, 2], &slots, &[ROOT], (2, 3))
 }
 
 #[test]
 fn in_an_image_of_bytes_ff_only_what_is_fixed_is_used(rt: HostRuntime) -> Result<(), Fail> {
-    let alloc = rt.alloc();
-    means(&rt, alloc, &bytes_ff(alloc)?, &[], &[], &[], (2, 5))
+    means(&rt, &bytes_ff(rt.alloc())?, &[], &[], &[], (2, 5))
 }
 
 #[test]

@@ -13,12 +13,10 @@ pub KeepsBytes-refl : (f : HostFileState) → KeepsBytes f f
 KeepsBytes-refl f = record { tells = refl; bytes = refl; durable = refl; faults = omega arith }
 
 pub KeepsBytes-trans : (a b c : HostFileState) → KeepsBytes a b → KeepsBytes b c → KeepsBytes a c
-KeepsBytes-trans a b c p q = record {
-  tells = q.tells ∙ p.tells;
-  bytes = q.bytes ∙ p.bytes;
-  durable = q.durable ∙ p.durable;
-  faults = (let x = p.faults in let y = q.faults in omega arith);
-}
+KeepsBytes-trans a b c p q =
+    let x = p.faults in
+    let y = q.faults in
+    record { tells = q.tells ∙ p.tells; bytes = q.bytes ∙ p.bytes; durable = q.durable ∙ p.durable; faults = omega (arith, x, y) }
 
 -- the first bytes of a part are read
 pub record HasRead (at size done : ℕ) (into : List ℕ) (old now : HostFileState) : Type 0 where

@@ -1,9 +1,9 @@
 -- The contract of a Put at any depth, from its cells.
-use Rattle.std.proofs.Common.{◌≡◌, ℕ, true, false, List}
-use Rattle.std.proofs.Common.{IsTrue, Result, Ok, Err, refl, sym, ap, ◌∙◌, subst₂}
-use Rattle.nofs_disk.specs.Disk.{DiskState, IsDisk}
+use Rattle.std.proofs.Common.{◌≡◌, ℕ, Bool, true, false, List}
+use Rattle.std.proofs.Common.{IsTrue, Result, Ok, Err, refl, sym, ap, ◌∙◌, subst, subst₂}
+use Rattle.nofs_disk.specs.Disk.{DiskState, IsDisk, StaysButFaults}
 use Rattle.nofs_model.specs.Cells.{Cell, Pointer, Record}
-use Rattle.nofs_model.specs.Image.{Path}
+use Rattle.nofs_model.specs.Image.{Image, Path, agreed, files_in}
 use Rattle.nofs_machine.specs.Machine.{gives}
 use Rattle.nofs_machine.specs.World.{blocks_for}
 use Rattle.nofs_machine.specs.Claims.{IsClaim}
@@ -20,12 +20,18 @@ use Rattle.nofs_state.specs.Writing.{IsApart, Stores, Stored, NotStored}
 use Rattle.nofs_state.specs.declared.books.Books.{Books}
 use Rattle.nofs_state.proofs.Done.{goes-done}
 use Rattle.nofs_state.proofs.Faults.{goes-fault, stopped_books, stopped_world}
+use Rattle.nofs_state.proofs.Keeping.{Keeping, goes-after, open-back, reads-keep, safe-keeps}
+use Rattle.nofs_state.proofs.Machine.{are-agreed}
 use Rattle.nofs_state.proofs.Tables.{table_block}
 use Rattle.nofs_state.proofs.TwoWrites.{safe-writes}
-use Rattle.nofs_files.specs.Putting.{put_answer}
+use Rattle.nofs_files.specs.Putting.{HasRoom, put_answer, step_of_put}
+use Rattle.nofs_files.specs.declared.puts.Put.{Put}
 use Rattle.nofs_state.specs.Owing.{RowsPass}
 use Rattle.nofs_files.proofs.Climbing.{Climbs, climb-done, climb-proper, climb-numbered}
+use Rattle.nofs_files.proofs.FileRows.{current-agreed}
 use Rattle.nofs_files.proofs.Parts.{Takes}
+use Rattle.nofs_files.proofs.Rooms.{IsAsked, rows-pass}
+use Rattle.nofs_files.proofs.Taking.{IsTaking}
 use Rattle.nofs_files.proofs.Ways.{way_writes}
 
 -- what a Put at any depth owes in an open world
@@ -76,3 +82,45 @@ climb-goes d new k l' l i g slot at bytes r r' m way places cells c c2 result is
           refl,
           f.claim,
         )))
+
+-- the exit of each Put that writes, from the state before its last reads
+pub ways-end : (old mid new : DiskState) (k l' l : Books) (i g slot at : ℕ) (bytes : List ℕ) (r r' : Record) (m : ℕ) (way : Path) (places : Path → Pointer)
+    (cells : Path → Cell) (c : Claims) (c2 : Cell) (result : Result (Unit {0}) Refusal) → IsDisk mid → IsDisk new → StaysButFaults old mid
+    → IsSafe old k → (IsSafe mid k → IsSafe mid l') → k.stopped ≡ false → IsApart (way_writes places cells (table_block i, c2) m way) 0 → Takes k l' c m
+    → (IsTrue old.tells → (H : List Entry1) (p : Past) → IsOpen old k H p → IsClimb old p i g slot at bytes r r' m way places cells c c2)
+    → RowsPass old k (step.Put i g slot at bytes) → Stores mid l' new l (way_writes places cells (table_block i, c2) m way) result
+    → Goes old k new l (step.Put i g slot at bytes) c (put_answer result)
+ways-end old mid new k l' l i g slot at bytes r r' m way places cells c c2 result is_mid is_new stays safe claimed going apart takes facts pass stores =
+    goes-after old mid keep new k l (step.Put i g slot at bytes) c (put_answer result)
+    (climb-goes mid new k l' l i g slot at bytes r r' m way places cells c c2 result is_mid is_new (safe-keeps old mid keep k safe)
+    (claimed (safe-keeps old mid keep k safe)) going apart takes
+    (λ t H p o. let f = facts (told t) H p (open-back old mid keep k H p o) in record {
+      climbs = subst (λ (X : Image). Climbs X i g slot at bytes r r' m way places cells c c2) (sym stays.cells.now) f.climbs;
+      needs = f.needs;
+      claim = f.claim;
+    })
+    (λ t H p o V. pass (told t) H p (open-back old mid keep k H p o) V) stores)
+  where
+    keep : Keeping old mid
+    keep = reads-keep old mid stays
+
+    told : IsTrue mid.tells → IsTrue old.tells
+    told t = subst (λ (q : Bool). IsTrue q) stays.disk.tells t
+
+-- the same for a Put that claims
+pub asked-ends : {old mid new : DiskState} {k l' l : Books} {p : Put} {r r' : Record} {m : ℕ} {c : Claims} {c2 : Cell} {result : Result (Unit {0}) Refusal}
+    (way : Path) (places : Path → Pointer) (cells : Path → Cell) → IsAsked old k p r m → HasRoom k m → IsTaking old mid k l' p c m
+    → IsDisk mid → IsDisk new → StaysButFaults old mid → IsApart (way_writes places cells (table_block p.inode, c2) m way) 0
+    → (IsTrue old.tells → agreed (files_in old.now) p.inode ≡ true
+    → Climbs old.now p.inode p.generation p.slot p.at p.bytes.now r r' m way places cells c c2)
+    → {t : ℕ} → t ≡ table_block p.inode → Stores mid l' new l (way_writes places cells (t, c2) m way) result
+    → Goes old k new l (step_of_put p) c (put_answer result)
+asked-ends {old} {mid} {new} {k} {l'} {l} {p} {r} {r'} {m} {c} {c2} {result} way places cells a room taking is_mid is_new stays apart climbs {t} at-table stores =
+    ways-end old mid new k l' l p.inode p.generation p.slot p.at p.bytes.now r r' m way places cells c c2 result is_mid is_new stays a.safe taking.safe
+    a.going apart taking.takes
+    (λ t H q o. record {
+      climbs = climbs t (current-agreed old.now p.inode p.generation (a.current t (are-agreed old k H q a.safe o)));
+      needs = a.needs t H q o;
+      claim = taking.claim H q o (a.needs t H q o);
+    })
+    (rows-pass a room) (subst (λ (n : ℕ). Stores mid l' new l (way_writes places cells (n, c2) m way) result) at-table stores)

@@ -74,15 +74,29 @@ use Rattle.nofs_files.proofs.Parts.{Takes, put-home, stamp-new}
 use Rattle.nofs_files.proofs.Ways.{IsNew, IsOld, IsChanged, way_writes, new-or-old, new-above, old-above, old-up, old-ends, changed-is, new-changed}
 use Rattle.nofs_files.proofs.Ways.{way-changed, up-changed, step-down, meets, one-is, changed-one, table-one, written-apart, written-here}
 
--- what the cells of a Put are, by the image before it: m slots of the way get a block
-pub record Climbs (X : Image) (i g slot at : ℕ) (bytes : List ℕ) (r r' : Record) (m : ℕ) (way : Path) (places : Path → Pointer) (cells : Path → Cell)
-    (c : Claims) (c2 : Cell) : Type 0 where
+-- the file of a Put with the way to its slot, and the cell of the table with the new record
+pub record IsPutFile (X : Image) (i g slot : ℕ) (r r' : Record) (way : Path) (c2 : Cell) : Type 0 where
   pub path : path_of slot ≡ way
   pub range : slot < slot_limit
   pub rec : inode X i ≡ r
   pub kind : r.kind ≡ Some File
   pub generation : r.generation ≡ g
   pub agrees : agreed (files_in X) i ≡ true
+  pub has : HasRecord X i r' c2
+  pub tag_table : tag_of c2.tag ≡ Some (table_tag (table_block i))
+
+-- the record gets this size, and keeps its kind, its generation and its links
+pub record Grew (r r' : Record) (n : ℕ) : Type 0 where
+  pub kind : r'.kind ≡ r.kind
+  pub generation : r'.generation ≡ r.generation
+  pub links : r'.links ≡ r.links
+  pub size : r'.size ≡ n
+
+-- what the cells of a Put are, by the image before it: m slots of the way get a block
+pub record Climbs (X : Image) (i g slot at : ℕ) (bytes : List ℕ) (r r' : Record) (m : ℕ) (way : Path) (places : Path → Pointer) (cells : Path → Cell)
+    (c : Claims) (c2 : Cell) : Type 0 where
+  pub file : IsPutFile X i g slot r r' way c2
+  pub grew : Grew r r' (max r.size (1024 * slot + at + length bytes))
   pub old : (a : Path) → IsOld m way a → find X i a ≡ answer.Holds (places a)
   pub empty : (a : Path) → IsNew m way a → (y : Pointer) → find X i a ≡ answer.Holds y → ⊥
   pub hole : (a : Path) (n : ℕ) → IsNew m way (Under a n) → IsNew m way a → find X i a ≡ answer.Hole
@@ -95,14 +109,8 @@ pub record Climbs (X : Image) (i g slot at : ℕ) (bytes : List ℕ) (r r' : Rec
   pub beside_old : (a : Path) (n q : ℕ) → IsNew m way (Under a n) → IsOld m way a → q ≢ n → q < 64
       → pointer_at (cells a).payload q ≡ pointer_at (cell_at X (places a).block).payload q
   pub content : (cells way).payload ≡ put_content (value X i slot) r.size slot at bytes
-  pub same_kind : r'.kind ≡ r.kind
-  pub same_generation : r'.generation ≡ r.generation
-  pub same_links : r'.links ≡ r.links
-  pub size : r'.size ≡ max r.size (1024 * slot + at + length bytes)
   pub pointer_new : (n : ℕ) → IsNew m way (InRecord n) → record_pointer r' n ≡ places (InRecord n)
   pub pointers_old : (n : ℕ) → (IsNew m way (InRecord n) → ⊥) → record_pointer r' n ≡ record_pointer r n
-  pub has : HasRecord X i r' c2
-  pub tag_table : tag_of c2.tag ≡ Some (table_tag (table_block i))
   pub cell : is_claimed c.cell ≡ true → places way ≡ c.cell
   pub leaf : is_claimed c.leaf ≡ true → IsAbove (slot_above way) way × (places (slot_above way) ≡ c.leaf)
   pub top : is_claimed c.top ≡ true → IsAbove (slot_above (slot_above way)) way × (places (slot_above (slot_above way)) ≡ c.top)
@@ -134,28 +142,28 @@ module _ (old new : DiskState) (k l : Books) (H : List Entry1) (p : Past) (i g s
   match = open-files old k H p o
 
   own : Matched W.files X i
-  own = matched-agreed W.files X i match (agreed-live X i h.agrees) h.agrees
+  own = matched-agreed W.files X i match (agreed-live X i h.file.agrees) h.file.agrees
 
   same : ((inode X i).kind ≡ Some own.file.kind) × SameFile (Some own.file) (file_from X i (Some own.file.kind))
   same = file-in W.files X i own.file match own.is
 
   file-kind : own.file.kind ≡ File
-  file-kind = let e : Some own.file.kind ≡ Some File = sym same.0 ∙ ap (λ (q : Record). q.kind) h.rec ∙ h.kind in cc e
+  file-kind = let e : Some own.file.kind ≡ Some File = sym same.0 ∙ ap (λ (q : Record). q.kind) h.file.rec ∙ h.file.kind in cc e
 
   file : is_folder own.file.kind ≡ false
   file = ap is_folder file-kind
 
   generation : own.file.generation ≡ g
-  generation = own.generation ∙ ap (λ (q : Record). q.generation) h.rec ∙ h.generation
+  generation = own.generation ∙ ap (λ (q : Record). q.generation) h.file.rec ∙ h.file.generation
 
   size : own.file.size ≡ r.size
-  size = let s = same.1 in s.size ∙ ap (λ (q : Record). q.size) h.rec
+  size = let s = same.1 in s.size ∙ ap (λ (q : Record). q.size) h.file.rec
 
   value-here : own.file.values slot ≡ value X i slot
-  value-here = own.values slot h.range
+  value-here = own.values slot h.file.range
 
   slot-of-way : (a : Path) → IsAbove a way → IsSlot a
-  slot-of-way a u = above-slot a way u (subst (λ (q : Path). IsSlot q) h.path (path_of-slot slot h.range))
+  slot-of-way a u = above-slot a way u (subst (λ (q : Path). IsSlot q) h.file.path (path_of-slot slot h.file.range))
 
   has-numbers : MatchesSuper W X
   has-numbers = world-numbers old k H p o
@@ -187,15 +195,15 @@ module _ (old new : DiskState) (k l : Books) (H : List Entry1) (p : Past) (i g s
     where
       go : IsNew m way a ⊎ IsOld m way a → IsNew m way b ⊎ IsOld m way b → a ≡ b
       go (inl n) (inl q) = h.distinct a b n q e
-      go (inl n) (inr d) = absurd (free a n i b (places b) (slot-of-way b v) h.agrees (h.old b d) (sym e))
-      go (inr d) (inl q) = absurd (free b q i a (places a) (slot-of-way a u) h.agrees (h.old a d) e)
+      go (inl n) (inr d) = absurd (free a n i b (places b) (slot-of-way b v) h.file.agrees (h.old b d) (sym e))
+      go (inr d) (inl q) = absurd (free b q i a (places a) (slot-of-way a u) h.file.agrees (h.old a d) e)
       go (inr d) (inr f) = let w = one-owner X i i a b (places a) (places b) (h.old a d) (h.old b f) e in sym (path_of-slot_of a (slot-of-way a u))
           ∙ ap path_of w.1 ∙ path_of-slot_of b (slot-of-way b v)
 
   -- The disk after the writes
 
   inside : (1 ≤ i) × (i ≤ (super_at X).inodes)
-  inside = let b = and-both (leb 1 i) (leb i (super_at X).inodes) h.has.range in (leb-true 1 i b.0, leb-true i (super_at X).inodes b.1)
+  inside = let b = and-both (leb 1 i) (leb i (super_at X).inodes) h.file.has.range in (leb-true 1 i b.0, leb-true i (super_at X).inodes b.1)
 
   table-low : table_block i ≤ (super_at X).inodes / 4
   table-low = let a = inside in let q = geometry.multiple in omega (arith, a, q)
@@ -236,10 +244,10 @@ module _ (old new : DiskState) (k l : Books) (H : List Entry1) (p : Past) (i g s
   super-stays = low-stays 0 (omega arith) (λ e. omega (arith, e))
 
   here : inode Y i ≡ r'
-  here = record-here X Y i r' c2 h.has geometry.multiple super-stays table-here low-stays
+  here = record-here X Y i r' c2 h.file.has geometry.multiple super-stays table-here low-stays
 
   record-old : (j : ℕ) → j ≢ i → inode Y j ≡ inode X j
-  record-old j ne = record-other X Y i r' c2 h.has geometry.multiple super-stays table-here low-stays j ne
+  record-old j ne = record-other X Y i r' c2 h.file.has geometry.multiple super-stays table-here low-stays j ne
 
   all-below : IsBelow (next_stamp W) X
   all-below n lt = o.stage.ready.fresh n (cell_at X n) lt (is_old.has_now n tells (let w = is_old.whole tells in let q = whole in omega (arith, lt, w, q)))
@@ -252,9 +260,9 @@ module _ (old new : DiskState) (k l : Books) (H : List Entry1) (p : Past) (i g s
 
   names : SameNames X Y i
   names = record {
-    kind = ap (λ (q : Record). q.kind) here ∙ h.same_kind ∙ sym (ap (λ (q : Record). q.kind) h.rec);
-    generation = ap (λ (q : Record). q.generation) here ∙ h.same_generation ∙ sym (ap (λ (q : Record). q.generation) h.rec);
-    links = ap (λ (q : Record). q.links) here ∙ h.same_links ∙ sym (ap (λ (q : Record). q.links) h.rec);
+    kind = ap (λ (q : Record). q.kind) here ∙ h.grew.kind ∙ sym (ap (λ (q : Record). q.kind) h.file.rec);
+    generation = ap (λ (q : Record). q.generation) here ∙ h.grew.generation ∙ sym (ap (λ (q : Record). q.generation) h.file.rec);
+    links = ap (λ (q : Record). q.links) here ∙ h.grew.links ∙ sym (ap (λ (q : Record). q.links) h.file.rec);
   }
 
   tag-new : (a : Path) → IsNew m way a → tag_of (cell_at Y (places a).block).tag ≡ Some (tag_for Y i a (places a).stamp)
@@ -310,7 +318,7 @@ module _ (old new : DiskState) (k l : Books) (H : List Entry1) (p : Past) (i g s
   placed-at : (a : Path) → IsAbove a way → IsNew m way a ⊎ IsOld m way a → IsPlaced Y i places a
   placed-at (InRecord n) u (inl w) = ap (λ (q : Record). record_pointer q n) here ∙ h.pointer_new n w
   placed-at (InRecord n) u (inr d) = ap (λ (q : Record). record_pointer q n) here ∙ h.pointers_old n (λ w. not-both (InRecord n) w d)
-      ∙ ap (λ (q : Record). record_pointer q n) (sym h.rec) ∙ (find-held X i (InRecord n) (places (InRecord n)) (h.old (InRecord n) d)).same
+      ∙ ap (λ (q : Record). record_pointer q n) (sym h.file.rec) ∙ (find-held X i (InRecord n) (places (InRecord n)) (h.old (InRecord n) d)).same
   placed-at (Under b n) u (inl w) = ap (λ (q : Cell). pointer_at q.payload n) (cell-here b (up-changed m way b n w)) ∙ h.next b n w
   placed-at (Under b n) u (inr d) =
       let up = h.old b (old-up m way b n d) in
@@ -319,7 +327,7 @@ module _ (old new : DiskState) (k l : Books) (H : List Entry1) (p : Past) (i g s
 
   -- the slot of content has none below
   not-way : (b : Path) (n : ℕ) → IsSlot (Under b n) → b ≡ way → ⊥
-  not-way b n s e = let t : IsSlot (Under (path_of slot) n) = subst (λ (q : Path). IsSlot (Under q n)) (e ∙ sym h.path) s in content-slot slot h.range t.0
+  not-way b n s e = let t : IsSlot (Under (path_of slot) n) = subst (λ (q : Path). IsSlot (Under q n)) (e ∙ sym h.file.path) s in content-slot slot h.file.range t.0
     where
       content-slot : (q : ℕ) → q < slot_limit → is_pointer_slot (path_of q) ≡ true → ⊥
       content-slot q lt t = let z = path_of-content q lt in cc (z, t)
@@ -359,10 +367,10 @@ module _ (old new : DiskState) (k l : Books) (H : List Entry1) (p : Past) (i g s
           ∙ ap Some (sym (tag-same X Y i a (places a).stamp names.kind names.generation))
     ];
     record_stays = λ n off. ap (λ (q : Record). record_pointer q n) here ∙ h.pointers_old n (λ w. off (new-above m way (InRecord n) w))
-        ∙ ap (λ (q : Record). record_pointer q n) (sym h.rec);
+        ∙ ap (λ (q : Record). record_pointer q n) (sym h.file.rec);
     beside = beside;
     apart = λ b y s off held. data-stays y.block (find-held X i b y held).agrees.area (λ a q e. elim (changed-is m way a q) [
-      | inl n ↦ free a n i b y s h.agrees held e
+      | inl n ↦ free a n i b y s h.file.agrees held e
       | inr d ↦ (let w = one-owner X i i b a y (places a) held (h.old a d) e in
           let t : b ≡ a = sym (path_of-slot_of b s) ∙ ap path_of w.1 ∙ path_of-slot_of a (slot-of-way a (old-above m way a d)) in
           off (subst (λ (v : Path). IsAbove v way) (sym t) (old-above m way a d)))
@@ -375,22 +383,22 @@ module _ (old new : DiskState) (k l : Books) (H : List Entry1) (p : Past) (i g s
     is = own.is;
     generation = generation;
     file = file;
-    range = h.range;
+    range = h.file.range;
     touches = touches;
     names = names;
-    size = ap (λ (q : Record). q.size) here ∙ h.size ∙ ap (λ (n : ℕ). max n (1024 * slot + at + length bytes)) (sym size);
-    grows = subst (λ (q : Path). Grows (next_stamp W) X Y i q places) (sym h.path) grows;
-    content = ap (λ (q : Path). (cell_at Y (places q).block).payload) h.path ∙ ap (λ (q : Cell). q.payload) (cell-here way (way-changed m way)) ∙ h.content
+    size = ap (λ (q : Record). q.size) here ∙ h.grew.size ∙ ap (λ (n : ℕ). max n (1024 * slot + at + length bytes)) (sym size);
+    grows = subst (λ (q : Path). Grows (next_stamp W) X Y i q places) (sym h.file.path) grows;
+    content = ap (λ (q : Path). (cell_at Y (places q).block).payload) h.file.path ∙ ap (λ (q : Cell). q.payload) (cell-here way (way-changed m way)) ∙ h.content
         ∙ (λ j. put_content (sym value-here j) (sym size j) slot at bytes);
     old = λ j some. old-pointers j (matched-file W.files X j match some).live;
   }
 
   placed : ClaimsPlaced c X i slot places
   placed = record {
-    cell = λ t. ap places h.path ∙ h.cell t;
-    leaf = λ t. subst (λ (q : Path). IsAbove (slot_above q) q × (places (slot_above q) ≡ c.leaf)) (sym h.path) (h.leaf t);
-    top = λ t. subst (λ (q : Path). IsAbove (slot_above (slot_above q)) q × (places (slot_above (slot_above q)) ≡ c.top)) (sym h.path) (h.top t);
-    each = λ a u. elim (new-or-old m way a (subst (λ (q : Path). IsAbove a q) h.path u))
+    cell = λ t. ap places h.file.path ∙ h.cell t;
+    leaf = λ t. subst (λ (q : Path). IsAbove (slot_above q) q × (places (slot_above q) ≡ c.leaf)) (sym h.file.path) (h.leaf t);
+    top = λ t. subst (λ (q : Path). IsAbove (slot_above (slot_above q)) q × (places (slot_above (slot_above q)) ≡ c.top)) (sym h.file.path) (h.top t);
+    each = λ a u. elim (new-or-old m way a (subst (λ (q : Path). IsAbove a q) h.file.path u))
         [ inl n ↦ inr (h.claimed a n, λ y held. h.empty a n y held) | inr d ↦ inl (h.old a d) ];
   }
 
@@ -402,18 +410,18 @@ module _ (old new : DiskState) (k l : Books) (H : List Entry1) (p : Past) (i g s
   below a u = step-down a way u
 
   to-slot : (a : Path) → IsAbove a way → IsAbove a (path_of slot)
-  to-slot a u = subst (λ (q : Path). IsAbove a q) (sym h.path) u
+  to-slot a u = subst (λ (q : Path). IsAbove a q) (sym h.file.path) u
 
   numbers-at : (a : Path) → IsAbove a way → CellNumbers (Numbered W c) X (places a).block (cell_at Y (places a).block)
   numbers-at a u = elim (below a u) [
-    | inl e ↦ subst (λ (q : Path). CellNumbers (Numbered W c) X (places q).block (cell_at Y (places q).block)) (h.path ∙ sym e)
+    | inl e ↦ subst (λ (q : Path). CellNumbers (Numbered W c) X (places q).block (cell_at Y (places q).block)) (h.file.path ∙ sym e)
         (law-put-cells W X Y i g slot at bytes own.file (next_stamp W) places c old-numbers lies placed).0
     | inr (n, v) ↦ (law-put-cells W X Y i g slot at bytes own.file (next_stamp W) places c old-numbers lies placed).1 a (to-slot a u)
         (let s = slot-of-way (Under a n) v in s.0)
   ]
 
   table-numbers : CellNumbers (Numbered W c) X (table_block i) c2
-  table-numbers = law-table-numbers W c X (table_block i) c2 old-numbers h.tag_table (λ j e s. elim (table-records X i r' c2 h.has j e s) [
+  table-numbers = law-table-numbers W c X (table_block i) c2 old-numbers h.file.tag_table (λ j e s. elim (table-records X i r' c2 h.file.has j e s) [
     | inl new ↦ subst (λ (q : Record). RecordWritten W c X j q) (sym (new.1 ∙ sym here ∙ ap (inode Y) (sym new.0)))
         ((law-put-record W X Y i g slot at bytes own.file (next_stamp W) places c old-numbers lies placed).1 j)
     | inr was ↦ AsBefore was
@@ -454,9 +462,9 @@ module _ (old new : DiskState) (k l : Books) (H : List Entry1) (p : Past) (i g s
   content-proper : Proper (during M (put_given W.files i g slot at bytes)) X (places way).block (cells way)
   content-proper = law-content M (put_given W.files i g slot at bytes) X Y i g slot (places way) (cells way) (record {
     area = mark-area (places way).block (area way (above-refl way));
-    range = h.range;
-    generation = ap (λ (q : Record). q.generation) here ∙ h.same_generation ∙ h.generation;
-    tag = subst (λ (q : Path). tag_of (cells way).tag ≡ Some (tag_for Y i q (places way).stamp)) (sym h.path)
+    range = h.file.range;
+    generation = ap (λ (q : Record). q.generation) here ∙ h.grew.generation ∙ h.file.generation;
+    tag = subst (λ (q : Path). tag_of (cells way).tag ≡ Some (tag_for Y i q (places way).stamp)) (sym h.file.path)
         (ap (λ (q : Cell). tag_of q.tag) (sym (cell-here way way-changed-is)) ∙ grows.tag way (above-refl way));
     gives = put-slot W.files i g slot at bytes own.file own.is generation file
         ∙ ap (λ (v : List ℕ). Some (Bytes v)) (sym (h.content ∙ (λ j. put_content (sym value-here j) (sym size j) slot at bytes)));
@@ -494,9 +502,9 @@ module _ (old new : DiskState) (k l : Books) (H : List Entry1) (p : Past) (i g s
   record-proper : RecordProper (during M (put_given W.files i g slot at bytes)) X i r'
   record-proper = law-record M (put_given W.files i g slot at bytes) X i r' (record {
     live = own.live;
-    generation = h.same_generation ∙ sym (ap (λ (q : Record). q.generation) h.rec);
-    kind = h.same_kind ∙ sym (ap (λ (q : Record). q.kind) h.rec);
-    meta = inr (ap ((put_given W.files i g slot at bytes).metas i) (h.same_generation ∙ h.generation)
+    generation = h.grew.generation ∙ sym (ap (λ (q : Record). q.generation) h.file.rec);
+    kind = h.grew.kind ∙ sym (ap (λ (q : Record). q.kind) h.file.rec);
+    meta = inr (ap ((put_given W.files i g slot at bytes).metas i) (h.grew.generation ∙ h.file.generation)
         ∙ put-meta W.files i g slot at bytes own.file own.is generation file ∙ ap Some new-meta);
     reads = reads;
     pointers = λ n lt. elim (above-or-not (InRecord n) way) [
@@ -509,12 +517,12 @@ module _ (old new : DiskState) (k l : Books) (H : List Entry1) (p : Past) (i g s
   })
     where
       kept : (n : ℕ) → (IsNew m way (InRecord n) → ⊥) → record_pointer r' n ≡ record_pointer (inode X i) n
-      kept n off = h.pointers_old n off ∙ ap (λ (q : Record). record_pointer q n) (sym h.rec)
+      kept n off = h.pointers_old n off ∙ ap (λ (q : Record). record_pointer q n) (sym h.file.rec)
 
       new-meta : Is own.file.kind (max own.file.size (1024 * slot + at + length bytes)) own.file.links ≡ meta_of r'
-      new-meta = let e : r'.kind ≡ Some File = h.same_kind ∙ h.kind in
-          (λ j. Is (file-kind j) ((ap (λ (n : ℕ). max n (1024 * slot + at + length bytes)) size ∙ sym h.size) j)
-          ((own.links ∙ ap (λ (q : Record). q.links) h.rec ∙ sym h.same_links) j)) ∙ sym (rw (e, meta_of) refl)
+      new-meta = let e : r'.kind ≡ Some File = h.grew.kind ∙ h.file.kind in
+          (λ j. Is (file-kind j) ((ap (λ (n : ℕ). max n (1024 * slot + at + length bytes)) size ∙ sym h.grew.size) j)
+          ((own.links ∙ ap (λ (q : Record). q.links) h.file.rec ∙ sym h.grew.links) j)) ∙ sym (rw (e, meta_of) refl)
 
   table-proper : Proper (during M (put_given W.files i g slot at bytes)) X (table_block i) c2
   table-proper = OfTable (record {
@@ -522,7 +530,7 @@ module _ (old new : DiskState) (k l : Books) (H : List Entry1) (p : Past) (i g s
     area = ap (λ (q : SuperBlock). leb (1 + q.inodes / 4) (table_block i) && ltb (table_block i) q.blocks) mark-super
         ∙ (let t : leb (1 + (super_at X).inodes / 4) (table_block i) ≡ false = not-leb (1 + (super_at X).inodes / 4) (table_block i)
         (let l = table-low in omega (arith, l)) in rw t refl);
-    records = λ j e s. elim (table-records X i r' c2 h.has j (subst (λ (q : SuperBlock). (leb 1 j && leb j q.inodes) ≡ true) mark-super e) s) [
+    records = λ j e s. elim (table-records X i r' c2 h.file.has j (subst (λ (q : SuperBlock). (leb 1 j && leb j q.inodes) ≡ true) mark-super e) s) [
       | inl new ↦ subst₂ (λ (q : ℕ) (t : Record). RecordProper (during M (put_given W.files i g slot at bytes)) X q t) (sym new.0) (sym new.1) record-proper
       | inr was ↦ Unchanged was
     ];

@@ -3,7 +3,7 @@ use Rattle.std.proofs.Common.{◌≡◌, ℕ, ◌+◌, ◌^◌, ◌≤◌, ◌�
 use Rattle.std.proofs.Common.{subst, subst₂, arith}
 use Rattle.std.specs.Prelude.{IfSome}
 use Rattle.nofs_ptrs.specs.Paths.{slot_limit}
-use Rattle.nofs_disk.specs.Disk.{DiskState, IsDisk, StaysButFaults, cell_at}
+use Rattle.nofs_disk.specs.Disk.{DiskState, IsDisk, Rose, StaysButFaults, cell_at}
 use Rattle.nofs_inode.specs.InodeRecords.{largest_size}
 use Rattle.nofs_model.specs.Cells.{Cell, Record, SuperBlock, tag_of}
 use Rattle.nofs_model.specs.Image.{Image, files_in, agreed, find, path_of}
@@ -28,12 +28,14 @@ use Rattle.nofs_state.specs.declared.books.Books.{Books}
 use Rattle.nofs_state.proofs.Done.{goes-done}
 use Rattle.nofs_state.proofs.Faults.{goes-fault, stopped_world, stopped_books}
 use Rattle.nofs_state.proofs.Keeping.{goes-after, open-back, reads-keep, safe-keeps}
+use Rattle.nofs_state.proofs.Replies.{goes-read}
 use Rattle.nofs_state.proofs.Machine.{agreed-live, are-agreed}
 use Rattle.nofs_state.proofs.Tables.{table_block}
 use Rattle.nofs_state.proofs.TwoWrites.{safe-writes}
 use Rattle.nofs_files.specs.Answers.{IsFile}
 use Rattle.nofs_state.specs.Owing.{RecordIn, RowsPass}
-use Rattle.nofs_files.specs.Resizing.{EdgeInData, CellInData, IsCutMap, IsEdge, IsTail, cut_record, cut_writes, first_cut, kept_slots, maybe, resize_answer}
+use Rattle.nofs_files.specs.Putting.{IsRecordCell}
+use Rattle.nofs_files.specs.Resizing.{EdgeInData, CellInData, IsCutMap, IsEdge, IsTail, MayCut, cut_record, cut_writes, first_cut, kept_slots, maybe, resize_answer}
 use Rattle.nofs_files.specs.declared.cutting.NewCell.{NewCell}
 use Rattle.nofs_files.specs.declared.cutting.Edge.{Edge}
 use Rattle.nofs_files.proofs.FileRows.{current-agreed}
@@ -41,28 +43,12 @@ use Rattle.nofs_files.proofs.CutWrites.{Cuts}
 use Rattle.nofs_files.proofs.CutDone.{claim, resize-done, resize-numbered, resize-proper}
 use Rattle.nofs_files.proofs.CutMaps.{safe-freed}
 
--- what was read, and is to be written
-pub record Ready (d : DiskState) (k : Books) (i g size : ℕ) (r : Record) (tail : Option NewCell) (edge : Edge) (freed : List Bool) : Type 0 where
-  pub safe : IsSafe d k
-  pub going : k.stopped ≡ false
-  pub file : IsFile d k.at i g r
-  pub current : IsTrue d.tells → AreTrue d.now k.agreement → is_current d.now i g ≡ true
-  pub old : r.size ≤ largest_size
-  pub new : size ≤ largest_size
-  pub eight : length r.direct ≡ 8
-  pub tail_data : IfSome tail (CellInData k.at)
-  pub edge_data : EdgeInData k.at edge
-  pub tail_is : IsTrue d.tells → IsTail d.now i r.size size tail
-  pub edge_is : IsTrue d.tells → IsEdge d.now i (kept_slots r.size size) edge
-  pub map : IsCutMap d k.at i (kept_slots r.size size) freed
-  pub rows : RowsPass d k (step.Resize i g size)
-
 maybe-apart : (at : SuperBlock) (w : Option NewCell) (ws : List (ℕ × Cell)) → IfSome w (CellInData at) → IsApart ws 0 → IsApart (maybe w ws) 0
 maybe-apart at None ws inside rest = rest
 maybe-apart at (Some it) ws inside rest = ((λ e. let z = inside.0 in omega (arith, e, z)), rest)
 
 module _ (d new : DiskState) (k : Books) (i g size : ℕ) (r : Record) (tail : Option NewCell) (edge : Edge) (freed : List Bool) (c2 : Cell) (is_d : IsDisk d)
-    (is_new : IsDisk new) (ready : Ready d k i g size r tail edge freed)
+    (is_new : IsDisk new) (ready : MayCut d k i g size r tail edge freed)
     (table : IsTrue d.tells → RecordIn (cell_at d.now (table_block i)) i (cut_record r size (kept_slots r.size size)) c2)
     (table-tag : tag_of c2.tag ≡ Some (table_tag (table_block i))) where
   apart : IsApart (cut_writes tail edge (table_block i) c2) 0
@@ -134,7 +120,7 @@ map-after old mid k i m freed stays q = record {
 
 -- so does all that was read
 pub ready-after : (old mid : DiskState) (k : Books) (i g size : ℕ) (r : Record) (tail : Option NewCell) (edge : Edge) (freed : List Bool)
-    → StaysButFaults old mid → Ready old k i g size r tail edge freed → Ready mid k i g size r tail edge freed
+    → StaysButFaults old mid → MayCut old k i g size r tail edge freed → MayCut mid k i g size r tail edge freed
 ready-after old mid k i g size r tail edge freed stays q = record {
   safe = safe-keeps old mid (reads-keep old mid stays) k q.safe;
   going = q.going;
@@ -158,15 +144,24 @@ ready-after old mid k i g size r tail edge freed stays q = record {
     told t = subst (λ (b : Bool). IsTrue b) stays.disk.tells t
 
 -- from the state before the table was read
-pub resize-ends : (old mid new : DiskState) (k l m : Books) (i g size : ℕ) (r : Record) (tail : Option NewCell) (edge : Edge) (freed : List Bool)
-    (before c2 : Cell) (result : Result (Unit {0}) Refusal) → IsDisk mid → IsDisk new → StaysButFaults old mid → Ready old k i g size r tail edge freed
-    → (IsTrue old.tells → before ≡ cell_at old.now (table_block i)) → RecordIn before i (cut_record r size (kept_slots r.size size)) c2
-    → tag_of c2.tag ≡ Some (table_tag (table_block i))
-    → Stores mid k new m (cut_writes tail edge (table_block i) c2) result → (result ≡ Ok tt → BlocksFreed m l freed)
+pub resize-ends : {old mid new : DiskState} {k l m : Books} {i g size t : ℕ} {r : Record} {tail : Option NewCell} {edge : Edge} {freed : List Bool}
+    {before c2 : Cell} {result : Result (Unit {0}) Refusal} → IsDisk mid → IsDisk new → StaysButFaults old mid → MayCut old k i g size r tail edge freed
+    → (IsTrue old.tells → before ≡ cell_at old.now (table_block i)) → IsRecordCell before i (cut_record r size (kept_slots r.size size)) c2
+    → t ≡ table_block i → Stores mid k new m (cut_writes tail edge t c2) result → (result ≡ Ok tt → BlocksFreed m l freed)
     → ((why : Refusal) → result ≡ Err why → l ≡ m) → Goes old k new l (step.Resize i g size) no_claims (resize_answer result)
-resize-ends old mid new k l m i g size r tail edge freed before c2 result is_mid is_new stays ready table record-in table-tag stores ok err =
+resize-ends {old} {mid} {new} {k} {l} {m} {i} {g} {size} {t} {r} {tail} {edge} {freed} {before} {c2} {result} is_mid is_new stays may read table at-table stores
+    ok err =
     goes-after old mid (reads-keep old mid stays) new k l (step.Resize i g size) no_claims (resize_answer result)
-    (resized-goes mid new k i g size r tail edge freed c2 is_mid is_new (ready-after old mid k i g size r tail edge freed stays ready)
+    (resized-goes mid new k i g size r tail edge freed c2 is_mid is_new (ready-after old mid k i g size r tail edge freed stays may)
     (λ t. subst (λ (c : Cell). RecordIn c i (cut_record r size (kept_slots r.size size)) c2)
-    (table (subst (λ (b : Bool). IsTrue b) stays.disk.tells t) ∙ ap (λ (X : Image). cell_at X (table_block i)) (sym stays.cells.now)) record-in)
-    table-tag l m result stores ok err)
+    (read (subst (λ (b : Bool). IsTrue b) stays.disk.tells t) ∙ ap (λ (X : Image). cell_at X (table_block i)) (sym stays.cells.now)) table.here)
+    table.tag l m result (subst (λ (n : ℕ). Stores mid k new m (cut_writes tail edge n c2) result) at-table stores) ok err)
+
+-- the table was not read
+pub resize-unread : {old new : DiskState} {k : Books} {i g size : ℕ} {r : Record} {tail : Option NewCell} {edge : Edge} {freed : List Bool} {why : Refusal}
+    → IsDisk old → MayCut old k i g size r tail edge freed → StaysButFaults old new → (why ≡ refusal.ReadFault) × Rose old.faults new.faults
+    → Goes old k new k (step.Resize i g size) no_claims (reply.Refused why)
+resize-unread {old} {new} {k} {i} {g} {size} {r} {tail} {edge} {freed} {why} disk may stays (is, rose) =
+    subst (λ (w : Refusal). Goes old k new k (step.Resize i g size) no_claims (reply.Refused w)) (sym is)
+    (goes-read old new k (step.Resize i g size) disk may.safe stays may.going rose
+    (λ tells H p o why e. absurd (let n = may.rows tells H p o p.world in cc (n, e))))

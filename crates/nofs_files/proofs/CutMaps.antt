@@ -4,6 +4,7 @@ use Rattle.std.proofs.Common.{is_some, refl, sym, ap, ◌∙◌, subst, arith}
 use Rattle.nofs_agree.specs.Chains.{told}
 use Rattle.std.proofs.lemmas.Bool.{cases_lt}
 use Rattle.std.proofs.lemmas.Bool.Decides.{nat_tests}
+use Rattle.std.proofs.Math.Bool.{or-false, or-true}
 use Rattle.std.proofs.lemmas.List.{get_or_past}
 use Rattle.nofs_bits.specs.Bits.{is_set}
 use Rattle.nofs_model.specs.Cells.{SuperBlock}
@@ -14,15 +15,8 @@ use Rattle.nofs_machine.specs.declared.steps.Step.{Step}
 use Rattle.nofs_state.specs.Books.{IsSafe, Says, knows_inode, knows_block}
 use Rattle.nofs_state.specs.Owning.{BlocksFreed}
 use Rattle.nofs_state.specs.declared.books.Books.{Books}
+use Rattle.nofs_state.proofs.ClaimedBooks.{blocks-safe}
 use Rattle.nofs_disk.specs.Disk.{DiskState}
-
-or-true : (b : Bool) → (b || true) ≡ true
-or-true true = refl
-or-true false = refl
-
-or-false : (b : Bool) → (b || false) ≡ b
-or-false true = refl
-or-false false = refl
 
 known-bit : (u f : Bool) → not (u && not f) ≡ (not u || f)
 known-bit true true = refl
@@ -36,20 +30,11 @@ high-none q n h = grind (arith, nat_tests)
 -- the maps have their sizes, and a free block lies in the data area
 pub safe-freed : (d : DiskState) (k l : Books) (freed : List Bool) → IsSafe d k → BlocksFreed k l freed → length freed ≡ k.at.blocks
     → ((q : ℕ) → is_set freed q ≡ true → 1 + k.at.inodes / 4 ≤ q) → IsSafe d l
-safe-freed d k l freed s a size area = subst (IsSafe d) (sym a.same) (record {
-  at = s.at;
-  mount = s.mount;
-  serial = s.serial;
-  unknown_inodes = s.unknown_inodes;
-  free_inodes = s.free_inodes;
-  agreement = s.agreement;
-  unknown_blocks = a.blocks.unknown_size ∙ s.unknown_blocks;
-  free_blocks = a.blocks.free_size ∙ s.free_blocks;
-  in_area = λ q t. elim (cases_lt q k.at.blocks) [
-    | inl low ↦ either q (is_set k.free_blocks q) (is_set freed q) refl refl (sym (a.blocks.freeing q low) ∙ t)
-    | inr high ↦ s.in_area q (sym (a.blocks.free_rest q high) ∙ t)
-  ];
-})
+safe-freed d k l freed s a size area = subst (IsSafe d) (sym a.same) (blocks-safe d k l.free_blocks l.unknown_blocks k.serial s s.serial
+    (a.blocks.unknown_size ∙ s.unknown_blocks) (a.blocks.free_size ∙ s.free_blocks) (λ q t. elim (cases_lt q k.at.blocks) [
+      | inl low ↦ either q (is_set k.free_blocks q) (is_set freed q) refl refl (sym (a.blocks.freeing q low) ∙ t)
+      | inr high ↦ s.in_area q (sym (a.blocks.free_rest q high) ∙ t)
+    ]))
   where
     either : (q : ℕ) (x y : Bool) → is_set k.free_blocks q ≡ x → is_set freed q ≡ y → (is_set k.free_blocks q || is_set freed q) ≡ true
         → 1 + k.at.inodes / 4 ≤ q

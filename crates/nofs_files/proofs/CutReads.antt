@@ -1,6 +1,7 @@
 -- A Resize reads all that it asks: what is known of the disk stays over each read, and each read that fails ends it.
-use Rattle.std.proofs.Common.{◌≡◌, ℕ, ◌*◌, ◌≤◌, inl, inr, Bool, true, false, List, Option, None, IsTrue, Result, Ok, Err, refl, sym, subst, le_refl}
+use Rattle.std.proofs.Common.{◌≡◌, ℕ, ◌*◌, ◌≤◌, inl, inr, Bool, true, false, List, length, Option, None, IsTrue, Result, Ok, Err, refl, sym, subst, le_refl}
 use Rattle.nofs_ptrs.specs.Paths.{slot_limit}
+use Rattle.nofs_inode.specs.InodeRecords.{largest_size}
 use Rattle.nofs_disk.specs.Disk.{DiskState, IsDisk, StaysButFaults}
 use Rattle.nofs_disk.specs.Chains.{StaysButFaults-trans, Rose-within}
 use Rattle.nofs_disk.specs.declared.Failed.{Failed}
@@ -22,7 +23,7 @@ use Rattle.nofs_state.proofs.Replies.{goes-read}
 use Rattle.nofs_state.proofs.Keeping.{goes-after, goes-memory, open-back, reads-keep, safe-keeps}
 use Rattle.nofs_files.specs.Answers.{IsFile, OpensFile, slots_of}
 use Rattle.nofs_state.specs.Owing.{RowsPass}
-use Rattle.nofs_files.specs.Resizing.{FindsEdge, FindsTail, IsCutMap, IsEdge, IsTail, MarksCut, kept_slots, resize_answer}
+use Rattle.nofs_files.specs.Resizing.{FindsEdge, FindsTail, IsCutMap, IsEdge, IsTail, MarksCut, MayCut, MayResize, kept_slots, resize_answer}
 use Rattle.nofs_files.specs.declared.cutting.NewCell.{NewCell}
 use Rattle.nofs_files.specs.declared.cutting.Edge.{Edge}
 use Rattle.nofs_files.proofs.CutGoes.{map-after}
@@ -53,60 +54,62 @@ module _ (old mid : DiskState) (k : Books) (i g size : ℕ) (last : LastRead) (r
   opened-current t a = subst (λ (n : ℕ). is_current mid.now i n ≡ true) (sym opens.file.generation)
       (current-after old mid k i g opens.stays opens.current t a)
 
+  pub opened-may : IsSafe mid k → k.stopped ≡ false → size ≤ 1024 * slots_of k.at → size ≤ largest_size → MayResize mid k i r size
+  opened-may safe going fits most = record { safe = safe; going = going; file = opened-file; current = opened-current; fits = fits; most = most }
+
   pub opened-goes : (new : DiskState) (l : Books) (result : Result (Unit {0}) Refusal)
       → Goes mid k new l (step.Resize i r.generation size) no_claims (resize_answer result)
       → Goes old k new l (step.Resize i g size) no_claims (resize_answer result)
   opened-goes new l result goes = goes-after old mid (reads-keep old mid opens.stays) new k l (step.Resize i g size) no_claims (resize_answer result)
       (subst (λ (n : ℕ). Goes mid k new l (step.Resize i n size) no_claims (resize_answer result)) opens.file.generation goes)
 
-module _ (d a : DiskState) (k : Books) (i size kk : ℕ) (r : Record) (one : LastRead) (edge : Edge) (is : IsDisk d) (safe : IsSafe d k)
-    (going : k.stopped ≡ false) (file : IsFile d k.at i r.generation r)
-    (current : IsTrue d.tells → AreTrue d.now k.agreement → is_current d.now i r.generation ≡ true) (fits : size ≤ 1024 * slots_of k.at)
-    (most : kk ≤ slot_limit) (ek : kk ≡ kept_slots r.size size) where
-  most-kept : kept_slots r.size size ≤ slot_limit
-  most-kept = subst (λ (n : ℕ). n ≤ slot_limit) ek most
+-- no more slots stay than there are
+most-kept : (kk : ℕ) (r : Record) (size : ℕ) → kk ≤ slot_limit → kk ≡ kept_slots r.size size → kept_slots r.size size ≤ slot_limit
+most-kept kk r size most ek = subst (λ (n : ℕ). n ≤ slot_limit) ek most
 
+module _ {d a : DiskState} {k : Books} {i size kk : ℕ} {r : Record} {one : LastRead} (is : IsDisk d) (may : MayResize d k i r size)
+    (most : kk ≤ slot_limit) (ek : kk ≡ kept_slots r.size size) where
   -- what is cut inside was not found
-  pub ends-unedged : (why : Refusal) (result : Result Edge Refusal) → result ≡ Err why → FindsEdge d a k.at i kk one result
+  pub ends-unedged : {why : Refusal} {result : Result Edge Refusal} → result ≡ Err why → FindsEdge d a k.at i kk one result
       → Goes d k a k (step.Resize i r.generation size) no_claims (reply.Refused why)
-  ends-unedged why result e finds =
+  ends-unedged {why} {result} e finds =
       let f : FindsEdge d a k.at i (kept_slots r.size size) one (Err why) = subst
       (λ (q : Result Edge Refusal). FindsEdge d a k.at i (kept_slots r.size size) one q) e (subst (λ (n : ℕ). FindsEdge d a k.at i n one result) ek finds)
       in
-      goes-unedged d k i r.generation size r is safe going file current fits most-kept a why f.stays f.refused
+      goes-unedged d k i r.generation size r is may.safe may.going may.file may.current may.fits (most-kept kk r size most ek) a why f.stays f.refused
 
-  module _ (finds : FindsEdge d a k.at i kk one (Ok edge)) where
+  module _ {edge : Edge} (finds : FindsEdge d a k.at i kk one (Ok edge)) where
     is-edge : IsTrue d.tells → IsEdge d.now i (kept_slots r.size size) edge
     is-edge t = subst (λ (n : ℕ). IsEdge d.now i n edge) ek (finds.edge t)
 
     -- there was no memory for the map, or it was not read
-    pub ends-unmarked : (b : DiskState) (two : LastRead) (why : Refusal) (result : Result (List Bool) Refusal) → result ≡ Err why
+    pub ends-unmarked : {b : DiskState} {two : LastRead} {why : Refusal} {result : Result (List Bool) Refusal} → result ≡ Err why
         → MarksCut a b k.at i kk two result → Goes d k b k (step.Resize i r.generation size) no_claims (reply.Refused why)
-    ends-unmarked b two why result e marks = go (subst (λ (q : Result (List Bool) Refusal). MarksCut a b k.at i kk two q) e marks)
+    ends-unmarked {b} {two} {why} {result} e marks = go (subst (λ (q : Result (List Bool) Refusal). MarksCut a b k.at i kk two q) e marks)
       where
         go : MarksCut a b k.at i kk two (Err why) → Goes d k b k (step.Resize i r.generation size) no_claims (reply.Refused why)
         go m = elim m.refused [
           | inl memory ↦ subst (λ (w : Refusal). Goes d k b k (step.Resize i r.generation size) no_claims (reply.Refused w)) (sym memory)
-              (goes-memory d b (reads-keep d b (StaysButFaults-trans d a b finds.stays m.stays)) k (step.Resize i r.generation size) no_claims safe)
+              (goes-memory d b (reads-keep d b (StaysButFaults-trans d a b finds.stays m.stays)) k (step.Resize i r.generation size) no_claims may.safe)
           | inr (unread, rose) ↦ subst (λ (w : Refusal). Goes d k b k (step.Resize i r.generation size) no_claims (reply.Refused w)) (sym unread)
-              (goes-read d b k (step.Resize i r.generation size) is safe (StaysButFaults-trans d a b finds.stays m.stays) going
+              (goes-read d b k (step.Resize i r.generation size) is may.safe (StaysButFaults-trans d a b finds.stays m.stays) may.going
               (Rose-within d.faults a.faults b.faults b.faults finds.stays.disk.faults rose (le_refl b.faults))
-              (λ tells H p o. late d k i r.generation size r is safe going file current fits most-kept tells H p o))
+              (λ tells H p o. late d k i r.generation size r is may.safe may.going may.file may.current may.fits (most-kept kk r size most ek) tells H p o))
         ]
 
-    module _ (b : DiskState) (two : LastRead) (freed : List Bool) (marks : MarksCut a b k.at i kk two (Ok freed)) where
+    module _ {b : DiskState} {two : LastRead} {freed : List Bool} (marks : MarksCut a b k.at i kk two (Ok freed)) where
       two-reads : StaysButFaults d b
       two-reads = StaysButFaults-trans d a b finds.stays marks.stays
 
       -- the end of the content was not read
-      pub ends-untailed : (new : DiskState) (three : LastRead) (failed : Failed) → FindsTail b new k.at i r.size size three (Err failed)
+      pub ends-untailed : {new : DiskState} {three : LastRead} {failed : Failed} → FindsTail b new k.at i r.size size three (Err failed)
           → Goes d k new k (step.Resize i r.generation size) no_claims (reply.Refused refusal.ReadFault)
-      ends-untailed new three failed tail = goes-read d new k (step.Resize i r.generation size) is safe (StaysButFaults-trans d b new two-reads tail.stays)
-          going
+      ends-untailed {new} {three} {failed} tail = goes-read d new k (step.Resize i r.generation size) is may.safe (StaysButFaults-trans d b new two-reads tail.stays)
+          may.going
           (Rose-within d.faults b.faults new.faults new.faults two-reads.disk.faults tail.cause (le_refl new.faults))
-          (λ tells H p o. late d k i r.generation size r is safe going file current fits most-kept tells H p o)
+          (λ tells H p o. late d k i r.generation size r is may.safe may.going may.file may.current may.fits (most-kept kk r size most ek) tells H p o)
 
-      module _ (mid : DiskState) (three : LastRead) (tail : Option NewCell) (finds-tail : FindsTail b mid k.at i r.size size three (Ok tail)) where
+      module _ {mid : DiskState} {three : LastRead} {tail : Option NewCell} (finds-tail : FindsTail b mid k.at i r.size size three (Ok tail)) where
         pub all-reads : StaysButFaults d mid
         all-reads = StaysButFaults-trans d b mid two-reads finds-tail.stays
 
@@ -114,13 +117,13 @@ module _ (d a : DiskState) (k : Books) (i size kk : ℕ) (r : Record) (one : Las
         told t = told-back d mid all-reads t
 
         pub cut-safe : IsSafe mid k
-        cut-safe = safe-keeps d mid (reads-keep d mid all-reads) k safe
+        cut-safe = safe-keeps d mid (reads-keep d mid all-reads) k may.safe
 
         pub cut-file : IsFile mid k.at i r.generation r
-        cut-file = file-after d mid k.at i r.generation r all-reads file
+        cut-file = file-after d mid k.at i r.generation r all-reads may.file
 
         pub cut-current : IsTrue mid.tells → AreTrue mid.now k.agreement → is_current mid.now i r.generation ≡ true
-        cut-current = current-after d mid k i r.generation all-reads current
+        cut-current = current-after d mid k i r.generation all-reads may.current
 
         pub cut-ends : IsTrue mid.tells → IsTail mid.now i r.size size tail
         cut-ends t = subst (λ (X : Image). IsTail X i r.size size tail) (sym finds-tail.stays.cells.now)
@@ -133,11 +136,28 @@ module _ (d a : DiskState) (k : Books) (i size kk : ℕ) (r : Record) (one : Las
         cut-map = subst (λ (n : ℕ). IsCutMap mid k.at i n freed) ek (map-after b mid k i kk freed finds-tail.stays marks.map)
 
         pub cut-rows : RowsPass mid k (step.Resize i r.generation size)
-        cut-rows t H p o V = rows-pass d k i r.generation size r is safe going file current fits most-kept edge is-edge (told t) H p
+        cut-rows t H p o V = rows-pass d k i r.generation size r is may.safe may.going may.file may.current may.fits (most-kept kk r size most ek) edge is-edge (told t) H p
             (open-back d mid (reads-keep d mid all-reads) k H p o) V
 
-        pub cut-goes : (new : DiskState) (l : Books) (result : Result (Unit {0}) Refusal)
+        pub may-cut : r.size ≤ largest_size → length r.direct ≡ 8 → MayCut mid k i r.generation size r tail edge freed
+        may-cut old eight = record {
+          safe = cut-safe;
+          going = may.going;
+          file = cut-file;
+          current = cut-current;
+          old = old;
+          new = may.most;
+          eight = eight;
+          tail_data = finds-tail.area;
+          edge_data = finds.area;
+          tail_is = cut-ends;
+          edge_is = cut-edge;
+          map = cut-map;
+          rows = cut-rows;
+        }
+
+        pub cut-goes : {new : DiskState} {l : Books} (result : Result (Unit {0}) Refusal)
             → Goes mid k new l (step.Resize i r.generation size) no_claims (resize_answer result)
             → Goes d k new l (step.Resize i r.generation size) no_claims (resize_answer result)
-        cut-goes new l result goes = goes-after d mid (reads-keep d mid all-reads) new k l (step.Resize i r.generation size) no_claims (resize_answer result)
+        cut-goes {new} {l} result goes = goes-after d mid (reads-keep d mid all-reads) new k l (step.Resize i r.generation size) no_claims (resize_answer result)
             goes

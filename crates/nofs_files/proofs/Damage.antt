@@ -1,14 +1,14 @@
 -- Blocks of pointers that are lost above a slot, and what a Put answers then.
-use Rattle.std.proofs.Common.{◌≡◌, ℕ, ◌+◌, ◌^◌, ◌<◌, Bool, true, false, ltb, List, [], ◌∷◌, IsTrue, Err, inr, refl, sym, ap, ◌∙◌, subst, arith}
+use Rattle.std.proofs.Common.{◌≡◌, ℕ, ◌+◌, ◌-◌, ◌/◌, ◌%◌, ◌^◌, ◌<◌, ◌≤◌, Bool, true, false, ltb, List, [], ◌∷◌, IsTrue, Err, inr, refl, sym, ap, ◌∙◌, subst, arith}
 use Rattle.nofs_ptrs.specs.Paths.{slot_limit}
 use Rattle.nofs_disk.specs.Disk.{DiskState, IsDisk, StaysButFaults, Rose}
-use Rattle.nofs_model.specs.Cells.{Pointer}
+use Rattle.nofs_model.specs.Cells.{Pointer, Record}
 use Rattle.nofs_model.specs.Image.{Image, Path, InRecord, Under, path_of, find, files_in, agreed, Files, NodeState, Absent, Present}
 use Rattle.nofs_model.specs.Image.{Damaged, node_in, IsSlot}
 use Rattle.nofs_model.specs.declared.path.PathAnswer.{PathAnswer}
 use Rattle.nofs_model.specs.declared.path.PathAnswer.TheVariants as answer
 use Rattle.nofs_model.proofs.Find.{find-held}
-use Rattle.nofs_model.proofs.Paths.{path-direct, path_of-slot, below-null}
+use Rattle.nofs_model.proofs.Paths.{path-direct, path-far, path-leaf, path_of-slot, below-null}
 use Rattle.nofs_machine.specs.Search.{first_of}
 use Rattle.nofs_machine.specs.Machine.{node_of}
 use Rattle.nofs_machine.specs.World.{World, blocks_for, damaged_above, free_blocks, unverified_blocks, next_block}
@@ -24,6 +24,7 @@ use Rattle.nofs_machine.specs.declared.replies.Refusal.{Refusal}
 use Rattle.nofs_machine.specs.declared.replies.Reply.TheVariants as reply
 use Rattle.nofs_machine.specs.declared.replies.Refusal.TheVariants as refusal
 use Rattle.nofs_agree.specs.Chains.{AreTrue}
+use Rattle.nofs_agree.specs.declared.reads.LastRead.{LastRead}
 use Rattle.nofs_state.specs.Books.{IsSafe}
 use Rattle.nofs_state.specs.Opening.{is_current}
 use Rattle.nofs_state.specs.Standing.{IsOpen, Past}
@@ -33,8 +34,9 @@ use Rattle.nofs_state.proofs.Keeping.{goes-after, open-back, reads-keep}
 use Rattle.nofs_state.proofs.Machine.{are-agreed}
 use Rattle.nofs_state.proofs.Replies.{goes-row, goes-read, open-files}
 use Rattle.nofs_state.proofs.Rows.{IsLate, first-late, late-row}
-use Rattle.nofs_files.specs.Putting.{RowsLead, RowsReach, put_answer}
+use Rattle.nofs_files.specs.Putting.{HeldAt, IsEmptySlot, IsFar, IsUnder, MayPut, RowsLead, RowsReach, RowsReachOf, put_answer}
 use Rattle.nofs_files.specs.declared.puts.Ended.{Ended}
+use Rattle.nofs_files.specs.declared.puts.Put.{Put}
 use Rattle.nofs_files.proofs.FileRows.{current-agreed}
 use Rattle.nofs_files.proofs.Needs.{node-is}
 
@@ -99,6 +101,10 @@ pub record IsReached (d : DiskState) (k : Books) (i g slot at : ℕ) (bytes : Li
   pub going : k.stopped ≡ false
   pub reach : RowsReach d k i g slot at bytes
 
+pub reached : {d : DiskState} {k : Books} {p : Put} {r : Record} {read : LastRead} {writes : ℕ} → IsDisk d → MayPut d k p r read writes → RowsReachOf d k p
+    → IsReached d k p.inode p.generation p.slot p.at p.bytes.now
+reached disk may rows = record { disk = disk; safe = may.safe; going = may.going; reach = rows }
+
 module _ {old : DiskState} {k : Books} {i g slot at : ℕ} {bytes : List ℕ} (f : IsReached old k i g slot at bytes) where
   abbrev put : Step
   put = step.Put i g slot at bytes
@@ -151,6 +157,9 @@ pub record IsThere (d : DiskState) (k : Books) (i g : ℕ) : Type 0 where
   pub safe : IsSafe d k
   pub current : IsTrue d.tells → AreTrue d.now k.agreement → is_current d.now i g ≡ true
 
+pub there : {d : DiskState} {k : Books} {p : Put} {r : Record} {read : LastRead} {writes : ℕ} → MayPut d k p r read writes → IsThere d k p.inode p.generation
+there may = record { safe = may.safe; current = may.current }
+
 module _ {old : DiskState} {k : Books} {i g : ℕ} (f : IsThere old k i g) where
   agrees : IsTrue old.tells → (H : List Entry1) (p : Past) → IsOpen old k H p → agreed (files_in old.now) i ≡ true
   agrees tells H p o = current-agreed old.now i g (f.current tells (are-agreed old k H p f.safe o))
@@ -178,3 +187,20 @@ module _ {old : DiskState} {k : Books} {i g : ℕ} (f : IsThere old k i g) where
 
   pub child-sound : (j : ℕ) {y : Pointer} → (IsTrue old.tells → find old.now i (InRecord 9) ≡ answer.Holds y) → DamageIs old k i (Under (InRecord 9) j) false
   child-sound j held tells H p o = top-sound p.world.files old.now i (open-files old k H p o) (agrees tells H p o) j (held tells)
+
+-- where the slots under the leaf stand, and those under the top
+pub leaf-path : {slot : ℕ} → 8 ≤ slot → slot < 72 → IsUnder slot (InRecord 8) (slot - 8)
+leaf-path {slot} from low = record { path = path-leaf slot from low; place = omega (arith, from, low) }
+
+pub far-path : {slot : ℕ} → 72 ≤ slot → slot < slot_limit → IsFar slot ((slot - 72) / 64) ((slot - 72) % 64)
+far-path {slot} from low = record { path = path-far slot from low; child = omega (arith, from, low); place = omega (arith) }
+
+-- the damage above them, by what stands next above
+module _ {d : DiskState} {k : Books} {p : Put} {r : Record} {read : LastRead} {writes : ℕ} (may : MayPut d k p r read writes) where
+  pub leaf-ruin : {a : PathAnswer} {t : Bool} → 8 ≤ p.slot → p.slot < 72 → is_ruined (node_in a) ≡ t
+      → (IsTrue d.tells → a ≡ find d.now p.inode (InRecord 8)) → DamageIs d k p.inode (path_of p.slot) t
+  leaf-ruin from low is found = ruin-is (there may) p.slot (omega (arith, low)) (path-leaf p.slot from low) (λ t H q o. refl) is found
+
+  pub child-ruin : {j n : ℕ} {y : Pointer} {a : PathAnswer} {t : Bool} → IsEmptySlot d p → IsFar p.slot j n → HeldAt d k p.inode (InRecord 9) y
+      → is_ruined (node_in a) ≡ t → (IsTrue d.tells → a ≡ find d.now p.inode (Under (InRecord 9) j)) → DamageIs d k p.inode (path_of p.slot) t
+  child-ruin {j} empty far top is found = ruin-is (there may) p.slot empty.slot far.path (child-sound (there may) j top.held) is found

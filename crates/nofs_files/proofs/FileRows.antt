@@ -1,5 +1,5 @@
 -- The rows of refusals that the steps on files share, in the words of the disk.
-use Rattle.std.proofs.Common.{◌≡◌, ℕ, ◌<◌, ◌≤◌, Bool, true, false, cond, ◌&&◌, eqb, leb, List, [], ◌∷◌, Option, Some, None, Result, Err, IfErr, refl, sym}
+use Rattle.std.proofs.Common.{◌≡◌, ℕ, ◌<◌, ◌≤◌, Bool, true, false, cond, eqb, leb, List, [], ◌∷◌, Option, Some, None, Result, Err, IfErr, refl, sym}
 use Rattle.std.proofs.Common.{ap, ◌∙◌, subst, arith}
 use Rattle.std.proofs.lemmas.Bool.Decides.{nat_tests}
 use Rattle.nofs_ptrs.specs.Paths.{slot_limit}
@@ -30,14 +30,8 @@ use Rattle.nofs_state.specs.declared.books.Books.{Books}
 use Rattle.nofs_state.proofs.Replies.{goes-row, goes-read, open-files}
 use Rattle.nofs_state.proofs.Rows.{IsLate}
 use Rattle.nofs_state.proofs.Machine.{are-agreed, stale-none, stale-some, agreed-live}
+pub use Rattle.nofs_state.proofs.CurrentFiles.{current-agreed}
 use Rattle.nofs_files.specs.Answers.{FileFails, FailsByRow, FailsByRead, OpensFile, file_row, slots_of}
-
-pub current-agreed : (X : Image) (i g : ℕ) → is_current X i g ≡ true → agreed (files_in X) i ≡ true
-current-agreed X i g c = go (agreed (files_in X) i) refl c
-  where
-    go : (b : Bool) → agreed (files_in X) i ≡ b → (b && eqb (inode X i).generation g) ≡ true → agreed (files_in X) i ≡ true
-    go true e h = e
-    go false e h = absurd (let z : false ≡ true = h in cc z)
 
 folder-kind : (k : FileKind) → is_folder k ≡ is_kind Directory (Some k)
 folder-kind File = refl

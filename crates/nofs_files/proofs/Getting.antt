@@ -39,7 +39,7 @@ reads : (i g k : ℕ) → IsReading (step.Get i g k)
 unfolding gives
 reads i g k = record { no_inode = refl; no_block = λ F. refl; gives = λ F. refl; no_slot = λ F. refl; sees_no_inode = λ j. refl; sees_no_block = λ p. refl }
 
-module _ (old : DiskState) (k : Books) (i g slot : ℕ) (is : IsDisk old) (safe : IsSafe old k) (going : k.stopped ≡ false) where
+module _ {old : DiskState} {k : Books} (i g slot : ℕ) (is : IsDisk old) (safe : IsSafe old k) (going : k.stopped ≡ false) where
   pub get-large : slots_of k.at ≤ slot → Goes old k old k (step.Get i g slot) no_claims (reply.Refused refusal.TooLarge)
   get-large high = goes-row old old k (step.Get i g slot) is safe (StaysButFaults-refl old) refusal.TooLarge refl tt going
       (λ tells H p o. rw (large-some p.world slot k.at o.says.version high) refl)
@@ -54,21 +54,21 @@ module _ (old : DiskState) (k : Books) (i g slot : ℕ) (is : IsDisk old) (safe 
     (late-row (is_folder_at p.world.files i) refusal.IsDirectory refl, tt),
   ) why (sym (rows-are low H p o) ∙ e)
 
-  pub get-unfiled : (new : DiskState) (last : LastRead) (res : Result Record Refusal) (why : Refusal) → slot < slots_of k.at
+  pub get-unfiled : {new : DiskState} {last : LastRead} {res : Result Record Refusal} {why : Refusal} → slot < slots_of k.at
       → OpensFile old new k i g last res → res ≡ Err why → Goes old k new k (step.Get i g slot) no_claims (reply.Refused why)
-  get-unfiled new last res why low opens e = goes-unfiled old new k (step.Get i g slot) i g last res why is safe going opens e
+  get-unfiled {new} {last} {res} {why} low opens e = goes-unfiled old new k (step.Get i g slot) i g last res why is safe going opens e
       (λ H p o q. rows-are low H p o ∙ q) (get-late low)
 
-  module _ (mid new : DiskState) (last next : LastRead) (r : Record) (low : slot < slots_of k.at) (opens : OpensFile old mid k i g last (Ok r)) where
-    pub get-unread : (e : Failed) → FindsSlot mid new k.at (λ X. find X i (path_of slot)) next (Err e)
+  module _ {mid new : DiskState} {last next : LastRead} {r : Record} (low : slot < slots_of k.at) (opens : OpensFile old mid k i g last (Ok r)) where
+    pub get-unread : {e : Failed} → FindsSlot mid new k.at (λ X. find X i (path_of slot)) next (Err e)
         → Goes old k new k (step.Get i g slot) no_claims (reply.Refused refusal.ReadFault)
-    get-unread e finds = goes-read old new k (step.Get i g slot) is safe (StaysButFaults-trans old mid new opens.stays finds.stays) going
+    get-unread {e} finds = goes-read old new k (step.Get i g slot) is safe (StaysButFaults-trans old mid new opens.stays finds.stays) going
         (Rose-within old.faults mid.faults new.faults new.faults opens.stays.disk.faults finds.cause (le_refl new.faults)) (λ tells H p o. get-late low H p o)
 
-    pub get-found : (a : PathAnswer) (reply : Reply) → is_refused reply ≡ false → is_flushed reply ≡ false
+    pub get-found : {a : PathAnswer} (reply : Reply) → is_refused reply ≡ false → is_flushed reply ≡ false
         → FindsSlot mid new k.at (λ X. find X i (path_of slot)) next (Ok a) → (IsTrue old.tells → reply ≡ got_reply (value_in old.now a))
         → Goes old k new k (step.Get i g slot) no_claims reply
-    get-found a reply accepted plain finds gives-it = goes-answer old new k (step.Get i g slot) is safe
+    get-found {a} reply accepted plain finds gives-it = goes-answer old new k (step.Get i g slot) is safe
         (StaysButFaults-trans old mid new opens.stays finds.stays) reply accepted plain (reads i g slot) going
         (λ tells H p o.
         let match = open-files old k H p o in
@@ -84,10 +84,10 @@ module _ (old : DiskState) (k : Books) (i g slot : ℕ) (is : IsDisk old) (safe 
               ∙ sym (ap got_reply (value-is p.world.files old.now i slot match a-agreed (slots-most k.at slot low))),
         ))
 
-pub get-bytes : (old mid new : DiskState) (at : SuperBlock) (i slot : ℕ) (a : PathAnswer) (x : Pointer) (next : LastRead) → StaysButFaults old mid
+pub get-bytes : {old mid new : DiskState} {at : SuperBlock} (i slot : ℕ) {a : PathAnswer} {x : Pointer} {next : LastRead} → StaysButFaults old mid
     → FindsSlot mid new at (λ X. find X i (path_of slot)) next (Ok a) → a ≡ answer.Holds x → IsTrue old.tells
     → reply.Bytes next.cell.payload ≡ got_reply (value_in old.now a)
-get-bytes old mid new at i slot a x next stays finds e tells =
+get-bytes {old} {mid} {new} {at} i slot {a} {x} {next} stays finds e tells =
     let c : IsCellOf mid.now (answer.Holds x) next.cell = subst (λ (q : PathAnswer). IsCellOf mid.now q next.cell) e
     (finds.cell (told-on old mid stays tells)) in
     let d : next.cell ≡ cell_at old.now x.block = subst (λ (X : Image). next.cell ≡ cell_at X x.block) stays.cells.now c in

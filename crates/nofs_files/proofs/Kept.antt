@@ -1,11 +1,9 @@
--- What stays over a Put, and what a claim leaves.
+-- What stays over a Put.
 use Rattle.std.proofs.Common.{◌≡◌, ℕ, ◌<◌, inl, inr, Bool, true, false, cond, eqb, leb, ltb, ◌&&◌, List, Option, Some, None, unwrap_or, refl, sym, ap, ◌∙◌}
-use Rattle.std.proofs.Common.{subst, arith, ◌^◌}
-use Rattle.std.specs.Prelude.{slice_set}
+use Rattle.std.proofs.Common.{subst, arith}
 use Rattle.std.proofs.lemmas.Bool.{cases_eq}
 use Rattle.std.proofs.lemmas.Bool.Decides.{nat_tests}
 use Rattle.nofs_ptrs.specs.Paths.{slot_limit}
-use Rattle.nofs_disk.specs.Disk.{DiskState}
 use Rattle.nofs_model.specs.Image.{path_of, FileState, Files, is_folder, Home, NodeState, Present, Absent}
 use Rattle.nofs_model.specs.declared.value.Value.{Value}
 use Rattle.nofs_model.specs.declared.value.Value.TheVariants.{Hole, Bytes, Lost}
@@ -15,10 +13,7 @@ use Rattle.nofs_machine.specs.Machine.{lies_above, bytes_in, trimmed, cut_of}
 use Rattle.nofs_machine.specs.Claims.{has_block, is_present}
 use Rattle.nofs_machine.specs.Gives.{GivesNothing}
 use Rattle.nofs_law_files.proofs.PutFile.{put-made, put-new, put-gives}
-use Rattle.nofs_state.specs.Books.{IsSafe, claimed_books}
-use Rattle.nofs_state.specs.declared.books.Books.{Books}
-use Rattle.nofs_bits.specs.Bits.{is_set}
-use Rattle.nofs_state.proofs.Maps.{set-here, set-other, set-length}
+pub use Rattle.nofs_state.proofs.ClaimedBooks.{claimed-safe}
 use Rattle.nofs_disk.specs.Number.{put_bytes}
 use Rattle.nofs_machine.proofs.EntryPut.{zeros-are}
 use Rattle.nofs_disk.specs.Number as number
@@ -88,20 +83,3 @@ pub same-content : (v : Value) (size slot at : ℕ) (bytes : List ℕ) → is_by
     → put_content (Bytes (number.zeros 1024)) size slot at bytes ≡ put_content v size slot at bytes
 unfolding put_content
 same-content v size slot at bytes e = ap (λ (old : List ℕ). put_bytes at bytes (trimmed (cut_of size slot) old)) (sym (bytes-none v e))
-
-pub claimed-safe : (d : DiskState) (k : Books) (b : ℕ) → b < k.at.blocks → k.serial < 2 ^ 40 → IsSafe d k → IsSafe d (claimed_books k b)
-claimed-safe d k b within serial s = record {
-  at = s.at;
-  mount = s.mount;
-  serial = omega (arith, serial);
-  unknown_inodes = s.unknown_inodes;
-  free_inodes = s.free_inodes;
-  agreement = s.agreement;
-  unknown_blocks = s.unknown_blocks;
-  free_blocks = set-length k.free_blocks b false ∙ s.free_blocks;
-  in_area = λ q t. elim (cases_eq q b) [
-    | inl e ↦ absurd (let z : is_set (slice_set k.free_blocks b false) q ≡ false = ap (is_set (slice_set k.free_blocks b false)) e
-        ∙ set-here k.free_blocks b false (let n = s.free_blocks in omega (arith, within, n)) in cc (t, z))
-    | inr ne ↦ s.in_area q (sym (set-other k.free_blocks b q false ne) ∙ t)
-  ];
-}

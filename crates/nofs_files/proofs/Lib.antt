@@ -3,7 +3,6 @@ pub mod FileRows
 pub mod Getting
 pub mod Flushing
 pub mod Kept
-pub mod Fullness
 pub mod PutRows
 pub mod Damage
 pub mod Ways
@@ -11,12 +10,12 @@ pub mod Parts
 pub mod Climbing
 pub mod Climbed
 pub mod Needs
+pub mod Taking
+pub mod Contents
 pub mod Below
-pub mod ZeroPointers
 pub mod Grown
 pub mod Shallow
 pub mod Rooms
-pub mod Several
 pub mod LeafRooms
 pub mod CutCells
 pub mod CutPaths

@@ -2,6 +2,7 @@
 use Rattle.std.proofs.Common.{◌≡◌, ℕ, ◌+◌, ◌<◌, ◌≤◌, Bool, true, false, ltb, eqb, ◌&&◌, ◌||◌, not, is_some, List, [], ◌∷◌, length, Option, Some, None}
 use Rattle.std.proofs.Common.{IsTrue, Result, Ok, Err, ◌⊎◌, ◌^◌, inl, inr, refl, sym, ap, ◌∙◌, subst, arith, le_refl}
 use Rattle.std.proofs.lemmas.Bool.Decides.{nat_tests}
+use Rattle.std.proofs.Math.Bool.{and-false, or-false, or-true}
 use Rattle.nofs_disk.specs.Disk.{DiskState, IsDisk, StaysButFaults}
 use Rattle.nofs_disk.specs.Chains.{StaysButFaults-refl, StaysButFaults-trans, Rose-within}
 use Rattle.nofs_disk.specs.declared.Failed.{Failed}
@@ -44,18 +45,6 @@ use Rattle.nofs_state.specs.Owing.{RowsPass}
 use Rattle.nofs_files.proofs.Damage.{held-sound}
 use Rattle.nofs_files.proofs.FileRows.{current-agreed, folder-is, goes-unfiled, large-none, large-some, slots-most, value-is}
 use Rattle.nofs_model.proofs.Paths.{path_of-slot}
-
-and-false : (b : Bool) → (b && false) ≡ false
-and-false true = refl
-and-false false = refl
-
-or-true : (b : Bool) → (b || true) ≡ true
-or-true true = refl
-or-true false = refl
-
-or-false : (b : Bool) → (b || false) ≡ b
-or-false true = refl
-or-false false = refl
 
 skip2 : (a b : Option Refusal) (os : List (Option Refusal)) → a ≡ None → b ≡ None → first_of (a ∷ b ∷ os) ≡ first_of os
 skip2 a b os ea eb = rw (ea, eb) refl

@@ -1,51 +1,45 @@
 -- A Put in place, and one into a direct slot, are ways with no new slot and with one.
-use Rattle.std.proofs.Common.{◌≡◌, ◌≢◌, ℕ, ◌+◌, ◌*◌, ◌<◌, max, inl, inr, Bool, true, false, cond, List, length, Some, refl, sym, ap, ◌∙◌, subst, ◌^◌}
-use Rattle.std.proofs.Common.{eqb, [], ◌∷◌, get_or, IsTrue, Result, arith, ltb}
-use Rattle.nofs_ptrs.specs.Paths.{slot_limit}
-use Rattle.nofs_disk.specs.Disk.{cell_at, DiskState, IsDisk, StaysButFaults}
-use Rattle.nofs_inode.specs.declared.inode.FileKind.TheVariants.{File}
-use Rattle.nofs_model.specs.Cells.{Cell, Pointer, Record, null, tag_of, Content, record_of}
-use Rattle.nofs_model.specs.Image.{Image, inode, value, value_in, Path, InRecord, Under, path_of, tag_for, find, pointer, record_pointer, files_in, agreed}
-use Rattle.nofs_model.specs.Image.{IsAbove}
-use Rattle.nofs_model.specs.declared.value.Value.TheVariants.{Bytes}
-use Rattle.nofs_model.specs.declared.value.Value.{Value}
-use Rattle.nofs_machine.specs.Machine.{put_content, same_path, value_of}
-use Rattle.nofs_machine.specs.Claims.{is_claimed, no_claims, next_stamp, IsBlockClaim, IsClaim, Unclaimed, NoInode}
-use Rattle.nofs_law_untouched.proofs.Growth.{same_path-true, same_path-refl}
-use Rattle.nofs_law_numbers.specs.Cells.{table_tag}
-use Rattle.nofs_state.proofs.Tables.{HasRecord, table_block}
-use Rattle.nofs_files.specs.Putting.{pointed, sized, put_answer}
-use Rattle.nofs_state.specs.Owing.{RecordIn, RowsPass}
-use Rattle.nofs_files.proofs.Below.{content-tag, empty-held, take-one, taken}
-use Rattle.nofs_files.proofs.Climbing.{Climbs}
-use Rattle.nofs_files.proofs.Grown.{ContentFacts, block-named, ways-end}
-use Rattle.nofs_files.proofs.Needs.{above-held, claims_are, claim-one, needs-are}
-use Rattle.nofs_files.proofs.Kept.{claimed-safe, same-content}
-use Rattle.nofs_files.proofs.FileRows.{current-agreed, value-is}
-use Rattle.nofs_files.proofs.Parts.{Takes}
-use Rattle.nofs_files.proofs.Ways.{way_writes}
-use Rattle.nofs_model.proofs.Paths.{path-direct}
-use Rattle.nofs_model.specs.declared.path.PathAnswer.{PathAnswer}
+use Rattle.std.proofs.Common.{◌≡◌, ◌≢◌, ℕ, ◌+◌, ◌*◌, ◌<◌, max, inl, inr, Bool, true, false, cond, eqb, ltb, List, [], ◌∷◌, length, get_or, Some, IsTrue, Result}
+use Rattle.std.proofs.Common.{refl, sym, ap, ◌∙◌, subst, arith}
+use Rattle.std.proofs.lemmas.Bool.Decides.{nat_tests}
+use Rattle.std.proofs.lemmas.List.{get_or-set_same, get_or-set_other}
 use Rattle.std.specs.Prelude.{slice_set}
-use Rattle.nofs_bits.specs.Bits.{is_set}
+use Rattle.nofs_ptrs.specs.Paths.{slot_limit}
+use Rattle.nofs_disk.specs.Disk.{DiskState, IsDisk, StaysButFaults, cell_at}
+use Rattle.nofs_model.specs.Cells.{Cell, Pointer, Record, null, tag_of}
+use Rattle.nofs_model.specs.Image.{Image, value_in, Path, InRecord, Under, path_of, tag_for, find, pointer, record_pointer, IsAbove}
+use Rattle.nofs_model.specs.declared.path.PathAnswer.{PathAnswer}
+use Rattle.nofs_model.specs.declared.path.PathAnswer.TheVariants as answer
+use Rattle.nofs_model.specs.declared.value.Value.{Value}
+use Rattle.nofs_model.specs.declared.value.Value.TheVariants.{Bytes}
+use Rattle.nofs_model.proofs.Paths.{path-direct}
+use Rattle.nofs_machine.specs.Machine.{put_content, same_path, value_of}
 use Rattle.nofs_machine.specs.Meta.{is_bytes}
+use Rattle.nofs_machine.specs.World.{World, blocks_for}
+use Rattle.nofs_machine.specs.Claims.{is_claimed, no_claims, next_stamp, IsBlockClaim, IsClaim, Unclaimed, NoInode}
+use Rattle.nofs_machine.specs.declared.history.Claims.{Claims}
+use Rattle.nofs_machine.specs.declared.steps.Step.TheVariants as step
 use Rattle.nofs_machine.specs.declared.replies.Refusal.{Refusal}
-use Rattle.nofs_state.specs.Books.{IsSafe, claimed_books, claimed_pointer}
+use Rattle.nofs_law_untouched.proofs.Growth.{same_path-true, same_path-refl}
+use Rattle.nofs_state.specs.Owing.{RowsPass}
 use Rattle.nofs_state.specs.Steps.{Goes}
 use Rattle.nofs_state.specs.Writing.{IsApart, Stores}
 use Rattle.nofs_state.specs.declared.books.Books.{Books}
-use Rattle.nofs_crashlaw.proofs.Below.{live-stands}
-use Rattle.nofs_agree.specs.Chains.{AreTrue}
-use Rattle.nofs_state.specs.Opening.{is_current}
-use Rattle.nofs_state.proofs.Machine.{agreed-live, are-agreed}
+use Rattle.nofs_state.proofs.Machine.{are-agreed}
 use Rattle.nofs_state.proofs.Replies.{open-files}
-use Rattle.nofs_files.specs.Answers.{IsFile}
-use Rattle.std.proofs.lemmas.Bool.Decides.{nat_tests}
-use Rattle.std.proofs.lemmas.List.{get_or-set_same, get_or-set_other}
-use Rattle.nofs_machine.specs.World.{World, blocks_for}
-use Rattle.nofs_model.specs.declared.path.PathAnswer.TheVariants as answer
-use Rattle.nofs_disk.specs.Number as number
-use Rattle.nofs_machine.specs.declared.steps.Step.TheVariants as step
+use Rattle.nofs_state.proofs.Tables.{table_block}
+use Rattle.nofs_agree.specs.declared.reads.LastRead.{LastRead}
+use Rattle.nofs_files.specs.Putting.{HasRoom, HeldAt, IsContent, IsRecordCell, MayPut, pointed, put_answer, size_after, sized, step_of_put}
+use Rattle.nofs_files.specs.declared.puts.Put.{Put}
+use Rattle.nofs_files.proofs.Climbed.{asked-ends, ways-end}
+use Rattle.nofs_files.proofs.Climbing.{Climbs, IsPutFile}
+use Rattle.nofs_files.proofs.Contents.{ContentFacts, content-facts, holds-nothing, new-tag, put-file}
+use Rattle.nofs_files.proofs.FileRows.{current-agreed, value-is}
+use Rattle.nofs_files.proofs.Needs.{above-held}
+use Rattle.nofs_files.proofs.Parts.{Takes}
+use Rattle.nofs_files.proofs.Rooms.{IsAsked}
+use Rattle.nofs_files.proofs.Taking.{IsTaking, NamesOne, claimed-not-zero}
+use Rattle.nofs_files.proofs.Ways.{way_writes}
 
 low-not : (a b : ℕ) → a < b → eqb a b ≡ false
 low-not a b h = grind (arith, nat_tests)
@@ -70,20 +64,14 @@ place_at X i way x q = cond (same_path q way) x (pointer X i q)
 place-here : (X : Image) (i : ℕ) (way : Path) (x : Pointer) → place_at X i way x way ≡ x
 place-here X i way x = let e = same_path-refl way in rw e refl
 
-pub place-climbs : (X : Image) (i g slot at : ℕ) (bytes : List ℕ) (r : Record) (x : Pointer) (c1 c2 : Cell) → slot < slot_limit → inode X i ≡ r
-    → r.kind ≡ Some File
-    → r.generation ≡ g → agreed (files_in X) i ≡ true → find X i (path_of slot) ≡ answer.Holds x
+pub place-climbs : (X : Image) (i g slot at : ℕ) (bytes : List ℕ) (r : Record) (x : Pointer) (c1 c2 : Cell)
+    → IsPutFile X i g slot r (sized r (max r.size (1024 * slot + at + length bytes))) (path_of slot) c2 → find X i (path_of slot) ≡ answer.Holds x
     → c1.payload ≡ put_content (Bytes (cell_at X x.block).payload) r.size slot at bytes → c1.tag ≡ (cell_at X x.block).tag
-    → HasRecord X i (sized r (max r.size (1024 * slot + at + length bytes))) c2 → tag_of c2.tag ≡ Some (table_tag (table_block i))
     → Climbs X i g slot at bytes r (sized r (max r.size (1024 * slot + at + length bytes))) 0 (path_of slot) (place_at X i (path_of slot) x) (λ q. c1)
     no_claims c2
-place-climbs X i g slot at bytes r x c1 c2 range rec kind gen agrees held payload tag has tag-table = record {
-  path = refl;
-  range = range;
-  rec = rec;
-  kind = kind;
-  generation = gen;
-  agrees = agrees;
+place-climbs X i g slot at bytes r x c1 c2 file held payload tag = record {
+  file = file;
+  grew = record { kind = refl; generation = refl; links = refl; size = refl };
   old = λ q u. go q u (same_path q (path_of slot)) refl;
   empty = λ q u. absurd u;
   hole = λ q n u v. absurd u;
@@ -96,14 +84,8 @@ place-climbs X i g slot at bytes r x c1 c2 range rec kind gen agrees held payloa
   beside_new = λ q n z u v ne lt. absurd u;
   beside_old = λ q n z u v ne lt. absurd u;
   content = payload ∙ ap (λ (v : Value). put_content v r.size slot at bytes) (sym (ap (value_in X) held));
-  same_kind = refl;
-  same_generation = refl;
-  same_links = refl;
-  size = refl;
   pointer_new = λ n u. absurd u;
   pointers_old = λ n off. refl;
-  has = has;
-  tag_table = tag-table;
   cell = λ t. absurd (no-claim t);
   leaf = λ t. absurd (no-claim t);
   top = λ t. absurd (no-claim t);
@@ -117,41 +99,33 @@ place-climbs X i g slot at bytes r x c1 c2 range rec kind gen agrees held payloa
         (held ∙ ap answer.Holds (sym here))
     go q u false e = above-held X i q (path_of slot) x u held ∙ ap answer.Holds (sym (rw e refl))
 
-pub direct-climbs : (X : Image) (i g slot at : ℕ) (bytes : List ℕ) (r : Record) (n : ℕ) (x : Pointer) (c1 c2 : Cell) → n < 8 → length r.direct ≡ 8
-    → ContentFacts X i g slot at bytes r (pointed r (max r.size (1024 * slot + at + length bytes)) n x) (InRecord n) x c1 c2 → is_claimed x ≡ true
-    → Climbs X i g slot at bytes r (pointed r (max r.size (1024 * slot + at + length bytes)) n x) 1 (InRecord n) (λ q. x) (λ q. c1) (claims_are x null null) c2
-direct-climbs X i g slot at bytes r n x c1 c2 low eight f named = record {
-  path = f.path;
-  range = f.range;
-  rec = f.rec;
-  kind = f.kind;
-  generation = f.generation;
-  agrees = f.agrees;
+pub direct-climbs : (X : Image) (i g slot at : ℕ) (bytes : List ℕ) (r : Record) (n : ℕ) (c : Claims) (c1 c2 : Cell) → n < 8 → length r.direct ≡ 8
+    → ContentFacts X i g slot at bytes r (pointed r (max r.size (1024 * slot + at + length bytes)) n c.cell) (InRecord n) c.cell c1 c2 → NamesOne c
+    → Climbs X i g slot at bytes r (pointed r (max r.size (1024 * slot + at + length bytes)) n c.cell) 1 (InRecord n) (λ q. c.cell) (λ q. c1) c c2
+direct-climbs X i g slot at bytes r n c c1 c2 low eight f names = record {
+  file = f.file;
+  grew = record { kind = refl; generation = refl; links = refl; size = refl };
   old = λ q u. absurd u;
-  empty = λ q u z e. empty-held X i slot (InRecord n) f.path f.empty z (subst (λ (w : Path). find X i w ≡ answer.Holds z) u e);
-  hole = λ q j u v. absurd (let e : Under q j ≡ InRecord n = u in cc e);
-  claimed = λ q u. (named, inl refl);
+  empty = λ q u z e. holds-nothing f z (subst (λ (w : Path). find X i w ≡ answer.Holds z) u e);
+  hole = λ q j u v. absurd (not-under q j u);
+  claimed = λ q u. (names.cell, inl refl);
   distinct = λ q w u v e. u ∙ sym v;
-  tag_new = λ q u. subst (λ (w : Path). tag_of c1.tag ≡ Some (tag_for X i w x.stamp)) (sym u)
-      (f.tag ∙ ap Some (sym (content-tag X i g slot x.stamp (InRecord n) r f.rec f.kind f.generation f.path f.range)));
+  tag_new = λ q u. subst (λ (w : Path). tag_of c1.tag ≡ Some (tag_for X i w c.cell.stamp)) (sym u) (new-tag f);
   tag_old = λ q u v. absurd v;
-  next = λ q j u. absurd (let e : Under q j ≡ InRecord n = u in cc e);
-  beside_new = λ q j z u v ne lt. absurd (let e : Under q j ≡ InRecord n = u in cc e);
+  next = λ q j u. absurd (not-under q j u);
+  beside_new = λ q j z u v ne lt. absurd (not-under q j u);
   beside_old = λ q j z u v ne lt. absurd v;
   content = f.payload;
-  same_kind = refl;
-  same_generation = refl;
-  same_links = refl;
-  size = refl;
-  pointer_new = λ q u. (let s : q ≡ n = cc u in ap (record_pointer (pointed r (max r.size (1024 * slot + at + length bytes)) n x)) s
-      ∙ pointed-here r (max r.size (1024 * slot + at + length bytes)) n x low eight);
-  pointers_old = λ q off. pointed-other r (max r.size (1024 * slot + at + length bytes)) n x q (λ e. off (ap InRecord e));
-  has = f.has;
-  tag_table = f.tag_table;
+  pointer_new = λ q u. (let s : q ≡ n = cc u in ap (record_pointer (pointed r (max r.size (1024 * slot + at + length bytes)) n c.cell)) s
+      ∙ pointed-here r (max r.size (1024 * slot + at + length bytes)) n c.cell low eight);
+  pointers_old = λ q off. pointed-other r (max r.size (1024 * slot + at + length bytes)) n c.cell q (λ e. off (ap InRecord e));
   cell = λ t. refl;
-  leaf = λ t. absurd (no-claim t);
-  top = λ t. absurd (no-claim t);
+  leaf = λ t. absurd (let e = names.leaf in cc (e, t));
+  top = λ t. absurd (let e = names.top in cc (e, t));
 }
+  where
+    not-under : (q : Path) (j : ℕ) → Under q j ≡ InRecord n → ⊥
+    not-under q j e = cc e
 
 -- The contracts of both, from the state before the table was read
 
@@ -175,84 +149,47 @@ claim-none W i g slot at bytes needs = record {
   apart = tt;
 }
 
-pub place-ends : (old mid new : DiskState) (k l : Books) (i g slot at : ℕ) (bytes : List ℕ) (r : Record) (x : Pointer) (before c1 c20 c2 : Cell)
-    (result : Result (Unit {0}) Refusal) → IsDisk mid → IsDisk new → StaysButFaults old mid → IsSafe old k → k.stopped ≡ false → IsFile old k.at i g r
-    → (IsTrue old.tells → AreTrue old.now k.agreement → is_current old.now i g ≡ true) → slot < slot_limit → 0 < x.block
-    → (IsTrue old.tells → find old.now i (path_of slot) ≡ answer.Holds x)
-    → (IsTrue old.tells → before ≡ cell_at old.now x.block) → c1.payload ≡ put_content (Bytes before.payload) r.size slot at bytes → c1.tag ≡ before.tag
-    → (IsTrue old.tells → c20 ≡ cell_at old.now (table_block i)) → RecordIn c20 i (sized r (max r.size (1024 * slot + at + length bytes))) c2
-    → tag_of c2.tag ≡ Some (table_tag (table_block i))
-    → RowsPass old k (step.Put i g slot at bytes) → Stores mid k new l ((x.block, c1) ∷ (table_block i, c2) ∷ []) result
-    → Goes old k new l (step.Put i g slot at bytes) no_claims (put_answer result)
-place-ends old mid new k l i g slot at bytes r x before c1 c20 c2 result is_mid is_new stays safe going file current low positive held cell payload tag table
-    record-in tag-table pass stores =
-    ways-end old mid new k k l i g slot at bytes r (sized r (max r.size (1024 * slot + at + length bytes))) 0 (path_of slot)
-    (place_at old.now i (path_of slot) x) (λ q. c1) no_claims c2 result is_mid is_new stays safe (λ s. s) going
-    (subst (λ (ws : List (ℕ × Cell)). IsApart ws 0) (sym same-writes) ((λ e. omega (arith, e, positive)), ((λ e. omega (arith, e)), tt))) (take-none k)
-    (λ t H p o.
-    let agrees = current-agreed old.now i g (current t (are-agreed old k H p safe o)) in
-    let v : is_bytes (value_of p.world.files i slot) ≡ true = ap is_bytes (value-is p.world.files old.now i slot (open-files old k H p o) agrees low)
-    ∙ ap (λ (q : PathAnswer). is_bytes (value_in old.now q)) (held t) in
-    let needs : blocks_for p.world.files i slot ≡ 0 = rw v refl in
+pub place-ends : {old mid new : DiskState} {k l : Books} {p : Put} {r : Record} {last : LastRead} {writes t : ℕ} {x : Pointer} {before c1 c20 c2 : Cell}
+    {result : Result (Unit {0}) Refusal} → IsDisk mid → IsDisk new → StaysButFaults old mid → MayPut old k p r last writes → p.slot < slot_limit
+    → HeldAt old k p.inode (path_of p.slot) x → (IsTrue old.tells → before ≡ cell_at old.now x.block)
+    → c1.payload ≡ put_content (Bytes before.payload) r.size p.slot p.at p.bytes.now → c1.tag ≡ before.tag
+    → (IsTrue old.tells → c20 ≡ cell_at old.now (table_block p.inode)) → IsRecordCell c20 p.inode (sized r (size_after p r.size)) c2
+    → RowsPass old k (step_of_put p) → t ≡ table_block p.inode → Stores mid k new l ((x.block, c1) ∷ (t, c2) ∷ []) result
+    → Goes old k new l (step_of_put p) no_claims (put_answer result)
+place-ends {old} {mid} {new} {k} {l} {p} {r} {last} {writes} {t} {x} {before} {c1} {c20} {c2} {result} is_mid is_new stays may low held cell payload tag read
+    table pass at-table stores =
+    ways-end old mid new k k l p.inode p.generation p.slot p.at p.bytes.now r (sized r (size_after p r.size)) 0 (path_of p.slot)
+    (place_at old.now p.inode (path_of p.slot) x) (λ q. c1) no_claims c2 result is_mid is_new stays may.safe (λ s. s) may.going
+    (subst (λ (ws : List (ℕ × Cell)). IsApart ws 0) (sym same-writes) ((λ e. let q = held.positive in omega (arith, e, q)), ((λ e. omega (arith, e)), tt)))
+    (take-none k)
+    (λ t H q o.
+    let agrees = current-agreed old.now p.inode p.generation (may.current t (are-agreed old k H q may.safe o)) in
+    let v : is_bytes (value_of q.world.files p.inode p.slot) ≡ true = ap is_bytes
+    (value-is q.world.files old.now p.inode p.slot (open-files old k H q o) agrees low) ∙ ap (λ (a : PathAnswer). is_bytes (value_in old.now a)) (held.held t) in
+    let needs : blocks_for q.world.files p.inode p.slot ≡ 0 = rw v refl in
     record {
-      climbs = place-climbs old.now i g slot at bytes r x c1 c2 low (file.known.same t) file.kind file.generation agrees (held t)
-          (payload ∙ ap (λ (c : Cell). put_content (Bytes c.payload) r.size slot at bytes) (cell t)) (tag ∙ ap (λ (c : Cell). c.tag) (cell t))
-          (record {
-            range = (live-stands old.now i (agreed-live old.now i agrees)).range;
-            here = record-in.here;
-            others = λ j ne lt. record-in.others j ne lt ∙ ap (λ (q : Cell). record_of j q.payload) (table t);
-          }) tag-table;
+      climbs = place-climbs old.now p.inode p.generation p.slot p.at p.bytes.now r x c1 c2
+          (put-file old k p r (sized r (size_after p r.size)) (path_of p.slot) c20 c2 t may.file agrees low refl read table) (held.held t)
+          (payload ∙ ap (λ (c : Cell). put_content (Bytes c.payload) r.size p.slot p.at p.bytes.now) (cell t)) (tag ∙ ap (λ (c : Cell). c.tag) (cell t));
       needs = needs;
-      claim = claim-none p.world i g slot at bytes needs;
+      claim = claim-none q.world p.inode p.generation p.slot p.at p.bytes.now needs;
     })
-    pass (subst (λ (ws : List (ℕ × Cell)). Stores mid k new l ws result) (sym same-writes) stores)
+    pass
+    (subst (λ (ws : List (ℕ × Cell)). Stores mid k new l ws result) (sym same-writes)
+    (subst (λ (n : ℕ). Stores mid k new l ((x.block, c1) ∷ (n, c2) ∷ []) result) at-table stores))
   where
-    same-writes : way_writes (place_at old.now i (path_of slot) x) (λ q. c1) (table_block i, c2) 0 (path_of slot) ≡ (x.block, c1) ∷ (table_block i, c2) ∷ []
-    same-writes = ap (λ (w : Pointer). (w.block, c1) ∷ (table_block i, c2) ∷ []) (place-here old.now i (path_of slot) x)
+    same-writes : way_writes (place_at old.now p.inode (path_of p.slot) x) (λ q. c1) (table_block p.inode, c2) 0 (path_of p.slot)
+        ≡ (x.block, c1) ∷ (table_block p.inode, c2) ∷ []
+    same-writes = ap (λ (w : Pointer). (w.block, c1) ∷ (table_block p.inode, c2) ∷ []) (place-here old.now p.inode (path_of p.slot) x)
 
-pub direct-ends : (old mid new : DiskState) (k l : Books) (i g slot at : ℕ) (bytes : List ℕ) (r : Record) (b : ℕ) (c1 c20 c2 : Cell)
-    (result : Result (Unit {0}) Refusal) → IsDisk mid → IsDisk new → StaysButFaults old mid → IsSafe old k → k.stopped ≡ false → IsFile old k.at i g r
-    → (IsTrue old.tells → AreTrue old.now k.agreement → is_current old.now i g ≡ true) → slot < 8 → length r.direct ≡ 8 → b < k.at.blocks
-    → is_set k.free_blocks b ≡ true → k.serial < 2 ^ 40 → (IsTrue old.tells → is_bytes (value old.now i slot) ≡ false)
-    → c1.payload ≡ put_content (Bytes (number.zeros 1024)) r.size slot at bytes
-    → tag_of c1.tag ≡ Some (record { kind = Content; inode = i; generation = g; slot = slot; stamp = (claimed_pointer k b).stamp })
-    → (IsTrue old.tells → c20 ≡ cell_at old.now (table_block i)) → RecordIn c20 i
-    (pointed r (max r.size (1024 * slot + at + length bytes)) slot (claimed_pointer k b)) c2 → tag_of c2.tag ≡ Some (table_tag (table_block i))
-    → RowsPass old k (step.Put i g slot at bytes) → Stores mid (claimed_books k b) new l ((b, c1) ∷ (table_block i, c2) ∷ []) result
-    → Goes old k new l (step.Put i g slot at bytes) (claims_are (claimed_pointer k b) null null) (put_answer result)
-direct-ends old mid new k l i g slot at bytes r b c1 c20 c2 result is_mid is_new stays safe going file current low eight within free serial empty payload tag
-    table record-in tag-table pass stores =
-    ways-end old mid new k (claimed_books k b) l i g slot at bytes r (pointed r (max r.size (1024 * slot + at + length bytes)) slot (claimed_pointer k b)) 1
-    (InRecord slot) (λ q. claimed_pointer k b) (λ q. c1) (claims_are (claimed_pointer k b) null null) c2 result is_mid is_new stays safe
-    (claimed-safe mid k b within serial) going ((λ e. let q = safe.in_area b free in omega (arith, e, q)), ((λ e. omega (arith, e)), tt))
-    (take-one k b (claimed_pointer k b) refl (let e = safe.free_blocks in omega (arith, e, within)) named)
-    (λ t H p o.
-    let agrees = current-agreed old.now i g (current t (are-agreed old k H p safe o)) in
-    let needs = needs-are p.world.files old.now i (open-files old k H p o) agrees 0 slot (InRecord slot) (path-direct slot low) (omega (arith, low)) (empty t)
-    refl (λ q v. absurd v) (λ q j u v. absurd (let e : Under q j ≡ InRecord slot = u in cc e)) in
-    record {
-      climbs = direct-climbs old.now i g slot at bytes r slot (claimed_pointer k b) c1 c2 low eight
-          (record {
-            path = path-direct slot low;
-            range = omega (arith, low);
-            rec = file.known.same t;
-            kind = file.kind;
-            generation = file.generation;
-            agrees = agrees;
-            empty = empty t;
-            payload = payload ∙ same-content (value old.now i slot) r.size slot at bytes (empty t);
-            tag = tag;
-            has = record {
-              range = (live-stands old.now i (agreed-live old.now i agrees)).range;
-              here = record-in.here;
-              others = λ j ne lt. record-in.others j ne lt ∙ ap (λ (q : Cell). record_of j q.payload) (table t);
-            };
-            tag_table = tag-table;
-          }) named;
-      needs = needs;
-      claim = claim-one p.world i g slot at bytes (claimed_pointer k b) (taken old k H p b safe o within free) needs;
-    })
-    pass stores
-  where
-    named : is_claimed (claimed_pointer k b) ≡ true
-    named = block-named old k b safe free
+pub direct-ends : {old mid new : DiskState} {k l' l : Books} {p : Put} {r : Record} {c : Claims} {t : ℕ} {c1 c20 c2 : Cell} {result : Result (Unit {0}) Refusal}
+    → IsAsked old k p r 1 → HasRoom k 1 → IsTaking old mid k l' p c 1 × NamesOne c → IsDisk mid → IsDisk new → StaysButFaults old mid → p.slot < 8
+    → length r.direct ≡ 8 → IsContent p r.size c.cell.stamp c1 → (IsTrue old.tells → c20 ≡ cell_at old.now (table_block p.inode))
+    → IsRecordCell c20 p.inode (pointed r (size_after p r.size) p.slot c.cell) c2 → t ≡ table_block p.inode
+    → Stores mid l' new l ((c.cell.block, c1) ∷ (t, c2) ∷ []) result → Goes old k new l (step_of_put p) c (put_answer result)
+direct-ends {old} {mid} {new} {k} {l'} {l} {p} {r} {c} {t} {c1} {c20} {c2} a room taking is_mid is_new stays low eight content read table at-table stores =
+    let names = taking.1 in
+    asked-ends (InRecord p.slot) (λ q. c.cell) (λ q. c1) a room taking.0 is_mid is_new stays
+    ((λ e. claimed-not-zero c.cell names.cell (sym e)), ((λ e. omega (arith, e)), tt))
+    (λ t agrees. direct-climbs old.now p.inode p.generation p.slot p.at p.bytes.now r p.slot c c1 c2 low eight
+    (content-facts a (path-direct p.slot low) content read table t agrees) names) at-table stores

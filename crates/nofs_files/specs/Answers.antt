@@ -55,10 +55,10 @@ pub record IsFile (d : DiskState) (at : SuperBlock) (i g : ℕ) (r : Record) : T
 
 pub record OpensFile (old new : DiskState) (k : Books) (i g : ℕ) (last : LastRead) (result : Result Record Refusal) : Type 0 where
   pub stays : StaysButFaults old new
+  pub refused : IfErr result (FileFails old new k i g)
   pub file : IfOk result (IsFile new k.at i g)
   pub current : IfOk result (λ r. IsTrue old.tells → AreTrue old.now k.agreement → is_current old.now i g ≡ true)
   pub kept : OnOk result (IsLast new last)
-  pub refused : IfErr result (FileFails old new k i g)
 
 abbrev pub got_answer : List ℕ → Result Got Refusal → Reply
 got_answer bytes (Ok got.Bytes) = reply.Bytes bytes

@@ -1,8 +1,9 @@
 -- What a change of size cuts off, what it reads and writes, and what it answers.
-use Rattle.std.specs.Prelude.{◌≡◌, ◌≢◌, ℕ, ◌+◌, ◌-◌, ◌*◌, ◌/◌, ◌%◌, ◌^◌, ◌<◌, ◌≤◌, ◌⊎◌, min, nat_lt, nat_le, Bool, true, List, [], ◌∷◌, ◌++◌, length, take}
+use Rattle.std.specs.Prelude.{◌≡◌, ◌≢◌, ℕ, ◌+◌, ◌-◌, ◌*◌, ◌/◌, ◌%◌, ◌^◌, ◌<◌, ◌≤◌, ◌⊎◌, min, nat_lt, nat_le, Bool, true, false, List, [], ◌∷◌, ◌++◌, length, take}
 use Rattle.std.specs.Prelude.{replicate, Option, None, Some, if◌then◌else◌, IsTrue, Result, Ok, Err, IfOk, IfErr, IfSome, OnOk}
 use Rattle.nofs_ptrs.specs.Paths.{slot_limit}
 use Rattle.nofs_bits.specs.Bits.{is_set}
+use Rattle.nofs_inode.specs.InodeRecords.{largest_size}
 use Rattle.nofs_disk.specs.declared.Failed.{Failed}
 use Rattle.nofs_disk.specs.Disk.{DiskState, StaysButFaults, Rose, cell_at}
 use Rattle.nofs_disk.specs.Pointer.{null, is_null}
@@ -11,20 +12,42 @@ use Rattle.nofs_model.specs.Cells.{Cell, Pointer, Record, SuperBlock}
 use Rattle.nofs_model.specs.Image.{Image, Path, InRecord, Under, path_of, find}
 use Rattle.nofs_model.specs.declared.path.PathAnswer.{PathAnswer}
 use Rattle.nofs_model.specs.declared.path.PathAnswer.TheVariants as answer
+use Rattle.nofs_machine.specs.Claims.{no_claims}
 use Rattle.nofs_machine.specs.Machine.{slots_in, trimmed}
+use Rattle.nofs_machine.specs.declared.steps.Step.TheVariants as step
 use Rattle.nofs_machine.specs.declared.replies.Reply.{Reply}
 use Rattle.nofs_machine.specs.declared.replies.Reply.TheVariants as reply
 use Rattle.nofs_machine.specs.declared.replies.Refusal.{Refusal}
 use Rattle.nofs_machine.specs.declared.replies.Refusal.TheVariants as refusal
+use Rattle.nofs_agree.specs.Chains.{AreTrue}
 use Rattle.nofs_agree.specs.Reading.{IsLast}
 use Rattle.nofs_agree.specs.declared.reads.LastRead.{LastRead}
+use Rattle.nofs_state.specs.Books.{IsSafe}
+use Rattle.nofs_state.specs.Opening.{is_current}
+use Rattle.nofs_state.specs.Owing.{RowsPass}
+use Rattle.nofs_state.specs.Steps.{Goes}
 use Rattle.nofs_state.specs.Owning.{IsBlockAmong, MarkFails}
+use Rattle.nofs_state.specs.declared.books.Books.{Books}
+use Rattle.nofs_files.specs.Answers.{IsFile, slots_of}
 use Rattle.nofs_files.specs.declared.cutting.NewCell.{NewCell}
 use Rattle.nofs_files.specs.declared.cutting.Edge.{Edge}
 
 abbrev pub resize_answer : Result (Unit {0}) Refusal → Reply
 resize_answer (Ok done) = reply.Resized
 resize_answer (Err why) = reply.Refused why
+
+-- what a Resize does, with its answer
+abbrev pub ResizeGoes : DiskState → Books → DiskState → Books → ℕ → ℕ → ℕ → Result (Unit {0}) Refusal → Type 0
+ResizeGoes old k new l i g size result = Goes old k new l (step.Resize i g size) no_claims (resize_answer result)
+
+-- a mount that has no failed write serves a Resize of a file that was opened
+pub record MayResize (d : DiskState) (k : Books) (i : ℕ) (r : Record) (size : ℕ) : Type 0 where
+  pub safe : IsSafe d k
+  pub going : k.stopped ≡ false
+  pub file : IsFile d k.at i r.generation r
+  pub current : IsTrue d.tells → AreTrue d.now k.agreement → is_current d.now i r.generation ≡ true
+  pub fits : size ≤ 1024 * slots_of k.at
+  pub most : size ≤ largest_size
 
 -- the lesser of the slots of both sizes: so many stay
 abbrev pub kept_slots : ℕ → ℕ → ℕ
@@ -124,19 +147,20 @@ pub data FarFails (old new : DiskState) (i kept : ℕ) (why : Refusal) : Type 0 
       → FarFails old new i kept why
   FarUnread : why ≡ refusal.ReadFault → Rose old.faults new.faults → FarFails old new i kept why
 
-pub record FindsFar (old new : DiskState) (at : SuperBlock) (i kept : ℕ) (last : LastRead) (result : Result Edge Refusal) : Type 0 where
+-- an edge is found, or there is a reason
+pub record FindsEdgeOf (Is : Edge → Type 0) (Fails : Refusal → Type 0) (old new : DiskState) (at : SuperBlock) (last : LastRead)
+    (result : Result Edge Refusal) : Type 0 where
   pub stays : StaysButFaults old new
-  pub edge : IfOk result (λ e. IsTrue old.tells → IsFarEdge old.now i kept e)
+  pub edge : IfOk result (λ e. IsTrue old.tells → Is e)
   pub area : IfOk result (EdgeInData at)
   pub kept_last : OnOk result (IsLast new last)
-  pub refused : IfErr result (FarFails old new i kept)
+  pub refused : IfErr result Fails
 
-pub record FindsEdge (old new : DiskState) (at : SuperBlock) (i kept : ℕ) (last : LastRead) (result : Result Edge Refusal) : Type 0 where
-  pub stays : StaysButFaults old new
-  pub edge : IfOk result (λ e. IsTrue old.tells → IsEdge old.now i kept e)
-  pub area : IfOk result (EdgeInData at)
-  pub kept_last : OnOk result (IsLast new last)
-  pub refused : IfErr result (EdgeFails old new i kept)
+abbrev pub FindsFar : DiskState → DiskState → SuperBlock → ℕ → ℕ → LastRead → Result Edge Refusal → Type 0
+FindsFar old new at i kept last result = FindsEdgeOf (IsFarEdge old.now i kept) (FarFails old new i kept) old new at last result
+
+abbrev pub FindsEdge : DiskState → DiskState → SuperBlock → ℕ → ℕ → LastRead → Result Edge Refusal → Type 0
+FindsEdge old new at i kept last result = FindsEdgeOf (IsEdge old.now i kept) (EdgeFails old new i kept) old new at last result
 
 -- the block of a slot, with zeros behind the end
 abbrev pub IsTailOf : Image → PathAnswer → ℕ → Option NewCell → Type 0
@@ -171,3 +195,19 @@ pub record MarksCut (old new : DiskState) (at : SuperBlock) (i kept : ℕ) (last
   pub map : IfOk result (IsCutMap new at i kept)
   pub kept_last : OnOk result (IsLast new last)
   pub refused : IfErr result (MarkFails old new)
+
+-- what a change of size has read, and is to write; no row refuses the step
+pub record MayCut (d : DiskState) (k : Books) (i g size : ℕ) (r : Record) (tail : Option NewCell) (edge : Edge) (freed : List Bool) : Type 0 where
+  pub safe : IsSafe d k
+  pub going : k.stopped ≡ false
+  pub file : IsFile d k.at i g r
+  pub current : IsTrue d.tells → AreTrue d.now k.agreement → is_current d.now i g ≡ true
+  pub old : r.size ≤ largest_size
+  pub new : size ≤ largest_size
+  pub eight : length r.direct ≡ 8
+  pub tail_data : IfSome tail (CellInData k.at)
+  pub edge_data : EdgeInData k.at edge
+  pub tail_is : IsTrue d.tells → IsTail d.now i r.size size tail
+  pub edge_is : IsTrue d.tells → IsEdge d.now i (kept_slots r.size size) edge
+  pub map : IsCutMap d k.at i (kept_slots r.size size) freed
+  pub rows : RowsPass d k (step.Resize i g size)

@@ -1,11 +1,10 @@
 //! What is cut off a file: the blocks that go, and the cells that stay.
-ghost use Rattle.std.specs.Prelude.{◌≡◌, ◌+◌, ◌*◌, ◌-◌, ◌<◌, ◌≤◌, ℕ, min, length, true, IfSome, IsTrue};
+ghost use Rattle.std.specs.Prelude.{◌≡◌, ◌+◌, ◌*◌, ◌-◌, ◌<◌, ◌≤◌, ℕ, length, true};
 ghost use Rattle.nofs_ptrs.specs.Paths.{slot_limit};
 ghost use Rattle.nofs_disk.specs.Pointer.{is_null};
 ghost use Rattle.nofs_ptrs.specs.Cells.{pointer_at};
 ghost use Rattle.nofs_inode.specs.InodeRecords.{largest_size};
 ghost use Rattle.nofs_model.specs.Places.{IsPlace, place_path};
-ghost use Rattle.nofs_machine.specs.Machine as machine;
 ghost use Rattle.nofs_agree.specs.Reading.{IsLast, KnowsInode};
 ghost use Rattle.nofs_files.specs.Resizing.{CutsBlock, FindsEdge, FindsFar, FindsTail, MarksCut, cut_record, first_cut, kept_pointer, kept_slots};
 

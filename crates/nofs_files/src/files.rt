@@ -1,10 +1,12 @@
 //! The file that a step names, and its slots.
-ghost use Rattle.std.specs.Prelude.{◌≡◌, ◌<◌, length, not, IfOk, IfErr, IsTrue};
+ghost use Rattle.std.specs.Prelude.{◌≡◌, ◌<◌, ◌≤◌, Some, length};
 ghost use Rattle.nofs_ptrs.specs.Paths.{slot_limit};
+ghost use Rattle.nofs_inode.specs.InodeRecords.{HasRecordSpelling, largest_size};
 ghost use Rattle.nofs_model.specs.Slots as slots;
 ghost use Rattle.nofs_model.specs.Files.{is_folder};
-ghost use Rattle.nofs_agree.specs.Reading.{IsAt, IsLast, KnowsInode};
+ghost use Rattle.nofs_agree.specs.Reading.{IsLast, KnowsInode};
 ghost use Rattle.nofs_agree.specs.Finding.{FindsSlot};
+ghost use Rattle.nofs_state.specs.Books.{IsSafe};
 ghost use Rattle.nofs_files.specs.Answers.{OpensFile, slots_of};
 
 use nofs_agree::{LastRead, PathAnswer, find_slot};
@@ -45,19 +47,29 @@ pub(crate) fn open_file<D: Disk>(
     generation: u64,
     last: &mut LastRead,
 ) -> Result<Record, Refusal>
-    requires numbers { IsAt (D.state disk.old) books.now.at }
-    requires agreed { length books.now.agreement ≡ books.now.at.inodes }
+    requires safe { IsSafe (D.state disk.old) books.now }
     requires last { IsLast (D.state disk.old) last.old }
     ensures { OpensFile (D.state disk.old) (D.state disk.new) books.now inode generation last.new result }
 {
-    let it = match open_inode(disk, books, inode, generation, last) {
-        Ok(it) => it,
-        Err(why) => return Err(why),
-    };
-    if is_folder(it.kind) {
-        return Err(Refusal::IsDirectory);
+    match open_inode(disk, books, inode, generation, last) {
+        Err(why) => Err(why),
+        Ok(it) => {
+            if is_folder(it.kind) {
+                return Err(Refusal::IsDirectory);
+            }
+            Ok(it.found)
+        }
     }
-    Ok(it.found)
+}
+
+/// Says for proofs what is known of a file's record. It does nothing.
+pub(crate) fn note_file(it: &Record)
+    requires spelled { HasRecordSpelling it.now }
+    requires kind { it.now.kind ≡ Some FileKind.File }
+    ensures size { it.now.size ≤ largest_size }
+    ensures eight { length it.now.direct ≡ 8 }
+{
+    let _ = it.direct[0];
 }
 
 /// What stands in a slot of content. Where it holds, its block is the one that was read last.

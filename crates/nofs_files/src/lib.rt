@@ -3,6 +3,7 @@
 //! Promise: each answers as the machine does, and leaves the mount standing.
 #![tactic(auto)]
 
+mod claims;
 mod content;
 mod cutting;
 mod deep;

@@ -1,24 +1,17 @@
 //! A file gets another size.
-ghost use Rattle.std.specs.Prelude.{◌≡◌, ◌*◌, ◌<◌, ◌≤◌, ◌∷◌, [], Some, false, true, length, IfSome, IsTrue};
-ghost use Rattle.nofs_inode.specs.InodeRecords.{HasRecordSpelling, largest_size};
-ghost use Rattle.nofs_machine.specs.Claims.{no_claims};
-ghost use Rattle.nofs_machine.specs.declared.steps.Step.TheVariants as step;
-ghost use Rattle.nofs_agree.specs.Chains.{AreTrue};
+ghost use Rattle.std.specs.Prelude.{◌≡◌, ◌*◌, ◌<◌, ◌≤◌, ◌∷◌, [], false, true, IfSome, IsTrue};
+ghost use Rattle.nofs_inode.specs.InodeRecords.{largest_size};
 ghost use Rattle.nofs_agree.specs.Reading.{IsLast};
 ghost use Rattle.nofs_state.specs.Books.{IsSafe};
-ghost use Rattle.nofs_state.specs.Opening.{is_current};
-ghost use Rattle.nofs_state.specs.Steps.{Goes};
 ghost use Rattle.nofs_state.specs.Writing.{Stores, WritesAll};
-ghost use Rattle.nofs_files.specs.Answers.{IsFile, slots_of};
-ghost use Rattle.nofs_state.specs.Owing.{RowsPass};
-ghost use Rattle.nofs_files.specs.Resizing.{EdgeInData, CellInData, IsCutMap, IsEdge, IsTail, cut_writes, kept_slots, maybe, resize_answer};
+ghost use Rattle.nofs_files.specs.Resizing.{MayCut, MayResize, ResizeGoes, cut_writes, maybe};
 
 use crate::cutting::{Edge, NewCell, cut_record, find_edge, find_tail, kept_slots, mark_cut};
-use crate::files::{open_file, slots_of};
-use crate::puts::with_record;
-use nofs_agree::{LastRead, read_block};
+use crate::files::{note_file, open_file, slots_of};
+use crate::puts::{read_table, record_cell, table_block};
+use nofs_agree::LastRead;
 use nofs_disk::{Cell, Disk, Failed};
-use nofs_inode::{FileKind, Record};
+use nofs_inode::Record;
 use nofs_machine::Refusal;
 use nofs_state::{Core, FreedBlocks};
 use std::alloc::Global;
@@ -129,48 +122,24 @@ fn resize_cut<D: Disk + Drop>(
     freed: &FreedBlocks,
     last: &mut LastRead,
 ) -> Result<(), Refusal>
-    requires safe { IsSafe (D.state core.old.disk) core.old.books }
+    requires may { MayCut (D.state core.old.disk) core.old.books inode it.now.generation size it.now tail.now edge.now freed.now }
     requires spare { 4 ≤ (D.state core.old.disk).spare }
-    requires going { core.old.books.stopped ≡ false }
-    requires file { IsFile (D.state core.old.disk) core.old.books.at inode it.now.generation it.now }
-    requires current { IsTrue (D.state core.old.disk).tells → AreTrue (D.state core.old.disk).now core.old.books.agreement → is_current (D.state core.old.disk).now inode it.now.generation ≡ true }
-    requires old { it.now.size ≤ largest_size }
-    requires size { size ≤ largest_size }
-    requires eight { length it.now.direct ≡ 8 }
-    requires tail { IfSome tail.now (CellInData core.old.books.at) }
-    requires ends { IsTrue (D.state core.old.disk).tells → IsTail (D.state core.old.disk).now inode it.now.size size tail.now }
-    requires edge { EdgeInData core.old.books.at edge.now }
-    requires cuts { IsTrue (D.state core.old.disk).tells → IsEdge (D.state core.old.disk).now inode (kept_slots it.now.size size) edge.now }
-    requires freed { IsCutMap (D.state core.old.disk) core.old.books.at inode (kept_slots it.now.size size) freed.now }
     requires last { IsLast (D.state core.old.disk) last.old }
-    requires rows { RowsPass (D.state core.old.disk) core.old.books (step.Resize inode it.now.generation size) }
-    ensures { Goes (D.state core.old.disk) core.old.books (D.state core.new.disk) core.new.books (step.Resize inode it.now.generation size) no_claims (resize_answer result) }
+    ensures { ResizeGoes (D.state core.old.disk) core.old.books (D.state core.new.disk) core.new.books inode it.now.generation size result }
 {
-    let block = 1 + u64::from((inode - 1) / 4);
-    match read_block(&mut core.disk, block, last) {
+    match read_table(&mut core.disk, inode, last) {
         Ok(()) => {}
-        Err(_) => return Err(Refusal::ReadFault),
+        Err(why) => return Err(why),
     }
-    let mut table = last.cell;
     let kept = kept_slots(it.size, size);
-    with_record(&mut table, inode, &cut_record(it, size, kept));
-    match store_cut(core, tail, edge, block, &table) {
+    let table = record_cell(&last.cell, inode, &cut_record(it, size, kept));
+    match store_cut(core, tail, edge, table_block(inode), &table) {
         Ok(()) => {
             core.books.free_blocks(freed);
             Ok(())
         }
         Err(why) => Err(why),
     }
-}
-
-// Says for proofs what is known of a file's record. It does nothing.
-fn note_file(it: &Record)
-    requires spelled { HasRecordSpelling it.now }
-    requires kind { it.now.kind ≡ Some FileKind.File }
-    ensures size { it.now.size ≤ largest_size }
-    ensures eight { length it.now.direct ≡ 8 }
-{
-    let _ = it.direct[0];
 }
 
 // Reads all that a change of size asks, and then cuts the file off.
@@ -182,15 +151,10 @@ fn resize_file<D: Disk + Drop>(
     size: u64,
     last: &mut LastRead,
 ) -> Result<(), Refusal>
-    requires safe { IsSafe (D.state core.old.disk) core.old.books }
-    requires spare { 4 ≤ (D.state core.old.disk).spare }
-    requires going { core.old.books.stopped ≡ false }
-    requires file { IsFile (D.state core.old.disk) core.old.books.at inode it.now.generation it.now }
-    requires current { IsTrue (D.state core.old.disk).tells → AreTrue (D.state core.old.disk).now core.old.books.agreement → is_current (D.state core.old.disk).now inode it.now.generation ≡ true }
-    requires fits { size ≤ 1024 * slots_of core.old.books.at }
-    requires size { size ≤ largest_size }
     requires last { IsLast (D.state core.old.disk) last.old }
-    ensures { Goes (D.state core.old.disk) core.old.books (D.state core.new.disk) core.new.books (step.Resize inode it.now.generation size) no_claims (resize_answer result) }
+    requires may { MayResize (D.state core.old.disk) core.old.books inode it.now size }
+    requires spare { 4 ≤ (D.state core.old.disk).spare }
+    ensures { ResizeGoes (D.state core.old.disk) core.old.books (D.state core.new.disk) core.new.books inode it.now.generation size result }
 {
     note_file(it);
     let kept = kept_slots(it.size, size);
@@ -208,26 +172,38 @@ fn resize_file<D: Disk + Drop>(
     }
 }
 
-fn resize_with_room<D: Disk + Drop>(
-    core: &mut Core<D>,
-    alloc: Global,
+// A change of size as it is asked.
+#[derive(Clone, Copy)]
+struct NewSize {
     inode: u32,
     generation: u64,
     size: u64,
+}
+
+fn resize_with_room<D: Disk + Drop>(
+    core: &mut Core<D>,
+    alloc: Global,
+    ask: NewSize,
 ) -> Result<(), Refusal>
-    requires safe { IsSafe (D.state core.old.disk) core.old.books }
     requires spare { 4 ≤ (D.state core.old.disk).spare }
-    ensures { Goes (D.state core.old.disk) core.old.books (D.state core.new.disk) core.new.books (step.Resize inode generation size) no_claims (resize_answer result) }
+    requires safe { IsSafe (D.state core.old.disk) core.old.books }
+    ensures { ResizeGoes (D.state core.old.disk) core.old.books (D.state core.new.disk) core.new.books ask.inode ask.generation ask.size result }
 {
     if core.books.stopped {
         return Err(Refusal::Stopped);
     }
-    if size > 1024 * slots_of(&core.books.at) {
+    if ask.size > 1024 * slots_of(&core.books.at) {
         return Err(Refusal::TooLarge);
     }
     let mut last = LastRead::NONE;
-    match open_file(&mut core.disk, &core.books, inode, generation, &mut last) {
-        Ok(it) => resize_file(core, alloc, inode, &it, size, &mut last),
+    match open_file(
+        &mut core.disk,
+        &core.books,
+        ask.inode,
+        ask.generation,
+        &mut last,
+    ) {
+        Ok(it) => resize_file(core, alloc, ask.inode, &it, ask.size, &mut last),
         Err(why) => Err(why),
     }
 }
@@ -246,10 +222,15 @@ pub fn resize<D: Disk + Drop>(
     size: u64,
 ) -> Result<(), Refusal>
     requires { IsSafe (D.state core.old.disk) core.old.books }
-    ensures { Goes (D.state core.old.disk) core.old.books (D.state core.new.disk) core.new.books (step.Resize inode generation size) no_claims (resize_answer result) }
+    ensures { ResizeGoes (D.state core.old.disk) core.old.books (D.state core.new.disk) core.new.books inode generation size result }
 {
+    let ask = NewSize {
+        inode,
+        generation,
+        size,
+    };
     match core.disk.ready(4) {
-        Ok(()) => resize_with_room(core, alloc, inode, generation, size),
+        Ok(()) => resize_with_room(core, alloc, ask),
         Err(_) => Err(Refusal::OutOfMemory),
     }
 }

@@ -7,9 +7,8 @@ ghost use Rattle.nofs_state.specs.Standing.{Stands};
 ghost use Rattle.nofs_files.specs.Answers.{flush_answer};
 
 use crate::flushes::flush;
-use crate::puts::NO_CLAIMS;
 use nofs_disk::Disk;
-use nofs_machine::{Refusal, Reply, Step};
+use nofs_machine::{NO_CLAIMS, Refusal, Reply, Step};
 use nofs_state::Core;
 
 fn is_out_of_memory(reply: &Reply) -> bool

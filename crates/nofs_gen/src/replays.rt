@@ -27,43 +27,49 @@ impl Wanted {
     {
         self.inode == inode && self.generation == generation
     }
-}
 
-// The file after a step that was accepted.
-fn after_step(
-    alloc: Global,
-    wanted: &Wanted,
-    file: Replayed,
-    step: &Step,
-) -> Result<Replayed, AllocError>
-    ensures { IfOk result (λ next. replayed_file next ≡ step_after wanted.now.inode wanted.now.generation (replayed_file file) step.now) }
-{
-    match step {
-        Step::Put {
-            inode,
-            generation,
-            slot,
-            at,
-            bytes,
-        } => {
-            if wanted.is(*inode, *generation) {
-                file.with_put(alloc, *slot, *at, bytes.as_slice())
-            } else {
-                Ok(file)
+    // The file after a step that was accepted.
+    fn replay(&self, alloc: Global, file: Replayed, step: &Step) -> Result<Replayed, AllocError>
+        ensures { IfOk result (λ next. replayed_file next ≡ step_after self.now.inode self.now.generation (replayed_file file) step.now) }
+    {
+        match step {
+            Step::Put {
+                inode,
+                generation,
+                slot,
+                at,
+                bytes,
+            } => {
+                if self.is(*inode, *generation) {
+                    file.with_put(alloc, *slot, *at, bytes.as_slice())
+                } else {
+                    Ok(file)
+                }
             }
-        }
-        Step::Resize {
-            inode,
-            generation,
-            size,
-        } => {
-            if wanted.is(*inode, *generation) {
-                file.resized(alloc, *size)
-            } else {
-                Ok(file)
+            Step::Resize {
+                inode,
+                generation,
+                size,
+            } => {
+                if self.is(*inode, *generation) {
+                    file.resized(alloc, *size)
+                } else {
+                    Ok(file)
+                }
             }
+            _ => Ok(file),
         }
-        _ => Ok(file),
+    }
+
+    // The file after an entry.
+    fn take(&self, alloc: Global, file: Replayed, it: &Entry1) -> Result<Replayed, AllocError>
+        ensures { IfOk result (λ next. replayed_file next ≡ entry_after self.now.inode self.now.generation (replayed_file file) it.now) }
+    {
+        if is_refused(&it.reply) {
+            Ok(file)
+        } else {
+            self.replay(alloc, file, &it.step)
+        }
     }
 }
 
@@ -71,22 +77,6 @@ fn is_refused(reply: &Reply) -> bool
     ensures { result ≡ machine.is_refused reply.now }
 {
     matches!(reply, Reply::Refused(_))
-}
-
-// The file after an entry.
-fn after_entry(
-    alloc: Global,
-    wanted: &Wanted,
-    file: Replayed,
-    entry: &Entry1,
-) -> Result<Replayed, AllocError>
-    ensures { IfOk result (λ next. replayed_file next ≡ entry_after wanted.now.inode wanted.now.generation (replayed_file file) entry.now) }
-{
-    if is_refused(&entry.reply) {
-        Ok(file)
-    } else {
-        after_step(alloc, wanted, file, &entry.step)
-    }
 }
 
 // The file after the entry at a place.
@@ -102,7 +92,7 @@ fn after_place(
         ≡ fold (entry_after wanted.now.inode wanted.now.generation) (replayed_file file) (drop at history.now.entries)) }
 {
     match history.entry(at) {
-        Some(entry) => after_entry(alloc, wanted, file, entry),
+        Some(entry) => wanted.take(alloc, file, entry),
         None => Ok(file),
     }
 }

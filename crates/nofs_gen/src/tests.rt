@@ -3,9 +3,8 @@ ghost use Rattle.std.specs.Prelude.{◌≤◌};
 
 use crate::{ValueList, replay, script_of};
 use nofs_client::{Command, Path};
-use nofs_disk::Pointer;
 use nofs_lists::Content;
-use nofs_machine::{Claims, Entry1, History, Refusal, Reply, Step};
+use nofs_machine::{Entry1, History, NO_CLAIMS, Refusal, Reply, Step};
 use nofs_model::Value;
 use std::alloc::{AllocError, Global};
 use std::test::Fail;
@@ -124,14 +123,6 @@ fn each_user_draws_its_own_commands(rt: HostRuntime) -> Result<(), Fail> {
     );
     Ok(())
 }
-
-const NO_CLAIMS: Claims = Claims {
-    inode: 0,
-    generation: 0,
-    cell: Pointer::NULL,
-    leaf: Pointer::NULL,
-    top: Pointer::NULL,
-};
 
 fn push_entry(history: &mut History, step: Step, reply: Reply) -> Result<(), AllocError> {
     history.reserve(1)?;

@@ -303,30 +303,33 @@ HasNumbers-beside at to n r old new behind same has = record {
   zero = number_at-beside to n 8 (at + 24) old new same (inl (omega arith)) ∙ has.zero;
 }
 
--- one more back link, or pointer, is written
+-- one more element of sixteen bytes is written
+elements-more : {A : Type 0} (none : A) (read : ℕ → List ℕ → A) → ((p q : ℕ) (old new : List ℕ) → SameBeside p 16 old new → q + 16 ≤ p → read q new ≡ read q old)
+    → (n at j : ℕ) (xs : List A) (d : A) (first old new : List ℕ) → length xs ≡ n → j < n
+    → SameBeside at (16 * n) first old × ((k : ℕ) → k < j → read (at + 16 * k) old ≡ get_or xs k none)
+    → read (at + 16 * j) new ≡ get_or xs j d → SameBeside (at + 16 * j) 16 old new
+    → SameBeside at (16 * n) first new × ((k : ℕ) → k < j + 1 → read (at + 16 * k) new ≡ get_or xs k none)
+elements-more none read beside n at j xs d first old new len low before value same = (
+  SameBeside-trans at (16 * n) first old new before.0 (SameBeside-wider at (16 * n) (at + 16 * j) 16 old new same (omega arith) (omega arith)),
+  λ k small. elim (cases_eq k j) [
+    | inl e ↦ subst (λ (i : ℕ). read (at + 16 * i) new ≡ get_or xs i none) (sym e) (value ∙ get_or_default xs j d none (omega arith))
+    | inr apart ↦ beside (at + 16 * j) (at + 16 * k) old new same (omega arith) ∙ before.1 k (omega arith)
+  ],
+)
+
+-- one more back link
 pub links-more : (at j : ℕ) (links : List BackLink) (d : BackLink) (first old new : List ℕ) → length links ≡ 4 → j < 4
     → SameBeside at 64 first old × ((k : ℕ) → k < j → link_in (at + 16 * k) old ≡ get_or links k no_link)
     → link_in (at + 16 * j) new ≡ get_or links j d → SameBeside (at + 16 * j) 16 old new
     → SameBeside at 64 first new × ((k : ℕ) → k < j + 1 → link_in (at + 16 * k) new ≡ get_or links k no_link)
-links-more at j links d first old new len low before value same = (
-  SameBeside-trans at 64 first old new before.0 (SameBeside-wider at 64 (at + 16 * j) 16 old new same (omega arith) (omega arith)),
-  λ k small. elim (cases_eq k j) [
-    | inl e ↦ subst (λ (n : ℕ). link_in (at + 16 * n) new ≡ get_or links n no_link) (sym e) (value ∙ get_or_default links j d no_link (omega arith))
-    | inr apart ↦ link_in-beside (at + 16 * j) 16 (at + 16 * k) old new same (inl (omega arith)) ∙ before.1 k (omega arith)
-  ],
-)
+links-more at j = elements-more no_link link_in (λ p q old new same low. link_in-beside p 16 q old new same (inl low)) 4 at j
 
+-- one more pointer
 pub pointers-more : (at j : ℕ) (pointers : List Pointer) (d : Pointer) (first old new : List ℕ) → length pointers ≡ 8 → j < 8
     → SameBeside at 128 first old × ((k : ℕ) → k < j → pointer_in (at + 16 * k) old ≡ get_or pointers k null)
     → pointer_in (at + 16 * j) new ≡ get_or pointers j d → SameBeside (at + 16 * j) 16 old new
     → SameBeside at 128 first new × ((k : ℕ) → k < j + 1 → pointer_in (at + 16 * k) new ≡ get_or pointers k null)
-pointers-more at j pointers d first old new len low before value same = (
-  SameBeside-trans at 128 first old new before.0 (SameBeside-wider at 128 (at + 16 * j) 16 old new same (omega arith) (omega arith)),
-  λ k small. elim (cases_eq k j) [
-    | inl e ↦ subst (λ (n : ℕ). pointer_in (at + 16 * n) new ≡ get_or pointers n null) (sym e) (value ∙ get_or_default pointers j d null (omega arith))
-    | inr apart ↦ pointer_in-beside (at + 16 * j) 16 (at + 16 * k) old new same (inl (omega arith)) ∙ before.1 k (omega arith)
-  ],
-)
+pointers-more at j = elements-more null pointer_in (λ p q old new same low. pointer_in-beside p 16 q old new same (inl low)) 8 at j
 
 -- all of them
 pub direct_in-from : (at : ℕ) (bytes : List ℕ) (pointers : List Pointer) → length pointers ≡ 8

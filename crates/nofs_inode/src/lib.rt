@@ -8,4 +8,4 @@ pub mod inode;
 #[cfg(test)]
 mod tests;
 
-pub use inode::{BackLink, FREE_RECORD, FileKind, Record, read_record, write_record};
+pub use inode::{BackLink, FREE_RECORD, FileKind, Record, read_record, record_at, write_record};

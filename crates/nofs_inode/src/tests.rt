@@ -115,6 +115,19 @@ fn with_size(numbers: Numbers, size: u64) -> Numbers {
     Numbers { size, ..numbers }
 }
 
+/// The numbers with another generation.
+fn with_generation(numbers: Numbers, generation: u64) -> Numbers {
+    Numbers {
+        generation,
+        ..numbers
+    }
+}
+
+/// The numbers with another top.
+fn with_top(numbers: Numbers, top: u64) -> Numbers {
+    Numbers { top, ..numbers }
+}
+
 /// The numbers with a count of links, and the first and the last place of one.
 fn with_links(numbers: Numbers, count: u32, first: BackLink, last: BackLink) -> Numbers {
     Numbers {
@@ -143,7 +156,7 @@ fn a_free_record_is_all_zero(rt: HostRuntime) {
     let cases = [
         (FREE, true, "all zero"),
         (with_size(FREE, 1), false, "free with a size"),
-        (Numbers { top: 1, ..FREE }, false, "free with a top"),
+        (with_top(FREE, 1), false, "free with a top"),
         (Numbers { kind: 0, ..FILE }, false, "free with a generation"),
     ];
     check(&rt, &cases);
@@ -151,10 +164,7 @@ fn a_free_record_is_all_zero(rt: HostRuntime) {
 
 #[test]
 fn a_used_record_has_a_kind_and_a_generation(rt: HostRuntime) {
-    let no_generation = Numbers {
-        generation: 0,
-        ..FILE
-    };
+    let no_generation = with_generation(FILE, 0);
     let cases = [
         (FILE, true, "an empty file"),
         (DIRECTORY, true, "an empty directory"),
@@ -171,15 +181,12 @@ fn a_used_record_has_a_kind_and_a_generation(rt: HostRuntime) {
 
 #[test]
 fn only_a_file_has_a_size_and_a_top(rt: HostRuntime) {
-    let directory_with_top = Numbers {
-        top: 1,
-        ..DIRECTORY
-    };
+    let directory_with_top = with_top(DIRECTORY, 1);
     let cases = [
         (with_size(FILE, 4_268_032), true, "the largest size"),
         (with_size(FILE, 4_268_033), false, "a size too large"),
         (with_size(DIRECTORY, 1), false, "a directory with size 1"),
-        (Numbers { top: 1, ..FILE }, true, "a file with a top"),
+        (with_top(FILE, 1), true, "a file with a top"),
         (directory_with_top, false, "a directory with a top"),
     ];
     check(&rt, &cases);
@@ -188,55 +195,21 @@ fn only_a_file_has_a_size_and_a_top(rt: HostRuntime) {
 #[test]
 fn the_links_of_a_record_are_counted(rt: HostRuntime) {
     let none = BackLink::EMPTY;
-    let cases = [
-        (
-            with_links(DIRECTORY, 1, LINK, none),
-            true,
-            "a directory with one link",
-        ),
-        (
-            with_links(FILE, 2, LINK, LINK),
-            true,
-            "a file with two links",
-        ),
-        (
-            with_links(DIRECTORY, 2, LINK, LINK),
-            false,
-            "a directory with two links",
-        ),
-        (
-            with_links(FILE, 1, none, none),
-            false,
-            "one link too many counted",
-        ),
-        (
-            with_links(FILE, 1, LINK, LINK),
-            false,
-            "one link too few counted",
-        ),
-    ];
-    check(&rt, &cases);
-}
-
-#[test]
-fn an_empty_place_of_a_link_is_all_zero(rt: HostRuntime) {
-    let none = BackLink::EMPTY;
     let entry = BackLink { entry: 1, ..none };
     let generation = BackLink {
         generation: 1,
         ..none
     };
-    let cases = [
-        (
-            with_links(FILE, 0, entry, none),
-            false,
-            "an empty place with an entry",
-        ),
-        (
-            with_links(FILE, 0, none, generation),
-            false,
-            "an empty place with a generation",
-        ),
-    ];
-    check(&rt, &cases);
+    for (numbers, count, first, last, spelled, what) in [
+        (DIRECTORY, 1, LINK, none, true, "a directory with one link"),
+        (FILE, 2, LINK, LINK, true, "a file with two links"),
+        (DIRECTORY, 2, LINK, LINK, false, "a directory with two"),
+        (FILE, 1, none, none, false, "one link too many counted"),
+        (FILE, 1, LINK, LINK, false, "one link too few counted"),
+        (FILE, 0, entry, none, false, "an empty place with an entry"),
+        (FILE, 0, none, generation, false, "one with a generation"),
+    ] {
+        let numbers = with_links(numbers, count, first, last);
+        check(&rt, &[(numbers, spelled, what)]);
+    }
 }

@@ -48,15 +48,6 @@ pub struct WriteSink<W: Write> {
     faults: u64,
 }
 
-impl<W: Write> WriteSink<W> {
-    /// The writer with what it took so far, and no faults yet.
-    pub fn new(inner: W) -> Self
-        ensures { (result.inner ≡ inner) × (result.faults ≡ 0) }
-    {
-        WriteSink { inner, faults: 0 }
-    }
-}
-
 impl<W: Write> Sink for WriteSink<W> {
     ghost state = { λ s. record { given = W.contents s.inner; faults = s.faults } };
 
@@ -70,5 +61,14 @@ impl<W: Write> Sink for WriteSink<W> {
         }
         self.faults = self.faults.saturating_add(1);
         Err(Failed)
+    }
+}
+
+impl<W: Write> WriteSink<W> {
+    /// The writer with what it took so far, and no faults yet.
+    pub fn new(inner: W) -> Self
+        ensures { (result.inner ≡ inner) × (result.faults ≡ 0) }
+    {
+        WriteSink { inner, faults: 0 }
     }
 }

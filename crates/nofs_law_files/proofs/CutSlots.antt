@@ -4,6 +4,7 @@ use Rattle.nofs_model.specs.declared.path.PathAnswer.{PathAnswer}
 use Rattle.nofs_law_untouched.specs.Frames.{Rewrites, SameIdentity, OldPointers}
 use Rattle.nofs_model.proofs.Find.{judged-built-null}
 use Rattle.nofs_law_untouched.proofs.Framing.{judged-same}
+use Rattle.nofs_law_untouched.proofs.Growth.{kept-under}
 use Rattle.nofs_model.specs.declared.path.PathAnswer.TheVariants as answer
 use Rattle.nofs_model.specs.Cells.{Pointer, is_null, pointer_at}
 use Rattle.nofs_model.specs.Image.{Image, cell_at, inode, files_in, agreed, Path, InRecord, Under, judged, find, pointer, record_pointer, IsSlot}
@@ -29,15 +30,6 @@ module _ (s : ℕ) (X Y : Image) (i : ℕ) (w : Rewrites s X Y) (owned : agreed 
   )
   both (Under b n) slot = go (gone b) refl (find X i b) refl (both b slot.2)
     where
-      stays : (z : Pointer) → find X i b ≡ answer.Holds z → find Y i b ≡ answer.Holds z
-          → pointer_at (cell_at Y z.block).payload n ≡ pointer_at (cell_at X z.block).payload n → find Y i (Under b n) ≡ find X i (Under b n)
-      stays z ex ey q =
-          let px : pointer X i (Under b n) ≡ pointer_at (cell_at X z.block).payload n = rw (ex, pointer) refl in
-          let lt : (pointer_at (cell_at X z.block).payload n).stamp < s = subst (λ (r : Pointer). r.stamp < s) px (old (Under b n) slot) in
-          let fx : judged X i (Under b n) (pointer_at (cell_at X z.block).payload n) ≡ find X i (Under b n) = rw (ex, find) refl in
-          rw (ex, ey, find) (ap (λ (x : Pointer). judged Y i (Under b n) x) q ∙ judged-same s X Y w i owned same (Under b n)
-          (pointer_at (cell_at X z.block).payload n) slot lt fx)
-
       go : (t : Bool) → gone b ≡ t → (f : PathAnswer) → find X i b ≡ f
           → (gone b ≡ true → find Y i b ≡ answer.Hole) × (gone b ≡ false → find Y i b ≡ find X i b)
           → (gone (Under b n) ≡ true → find Y i (Under b n) ≡ answer.Hole) × (gone (Under b n) ≡ false → find Y i (Under b n) ≡ find X i (Under b n))
@@ -53,5 +45,5 @@ module _ (s : ℕ) (X Y : Image) (i : ℕ) (w : Rewrites s X Y) (owned : agreed 
       go false t (answer.Holds z) e ih =
           let y : find Y i b ≡ answer.Holds z = ih.1 t ∙ e in (
             λ g. rw (y, find) (judged-built-null Y i (Under b n) (pointer_at (cell_at Y z.block).payload n) (cell_cut b n z slot t e g)),
-            λ g. stays z e y (cell_stays b n z slot t e g),
+            λ g. kept-under s X Y i w owned same old b n slot z e y (cell_stays b n z slot t e g),
           )

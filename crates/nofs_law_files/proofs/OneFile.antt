@@ -4,12 +4,28 @@ use Rattle.nofs_model.specs.Cells.{FileKind, Record}
 use Rattle.nofs_model.specs.Image.{Image, inode, file_from, files_in, FileState, Files, is_folder}
 use Rattle.nofs_machine.specs.Machine.{Given, files_after}
 use Rattle.nofs_machine.specs.History.{FilesMatch, SameFile}
-use Rattle.nofs_law_untouched.specs.Frames.{Touches, OldPointers, SameNames}
+use Rattle.nofs_law_untouched.specs.Frames.{Touches, Rewrites, OldPointers, SameIdentity, SameNames}
 use Rattle.nofs_machine.specs.Gives.{GivesNothing}
-use Rattle.nofs_law_untouched.proofs.Matching.{matched-file}
-use Rattle.nofs_law_untouched.proofs.Touching.{same-file}
+use Rattle.nofs_law_untouched.proofs.Matching.{Matched, matched-file}
+use Rattle.nofs_law_untouched.proofs.Framing.{some-is}
+use Rattle.nofs_law_untouched.proofs.Touching.{same-file, rewrites}
 use Rattle.nofs_law_untouched.proofs.Alike.{Alike, Kin, match-alike, same-of, same-alike, alike-sym, some-alike}
 use Rattle.nofs_law_untouched.proofs.Given.{given-elsewhere, same-trans}
+
+-- a step that touches one file and keeps its names: the file in the image, what is rewritten, and what stays of the inode
+pub record OwnFile (F : Files) (X Y : Image) (i s : ℕ) : Type 0 where
+  pub own : Matched F X i
+  pub changes : Rewrites s X Y
+  pub same : SameIdentity X Y i
+
+pub touched-file : (F : Files) (X Y : Image) (i s : ℕ) (f : FileState) → FilesMatch F X → F i ≡ Some f → Touches s (λ j. eqb j i) X Y → SameNames X Y i
+    → OwnFile F X Y i s
+touched-file F X Y i s f match is touches names =
+    let own = matched-file F X i match (some-is (F i) f is) in record {
+      own = own;
+      changes = rewrites s (λ j. eqb j i) X Y touches;
+      same = record { live = own.live; kind = names.kind; generation = names.generation };
+    }
 
 -- what the step gives is that file's alone, which is made of f
 pub record GivesFile (F : Files) (given : Given) (i : ℕ) (f made : FileState) : Type 0 where

@@ -21,19 +21,15 @@ use Rattle.nofs_law_maps.specs.Moves.{ClaimsStand, HeldMove}
 use Rattle.nofs_law_maps.proofs.Homes.{uses-inode}
 use Rattle.nofs_law_maps.proofs.Moves.{law-move, law-grow}
 use Rattle.nofs_law_files.specs.Puts.{PutLies, LawPutFiles, LawPutHomes}
-use Rattle.nofs_law_files.proofs.OneFile.{files, one-file}
+use Rattle.nofs_law_files.proofs.OneFile.{OwnFile, touched-file, files, one-file}
 use Rattle.nofs_law_files.proofs.PutFile.{put-made, put-gives, put-own}
 
 module _ (F : Files) (X Y : Image) (i g k at : ℕ) (bytes : List ℕ) (f : FileState) (s : ℕ) (places : Path → Pointer)
     (p : PutLies F X Y i g k at bytes f s places) where
-  own : Matched F X i
-  own = matched-file F X i p.files (some-is (F i) f p.is)
+  its : OwnFile F X Y i s
+  its = touched-file F X Y i s f p.files p.is p.touches p.names
 
-  changes : Rewrites s X Y
-  changes = rewrites s (λ j. eqb j i) X Y p.touches
-
-  same : SameIdentity X Y i
-  same = record { live = own.live; kind = p.names.kind; generation = p.names.generation }
+  open its use {own, changes, same}
 
   pub on : (a : Path) → IsAbove a (path_of k) → find Y i a ≡ answer.Holds (places a)
   on = on-path s X Y i changes own.agreed same (p.old i (some-is (F i) f p.is)) (path_of k)

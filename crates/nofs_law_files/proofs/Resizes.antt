@@ -29,7 +29,7 @@ use Rattle.nofs_law_maps.specs.Moves.{HeldMove}
 use Rattle.nofs_law_maps.proofs.Homes.{uses-inode}
 use Rattle.nofs_law_maps.proofs.Moves.{law-move, law-shrink}
 use Rattle.nofs_law_files.specs.Resizes.{first_slot_below, is_cut, cut_at, ResizeLies, LawResizeFiles, LawResizeHomes, LawResizeHoles}
-use Rattle.nofs_law_files.proofs.OneFile.{GivesFile, files, one-file}
+use Rattle.nofs_law_files.proofs.OneFile.{OwnFile, touched-file, GivesFile, files, one-file}
 use Rattle.nofs_law_files.proofs.PutFile.{file-in}
 
 -- The cut
@@ -149,14 +149,10 @@ module _ (F : Files) (i g size : ℕ) (f : FileState) (is : F i ≡ Some f) (gen
 -- The files
 
 module _ (F : Files) (X Y : Image) (i g size : ℕ) (f : FileState) (s : ℕ) (p : ResizeLies F X Y i g size f s) where
-  own : Matched F X i
-  own = matched-file F X i p.files (some-is (F i) f p.is)
+  its : OwnFile F X Y i s
+  its = touched-file F X Y i s f p.files p.is p.touches p.names
 
-  changes : Rewrites s X Y
-  changes = rewrites s (λ j. eqb j i) X Y p.touches
-
-  same : SameIdentity X Y i
-  same = record { live = own.live; kind = p.names.kind; generation = p.names.generation }
+  open its use {own, changes, same}
 
   pub found : (a : Path) → IsSlot a → (is_cut (cut_at f size) a ≡ true → find Y i a ≡ answer.Hole) × (is_cut (cut_at f size) a ≡ false
       → find Y i a ≡ find X i a)

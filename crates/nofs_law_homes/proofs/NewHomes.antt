@@ -10,6 +10,7 @@ use Rattle.nofs_machine.specs.Claims.{IsClaim}
 use Rattle.nofs_machine.specs.declared.history.Claims.{Claims}
 use Rattle.nofs_machine.specs.declared.steps.Step.TheVariants as step
 use Rattle.nofs_law_untouched.proofs.Framing.{some-is}
+use Rattle.nofs_law_untouched.proofs.Given.{file-apart, none-apart}
 use Rattle.nofs_law_maps.specs.Homes.{HomesMove}
 use Rattle.nofs_law_maps.specs.Moves.{IsClaimed, ClaimsStand, HeldMove}
 use Rattle.nofs_law_old_names.specs.Names.{NameWrites}
@@ -47,12 +48,7 @@ module _ (W : World) (X Y : Image) (d g e i of b s : ℕ) (name : List ℕ) (f h
     (p : LinkLies W.files X Y d g e i of b s name f h) (place : place_for W.files d name ≡ Some e) (claim : IsClaim W (step.Link d g name i of) c) where
   -- a file is no directory
   pub link-apart : i ≢ d
-  link-apart t =
-      let at : W.files d ≡ Some h = subst (λ (q : ℕ). W.files q ≡ Some h) t p.is_file in
-      let is = p.is in
-      let same : f ≡ h = cc (at, is) in
-      let folder : is_folder h.kind ≡ true = subst (λ (q : FileState). is_folder q.kind ≡ true) same p.folder in
-      let file = p.file in cc (folder, file)
+  link-apart = file-apart W.files i d f h p.is_file p.is p.file p.folder
 
   link-slot : e / 16 < 72
   link-slot = let lt = p.range in omega (arith, lt)
@@ -117,7 +113,7 @@ module _ (W : World) (X Y : Image) (d g e s : ℕ) (name : List ℕ) (kind : Fil
     (p : MakeLies W.files X Y d g e s name kind claims f) (place : place_for W.files d name ≡ Some e) (claim : IsClaim W (step.Make d g name kind) claims) where
   -- the new inode had no file
   pub make-apart : claims.inode ≢ d
-  make-apart t = let at : W.files d ≡ None = subst (λ (q : ℕ). W.files q ≡ None) t p.none in let is = p.is in cc (at, is)
+  make-apart = none-apart W.files claims.inode d f p.none p.is
 
   make-slot : e / 16 < 72
   make-slot = let lt = p.range in omega (arith, lt)

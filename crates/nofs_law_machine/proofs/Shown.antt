@@ -13,72 +13,10 @@ use Rattle.nofs_machine.specs.declared.steps.Step.TheVariants as step
 use Rattle.nofs_law_machine.proofs.Total.{nothing-learned, nothing-learned-at}
 use Rattle.nofs_law_machine.specs.Examples.{AreShown, empty, name_examples, new_names, contents, large_files, elements, FailedRead, FailedFlush, GivenToSlot}
 
-pub names-shown : AreShown name_examples
+pub all-shown : AreShown name_examples × AreShown new_names × AreShown contents × AreShown large_files × AreShown elements
 unfolding number_at put_number put_bytes zeros entry_of entry_fields spelled_entry is_name path_of slot_of count_below least_from found first_dead
     first_lost_slot place_for link_place gives with_entry put_content trimmed lines_in_slot
-names-shown = (
-  refl,
-  (
-    refl,
-    (
-      refl,
-      (
-        refl,
-        (
-          refl,
-          (
-            refl,
-            (
-              refl,
-              (refl, (refl, (refl, (refl, (refl, (refl, (refl, (refl, (refl, (refl, (refl, (refl, (refl, (refl, (refl, (refl, tt)))))))))))))))),
-            ),
-          ),
-        ),
-      ),
-    ),
-  ),
-)
-
-pub new-names-shown : AreShown new_names
-unfolding number_at put_number put_bytes zeros entry_of entry_fields spelled_entry is_name path_of slot_of count_below least_from found first_dead
-    first_lost_slot place_for link_place gives with_entry put_content trimmed lines_in_slot
-new-names-shown = (refl, (refl, (refl, (refl, (refl, (refl, (refl, (refl, (refl, (refl, (refl, tt)))))))))))
-
-pub contents-shown : AreShown contents
-unfolding number_at put_number put_bytes zeros entry_of entry_fields spelled_entry is_name path_of slot_of count_below least_from found first_dead
-    first_lost_slot place_for link_place gives with_entry put_content trimmed lines_in_slot
-contents-shown = (
-  refl,
-  (
-    refl,
-    (
-      refl,
-      (
-        refl,
-        (
-          refl,
-          (
-            refl,
-            (
-              refl,
-              (refl, (refl, (refl, (refl, (refl, (refl, (refl, (refl, (refl, (refl, (refl, (refl, (refl, tt))))))))))))),
-            ),
-          ),
-        ),
-      ),
-    ),
-  ),
-)
-
-pub elements-shown : AreShown elements
-unfolding number_at put_number put_bytes zeros entry_of entry_fields spelled_entry is_name path_of slot_of count_below least_from found first_dead
-    first_lost_slot place_for link_place gives with_entry put_content trimmed lines_in_slot
-elements-shown = (refl, (refl, (refl, (refl, (refl, (refl, (refl, (refl, (refl, (refl, (refl, tt)))))))))))
-
-pub large-files-shown : AreShown large_files
-unfolding number_at put_number put_bytes zeros entry_of entry_fields spelled_entry is_name path_of slot_of count_below least_from found first_dead
-    first_lost_slot place_for link_place gives with_entry put_content trimmed lines_in_slot
-large-files-shown = (refl, (refl, (refl, (refl, (refl, (refl, (refl, tt)))))))
+all-shown = (refl, refl, refl, refl, refl)
 
 pub failed-read : FailedRead
 failed-read = ByRead refl refl refl refl

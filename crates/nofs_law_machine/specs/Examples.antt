@@ -1,5 +1,5 @@
 -- Examples of steps and their answers, as they were worked by hand.
-use Rattle.std.specs.Prelude.{◌≡◌, ℕ, ◌+◌, ◌^◌, true, false, List, [], ◌∷◌, ◌++◌, Some, None, if◌then◌else◌, nat_le, nat_lt, replicate}
+use Rattle.std.specs.Prelude.{◌≡◌, ℕ, ◌+◌, ◌^◌, true, false, List, [], ◌∷◌, ◌++◌, Some, None, if◌then◌else◌, map, nat_le, nat_lt, replicate}
 use Rattle.nofs_ptrs.specs.Paths.{slot_limit}
 use Rattle.nofs_disk.specs.Pointer.{null}
 use Rattle.nofs_inode.specs.declared.inode.FileKind.TheVariants.{File}
@@ -32,8 +32,7 @@ example W s r = record { world = W; step = s; claims = no_claims; reply = r }
 
 -- each of them is answered so
 abbrev pub AreShown : List Example → Type 0
-AreShown [] = Unit {0}
-AreShown (e ∷ es) = (answer e.world e.step e.claims ≡ e.reply) × AreShown es
+AreShown es = map (λ (e : Example). answer e.world e.step e.claims) es ≡ map (λ (e : Example). e.reply) es
 
 -- The generation of inode 3 and that of inode 4
 abbrev pub S3 : ℕ

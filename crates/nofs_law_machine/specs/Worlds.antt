@@ -62,13 +62,13 @@ example_world F = record {
   version = 1;
   blocks = 64;
   inodes = 16;
+  known_inodes = λ i. true;
+  known_blocks = λ p. true;
   mount = 1;
   serial = 10;
   stopped = false;
   files = F;
   homes = λ p. if nat_le 5 p then (if nat_lt p 8 then Some (home_at 2 (p - 5)) else None) else None;
-  known_inodes = λ i. true;
-  known_blocks = λ p. true;
 }
 
 -- what a step is answered where no call of the device fails

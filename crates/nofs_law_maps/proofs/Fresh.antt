@@ -21,7 +21,7 @@ use Rattle.nofs_machine.specs.Good.{IsFresh}
 use Rattle.nofs_model.specs.Cells.{Cell, Kind, Content, Directory, Leaf, Table, Tag, Pointer, Record, Entry, tag_of, null, pointer_at, record_at, free_record}
 use Rattle.nofs_model.specs.Cells.{is_live, entry_in}
 use Rattle.nofs_model.specs.Image.{is_super, is_geometry, Image, cell_at, super_at, is_mountable, is_inode, inode, InRecord, Under, tag_for, find, pointer}
-use Rattle.nofs_model.specs.Image.{RecordBelow, CellBelow, IsBelow}
+use Rattle.nofs_model.specs.Image.{TagBelow, RecordBelow, CellBelow, IsBelow}
 
 -- What is claimed is below the next number
 
@@ -70,45 +70,31 @@ module _ (bound : ℕ) (P : ℕ → Type 0) (small : (n : ℕ) → P n → n < b
     pointers = λ n lt. small _ (h.pointers n lt);
   }
 
+  tag-numbers : (c : Cell) (t : Tag) → tag_of c.tag ≡ Some t → P t.generation → P t.stamp
+      → (t.kind ≡ Directory → (j : ℕ) → j < 16 → IfSome (entry_in c.payload j) (λ e. e.generation < bound))
+      → (t.kind ≡ Leaf → (j : ℕ) → j < 64 → (pointer_at c.payload j).stamp < bound) → TagBelow bound c
+  tag-numbers c t e g s entries pointers = record {
+    own = some-in (tag_of c.tag) t (λ t. (t.generation < bound) × (t.stamp < bound)) e (small t.generation g, small t.stamp s);
+    entries = some-in (tag_of c.tag) t (λ t. t.kind ≡ Directory → (j : ℕ) → j < 16 → IfSome (entry_in c.payload j) (λ e. e.generation < bound)) e entries;
+    pointers = some-in (tag_of c.tag) t (λ t. t.kind ≡ Leaf → (j : ℕ) → j < 64 → (pointer_at c.payload j).stamp < bound) e pointers;
+  }
+
   pub numbers-below : (X : Image) (b : ℕ) (c : Cell) → (super_at X).inodes % 4 ≡ 0 → CellNumbers P X b c → CellBelow bound X b c
   numbers-below X b c q (InContent area t e k g s) = record {
-    tag = record {
-      own = some-in (tag_of c.tag) t (λ t. (t.generation < bound) × (t.stamp < bound)) e (small t.generation g, small t.stamp s);
-      entries = some-in (tag_of c.tag) t (λ t. t.kind ≡ Directory → (j : ℕ) → j < 16 → IfSome (entry_in c.payload j) (λ e. e.generation < bound)) e
-          (λ d. absurd (no-kind Content Directory t k (λ z. cc z) d));
-      pointers = some-in (tag_of c.tag) t (λ t. t.kind ≡ Leaf → (j : ℕ) → j < 64 → (pointer_at c.payload j).stamp < bound) e
-          (λ d. absurd (no-kind Content Leaf t k (λ z. cc z) d));
-    };
+    tag = tag-numbers c t e g s (λ d. absurd (no-kind Content Directory t k (λ z. cc z) d)) (λ d. absurd (no-kind Content Leaf t k (λ z. cc z) d));
     records = λ i range eb live. absurd (not-table X b i q area range eb);
   }
   numbers-below X b c q (InDirectory area t e k g s f) = record {
-    tag = record {
-      own = some-in (tag_of c.tag) t (λ t. (t.generation < bound) × (t.stamp < bound)) e (small t.generation g, small t.stamp s);
-      entries = some-in (tag_of c.tag) t (λ t. t.kind ≡ Directory → (j : ℕ) → j < 16 → IfSome (entry_in c.payload j) (λ e. e.generation < bound)) e
-          (λ d j lt. if-some (λ (n : Entry). P n.generation) (λ (n : Entry). n.generation < bound) (entry_in c.payload j) (λ n p. small n.generation p)
-          (f j lt));
-      pointers = some-in (tag_of c.tag) t (λ t. t.kind ≡ Leaf → (j : ℕ) → j < 64 → (pointer_at c.payload j).stamp < bound) e
-          (λ d. absurd (no-kind Directory Leaf t k (λ z. cc z) d));
-    };
+    tag = tag-numbers c t e g s (λ d j lt. if-some (λ (n : Entry). P n.generation) (λ (n : Entry). n.generation < bound) (entry_in c.payload j)
+        (λ n p. small n.generation p) (f j lt)) (λ d. absurd (no-kind Directory Leaf t k (λ z. cc z) d));
     records = λ i range eb live. absurd (not-table X b i q area range eb);
   }
   numbers-below X b c q (InPointers area t e k g s f) = record {
-    tag = record {
-      own = some-in (tag_of c.tag) t (λ t. (t.generation < bound) × (t.stamp < bound)) e (small t.generation g, small t.stamp s);
-      entries = some-in (tag_of c.tag) t (λ t. t.kind ≡ Directory → (j : ℕ) → j < 16 → IfSome (entry_in c.payload j) (λ e. e.generation < bound)) e
-          (λ d. absurd (no-kind Leaf Directory t k (λ z. cc z) d));
-      pointers = some-in (tag_of c.tag) t (λ t. t.kind ≡ Leaf → (j : ℕ) → j < 64 → (pointer_at c.payload j).stamp < bound) e (λ d j lt. small _ (f j lt));
-    };
+    tag = tag-numbers c t e g s (λ d. absurd (no-kind Leaf Directory t k (λ z. cc z) d)) (λ d j lt. small _ (f j lt));
     records = λ i range eb live. absurd (not-table X b i q area range eb);
   }
   numbers-below X b c q (InTable t e k g s f) = record {
-    tag = record {
-      own = some-in (tag_of c.tag) t (λ t. (t.generation < bound) × (t.stamp < bound)) e (small t.generation g, small t.stamp s);
-      entries = some-in (tag_of c.tag) t (λ t. t.kind ≡ Directory → (j : ℕ) → j < 16 → IfSome (entry_in c.payload j) (λ e. e.generation < bound)) e
-          (λ d. absurd (no-kind Table Directory t k (λ z. cc z) d));
-      pointers = some-in (tag_of c.tag) t (λ t. t.kind ≡ Leaf → (j : ℕ) → j < 64 → (pointer_at c.payload j).stamp < bound) e
-          (λ d. absurd (no-kind Table Leaf t k (λ z. cc z) d));
-    };
+    tag = tag-numbers c t e g s (λ d. absurd (no-kind Table Directory t k (λ z. cc z) d)) (λ d. absurd (no-kind Table Leaf t k (λ z. cc z) d));
     records = λ i range eb live. numbers-record _ (f i range eb live);
   }
 

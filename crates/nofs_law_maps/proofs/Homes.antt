@@ -131,16 +131,8 @@ module _ (F E : Files) (step : Step) (c : Claims) (X Y : Image) (move : HomesMov
   back home e =
       let h = owner-houses Y p home.inode home.slot e in
       elim (move.held home.inode h.path h.pointer h.is_slot h.agreed h.holds) [
-        | inl m ↦ houses-owner X home p (record {
-          path = h.path;
-          pointer = h.pointer;
-          is_slot = h.is_slot;
-          slot = h.slot;
-          agreed = m.0;
-          holds = m.1;
-          block =
-              h.block;
-        })
+        | inl m ↦ houses-owner X home p
+            (record { path = h.path; pointer = h.pointer; is_slot = h.is_slot; slot = h.slot; agreed = m.0; holds = m.1; block = h.block })
         | inr m ↦ absurd (none (claimed_home F step c p) free (subst (λ (b : ℕ). is_some (claimed_home F step c b) ≡ true) h.block m.0))
       ]
     where

@@ -52,6 +52,15 @@ pub record SameNumbers (W V : World) : Type 0 where
   pub inodes : V.inodes ≡ W.inodes
   pub mount : V.mount ≡ W.mount
 
+-- each claimed element was known, and the scan has it free
+pub record ClaimsFree (W : World) (c : Claims) (X : Image) : Type 0 where
+  pub block_known : (x : Pointer) → Contains (claimed_blocks c) x → W.known_blocks x.block ≡ true
+  pub block_unused : (x : Pointer) → Contains (claimed_blocks c) x → is_used_block X x.block ≡ false
+  pub block_free : (x : Pointer) → Contains (claimed_blocks c) x → IsFree X x.block
+  pub block_data : (x : Pointer) → Contains (claimed_blocks c) x → is_data_block X x.block ≡ true
+  pub inode_known : c.inode ≢ 0 → W.known_inodes c.inode ≡ true
+  pub inode_unused : c.inode ≢ 0 → is_used_inode X c.inode ≡ false
+
 -- a step that is done keeps the maps good
 abbrev pub LawGoodDone : Type 0
 LawGoodDone = (W V : World) (step : Step) (c : Claims) (vi fi vb fb : ℕ → Bool) (X Y : Image) → IsGood W vi fi vb fb X
@@ -62,15 +71,7 @@ LawGoodDone = (W V : World) (step : Step) (c : Claims) (vi fi vb fb : ℕ → Bo
 abbrev pub LawGoodKept : Type 0
 LawGoodKept = (W V : World) (vi fi vb fb : ℕ → Bool) (X : Image) → IsGood W vi fi vb fb X → Keeps W V → GoodMaps V X
 
--- each claimed element was known, and the scan has it free
-pub record ClaimsFree (W : World) (c : Claims) (X : Image) : Type 0 where
-  pub block_known : (x : Pointer) → Contains (claimed_blocks c) x → W.known_blocks x.block ≡ true
-  pub block_unused : (x : Pointer) → Contains (claimed_blocks c) x → is_used_block X x.block ≡ false
-  pub block_free : (x : Pointer) → Contains (claimed_blocks c) x → IsFree X x.block
-  pub block_data : (x : Pointer) → Contains (claimed_blocks c) x → is_data_block X x.block ≡ true
-  pub inode_known : c.inode ≢ 0 → W.known_inodes c.inode ≡ true
-  pub inode_unused : c.inode ≢ 0 → is_used_inode X c.inode ≡ false
-
+-- what a step claims is free
 abbrev pub LawClaims : Type 0
 LawClaims = (W : World) (step : Step) (c : Claims) (vi fi vb fb : ℕ → Bool) (X : Image) → IsGood W vi fi vb fb X → IsClaim W step c → ClaimsFree W c X
 

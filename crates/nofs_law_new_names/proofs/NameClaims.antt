@@ -1,6 +1,7 @@
 -- Link and Make in a hole: each write is proper, and the files are those of the image.
 use Rattle.std.proofs.Common.{◌≡◌, ◌≢◌, ℕ, ◌+◌, ◌-◌, ◌/◌, ◌%◌, ◌<◌, ◌≤◌, ◌⊎◌, inl, inr, Bool, true, false, eqb, List, option_to_list, Option, Some, None}
 use Rattle.std.proofs.Common.{refl, sym, ap, ◌∙◌, subst, subst₂, arith, Contains, eqb-true, eq-eqb}
+use Rattle.std.proofs.lemmas.Bool.{cases_eq}
 use Rattle.std.proofs.lemmas.List.Elements.{Contains-append_left}
 use Rattle.nofs_law_images.specs.Reasons.{Holes}
 use Rattle.nofs_law_images.specs.Proper.{Proper, OfPointers, OfTable, RecordProper, Unchanged, Changed, PointerProper, Same, Cut, New}
@@ -14,6 +15,7 @@ use Rattle.nofs_model.specs.Cells.{Cell, FileKind, BackLink, Tag, Pointer, Recor
 use Rattle.nofs_model.specs.Image.{Image, cell_at, is_data_block, is_inode, inode, tag_for, Path, InRecord, Under, leaf, find, pointer, record_pointer, IsFree}
 use Rattle.nofs_model.specs.declared.value.Value.TheVariants.{Hole}
 use Rattle.nofs_law_untouched.specs.Frames.{SameMeta}
+use Rattle.nofs_law_untouched.specs.Grows.{ClaimedCell}
 use Rattle.nofs_law_untouched.proofs.Claiming.{fresh-tag}
 use Rattle.nofs_law_old_names.specs.Names.{NameWrites}
 use Rattle.nofs_law_new_names.specs.Holes.{HoleUnderLeaf, HoleWithLeaf}
@@ -122,39 +124,33 @@ two-records m X Y d i others at_d at_i j = go (eqb j d) refl (eqb j i) refl
     go false ea true eb = subst (λ (q : ℕ). RecordProper m X q (inode Y q)) (sym (eqb-true j i eb)) at_i
     go false ea false eb = Unchanged (others j (λ q. let t = eq-eqb j d q in cc (ea, t)) (λ q. let t = eq-eqb j i q in cc (eb, t)))
 
+-- what a step on names may leave of block b
+abbrev LeftAt : ℕ → Image → Image → ℕ → ℕ → Type 0
+LeftAt s X Y d b = (cell_at Y b ≡ cell_at X b) ⊎ ((IsFree X b × ((t : Tag) → tag_of (cell_at Y b).tag ≡ Some t → s ≤ t.stamp))
+    ⊎ ((tag_of (cell_at Y b).tag ≡ tag_of (cell_at X b).tag) × ((path : Path) × (z : Pointer) × (find X d path ≡ answer.Holds z) × (z.block ≡ b))))
+
+left-claimed : (s : ℕ) (X Y : Image) (d : ℕ) (path : Path) (x : Pointer) → ClaimedCell s X Y d path x → LeftAt s X Y d x.block
+left-claimed s X Y d path x c = inr (inl (c.free, fresh-tag s X Y d path x c))
+
+-- the blocks of x and y are all that change
+two-blocks : (s : ℕ) (X Y : Image) (d : ℕ) (x y : Pointer) → LeftAt s X Y d x.block → LeftAt s X Y d y.block
+    → ((b : ℕ) → is_data_block X b ≡ true → b ≢ x.block → b ≢ y.block → cell_at Y b ≡ cell_at X b) → (b : ℕ) → is_data_block X b ≡ true → LeftAt s X Y d b
+two-blocks s X Y d x y at_x at_y others b area = elim (cases_eq b x.block) [
+  | inl e ↦ subst (LeftAt s X Y d) (sym e) at_x
+  | inr nx ↦ elim (cases_eq b y.block) [ inl e ↦ subst (LeftAt s X Y d) (sym e) at_y | inr ny ↦ inl (others b area nx ny) ]
+]
+
 -- what is written under a leaf
 pub leaf-hole-writes : (s : ℕ) (X Y : Image) (d i n : ℕ) (x y : Pointer) → HoleUnderLeaf s X Y d i n x y → NameWrites s d i X Y
 leaf-hole-writes s X Y d i n x y h = record {
   super = h.super;
   records = λ j nd ni. h.records j ni;
-  blocks =
-      λ b area. go b area (eqb b x.block) refl (eqb b y.block) refl;
+  blocks = two-blocks s X Y d x y (left-claimed s X Y d (Under leaf n) x h.cell) (inr (inr (h.tag, (leaf, y, h.held, refl)))) h.blocks;
 }
-  where
-    go : (b : ℕ) → is_data_block X b ≡ true → (t : Bool) → eqb b x.block ≡ t → (u : Bool) → eqb b y.block ≡ u → (cell_at Y b ≡ cell_at X b)
-        ⊎ ((IsFree X b × ((t : Tag) → tag_of (cell_at Y b).tag ≡ Some t → s ≤ t.stamp))
-        ⊎ ((tag_of (cell_at Y b).tag ≡ tag_of (cell_at X b).tag) × ((path : Path) × (z : Pointer) × (find X d path ≡ answer.Holds z) × (z.block ≡ b))))
-    go b area true e u eu =
-        let eb = sym (eqb-true b x.block e) in
-        inr (inl (subst (λ (q : ℕ). IsFree X q × ((t : Tag) → tag_of (cell_at Y q).tag ≡ Some t → s ≤ t.stamp)) eb
-        (h.cell.free, fresh-tag s X Y d (Under leaf n) x h.cell)))
-    go b area false e true eu =
-        let eb = eqb-true b y.block eu in
-        inr (inr (subst (λ (q : ℕ). tag_of (cell_at Y q).tag ≡ tag_of (cell_at X q).tag) (sym eb) h.tag, (leaf, y, h.held, sym eb)))
-    go b area false e false eu = inl (h.blocks b area (λ q. let t = eq-eqb b x.block q in cc (e, t)) (λ q. let t = eq-eqb b y.block q in cc (eu, t)))
 
 pub claimed-hole-writes : (s : ℕ) (X Y : Image) (d i n : ℕ) (x y : Pointer) → HoleWithLeaf s X Y d i n x y → NameWrites s d i X Y
-claimed-hole-writes s X Y d i n x y h = record { super = h.super; records = h.records; blocks = λ b area. go b area (eqb b x.block) refl (eqb b y.block) refl }
-  where
-    go : (b : ℕ) → is_data_block X b ≡ true → (t : Bool) → eqb b x.block ≡ t → (u : Bool) → eqb b y.block ≡ u → (cell_at Y b ≡ cell_at X b)
-        ⊎ ((IsFree X b × ((t : Tag) → tag_of (cell_at Y b).tag ≡ Some t → s ≤ t.stamp))
-        ⊎ ((tag_of (cell_at Y b).tag ≡ tag_of (cell_at X b).tag) × ((path : Path) × (z : Pointer) × (find X d path ≡ answer.Holds z) × (z.block ≡ b))))
-    go b area true e u eu =
-        let eb = sym (eqb-true b x.block e) in
-        inr (inl (subst (λ (q : ℕ). IsFree X q × ((t : Tag) → tag_of (cell_at Y q).tag ≡ Some t → s ≤ t.stamp)) eb
-        (h.cell.free, fresh-tag s X Y d (Under leaf n) x h.cell)))
-    go b area false e true eu =
-        let eb = sym (eqb-true b y.block eu) in
-        inr (inl (subst (λ (q : ℕ). IsFree X q × ((t : Tag) → tag_of (cell_at Y q).tag ≡ Some t → s ≤ t.stamp)) eb
-        (h.above.free, fresh-tag s X Y d leaf y h.above)))
-    go b area false e false eu = inl (h.blocks b area (λ q. let t = eq-eqb b x.block q in cc (e, t)) (λ q. let t = eq-eqb b y.block q in cc (eu, t)))
+claimed-hole-writes s X Y d i n x y h = record {
+  super = h.super;
+  records = h.records;
+  blocks = two-blocks s X Y d x y (left-claimed s X Y d (Under leaf n) x h.cell) (left-claimed s X Y d leaf y h.above) h.blocks;
+}

@@ -6,7 +6,7 @@ use Rattle.nofs_law_images.specs.Proper.{Proper}
 use Rattle.nofs_law_images.specs.Moments.{during}
 use Rattle.nofs_law_untouched.specs.Frames.{OldPointers}
 use Rattle.nofs_law_untouched.proofs.Framing.{some-is}
-use Rattle.nofs_law_untouched.proofs.Given.{value-of, at-itself}
+use Rattle.nofs_law_untouched.proofs.Given.{file-apart, none-apart, value-of, at-itself}
 use Rattle.nofs_law_untouched.proofs.EntryCells.{entry-here, entry-there}
 use Rattle.nofs_law_old_names.proofs.NameInPlace.{in-place-writes, cell-proper, directory-in-place, cell-gives, cell-elsewhere}
 use Rattle.nofs_law_old_names.proofs.NameRename.{value-held}
@@ -99,10 +99,7 @@ module _ (F : Files) (X Y : Image) (d g e i of b s : ℕ) (name : List ℕ) (f h
     (spells : Spells (spelled_entry i of name) (record { inode = i; generation = of; name = name }))
     (r : Relinked X Y i (set_link h.links b (link_to d e g))) (old : (j : ℕ) → is_some (F j) ≡ true → OldPointers s X j) where
   pub link-apart : i ≢ d
-  link-apart t =
-      let at : F d ≡ Some h = subst (λ (q : ℕ). F q ≡ Some h) t is_i in
-      let same : f ≡ h = cc (at, is) in
-      let z : is_folder h.kind ≡ true = subst (λ (q : FileState). is_folder q.kind ≡ true) same folder in cc (z, file)
+  link-apart = file-apart F i d f h is_i is file folder
 
   link-is : link_given F d g name i of e b ≡ entry_given F d g e (spelled_entry i of name)
       (meta_given i of (Is h.kind h.size (set_link h.links b (link_to d e g))))
@@ -167,7 +164,7 @@ module _ (F : Files) (X Y : Image) (d g e s : ℕ) (name : List ℕ) (kind : Fil
     (spells : Spells (spelled_entry claims.inode claims.generation name) (record { inode = claims.inode; generation = claims.generation; name = name }))
     (r : IsNewRecord Y claims.inode claims.generation kind (first_links d e g)) (old : (j : ℕ) → is_some (F j) ≡ true → OldPointers s X j) where
   pub make-apart : claims.inode ≢ d
-  make-apart t = let at : F d ≡ None = subst (λ (q : ℕ). F q ≡ None) t none in cc (at, is)
+  make-apart = none-apart F claims.inode d f none is
 
   pub make-gives : GivesCell (make_given F d g name kind claims e) d f.generation (e / 16)
       (with_entry (value_of F d (e / 16)) e (spelled_entry claims.inode claims.generation name))

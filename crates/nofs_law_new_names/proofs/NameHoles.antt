@@ -12,7 +12,7 @@ use Rattle.nofs_law_untouched.specs.Frames.{OldPointers}
 use Rattle.nofs_model.proofs.Paths.{path-direct, path-leaf}
 use Rattle.nofs_law_untouched.proofs.Matching.{matched-file}
 use Rattle.nofs_law_untouched.proofs.Framing.{some-is}
-use Rattle.nofs_law_untouched.proofs.Given.{value-of}
+use Rattle.nofs_law_untouched.proofs.Given.{file-apart, none-apart, meta-stays, value-of}
 use Rattle.nofs_law_old_names.proofs.NameFiles.{file-of}
 use Rattle.nofs_dirent.specs.EntryLaws.{Spells}
 use Rattle.nofs_law_old_names.proofs.NameLinks.{relinked-proper}
@@ -61,13 +61,7 @@ hole-directory s F given X Y d i k f v x y match is apart old gives content (Und
     let grows = leaf-hole-grows s X Y d i (k - 8) x y apart own.agreed h in
     let same : inode Y d ≡ inode X d = h.records d (λ t. apart (sym t)) in
     directory-grown s F given X Y d i k f v (leaf_places y x) match is (omega (arith, lt)) old gives (leaf-hole-writes s X Y d i (k - 8) x y h)
-    (record {
-      kind = ap (λ (r : Record). r.kind) same;
-      generation = ap (λ (r : Record). r.generation) same;
-      size = ap (λ (r : Record). r.size) same;
-      links =
-          ap (λ (r : Record). r.links) same;
-    })
+    (meta-stays X Y d same)
     (subst (λ (p : Path). Grows s X Y d p (leaf_places y x)) (sym (path-leaf k le lt)) grows)
     (ap (λ (p : Path). Bytes (cell_at Y (leaf_places y x p).block).payload) (path-leaf k le lt) ∙ content)
 hole-directory s F given X Y d i k f v x y match is apart old gives content (WithLeaf le lt h) =
@@ -130,8 +124,7 @@ module _ (F : Files) (X Y : Image) (d g e i of b s : ℕ) (name : List ℕ) (f h
       (λ l. cc (l, was)) spells r old
 
   apart : i ≢ d
-  apart = link-apart F X Y d g e i of b s name f h match is gen folder range unpaired is_i of_is file plain place (whole-hole (value_of F d (e / 16)) was)
-      (λ l. cc (l, was)) spells r old
+  apart = file-apart F i d f h is_i is file folder
 
   content-at : Bytes (cell_at Y x.block).payload ≡ with_entry (value_of F d (e / 16)) e (spelled_entry i of name)
   content-at = content ∙ ap (λ (u : Value). with_entry u e (spelled_entry i of name)) (sym was)
@@ -182,8 +175,7 @@ module _ (F : Files) (X Y : Image) (d g e s : ℕ) (name : List ℕ) (kind : Fil
       (λ l. cc (l, was-hole)) spells r old
 
   apart-make : claims.inode ≢ d
-  apart-make = make-apart F X Y d g e s name kind claims f match is gen folder range unpaired none plain young (whole-hole (value_of F d (e / 16)) was-hole)
-      (λ l. cc (l, was-hole)) spells r old
+  apart-make = none-apart F claims.inode d f none is
 
   content-make : Bytes (cell_at Y claims.cell.block).payload ≡ with_entry (value_of F d (e / 16)) e (spelled_entry claims.inode claims.generation name)
   content-make = content ∙ ap (λ (u : Value). with_entry u e (spelled_entry claims.inode claims.generation name)) (sym was-hole)

@@ -11,7 +11,7 @@ use Rattle.nofs_model.proofs.Find.{judged-built-null}
 use Rattle.nofs_model.proofs.Paths.{path_of-slot}
 use Rattle.nofs_law_untouched.proofs.Matching.{matched-file}
 use Rattle.nofs_law_untouched.proofs.Framing.{some-is}
-use Rattle.nofs_law_old_names.proofs.NameFiles.{linked-file, find-stays, value-stays}
+use Rattle.nofs_law_old_names.proofs.NameFiles.{linked_state, linked-now, linked-file, find-stays, value-stays}
 use Rattle.nofs_law_old_names.proofs.NameStep.{match-names, entry-new, folder-after, unpaired-away, file-lone}
 use Rattle.nofs_model.specs.declared.path.PathAnswer.TheVariants as answer
 use Rattle.nofs_machine.specs.Meta.{Meta, Is, meta_of}
@@ -34,27 +34,8 @@ pub all-null : (Y : Image) (i : ℕ) → ((n : ℕ) → n < 10 → is_null (reco
 all-null Y i null (InRecord n) slot = judged-built-null Y i (InRecord n) (record_pointer (inode Y i) n) (null n slot)
 all-null Y i null (Under a n) slot = let up = all-null Y i null a slot.2 in rw (up, find) refl
 
-abbrev pub linked_state : Given → ℕ → FileState → List BackLink → FileState
-linked_state given i h links = record {
-  generation = h.generation;
-  kind = h.kind;
-  size = h.size;
-  links =
-      links;
-  values = (filled given i h).values;
-  nodes = (filled given i h).nodes;
-}
-
 abbrev pub born_state : Given → ℕ → ℕ → FileKind → List BackLink → FileState
-born_state given i g kind links = record {
-  generation = g;
-  kind = kind;
-  size = 0;
-  links =
-      links;
-  values = (filled given i (new_file g)).values;
-  nodes = (filled given i (new_file g)).nodes;
-}
+born_state given i g kind links = record (filled given i (new_file g)) { kind = kind; links = links }
 
 pub birth-is : (F : Files) (given : Given) (i g : ℕ) (kind : FileKind) (links : List BackLink) → GivesBirth given i g kind links
     → files_after F given i ≡ Some (born_state given i g kind links)
@@ -153,17 +134,8 @@ module _ (F : Files) (given : Given) (X Y : Image) (d e i s : ℕ) (f : FileStat
       ))
       (λ none. absurd (let t = some-is (files_after F given i) (linked_state given i h links) now in cc (t, none)))
     where
-      now : files_after F given i ≡ Some (record {
-        generation = h.generation;
-        kind = h.kind;
-        size = h.size;
-        links =
-            links;
-        values = (filled given i h).values;
-        nodes = (filled given i h).nodes;
-      })
-      now = ap (λ (o : Option ℕ). file_after given i (born_file o (F i))) meta.born ∙ ap (λ (o : Option FileState). file_after given i o) is_i
-          ∙ ap (λ (o : Option Meta). after_meta o (filled given i h)) meta.metas
+      now : files_after F given i ≡ Some (linked_state given i h links)
+      now = linked-now F given i h links is_i meta
 
       own : SameFile (files_after F given i) (files_in Y i)
       own =

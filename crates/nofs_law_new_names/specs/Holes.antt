@@ -126,11 +126,11 @@ pub record MakeLies (F : Files) (X Y : Image) (d g n s : ℕ) (name : List ℕ) 
   pub is : F d ≡ Some f
   pub generation : f.generation ≡ g
   pub folder : is_folder f.kind ≡ true
-  pub range : n < entry_limit
-  pub unpaired : is_paired F d n ≡ false
   pub none : F claims.inode ≡ None
   pub plain : is_special claims.inode ≡ false
   pub young : f.generation < claims.generation
+  pub range : n < entry_limit
+  pub unpaired : is_paired F d n ≡ false
   pub spells : Spells (spelled_entry claims.inode claims.generation name) (record { inode = claims.inode; generation = claims.generation; name = name })
   pub made : IsNewRecord Y claims.inode claims.generation kind (first_links d n g)
   pub old : (j : ℕ) → is_some (F j) ≡ true → OldPointers s X j

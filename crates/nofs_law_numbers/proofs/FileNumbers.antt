@@ -3,7 +3,7 @@ use Rattle.std.proofs.Common.{◌≡◌, ℕ, ◌<◌, inl, inr, Bool, true, fal
 use Rattle.std.proofs.Common.{eqb-true}
 use Rattle.std.proofs.lemmas.List.Elements.{Contains-append_left, Contains-append_right}
 use Rattle.nofs_ptrs.specs.Paths.{slot_limit}
-use Rattle.nofs_model.specs.Cells.{Cell, FileKind, File, Content, Pointer, BackLink, Record, tag_of, pointer_at, is_live}
+use Rattle.nofs_model.specs.Cells.{Cell, FileKind, File, Content, Directory, Pointer, BackLink, Record, tag_of, pointer_at, is_live}
 use Rattle.nofs_inode.specs.declared.inode.FileKind.TheVariants.{Directory as Folder}
 use Rattle.nofs_model.specs.Image.{Image, cell_at, inode, Path, InRecord, Under, path_of, slot_of, is_pointer_slot, content_kind, kind_in, tag_for, find}
 use Rattle.nofs_model.specs.Image.{pointer, record_pointer, FileState, is_folder, IsAbove, IsSlot}
@@ -53,14 +53,22 @@ tag-same X Y i a stamp kind generation = λ j. record { kind = kinds j; inode = 
     kinds : kind_in (inode Y i) a ≡ kind_in (inode X i) a
     kinds = rw kind refl
 
--- a file's slots have content
-content-here : (X : Image) (i k : ℕ) (f : FileState) → (inode X i).kind ≡ Some f.kind → is_folder f.kind ≡ false → k < slot_limit
-    → kind_in (inode X i) (path_of k) ≡ Content
-content-here X i k f is file range = rw (path_of-content k range, is) (go f.kind file)
+-- a file's slots have content, and a directory's have entries
+slots-have : (X : Image) (i k : ℕ) (f : FileState) → (inode X i).kind ≡ Some f.kind → k < slot_limit
+    → kind_in (inode X i) (path_of k) ≡ cond (is_folder f.kind) Directory Content
+slots-have X i k f is range = rw (path_of-content k range, is) (go f.kind)
   where
-    go : (q : FileKind) → is_folder q ≡ false → content_kind (Some q) ≡ Content
-    go File e = refl
-    go Folder e = cc
+    go : (q : FileKind) → content_kind (Some q) ≡ cond (is_folder q) Directory Content
+    go File = refl
+    go Folder = refl
+
+pub content-here : (X : Image) (i k : ℕ) (f : FileState) → (inode X i).kind ≡ Some f.kind → is_folder f.kind ≡ false → k < slot_limit
+    → kind_in (inode X i) (path_of k) ≡ Content
+content-here X i k f is file range = slots-have X i k f is range ∙ ap (λ (b : Bool). cond b Directory Content) file
+
+pub entries-here : (X : Image) (d k : ℕ) (f : FileState) → (inode X d).kind ≡ Some f.kind → is_folder f.kind ≡ true → k < slot_limit
+    → kind_in (inode X d) (path_of k) ≡ Directory
+entries-here X d k f is folder range = slots-have X d k f is range ∙ ap (λ (b : Bool). cond b Directory Content) folder
 
 -- the file's record at a moment
 file-record : (W : World) (c : Claims) (X Y : Image) (i : ℕ) (r : Record) → is_live (inode X i) ≡ true

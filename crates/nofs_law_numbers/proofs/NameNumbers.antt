@@ -27,16 +27,8 @@ use Rattle.nofs_law_old_names.proofs.NameFiles.{file-of}
 use Rattle.nofs_law_old_names.proofs.NameRename.{entry-parts, value-held}
 use Rattle.nofs_law_numbers.specs.Cells.{OldNumbers, Held, RecordWritten, AsBefore, Changed, Freed}
 use Rattle.nofs_law_numbers.specs.Names.{LawRenameNumbers, LawDropNumbers}
+use Rattle.nofs_law_numbers.proofs.FileNumbers.{entries-here}
 use Rattle.nofs_law_numbers.proofs.WrittenCells.{held-entries, old-generation, law-directory-numbers}
-
--- a directory's slots have entries
-pub entries-here : (X : Image) (d k : ℕ) (f : FileState) → (inode X d).kind ≡ Some f.kind → is_folder f.kind ≡ true → k < slot_limit
-    → kind_in (inode X d) (path_of k) ≡ Directory
-entries-here X d k f is folder range = rw (path_of-content k range, is) (go f.kind folder)
-  where
-    go : (q : FileKind) → is_folder q ≡ true → content_kind (Some q) ≡ Directory
-    go Folder e = refl
-    go File e = cc
 
 -- the bytes of an entry name a number where the entry does
 pub entry-number : (W : World) (c : Claims) (bytes : List ℕ) (entry : Entry) → entry_of bytes ≡ Some entry → Numbered W c entry.generation

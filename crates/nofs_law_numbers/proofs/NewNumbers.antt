@@ -20,6 +20,7 @@ use Rattle.nofs_law_maps.specs.Fresh.{Numbered, Old, Generation, CellNumbers}
 use Rattle.nofs_law_maps.specs.Moves.{IsClaimed}
 use Rattle.nofs_law_maps.specs.Pieces.{PointerFrom, Before, Empty, Claimed}
 use Rattle.nofs_law_maps.proofs.Fresh.{sole-is}
+use Rattle.nofs_law_untouched.proofs.Given.{file-apart, none-apart, meta-stays}
 use Rattle.nofs_law_old_names.proofs.NameFiles.{file-of}
 use Rattle.nofs_law_new_names.specs.Holes.{first_links, HoleUnderLeaf, HoleWithLeaf, HoleClaimed, Direct, UnderLeaf, WithLeaf, LinkLies, MakeLies}
 use Rattle.nofs_law_new_names.proofs.NameHoles.{hole-writes, hole-cell}
@@ -27,8 +28,8 @@ use Rattle.nofs_law_homes.proofs.NewHomes.{link-claims, make-claims}
 use Rattle.nofs_law_numbers.specs.Cells.{OldNumbers, Zeros, RecordWritten, AsBefore, Changed, Made}
 use Rattle.nofs_law_numbers.specs.Names.{LawLinkInPlaceNumbers, LawLinkInHoleNumbers, LawMakeInPlaceNumbers, LawMakeInHoleNumbers}
 use Rattle.nofs_law_numbers.proofs.WrittenCells.{law-pointer-numbers, law-directory-numbers}
-use Rattle.nofs_law_numbers.proofs.FileNumbers.{listed, tag-same}
-use Rattle.nofs_law_numbers.proofs.NameNumbers.{entries-here, entry-number, file-number, entry-in-place, relinked-record, one-record}
+use Rattle.nofs_law_numbers.proofs.FileNumbers.{listed, tag-same, entries-here}
+use Rattle.nofs_law_numbers.proofs.NameNumbers.{entry-number, file-number, entry-in-place, relinked-record, one-record}
 
 -- A new entry in a hole of directory d
 module _ (W : World) (c : Claims) (X Y : Image) (s d i k : ℕ) (f : FileState) (x y : Pointer) (o : OldNumbers W X)
@@ -39,15 +40,7 @@ module _ (W : World) (c : Claims) (X Y : Image) (s d i k : ℕ) (f : FileState) 
 
   meta : HoleClaimed s X Y d i k x y → SameMeta X Y d
   meta (Direct lt h) = h.meta
-  meta (UnderLeaf le lt h) =
-      let same : inode Y d ≡ inode X d = h.records d (λ t. apart (sym t)) in
-      record {
-        kind = ap (λ (r : Record). r.kind) same;
-        generation = ap (λ (r : Record). r.generation) same;
-        size = ap (λ (r : Record). r.size) same;
-        links =
-            ap (λ (r : Record). r.links) same;
-      }
+  meta (UnderLeaf le lt h) = meta-stays X Y d (h.records d (λ t. apart (sym t)))
   meta (WithLeaf le lt h) = h.meta
 
   -- the claimed cell has the entry, and zeros beside it
@@ -163,12 +156,7 @@ module _ (W : World) (X Y : Image) (d g e i of b s : ℕ) (name : List ℕ) (f h
 
   -- a file is no directory
   link-apart : i ≢ d
-  link-apart t =
-      let at : W.files d ≡ Some h = subst (λ (q : ℕ). W.files q ≡ Some h) t p.is_file in
-      let is = p.is in
-      let same : f ≡ h = cc (at, is) in
-      let folder : is_folder h.kind ≡ true = subst (λ (q : FileState). is_folder q.kind ≡ true) same p.folder in
-      let file = p.file in cc (folder, file)
+  link-apart = file-apart W.files i d f h p.is_file p.is p.file p.folder
 
   link-slot : e / 16 < 72
   link-slot = let lt = p.range in omega (arith, lt)
@@ -228,7 +216,7 @@ module _ (W : World) (X Y : Image) (d g e s : ℕ) (name : List ℕ) (kind : Fil
 
   -- the new inode had no file
   make-apart : claims.inode ≢ d
-  make-apart t = let at : W.files d ≡ None = subst (λ (q : ℕ). W.files q ≡ None) t p.none in let is = p.is in cc (at, is)
+  make-apart = none-apart W.files claims.inode d f p.none p.is
 
   make-slot : e / 16 < 72
   make-slot = let lt = p.range in omega (arith, lt)

@@ -27,7 +27,7 @@ use Rattle.nofs_inode.specs.declared.inode.FileKind.TheVariants.{Directory as Fo
 use Rattle.nofs_model.specs.Image.{Image, cell_at, super_at, is_data_block, inode, files_in, agreed, Agreed, root, linked, Path, path_of, find, FileState}
 use Rattle.nofs_model.specs.Image.{Files, is_folder, entry_in_file, entry_at, pairs, names, is_a, is_pair, is_root, is_special, links_of, links_in_file}
 use Rattle.nofs_model.specs.declared.value.Value.TheVariants.{Bytes}
-use Rattle.nofs_law_old_names.specs.Names.{InPlace, Relinked}
+use Rattle.nofs_law_old_names.specs.Names.{DropLies, InPlace, Relinked}
 
 -- the back link of a paired entry
 pub paired-link : (F : Files) (d e : ℕ) (entry : Entry) → entry_at F d e ≡ Some entry → is_paired F d e ≡ true
@@ -90,12 +90,9 @@ root-moves F E i kin r = go (eqb i 1) refl (eqb i 2) refl
     go false ep false eq = absurd (let z : is_root F i ≡ false = rw (ep, eq) refl in cc (z, r))
 
 module _ (F : Files) (X Y : Image) (d g e s : ℕ) (f h : FileState) (x : Pointer) (entry : Entry)
-    (match : FilesMatch F X) (is : F d ≡ Some f) (gen : f.generation ≡ g) (found : entry_at F d e ≡ Some entry) (paired : is_paired F d e ≡ true)
-    (is_i : F entry.inode ≡ Some h)
-    (no_names : is_folder h.kind ≡ true → (b : ℕ) → b < entry_limit → is_paired F entry.inode b ≡ false)
-    (held : find X d (path_of (e / 16)) ≡ answer.Holds x) (whole : length (cell_at X x.block).payload ≡ 1024)
-    (content : Bytes (cell_at Y x.block).payload ≡ with_entry (Bytes (cell_at X x.block).payload) e (zeros 64))
-    (writes : InPlace X Y x entry.inode) (old : (j : ℕ) → is_some (F j) ≡ true → OldPointers s X j) where
+    (lies : DropLies F X Y d g e s f h x entry) where
+  open lies use {files as match, is, generation as gen, found, paired, named as is_i, no_names, held, whole, content, writes, old}
+
   parts : (is_folder f.kind ≡ true) × (e < entry_limit) × (Rattle.nofs_model.specs.Image.entry_held (f.values (e / 16)) e ≡ Some entry)
   parts = entry-parts (F d) f e entry is found
 

@@ -90,6 +90,16 @@ module _ (F : Files) (given : Given) (X Y : Image) (d k : ℕ) (f : FileState) (
         nodes = nodes;
       })
 
+-- a file with other links
+abbrev pub linked_state : Given → ℕ → FileState → List BackLink → FileState
+linked_state given i h links = record (filled given i h) { links = links }
+
+pub linked-now : (F : Files) (given : Given) (i : ℕ) (h : FileState) (links : List BackLink) → F i ≡ Some h
+    → GivesMeta given i h.generation (Is h.kind h.size links) → files_after F given i ≡ Some (linked_state given i h links)
+linked-now F given i h links is gives =
+    ap (λ (o : Option ℕ). file_after given i (born_file o (F i))) gives.born ∙ ap (λ (o : Option FileState). file_after given i o) is
+    ∙ ap (λ (o : Option Meta). after_meta o (filled given i h)) gives.metas
+
 -- an inode whose links alone change
 pub linked-file : (F : Files) (given : Given) (X Y : Image) (i : ℕ) (h : FileState) (links : List BackLink) → FilesMatch F X → F i ≡ Some h
     → GivesMeta given i h.generation (Is h.kind h.size links)
@@ -100,17 +110,7 @@ linked-file F given X Y i h links match is gives kind generation size now found 
     let x = file-of F X i h match is in
     let same = x.1 in
     let ky : (inode Y i).kind ≡ Some h.kind = kind ∙ x.0 in
-    let new : files_after F given i ≡ Some (record {
-      generation = h.generation;
-      kind = h.kind;
-      size = h.size;
-      links =
-          links;
-      values = (filled given i h).values;
-      nodes = (filled given i h).nodes;
-    }) =
-    ap (λ (o : Option ℕ). file_after given i (born_file o (F i))) gives.born ∙ ap (λ (o : Option FileState). file_after given i o) is
-    ∙ ap (λ (o : Option Meta). after_meta o (filled given i h)) gives.metas in
+    let new = linked-now F given i h links is gives in
     subst₂ (λ (o : Option FileState) (q : Option FileKind). SameFile o (file_from Y i q)) (sym new) (sym ky) (record {
       generation = same.generation ∙ sym generation;
       kind = refl;

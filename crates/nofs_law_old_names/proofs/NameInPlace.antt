@@ -12,7 +12,8 @@ use Rattle.nofs_model.proofs.Paths.{path_of-slot, path_of-slot_of, path_of-conte
 use Rattle.nofs_law_untouched.proofs.Matching.{matched-file, agreed-files-is}
 use Rattle.nofs_law_untouched.proofs.Framing.{frame, some-is}
 use Rattle.nofs_law_untouched.proofs.Touching.{one-owner, rewrites}
-use Rattle.nofs_law_untouched.proofs.Given.{content-kind, at-itself, lies-held}
+use Rattle.nofs_law_untouched.proofs.Given.{meta-stays, at-itself, lies-held}
+use Rattle.nofs_law_untouched.proofs.Claiming.{slot-content}
 use Rattle.nofs_law_old_names.proofs.NameFiles.{touches-of, directory-file, file-of}
 use Rattle.nofs_model.specs.declared.path.PathAnswer.TheVariants as answer
 use Rattle.nofs_machine.specs.Meta.{Meta}
@@ -40,18 +41,12 @@ cell-proper F X d k f x m given c match is range held area tag gives =
       area = area;
       tag = tag_for X d (path_of k) x.stamp;
       spelled = tag ∙ hx.agrees.tag;
-      kind = is-content;
+      kind = slot-content X d k range;
       given = subst₂ (λ (h l : ℕ). Contains ((during m given).since d h l) (Bytes c.payload)) (file-of F X d f match is).1.generation
           (sym (slot_of-path_of k range)) has;
       place = inl tag;
     })
   where
-    is-content : IsContentKind (kind_in (inode X d) (path_of k))
-    is-content =
-        let e : kind_in (inode X d) (path_of k) ≡ elim (inode X d).kind [ None ↦ Content | Some kind ↦ elim kind [ File ↦ Content | Folder ↦ Directory ] ] =
-        rw (path_of-content k range) refl in
-        subst IsContentKind (sym e) (content-kind (inode X d).kind)
-
     has : Contains ((during m given).since d f.generation k) (Bytes c.payload)
     has = subst (λ (o : Option Value). Contains (m.since d f.generation k ++ option_to_list o) (Bytes c.payload)) (sym gives)
         (Contains-push (m.since d f.generation k) (Bytes c.payload))
@@ -124,13 +119,7 @@ directory-in-place s F given X Y d i k f x v match is apart range old gives held
     let same : inode Y d ≡ inode X d = p.records d (λ e. apart (sym e)) in
     let found = find-in-place s X Y d i k x apart p range held own.live own.agreed old in
     directory-file F given X Y d k f v match is gives
-    (record {
-      kind = ap (λ (r : Record). r.kind) same;
-      generation = ap (λ (r : Record). r.generation) same;
-      size = ap (λ (r : Record). r.size) same;
-      links =
-          ap (λ (r : Record). r.links) same;
-    })
+    (meta-stays X Y d same)
     (here-in-place s X Y d i k x apart p range held own.live own.agreed old ∙ content)
     (beside-in-place s X Y d i k x apart p range held own.live own.agreed old)
     (λ path slot above. let y = lies-held X d path (path_of k) x above held in ap node_in (found path slot ∙ y.1))

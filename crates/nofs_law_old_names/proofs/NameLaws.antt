@@ -1,13 +1,11 @@
 -- The laws of Rename and Drop.
-use Rattle.std.proofs.Common.{◌≡◌, ℕ, Bool, true, false, cond, ◌&&◌, not, List, refl, sym, ◌∙◌}
-use Rattle.std.specs.List.{list_any}
+use Rattle.std.proofs.Common.{◌≡◌, ℕ, Bool, true, false, cond, List, refl, sym, ◌∙◌}
 use Rattle.nofs_model.specs.Cells.{FileKind, BackLink}
-use Rattle.nofs_model.specs.Image.{is_pair, is_special}
 use Rattle.nofs_machine.specs.Meta.{Gone, Is}
 use Rattle.nofs_machine.specs.Machine.{link_to, without_link}
 use Rattle.nofs_law_old_names.specs.Names.{LawRename, LawDropEntry, LawDropName, LawDropFile}
 use Rattle.nofs_law_old_names.proofs.NameRename.{rename-proper, rename-matches}
-use Rattle.nofs_law_old_names.proofs.NameDrop.{meta-is, drop-entry-proper, drop-record-proper, drop-matches, remove-record-proper, remove-matches}
+use Rattle.nofs_law_old_names.proofs.NameDrop.{goes, meta-is, drop-entry-proper, drop-record-proper, drop-matches, remove-record-proper, remove-matches}
 
 pub law-rename : LawRename
 law-rename F X Y d g e s new f x entry p = (
@@ -16,8 +14,7 @@ law-rename F X Y d g e s new f x entry p = (
 )
 
 pub law-drop-entry : LawDropEntry
-law-drop-entry F X Y d g e s f h x entry p = drop-entry-proper F X Y d g e s f h x entry p.files p.is p.generation p.found p.paired p.named p.no_names p.held
-    p.whole p.content p.writes p.old
+law-drop-entry = drop-entry-proper
 
 -- which of the two metas comes
 kept : (b : Bool) (kind : FileKind) (size : ℕ) (links : List BackLink) → cond b Gone (Is kind size links) ≡ Is kind size links → b ≡ false
@@ -30,20 +27,11 @@ gone false kind size links e = cc e
 
 pub law-drop-name : LawDropName
 law-drop-name F X Y d g e s f h x entry p stays linked =
-    let m = meta-is F X Y d g e s f h x entry p.files p.is p.generation p.found p.paired p.named p.no_names p.held p.whole p.content p.writes p.old in
-    let k = kept (not (is_special entry.inode) && not (list_any (λ l. is_pair F entry.inode l) (without_link (link_to d e g) h.links))) h.kind h.size
-    (without_link (link_to d e g) h.links) (sym m ∙ stays) in (
-      drop-record-proper F X Y d g e s f h x entry p.files p.is p.generation p.found p.paired p.named p.no_names p.held p.whole p.content p.writes p.old k
-          linked,
-      drop-matches F X Y d g e s f h x entry p.files p.is p.generation p.found p.paired p.named p.no_names p.held p.whole p.content p.writes p.old k linked,
-    )
+    let k = kept (goes F X Y d g e s f h x entry p) h.kind h.size (without_link (link_to d e g) h.links) (sym (meta-is F X Y d g e s f h x entry p) ∙ stays) in
+    (drop-record-proper F X Y d g e s f h x entry p k linked, drop-matches F X Y d g e s f h x entry p k linked)
 
 pub law-drop-file : LawDropFile
 law-drop-file F X Y d g e s f h x entry p goes_now free =
-    let m = meta-is F X Y d g e s f h x entry p.files p.is p.generation p.found p.paired p.named p.no_names p.held p.whole p.content p.writes p.old in
-    let k = gone (not (is_special entry.inode) && not (list_any (λ l. is_pair F entry.inode l) (without_link (link_to d e g) h.links))) h.kind h.size
-    (without_link (link_to d e g) h.links) (sym m ∙ goes_now) in (
-      remove-record-proper F X Y d g e s f h x entry p.files p.is p.generation p.found p.paired p.named p.no_names p.held p.whole p.content p.writes p.old k
-          free,
-      remove-matches F X Y d g e s f h x entry p.files p.is p.generation p.found p.paired p.named p.no_names p.held p.whole p.content p.writes p.old k free,
-    )
+    let k = gone (goes F X Y d g e s f h x entry p) h.kind h.size (without_link (link_to d e g) h.links)
+    (sym (meta-is F X Y d g e s f h x entry p) ∙ goes_now) in
+    (remove-record-proper F X Y d g e s f h x entry p k free, remove-matches F X Y d g e s f h x entry p k free)

@@ -14,7 +14,7 @@ use Rattle.nofs_law_untouched.proofs.Framing.{some-is}
 use Rattle.nofs_law_untouched.proofs.Entries.{SameDirectory}
 use Rattle.nofs_law_untouched.proofs.Given.{value-of, at-itself}
 use Rattle.nofs_law_untouched.proofs.EntryCells.{entry-here, entry-there}
-use Rattle.nofs_law_old_names.proofs.NameFiles.{linked-file, gone-file, find-stays, value-stays, file-of}
+use Rattle.nofs_law_old_names.proofs.NameFiles.{linked_state, linked-now, linked-file, gone-file, find-stays, value-stays, file-of}
 use Rattle.nofs_law_old_names.proofs.NameStep.{match-names, directory-after}
 use Rattle.nofs_law_old_names.proofs.NameInPlace.{in-place-writes, cell-proper, directory-in-place, cell-gives, cell-elsewhere}
 use Rattle.nofs_law_old_names.proofs.NameRename.{value-held}
@@ -165,19 +165,10 @@ module _ (F : Files) (X Y : Image) (d g e i s : ℕ) (f h : FileState) (x : Poin
     gives-links = subst (λ (q : Meta). GivesMeta given i h.generation q) stays gives-meta
 
     abbrev pub made : FileState
-    made = record {
-      generation = h.generation;
-      kind = h.kind;
-      size = h.size;
-      links =
-          links;
-      values = (filled given i h).values;
-      nodes = (filled given i h).nodes;
-    }
+    made = linked_state given i h links
 
     pub file-now : files_after F given i ≡ Some made
-    file-now = ap (λ (o : Option ℕ). file_after given i (born_file o (F i))) gives-links.born ∙ ap (λ (o : Option FileState). file_after given i o) is_i
-        ∙ ap (λ (o : Option Meta). after_meta o (filled given i h)) gives-links.metas
+    file-now = linked-now F given i h links is_i gives-links
 
     pub record-proper : (m : Mark) → super_at m.image ≡ super_at Y → is_data_block m.image (1 + (i - 1) / 4) ≡ false
         → Proper (during m given) X (1 + (i - 1) / 4) (cell_at Y (1 + (i - 1) / 4))

@@ -1,6 +1,7 @@
 -- A step on names: the machine's files after it are those of the image, from what it writes and what it gives.
 use Rattle.std.proofs.Common.{◌≡◌, ◌≢◌, ℕ, ◌/◌, ◌%◌, ◌<◌, ◌⊎◌, inl, inr, Bool, true, false, cond, eqb, ltb, ◌&&◌, ◌||◌, not, Option, Some, None, is_some}
 use Rattle.std.proofs.Common.{unwrap_or, refl, sym, ap, ◌∙◌, subst, subst₂, arith, Contains, eqb-true, eq-eqb, ne_eqb, ltb-true, lt-ltb}
+use Rattle.std.proofs.lemmas.Bool.{cases_eq}
 use Rattle.std.specs.List.{list_any}
 use Rattle.nofs_dirent.specs.Entries.{entry_limit}
 use Rattle.nofs_law_untouched.specs.Frames.{OldPointers}
@@ -112,13 +113,6 @@ module _ (F : Files) (given : Given) (X Y : Image) (d e i s : ℕ) (f : FileStat
     (w : NameWrites s d i X Y) (old : (j : ℕ) → is_some (F j) ≡ true → OldPointers s X j)
     (directory : SameFile (files_after F given d) (files_in Y d))
     (own : is_some (files_after F given i) ≡ true → SameFile (files_after F given i) (files_in Y i)) where
-  decide : (j k : ℕ) → (j ≡ k) ⊎ (j ≢ k)
-  decide j k = go (eqb j k) refl
-    where
-      go : (b : Bool) → eqb j k ≡ b → (j ≡ k) ⊎ (j ≢ k)
-      go true q = inl (eqb-true j k q)
-      go false q = inr (λ s. let t = eq-eqb j k s in cc (q, t))
-
   elsewhere : (j : ℕ) → j ≢ d → j ≢ i → SameFile (files_after F given j) (F j)
   elsewhere j nd ni = let n = nothing j nd ni in given-elsewhere F given j n.born n.slots n.nodes n.metas
 
@@ -138,7 +132,7 @@ module _ (F : Files) (given : Given) (X Y : Image) (d e i s : ℕ) (f : FileStat
   alike-there j nd ni = alike-sym (files_after F given j) (F j) (same-alike (files_after F given j) (F j) (elsewhere j nd ni))
 
   pub kin-after : (j : ℕ) → j ≢ i → Kin (F j) (files_after F given j)
-  kin-after j ni = elim (decide j d) [
+  kin-after j ni = elim (cases_eq j d) [
     | inl at ↦ subst (λ (q : ℕ). Kin (F q) (files_after F given q)) (sym at)
         (subst₂ (λ (o p : Option FileState). Kin o p) (sym is) (sym new-directory) (record { generation = refl; kind = refl; links = refl }))
     | inr nd ↦ alike-kin (F j) (files_after F given j) (alike-there j nd ni)
@@ -170,7 +164,7 @@ module _ (F : Files) (given : Given) (X Y : Image) (d e i s : ℕ) (f : FileStat
   folder-after g = ap (λ (o : Option FileState). is_a Folder g o) is ∙ sym (ap (λ (o : Option FileState). is_a Folder g o) new-directory)
 
   pub directory-after : (j k : ℕ) → j ≢ i → (j ≡ d → k ≡ e → ⊥) → SameDirectory (F j) (files_after F given j) k
-  directory-after j k ni off = elim (decide j d) [
+  directory-after j k ni off = elim (cases_eq j d) [
     | inl at ↦ (let s : SameDirectory (F d) (files_after F given d) k =
         record { is = folder-after; names = λ q g. sym (ap (λ (o : Option Entry). names o q g) (entry-after k (λ ek. off at ek))) } in
         subst (λ (q : ℕ). SameDirectory (F q) (files_after F given q) k) (sym at) s)
@@ -178,10 +172,10 @@ module _ (F : Files) (given : Given) (X Y : Image) (d e i s : ℕ) (f : FileStat
   ]
 
   pub same-after : (j : ℕ) → is_some (files_after F given j) ≡ true → SameFile (files_after F given j) (files_in Y j)
-  same-after j some = elim (decide j i) [
+  same-after j some = elim (cases_eq j i) [
     | inl at ↦ (subst (λ (q : ℕ). SameFile (files_after F given q) (files_in Y q)) (sym at)
         (own (subst (λ (q : ℕ). is_some (files_after F given q) ≡ true) at some)))
-    | inr ni ↦ elim (decide j d) [
+    | inr ni ↦ elim (cases_eq j d) [
       | inl at ↦ subst (λ (q : ℕ). SameFile (files_after F given q) (files_in Y q)) (sym at) directory
       | inr nd ↦ (
           let there : is_some (F j) ≡ true = some-alike (F j) (files_after F given j) (alike-there j nd ni) ∙ some in
@@ -223,7 +217,7 @@ module _ (F : Files) (given : Given) (X Y : Image) (d e i s : ℕ) (f : FileStat
       → (is_some (files_after F given i) ≡ false → files_in Y i ≡ None)
       → FilesMatch (files_after F given) Y
   match-names folder range away lone named own_dir empty home removed = match-entry F (files_after F given) X Y d e i match kin-after
-      (λ j k fs es off. elim (decide j i) [
+      (λ j k fs es off. elim (cases_eq j i) [
         | inl at ↦ subst (λ (q : ℕ). SameDirectory (F q) (files_after F given q) k) (sym at)
             (own_dir (subst (λ (q : ℕ). is_some (F q) ≡ true) at fs) (subst (λ (q : ℕ). is_some (files_after F given q) ≡ true) at es) k)
         | inr ni ↦ directory-after j k ni off

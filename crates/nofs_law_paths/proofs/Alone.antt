@@ -18,7 +18,7 @@ use Rattle.nofs_machine.specs.declared.replies.Reply.{Reply}
 use Rattle.nofs_machine.specs.declared.replies.Reply.TheVariants as reply
 use Rattle.nofs_machine.specs.declared.replies.Refusal.TheVariants as refusal
 use Rattle.nofs_law_runs.specs.Runs.{files_before}
-use Rattle.nofs_law_runs.proofs.Acts.{accepted-acts}
+use Rattle.nofs_law_runs.proofs.Acts.{accepted-acts, flush-gives}
 use Rattle.nofs_law_runs.proofs.Gives.{none-at, row-none}
 use Rattle.nofs_law_runs.proofs.Along.{SaneRun, moment-at}
 use Rattle.nofs_law_runs.proofs.Base.{sane-run}
@@ -31,24 +31,6 @@ behind [] ys k = let e : 0 + k ≡ k = omega arith in ap (slice_get ys) e
 behind (x ∷ xs) ys k = let e : length (x ∷ xs) + k ≡ suc (length xs + k) = omega arith in ap (slice_get (x ∷ xs ++ ys)) e ∙ behind xs ys k
 
 -- A flush gives nothing
-
-flush-gives : (W : World) (s : Step) (c : Claims) → reply_of W s c ≡ reply.Flushed → gives W.files s c ≡ nothing
-unfolding gives
-flush-gives W (step.Put i g k at bytes) c e = cc e
-flush-gives W (step.Resize i g size) c e = cc e
-flush-gives W (step.Make d g name kind) c e = cc e
-flush-gives W (step.Link d g name i of) c e = cc e
-flush-gives W (step.Rename d g old new) c e = cc e
-flush-gives W (step.Drop d g name) c e = absurd (go (found W.files d name) e)
-  where
-    by : (p : ℕ) (o : Option Entry) → dropped_entry W.files (link_to d p (generation_of W.files d)) o ≡ reply.Flushed → ⊥
-    by p None h = cc h
-    by p (Some x) h = cc h
-
-    go : (o : Option ℕ) → dropped_reply W.files d o ≡ reply.Flushed → ⊥
-    go None h = cc h
-    go (Some p) h = by p (entry_at W.files d p) h
-flush-gives W _ c e = refl
 
 flush-keeps : (W V : World) (e : Entry1) → Next W e V → e.reply ≡ reply.Flushed → (d g p : ℕ) (entry : Entry) → KeepsEntry (given_by W.files e) d g p entry
 flush-keeps W V e next er d g p entry v h =

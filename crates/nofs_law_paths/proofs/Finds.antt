@@ -68,22 +68,6 @@ module _ (B : Image) (H : List Entry1) (m : ℕ) (X : Image) (a : IsAllowed B H 
         go None e h live = cc live
         go (Some kind) e h live = rw (e, files_in) (in-list (inode X i).links b link h)
 
-  -- a name that every version has is a link that every version has
-  pub as-link : (i g b : ℕ) (link : BackLink) (name : List ℕ) → SureName B H m i g b link name → SureLink B H m i g b link
-  as-link i g b link name p = record {
-    file_stands = p.file_stands;
-    directory_stands = p.directory_stands;
-    folders = p.folders;
-    older = p.older;
-    linked = p.linked;
-    range = p.range;
-    cell = λ v c. let h = p.cell v c in (h.0, h.1, by-name h.0 h.2);
-  }
-    where
-      by-name : (content : List ℕ) → entry_in content (link.entry % 16) ≡ Some (record { inode = i; generation = g; name = name })
-          → names (entry_in content (link.entry % 16)) i g ≡ true
-      by-name content e = rw e (λ j. eq-eqb i i refl j && eq-eqb g g refl j)
-
   module _ (i g b : ℕ) (link : BackLink) (name : List ℕ) (p : SureName B H m i g b link name) where
     -- and the entry is the one that every version has
     pub entry-now : entry_at (files_in X) link.directory link.entry ≡ Some (record { inode = i; generation = g; name = name })
@@ -94,13 +78,13 @@ module _ (B : Image) (H : List Entry1) (m : ℕ) (X : Image) (a : IsAllowed B H 
         let slot : link.entry / 16 < slot_limit = let lt = p.range in omega (arith, lt) in
         let sure = a.versions.sure link.directory link.generation (link.entry / 16) p.directory_stands slot
         (λ v c. bytes-are v (λ (content : List ℕ). entry_in content (link.entry % 16) ≡ Some (record { inode = i; generation = g; name = name }))
-        (p.cell v c)) in
+        (p.entry v c)) in
         let may : MayRead (since B H m link.directory link.generation (link.entry / 16)) (value X link.directory (link.entry / 16)) =
         subst (λ (q : ℕ). MayRead (since B H m link.directory q (link.entry / 16)) (value X link.directory (link.entry / 16))) r.1
         (a.versions.values link.directory (link.entry / 16) r.0 slot) in
         let has : Contains (since B H m link.directory link.generation (link.entry / 16)) (value X link.directory (link.entry / 16)) =
         elim may [ inl l ↦ absurd (sure l) | inr c ↦ c ] in
-        let h = p.cell (value X link.directory (link.entry / 16)) has in
+        let h = p.entry (value X link.directory (link.entry / 16)) has in
         let v = h.1 in
         rw (k, files_in, entry_in_file) (rw (lt-ltb link.entry entry_limit p.range, v) h.2)
 
@@ -118,8 +102,8 @@ law-sure-name B H m X i g b link name a c p = record {
   file = (a.versions.records i g p.file_stands).1;
   link = link;
   leads = refl;
-  has = has-link B H m X a i g b link (as-link B H m X a i g b link name p);
-  pair = paired B H m X a i g b link (as-link B H m X a i g b link name p);
+  has = has-link B H m X a i g b link p.sure;
+  pair = paired B H m X a i g b link p.sure;
   entry = record { inode = i; generation = g; name = name };
   found = entry-now B H m X a i g b link name p;
   named = refl;

@@ -132,13 +132,8 @@ module _ (B : Image) (H : List Entry1) (m s n : ℕ) (within : MarkWithin B H m 
     -- and where one entry alone passes, the name
     pub sure-name : (name : List ℕ) → ((x : Entry) → E x → x ≡ record { inode = i; generation = g; name = name }) → SureName B H m i g b link name
     sure-name name one = record {
-      file_stands = file-stands;
-      directory_stands = parent-sure.0;
-      folders = parent-sure.1;
-      older = file-older;
-      linked = file-linked;
-      range = range;
-      cell = λ v c. let h = cells v c in named v h.0 h.1 (one h.0 h.2);
+      sure = sure-link (λ x e. (ap (λ (y : Entry). y.inode) (one x e), ap (λ (y : Entry). y.generation) (one x e)));
+      entry = λ v c. let h = cells v c in named v h.0 h.1 (one h.0 h.2);
     }
       where
         named : (v : Value) (x : Entry) → entry_held v link.entry ≡ Some x → x ≡ record { inode = i; generation = g; name = name } → (content : List ℕ) × (v ≡ Bytes content) × (entry_in content (link.entry % 16) ≡ Some (record { inode = i; generation = g; name = name }))

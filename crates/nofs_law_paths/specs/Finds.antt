@@ -1,13 +1,12 @@
 -- Which name finds which file, in an image and in every version since the last flush.
-use Rattle.std.specs.Prelude.{◌≡◌, ℕ, ◌/◌, ◌%◌, ◌<◌, true, false, List, Some, Contains}
-use Rattle.nofs_dirent.specs.Entries.{entry_limit}
+use Rattle.std.specs.Prelude.{◌≡◌, ℕ, ◌/◌, ◌%◌, true, false, List, Some, Contains}
 use Rattle.nofs_model.specs.Cells.{BackLink, Entry, entry_in}
 use Rattle.nofs_model.specs.Image.{Image, inode, files_in, agreed, entry_at, is_pair, links_of, is_special}
 use Rattle.nofs_model.specs.declared.value.Value.{Value}
 use Rattle.nofs_model.specs.declared.value.Value.TheVariants.{Bytes}
 use Rattle.nofs_machine.specs.Meta.{Meta}
 use Rattle.nofs_machine.specs.History.{since, since_meta, stands}
-use Rattle.nofs_machine.specs.Allowed.{IsAllowed, IsFolderMeta, SureLink, meta_link}
+use Rattle.nofs_machine.specs.Allowed.{IsAllowed, IsFolderMeta, SureLink}
 use Rattle.nofs_machine.specs.declared.history.Entry1.{Entry1}
 
 -- in directory (d, dg), which is agreed, an entry with this name is a pair of (i, g)
@@ -25,13 +24,9 @@ pub record Finds (X : Image) (d dg : ℕ) (name : List ℕ) (i g : ℕ) : Type 0
 
 -- each version since the mark has this name of (i, g): its back link in place b, and the entry
 pub record SureName (B : Image) (H : List Entry1) (m i g b : ℕ) (link : BackLink) (name : List ℕ) : Type 0 where
-  pub file_stands : stands B H m i g ≡ true
-  pub directory_stands : stands B H m link.directory link.generation ≡ true
-  pub folders : (meta : Meta) → Contains (since_meta B H m link.directory link.generation) meta → IsFolderMeta meta
-  pub older : (meta : Meta) → Contains (since_meta B H m i g) meta → IsFolderMeta meta → link.generation < g
-  pub linked : (meta : Meta) → Contains (since_meta B H m i g) meta → (none : BackLink) → meta_link meta b none ≡ link
-  pub range : link.entry < entry_limit
-  pub cell : (v : Value) → Contains (since B H m link.directory link.generation (link.entry / 16)) v
+  pub sure : SureLink B H m i g b link
+  pub open sure use *
+  pub entry : (v : Value) → Contains (since B H m link.directory link.generation (link.entry / 16)) v
       → (content : List ℕ) × (v ≡ Bytes content) × (entry_in content (link.entry % 16) ≡ Some (record { inode = i; generation = g; name = name }))
 
 -- names that every version has lead from the root to this inode

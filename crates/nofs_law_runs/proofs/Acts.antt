@@ -1,5 +1,5 @@
 -- What an entry of a run does: nothing, or what its step gives where no row refuses it.
-use Rattle.std.proofs.Common.{◌≡◌, ℕ, Bool, true, false, cond, not, ◌||◌, Option, Some, None, inl, inr, refl, sym, ap, ◌∙◌, subst}
+use Rattle.std.proofs.Common.{◌≡◌, ℕ, Bool, true, false, cond, not, ◌||◌, Option, Some, None, ◌⊎◌, inl, inr, refl, sym, ap, ◌∙◌, subst}
 use Rattle.nofs_model.specs.Cells.{Entry}
 use Rattle.nofs_model.specs.Image.{Files, FileState, entry_at}
 use Rattle.nofs_machine.specs.Search.{first_of}
@@ -18,6 +18,7 @@ use Rattle.nofs_machine.specs.declared.replies.Reply.{Reply}
 use Rattle.nofs_machine.specs.declared.replies.Reply.TheVariants as reply
 use Rattle.nofs_machine.specs.declared.replies.Refusal.{Refusal}
 use Rattle.nofs_machine.specs.declared.replies.Refusal.TheVariants as refusal
+use Rattle.nofs_crashlaw.proofs.FlushStage.{files-stay}
 use Rattle.nofs_law_machine.specs.Laws.{is_fault}
 use Rattle.nofs_law_machine.proofs.Faultless.{FaultFree, first-free, rows-free}
 
@@ -65,31 +66,43 @@ accepted-acts W V e (Done s row r claim fs hs se vs l) ok =
 
 -- The files after an entry
 
-refused-nothing : (W : World) (s : Step) (c : Claims) → is_refused (reply_of W s c) ≡ true → gives W.files s c ≡ nothing
+-- what no step that gives answers
+abbrev tells_giving : Reply → Bool
+tells_giving (reply.Refused why) = false
+tells_giving reply.Flushed = false
+tells_giving _ = true
+
+gives-told : (W : World) (s : Step) (c : Claims) → (gives W.files s c ≡ nothing) ⊎ (tells_giving (reply_of W s c) ≡ true)
 unfolding gives
-refused-nothing W (step.Put i g k at bytes) c e = cc e
-refused-nothing W (step.Resize i g size) c e = cc e
-refused-nothing W (step.Make d g name kind) c e = cc e
-refused-nothing W (step.Link d g name i of) c e = cc e
-refused-nothing W (step.Rename d g old new) c e = cc e
-refused-nothing W (step.Drop d g name) c e = go (found W.files d name) e
+gives-told W (step.Put i g k at bytes) c = inr refl
+gives-told W (step.Resize i g size) c = inr refl
+gives-told W (step.Make d g name kind) c = inr refl
+gives-told W (step.Link d g name i of) c = inr refl
+gives-told W (step.Rename d g old new) c = inr refl
+gives-told W (step.Drop d g name) c = go (found W.files d name)
   where
-    entry : (p : ℕ) (o : Option Entry) → entry_at W.files d p ≡ o → is_refused (dropped_entry W.files (link_to d p (generation_of W.files d)) o) ≡ true
-        → drop_given W.files d g p ≡ nothing
-    entry p None eo q = rw (eo, drop_given) refl
-    entry p (Some x) eo q = cc q
+    entry : (p : ℕ) (o : Option Entry) → entry_at W.files d p ≡ o
+        → (drop_given W.files d g p ≡ nothing) ⊎ (tells_giving (dropped_entry W.files (link_to d p (generation_of W.files d)) o) ≡ true)
+    entry p None eo = inl (rw (eo, drop_given) refl)
+    entry p (Some x) eo = inr refl
 
-    go : (o : Option ℕ) → is_refused (dropped_reply W.files d o) ≡ true → at_place o (λ p. drop_given W.files d g p) ≡ nothing
-    go None q = refl
-    go (Some p) q = entry p (entry_at W.files d p) refl q
-refused-nothing W _ c e = refl
+    go : (o : Option ℕ) → (at_place o (λ p. drop_given W.files d g p) ≡ nothing) ⊎ (tells_giving (dropped_reply W.files d o) ≡ true)
+    go None = inl refl
+    go (Some p) = entry p (entry_at W.files d p) refl
+gives-told W _ c = inl refl
 
-pub files-nothing : (F : Files) → files_after F nothing ≡ F
-files-nothing F = λ j i. go i (F i) j
+refused-nothing : (W : World) (s : Step) (c : Claims) → is_refused (reply_of W s c) ≡ true → gives W.files s c ≡ nothing
+refused-nothing W s c e = elim (gives-told W s c) [ inl none ↦ none | inr told ↦ absurd (not-both (reply_of W s c) e told) ]
   where
-    go : (i : ℕ) (o : Option FileState) → file_after nothing i o ≡ o
-    go i None = refl
-    go i (Some f) = refl
+    not-both : (r : Reply) → is_refused r ≡ true → tells_giving r ≡ true → ⊥
+    not-both (reply.Refused why) e t = cc t
+    not-both _ e t = cc e
+
+pub flush-gives : (W : World) (s : Step) (c : Claims) → reply_of W s c ≡ reply.Flushed → gives W.files s c ≡ nothing
+flush-gives W s c e = elim (gives-told W s c) [
+  | inl none ↦ none
+  | inr told ↦ let quiet : tells_giving (reply_of W s c) ≡ false = ap tells_giving e in absurd (cc (quiet, told))
+]
 
 pub files-next : (W V : World) (e : Entry1) → Next W e V → V.files ≡ files_by W.files e
 files-next W V e (AfterFault s r c same) = ap (λ (q : World). q.files) same
@@ -107,4 +120,4 @@ files-next W V e (Done s row r claim fs hs se vs l) = fs ∙ go (is_refused e.re
     go : (b : Bool) → is_refused e.reply ≡ b → files_after W.files (gives W.files e.step e.claims) ≡ cond b W.files
         (files_after W.files (gives W.files e.step e.claims))
     go false q = refl
-    go true q = ap (λ (g : Given). files_after W.files g) (refused-nothing W e.step e.claims (sym (ap is_refused r) ∙ q)) ∙ files-nothing W.files
+    go true q = ap (λ (g : Given). files_after W.files g) (refused-nothing W e.step e.claims (sym (ap is_refused r) ∙ q)) ∙ files-stay W.files

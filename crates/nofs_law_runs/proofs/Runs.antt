@@ -17,7 +17,7 @@ use Rattle.nofs_machine.specs.declared.replies.Reply.{Reply}
 use Rattle.nofs_machine.specs.declared.replies.Reply.TheVariants as reply
 use Rattle.nofs_machine.specs.declared.replies.Refusal.TheVariants as refusal
 use Rattle.nofs_machine.proofs.Era.{current-accepted}
-use Rattle.nofs_machine.proofs.Lives.{along-append}
+use Rattle.nofs_machine.proofs.Lives.{along-append, begun-take}
 use Rattle.nofs_model.proofs.Find.{and-both}
 use Rattle.nofs_law_machine.proofs.Faultless.{answer-free}
 use Rattle.nofs_law_runs.specs.Runs.{files_before}
@@ -250,15 +250,6 @@ module _ (P : Meta → Type 0) (i g : ℕ) where
       first None eo (n, lt, e) = absurd (omega (arith, lt))
       first (Some w) eo h = subst P (sole w v h) (each 0 x refl w eo)
 
--- what has begun is a front of the history
-begun-front : (H : List Entry1) (m : ℕ) → begun H m ≡ take (length (begun H m)) H
-begun-front [] m = refl
-begun-front (x ∷ es) m = go (ltb x.from m) (begun-front es m)
-  where
-    go : (b : Bool) → begun es m ≡ take (length (begun es m)) es → cond b (x ∷ begun es m) [] ≡ take (length (cond b (x ∷ begun es m) [])) (x ∷ es)
-    go true ih = ap (λ (rest : List Entry1). x ∷ rest) ih
-    go false ih = refl
-
 module _ (B : Image) (H : List Entry1) (m i g : ℕ) (f : FileState) (ok : NoWriteFault (take (mark H m) H)) (is : files_at_mark B H m i ≡ Some f)
     (gen : f.generation ≡ g) where
   -- an entry since the mark, by its place
@@ -266,7 +257,7 @@ module _ (B : Image) (H : List Entry1) (m i g : ℕ) (f : FileState) (ok : NoWri
       → (mark H m + p < length (begun H m)) × (slice_get H (mark H m + p) ≡ Some e) ×
       (files_along (files_at_mark B H m) (take p (since_mark H m)) ≡ files_before B H (mark H m + p))
   placed p e at =
-      let front : since_mark H m ≡ drop (mark H m) (take (length (begun H m)) H) = ap (drop (mark H m)) (begun-front H m) in
+      let front : since_mark H m ≡ drop (mark H m) (take (length (begun H m)) H) = ap (drop (mark H m)) (begun-take H m) in
       let r = part-get H (mark H m) (length (begun H m)) p e (subst (λ (es : List Entry1). slice_get es p ≡ Some e) front at) in (
         r.0,
         r.1,

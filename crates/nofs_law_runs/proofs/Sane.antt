@@ -85,13 +85,7 @@ module _ (W V : World) (c : Claims) (sane : IsSane W) (j : ℕ) (f : FileState) 
       go : (o : Option ℕ) → (at_place o (λ p. drop_given W.files dir g p)).slots j f.generation k ≡ Some v → length (bytes_in v) ≡ 1024
       go None q = cc q
       go (Some p) q = by p (entry_at W.files dir p) refl q
-  slot-whole (step.Look dir g name) r claim v h = cc h
-  slot-whole (step.List dir g slot) r claim v h = cc h
-  slot-whole (step.Get i g l) r claim v h = cc h
-  slot-whole (step.Stat i g) r claim v h = cc h
-  slot-whole (step.Flush i g) r claim v h = cc h
-  slot-whole (step.SeeInode i) r claim v h = cc h
-  slot-whole (step.SeeBlock p) r claim v h = cc h
+  slot-whole _ r claim v h = cc h
 
 -- What a file after a step was before it
 
@@ -113,15 +107,7 @@ after F given i h birth kinds e = go (given.born i) refl (F i) refl e
     old f is (Some Gone) em q = cc q
     old f is (Some (Is kind size links)) em q =
         let ek : kind ≡ f.kind = subst (λ (o : Option Meta). OfKind f.kind o) em (kinds f is) in
-        let s : record {
-          generation = f.generation;
-          kind = kind;
-          size = size;
-          links =
-              links;
-          values = (filled given i f).values;
-          nodes = (filled given i f).nodes;
-        } ≡ h = cc q in
+        let s : record (filled given i f) { kind = kind; size = size; links = links } ≡ h = cc q in
         Old f is (sym (ap (λ (x : FileState). x.generation) s)) (sym (ap (λ (x : FileState). x.kind) s) ∙ ek)
         (λ k. sym (ap (λ (x : FileState). x.values k) s)) (λ z. cc (em, z))
 
@@ -130,15 +116,7 @@ after F given i h birth kinds e = go (given.born i) refl (F i) refl e
         let m = birth.meta i g eb in
         let q' : after_meta (Some (Is m.0 m.1 m.2)) (filled given i (new_file g)) ≡ Some h =
         sym (ap (λ (o : Option Meta). after_meta o (filled given i (new_file g))) m.3) ∙ q in
-        let s : record {
-          generation = g;
-          kind = m.0;
-          size = m.1;
-          links =
-              m.2;
-          values = (filled given i (new_file g)).values;
-          nodes = (filled given i (new_file g)).nodes;
-        } ≡ h = cc q' in
+        let s : record (filled given i (new_file g)) { kind = m.0; size = m.1; links = m.2 } ≡ h = cc q' in
         New g eb (sym (ap (λ (x : FileState). x.generation) s))
         (λ k. sym (ap (λ (x : FileState). x.values k) s) ∙ ap (λ (o : Option Value). unwrap_or o Hole) (birth.holes i g eb k))
         (m.3 ∙ ap (λ (x : FileState). Some (Is x.kind x.size x.links)) s)

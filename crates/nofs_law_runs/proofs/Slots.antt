@@ -184,13 +184,7 @@ module _ (W V : World) (c : Claims) (d e : ℕ) (f : FileState) (entry : Entry)
           → Kept W.files (step.Drop dir g name) d e entry v
       go None ep q = cc q
       go (Some p) ep q = by p ep (entry_at W.files dir p) refl q
-  slot-kept (step.Look dir g name) r claim v h = cc h
-  slot-kept (step.List dir g slot) r claim v h = cc h
-  slot-kept (step.Get i g k) r claim v h = cc h
-  slot-kept (step.Stat i g) r claim v h = cc h
-  slot-kept (step.Flush i g) r claim v h = cc h
-  slot-kept (step.SeeInode i) r claim v h = cc h
-  slot-kept (step.SeeBlock p) r claim v h = cc h
+  slot-kept _ r claim v h = cc h
 
 -- The back link of a pair
 

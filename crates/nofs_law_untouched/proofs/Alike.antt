@@ -12,17 +12,52 @@ use Rattle.nofs_model.specs.Image.{Image, inode, file_from, files_in, agreed, Ag
 use Rattle.nofs_model.specs.Image.{pairs, is_a, is_pair, links_in_file, links_of, is_root, is_special}
 use Rattle.nofs_model.specs.declared.value.Value.{Value}
 
+-- none of two is there, or both are and are related
+abbrev pub Both : {A : Type 0} → (A → A → Type 0) → Option A → Option A → Type 0
+Both R None None = Unit {0}
+Both R None (Some b) = ⊥
+Both R (Some a) None = ⊥
+Both R (Some a) (Some b) = R a b
+
+-- what is the same of related ones is the same of both
+pub both-same : {A B : Type 0} (R : A → A → Type 0) (f : Option A → B) → ((a b : A) → R a b → f (Some a) ≡ f (Some b)) → (o p : Option A) → Both R o p
+    → f o ≡ f p
+both-same R f same None None h = refl
+both-same R f same None (Some b) h = absurd h
+both-same R f same (Some a) None h = absurd h
+both-same R f same (Some a) (Some b) h = same a b h
+
+both-sym : {A : Type 0} (R : A → A → Type 0) → ((a b : A) → R a b → R b a) → (o p : Option A) → Both R o p → Both R p o
+both-sym R back None None h = tt
+both-sym R back None (Some b) h = absurd h
+both-sym R back (Some a) None h = absurd h
+both-sym R back (Some a) (Some b) h = back a b h
+
+both-trans : {A : Type 0} (R : A → A → Type 0) → ((a b c : A) → R a b → R b c → R a c) → (o p q : Option A) → Both R o p → Both R p q → Both R o q
+both-trans R on None None q h j = j
+both-trans R on None (Some b) q h j = absurd h
+both-trans R on (Some a) None q h j = absurd h
+both-trans R on (Some a) (Some b) None h j = absurd j
+both-trans R on (Some a) (Some b) (Some c) h j = on a b c h j
+
 -- two files that a pair can't tell apart
-abbrev pub Alike : Option FileState → Option FileState → Type 0
-Alike None None = Unit {0}
-Alike None (Some b) = ⊥
-Alike (Some a) None = ⊥
-Alike (Some a) (Some b) = record {
+abbrev pub AlikeFiles : FileState → FileState → Type 0
+AlikeFiles a b = record {
   generation : a.generation ≡ b.generation;
   kind : a.kind ≡ b.kind;
   links : a.links ≡ b.links;
   cells : is_folder a.kind ≡ true → (k : ℕ) → k < 72 → a.values k ≡ b.values k;
 }
+
+abbrev pub Alike : Option FileState → Option FileState → Type 0
+Alike = Both AlikeFiles
+
+-- two files of one kind and generation, with the same links
+abbrev pub KinFiles : FileState → FileState → Type 0
+KinFiles a b = record { generation : a.generation ≡ b.generation; kind : a.kind ≡ b.kind; links : a.links ≡ b.links }
+
+abbrev pub Kin : Option FileState → Option FileState → Type 0
+Kin = Both KinFiles
 
 pub same-alike : (o p : Option FileState) → SameFile o p → Alike o p
 same-alike None None h = tt
@@ -30,35 +65,24 @@ same-alike None (Some b) h = absurd h
 same-alike (Some a) None h = absurd h
 same-alike (Some a) (Some b) h = record { generation = h.generation; kind = h.kind; links = h.links; cells = λ d k lt. h.values k (omega arith) }
 
-pub alike-refl : (o : Option FileState) → Alike o o
-alike-refl None = tt
-alike-refl (Some a) = record { generation = refl; kind = refl; links = refl; cells = λ d k lt. refl }
-
 pub alike-sym : (o p : Option FileState) → Alike o p → Alike p o
-alike-sym None None h = tt
-alike-sym None (Some b) h = absurd h
-alike-sym (Some a) None h = absurd h
-alike-sym (Some a) (Some b) h = record {
+alike-sym = both-sym AlikeFiles (λ a b h. record {
   generation = sym h.generation;
   kind = sym h.kind;
   links = sym h.links;
-  cells =
-      λ d k lt. sym (h.cells (subst (λ (q : FileKind). is_folder q ≡ true) (sym h.kind) d) k lt);
-}
+  cells = λ d k lt. sym (h.cells (subst (λ (q : FileKind). is_folder q ≡ true) (sym h.kind) d) k lt);
+})
 
 pub alike-trans : (o p q : Option FileState) → Alike o p → Alike p q → Alike o q
-alike-trans None None None h j = tt
-alike-trans None None (Some c) h j = absurd j
-alike-trans None (Some b) q h j = absurd h
-alike-trans (Some a) None q h j = absurd h
-alike-trans (Some a) (Some b) None h j = absurd j
-alike-trans (Some a) (Some b) (Some c) h j = record {
+alike-trans = both-trans AlikeFiles (λ a b c h j. record {
   generation = h.generation ∙ j.generation;
   kind = h.kind ∙ j.kind;
   links = h.links ∙ j.links;
-  cells =
-      λ d k lt. h.cells d k lt ∙ j.cells (subst (λ (q : FileKind). is_folder q ≡ true) h.kind d) k lt;
-}
+  cells = λ d k lt. h.cells d k lt ∙ j.cells (subst (λ (q : FileKind). is_folder q ≡ true) h.kind d) k lt;
+})
+
+pub kin-sym : (o p : Option FileState) → Kin o p → Kin p o
+kin-sym = both-sym KinFiles (λ a b h. record { generation = sym h.generation; kind = sym h.kind; links = sym h.links })
 
 pub entry-alike : (o p : Option FileState) (e : ℕ) → Alike o p → entry_in_file o e ≡ entry_in_file p e
 entry-alike None None e h = refl
@@ -75,30 +99,40 @@ entry-alike (Some a) (Some b) e h = rw (sym h.kind) (inside (is_folder a.kind) r
         let k : e / 16 < 72 = omega (arith, lt) in
         ap (λ (v : Value). entry_held v e) (h.cells ex (e / 16) k)
 
+-- one kind and generation
+same-a : (q : FileKind) (a b : FileState) (g : ℕ) → a.kind ≡ b.kind → a.generation ≡ b.generation → is_a q g (Some a) ≡ is_a q g (Some b)
+same-a Folder a b g kind generation = rw (kind, generation)
+same-a File a b g kind generation = rw (kind, generation)
+
 pub a-alike : (q : FileKind) (o p : Option FileState) (g : ℕ) → Alike o p → is_a q g o ≡ is_a q g p
-a-alike q None None g h = refl
-a-alike q None (Some b) g h = absurd h
-a-alike q (Some a) None g h = absurd h
-a-alike Folder (Some a) (Some b) g h = rw (h.kind, h.generation)
-a-alike File (Some a) (Some b) g h = rw (h.kind, h.generation)
+a-alike q o p g = both-same AlikeFiles (is_a q g) (λ a b h. same-a q a b g h.kind h.generation) o p
+
+pub a-kin : (q : FileKind) (o p : Option FileState) (g : ℕ) → Kin o p → is_a q g o ≡ is_a q g p
+a-kin q o p g = both-same KinFiles (is_a q g) (λ a b h. same-a q a b g h.kind h.generation) o p
+
+pairs-kin : (o p u v : Option FileState) (i : ℕ) (link : BackLink) → Kin o p → Alike u v → pairs o u i link ≡ pairs p v i link
+pairs-kin None None u v i link own up = refl
+pairs-kin None (Some b) u v i link own up = absurd own
+pairs-kin (Some a) None u v i link own up = absurd own
+pairs-kin (Some a) (Some b) u v i link own up = rw (entry-alike u v link.entry up, a-alike Folder u v link.generation up, own.kind, own.generation)
+
+alike-kin : (o p : Option FileState) → Alike o p → Kin o p
+alike-kin None None h = tt
+alike-kin None (Some b) h = absurd h
+alike-kin (Some a) None h = absurd h
+alike-kin (Some a) (Some b) h = record { generation = h.generation; kind = h.kind; links = h.links }
 
 pub pairs-alike : (o p u v : Option FileState) (i : ℕ) (link : BackLink) → Alike o p → Alike u v → pairs o u i link ≡ pairs p v i link
-pairs-alike None None u v i link own up = refl
-pairs-alike None (Some b) u v i link own up = absurd own
-pairs-alike (Some a) None u v i link own up = absurd own
-pairs-alike (Some a) (Some b) u v i link own up = rw (entry-alike u v link.entry up, a-alike Folder u v link.generation up, own.kind, own.generation)
+pairs-alike o p u v i link own up = pairs-kin o p u v i link (alike-kin o p own) up
+
+pub links-kin : (o p : Option FileState) → Kin o p → links_in_file o ≡ links_in_file p
+links-kin = both-same KinFiles links_in_file (λ a b h. h.links)
 
 links-alike : (o p : Option FileState) → Alike o p → links_in_file o ≡ links_in_file p
-links-alike None None h = refl
-links-alike None (Some b) h = absurd h
-links-alike (Some a) None h = absurd h
-links-alike (Some a) (Some b) h = h.links
+links-alike = both-same AlikeFiles links_in_file (λ a b h. h.links)
 
 pub some-alike : (o p : Option FileState) → Alike o p → is_some o ≡ is_some p
-some-alike None None h = refl
-some-alike None (Some b) h = absurd h
-some-alike (Some a) None h = absurd h
-some-alike (Some a) (Some b) h = refl
+some-alike = both-same AlikeFiles is_some (λ a b h. refl)
 
 root-alike : (F G : Files) → ((i : ℕ) → Alike (F i) (G i)) → (i : ℕ) → is_root F i ≡ is_root G i
 root-alike F G h i = rw (a-alike Folder (F 1) (G 1) 1 (h 1), a-alike File (F 2) (G 2) 2 (h 2))
@@ -120,32 +154,6 @@ agreed-same F G h i = go (agreed F i) refl (agreed G i) refl
     go false ea true eb =
         let f = holds-agreed F i (agreed-alike G F (λ j. alike-sym (F j) (G j) (h j)) i (agreed-holds G i eb)) in
         absurd (cc (ea, f))
-
--- two files of one kind and generation, with the same links
-abbrev pub Kin : Option FileState → Option FileState → Type 0
-Kin None None = Unit {0}
-Kin None (Some b) = ⊥
-Kin (Some a) None = ⊥
-Kin (Some a) (Some b) = record { generation : a.generation ≡ b.generation; kind : a.kind ≡ b.kind; links : a.links ≡ b.links }
-
-pairs-kin : (o p u v : Option FileState) (i : ℕ) (link : BackLink) → Kin o p → Alike u v → pairs o u i link ≡ pairs p v i link
-pairs-kin None None u v i link own up = refl
-pairs-kin None (Some b) u v i link own up = absurd own
-pairs-kin (Some a) None u v i link own up = absurd own
-pairs-kin (Some a) (Some b) u v i link own up = rw (entry-alike u v link.entry up, a-alike Folder u v link.generation up, own.kind, own.generation)
-
-pub links-kin : (o p : Option FileState) → Kin o p → links_in_file o ≡ links_in_file p
-links-kin None None h = refl
-links-kin None (Some b) h = absurd h
-links-kin (Some a) None h = absurd h
-links-kin (Some a) (Some b) h = h.links
-
-pub a-kin : (q : FileKind) (o p : Option FileState) (g : ℕ) → Kin o p → is_a q g o ≡ is_a q g p
-a-kin q None None g h = refl
-a-kin q None (Some b) g h = absurd h
-a-kin q (Some a) None g h = absurd h
-a-kin Folder (Some a) (Some b) g h = rw (h.kind, h.generation)
-a-kin File (Some a) (Some b) g h = rw (h.kind, h.generation)
 
 is-a-some : (q : FileKind) (g : ℕ) (o : Option FileState) → is_a q g o ≡ true → is_some o ≡ true
 is-a-some q g None e = cc

@@ -57,6 +57,13 @@ pub super-same : (X Y : Image) → cell_at Y 0 ≡ cell_at X 0 → super_at Y �
 unfolding super_at
 super-same X Y e = ap (λ (c : Cell). super_in c.payload) e
 
+-- a slot of a file has content
+pub slot-content : (X : Image) (d k : ℕ) → k < slot_limit → IsContentKind (kind_in (inode X d) (path_of k))
+slot-content X d k range =
+    let e : kind_in (inode X d) (path_of k) ≡ elim (inode X d).kind [ None ↦ Content | Some kind ↦ elim kind [ File ↦ Content | Folder ↦ Directory ] ] =
+    rw (path_of-content k range) refl in
+    subst IsContentKind (sym e) (content-kind (inode X d).kind)
+
 -- a claimed cell of content is proper
 pub claimed-cell-proper : (s k : ℕ) (X Y : Image) (d g : ℕ) (x : Pointer) (m : Mark) (given : Given) → k < slot_limit → ClaimedCell s X Y d (path_of k) x
     → is_data_block m.image x.block ≡ true → (inode Y d).generation ≡ g
@@ -65,17 +72,11 @@ claimed-cell-proper s k X Y d g x m given range c area gen gives = OfContent (re
   area = area;
   tag = tag_for Y d (path_of k) x.stamp;
   spelled = c.tag;
-  kind = is-content;
+  kind = slot-content Y d k range;
   given = subst₂ (λ (h l : ℕ). Contains ((during m given).since d h l) (Bytes (cell_at Y x.block).payload)) (sym gen) (sym (slot_of-path_of k range)) has;
   place = inr c.free;
 })
   where
-    is-content : IsContentKind (kind_in (inode Y d) (path_of k))
-    is-content =
-        let e : kind_in (inode Y d) (path_of k) ≡ elim (inode Y d).kind [ None ↦ Content | Some kind ↦ elim kind [ File ↦ Content | Folder ↦ Directory ] ] =
-        rw (path_of-content k range) refl in
-        subst IsContentKind (sym e) (content-kind (inode Y d).kind)
-
     has : Contains ((during m given).since d g k) (Bytes (cell_at Y x.block).payload)
     has = subst (λ (o : Option Value). Contains (m.since d g k ++ option_to_list o) (Bytes (cell_at Y x.block).payload)) (sym gives)
         (Contains-push (m.since d g k) (Bytes (cell_at Y x.block).payload))

@@ -1,10 +1,12 @@
 -- A step that changes one entry of one directory, and the links of one inode: what is agreed after it is what the machine has.
 use Rattle.std.proofs.Common.{◌≡◌, ◌≢◌, ℕ, ◌⊎◌, inl, inr, Bool, true, false, eqb, ltb, ◌&&◌, ◌||◌, not, List, Option, Some, None, is_some, refl, sym, ap, ◌∙◌}
 use Rattle.std.proofs.Common.{subst, subst₂, arith, Contains, eqb-true, eq-eqb}
+use Rattle.std.proofs.lemmas.Bool.{cases_eq}
 use Rattle.nofs_model.proofs.Chains.{pair-of, agreed-holds, holds-agreed}
 use Rattle.nofs_law_untouched.proofs.Matching.{matched-file, matched-agreed}
 use Rattle.nofs_law_untouched.proofs.Framing.{some-is, files-match}
-use Rattle.nofs_law_untouched.proofs.Alike.{Alike, same-alike, Kin, same-of, agreed-machine, agreed-some, live-some, links-kin, a-kin, entry-alike, a-alike}
+use Rattle.nofs_law_untouched.proofs.Alike.{Alike, same-alike, Kin, KinFiles, both-same, kin-sym, same-of, agreed-machine, agreed-some, live-some, links-kin, a-kin}
+use Rattle.nofs_law_untouched.proofs.Alike.{entry-alike, a-alike}
 use Rattle.nofs_machine.specs.History.{FilesMatch, SameFile}
 use Rattle.nofs_model.specs.Cells.{File, BackLink, Entry}
 use Rattle.nofs_inode.specs.declared.inode.FileKind.TheVariants.{Directory as Folder}
@@ -33,10 +35,7 @@ directory-sym : (o p : Option FileState) (e : ℕ) → SameDirectory o p e → S
 directory-sym o p e h = record { is = λ g. sym (h.is g); names = λ i g. sym (h.names i g) }
 
 kin-some : (o p : Option FileState) → Kin o p → is_some o ≡ is_some p
-kin-some None None h = refl
-kin-some None (Some b) h = absurd h
-kin-some (Some a) None h = absurd h
-kin-some (Some a) (Some b) h = refl
+kin-some = both-same KinFiles is_some (λ a b h. refl)
 
 -- the parts of a pair, as tests
 pair-names : (o u : Option FileState) (i : ℕ) (link : BackLink) → pairs o u i link ≡ true → (g : ℕ) × (names (entry_in_file u link.entry) i g ≡ true)
@@ -69,13 +68,6 @@ module _ (F E : Files) (X Y : Image) (d e i : ℕ) (match : FilesMatch F X)
     (same : (j : ℕ) → is_some (E j) ≡ true → SameFile (E j) (files_in Y j))
     (rest : (j : ℕ) → j ≢ i → is_some (F j) ≡ false → Kin (files_in X j) (files_in Y j))
     (removed : is_some (E i) ≡ false → files_in Y i ≡ None) where
-  decide : (j k : ℕ) → (j ≡ k) ⊎ (j ≢ k)
-  decide j k = go (eqb j k) refl
-    where
-      go : (b : Bool) → eqb j k ≡ b → (j ≡ k) ⊎ (j ≢ k)
-      go true q = inl (eqb-true j k q)
-      go false q = inr (λ s. let t = eq-eqb j k s in cc (q, t))
-
   in-image : (j : ℕ) → is_some (F j) ≡ true → agreed (files_in X) j ≡ true
   in-image j h = (matched-file F X j match h).agreed
 
@@ -111,7 +103,7 @@ module _ (F E : Files) (X Y : Image) (d e i : ℕ) (match : FilesMatch F X)
   machine j h = agreed-machine F X match j (agreed-holds (files_in X) j (in-image j h))
 
   self : (j : ℕ) → is_some (E j) ≡ true → Agreed E j
-  self j h = elim (decide j i) [
+  self j h = elim (cases_eq j i) [
     | inl at ↦ at-i (subst (λ (q : ℕ). is_some (E q) ≡ true) at h) j at
     | inr ne ↦ carry j ne (machine j (kin-some (F j) (E j) (own j ne) ∙ h))
   ]
@@ -125,22 +117,16 @@ module _ (F E : Files) (X Y : Image) (d e i : ℕ) (match : FilesMatch F X)
   no-root : (j : ℕ) → is_some (E j) ≡ false → is_root (files_in Y) j ≡ false
   no-root j h = go (is_root (files_in Y) j) refl
     where
-      kin-back : (o p : Option FileState) → Kin o p → Kin p o
-      kin-back None None k = tt
-      kin-back None (Some b) k = absurd k
-      kin-back (Some a) None k = absurd k
-      kin-back (Some a) (Some b) k = record { generation = sym k.generation; kind = sym k.kind; links = sym k.links }
-
       go : (b : Bool) → is_root (files_in Y) j ≡ b → is_root (files_in Y) j ≡ false
       go false q = q
-      go true q = elim (decide j i) [
+      go true q = elim (cases_eq j i) [
         | inl at ↦ (let gone : files_in Y j ≡ None = subst (λ (k : ℕ). files_in Y k ≡ None) (sym at)
             (removed (subst (λ (k : ℕ). is_some (E k) ≡ false) at h)) in
             let some = agreed-some (files_in Y) j (root q) in absurd (none-some (files_in Y j) gone some))
         | inr ne ↦
             let fj : is_some (F j) ≡ false = kin-some (F j) (E j) (own j ne) ∙ h in
             let r : is_root (files_in X) j ≡ true = root-kin (files_in Y) (files_in X) j
-            (λ k s. subst (λ (t : ℕ). Kin (files_in Y t) (files_in X t)) s (kin-back (files_in X j) (files_in Y j) (rest j ne fj))) q in
+            (λ k s. subst (λ (t : ℕ). Kin (files_in Y t) (files_in X t)) s (kin-sym (files_in X j) (files_in Y j) (rest j ne fj))) q in
             absurd (not-agreed j fj (root r))
       ]
         where
@@ -157,7 +143,7 @@ module _ (F E : Files) (X Y : Image) (d e i : ℕ) (match : FilesMatch F X)
 
       go : (b : Bool) → is_pair (files_in Y) j link ≡ b → is_pair (files_in Y) j link ≡ false
       go false q = q
-      go true q = absurd (elim (decide j i) [
+      go true q = absurd (elim (cases_eq j i) [
         | inl at ↦ gone-pair (subst (λ (k : ℕ). files_in Y k ≡ None) (sym at) (removed (subst (λ (k : ℕ). is_some (E k) ≡ false) at h))) q
         | inr ne ↦ other ne q
       ])
@@ -177,14 +163,14 @@ module _ (F E : Files) (X Y : Image) (d e i : ℕ) (match : FilesMatch F X)
               is-named = let n = pair-names (files_in Y j) (files_in Y link.directory) j link q in (n.0, dir_same.names j n.0 ∙ n.1)
 
               at-directory : (b : Bool) → is_some (F link.directory) ≡ b → ⊥
-              at-directory false fd = elim (decide link.directory i) [
+              at-directory false fd = elim (cases_eq link.directory i) [
                 | inl at ↦ (let z = empty (subst (λ (k : ℕ). is_some (F k) ≡ false) at fd) link.entry j is-named.0 in
                     let n : names (entry_in_file (E i) link.entry) j is-named.0 ≡ true =
                     subst (λ (k : ℕ). names (entry_in_file (E k) link.entry) j is-named.0 ≡ true) at is-named.1 in cc (z, n))
                 | inr off ↦ (let z = kin-some (F link.directory) (E link.directory) (own link.directory off) in cc (fd, dir, z))
               ]
-              at-directory true fd = elim (decide link.directory d) [
-                | inl at ↦ elim (decide link.entry e) [
+              at-directory true fd = elim (cases_eq link.directory d) [
+                | inl at ↦ elim (cases_eq link.entry e) [
                   | inl here ↦ (let z = named j is-named.0 ne in
                       let n : names (entry_in_file (E d) e) j is-named.0 ≡ true =
                       subst₂ (λ (k l : ℕ). names (entry_in_file (E k) l) j is-named.0 ≡ true) at here is-named.1 in cc (z, n))

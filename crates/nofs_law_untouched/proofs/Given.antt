@@ -1,16 +1,17 @@
 -- What is given to a file, and small facts of blocks and slots that each step needs.
-use Rattle.std.proofs.Common.{◌≡◌, ℕ, ◌+◌, ◌<◌, ◌≤◌, inl, inr, Bool, true, false, ltb, ◌||◌, Option, Some, None, unwrap_or, refl, sym, ap, ◌∙◌, subst, arith}
+use Rattle.std.proofs.Common.{◌≡◌, ◌≢◌, ℕ, ◌+◌, ◌<◌, ◌≤◌, inl, inr, Bool, true, false, ltb, ◌||◌, Option, Some, None, unwrap_or, refl, sym, ap, ◌∙◌, subst, arith}
 use Rattle.std.proofs.Common.{eq-eqb, leb, leb-true, ◌-◌, ◌/◌, ◌%◌}
 use Rattle.nofs_law_images.specs.Proper.{IsContentKind}
 use Rattle.nofs_model.proofs.Find.{and-both, find-held}
+use Rattle.nofs_law_untouched.specs.Frames.{SameMeta}
 use Rattle.nofs_law_untouched.proofs.Growth.{same_path-true}
 use Rattle.nofs_model.specs.declared.path.PathAnswer.TheVariants as answer
 use Rattle.nofs_machine.specs.Meta.{Meta}
 use Rattle.nofs_machine.specs.Machine.{Given, is_at, filled, after_meta, born_file, file_after, files_after, value_of, size_of, lies_above, same_path}
 use Rattle.nofs_machine.specs.History.{SameFile}
-use Rattle.nofs_model.specs.Cells.{FileKind, File, Pointer, Content, Directory}
+use Rattle.nofs_model.specs.Cells.{FileKind, File, Record, Pointer, Content, Directory}
 use Rattle.nofs_inode.specs.declared.inode.FileKind.TheVariants.{Directory as Folder}
-use Rattle.nofs_model.specs.Image.{Image, super_at, is_data_block, is_inode, Path, InRecord, Under, find, NodeState, FileState, Files}
+use Rattle.nofs_model.specs.Image.{Image, super_at, is_data_block, inode, is_inode, Path, InRecord, Under, find, NodeState, FileState, Files, is_folder}
 use Rattle.nofs_model.specs.declared.value.Value.{Value}
 
 -- a file to which nothing is given stays
@@ -49,6 +50,26 @@ pub content-kind : (o : Option FileKind) → IsContentKind (elim o [ None ↦ Co
 content-kind None = inl refl
 content-kind (Some File) = inl refl
 content-kind (Some Folder) = inr refl
+
+-- a file is no directory
+pub file-apart : (F : Files) (i d : ℕ) (f h : FileState) → F i ≡ Some h → F d ≡ Some f → is_folder h.kind ≡ false → is_folder f.kind ≡ true → i ≢ d
+file-apart F i d f h is_i is file folder t =
+    let at : F d ≡ Some h = subst (λ (q : ℕ). F q ≡ Some h) t is_i in
+    let same : f ≡ h = cc (at, is) in
+    let z : is_folder h.kind ≡ true = subst (λ (q : FileState). is_folder q.kind ≡ true) same folder in cc (z, file)
+
+-- where no file is, none is a directory
+pub none-apart : (F : Files) (i d : ℕ) (f : FileState) → F i ≡ None → F d ≡ Some f → i ≢ d
+none-apart F i d f none is t = let at : F d ≡ None = subst (λ (q : ℕ). F q ≡ None) t none in cc (at, is)
+
+-- the meta of a record that stays
+pub meta-stays : (X Y : Image) (j : ℕ) → inode Y j ≡ inode X j → SameMeta X Y j
+meta-stays X Y j same = record {
+  kind = ap (λ (r : Record). r.kind) same;
+  generation = ap (λ (r : Record). r.generation) same;
+  size = ap (λ (r : Record). r.size) same;
+  links = ap (λ (r : Record). r.links) same;
+}
 
 pub at-itself : (i g : ℕ) → is_at i g i g ≡ true
 at-itself i g = rw (eq-eqb i i refl, eq-eqb g g refl) refl

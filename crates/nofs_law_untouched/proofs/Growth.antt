@@ -43,11 +43,11 @@ above-or-not a (Under b n) = go (same-or-not a (Under b n)) (above-or-not a b)
     go (inr ne) (inr nr) = inr (λ h. elim h [ inl e ↦ ne e | inr r ↦ nr r ])
 
 -- how deep a slot lies
-abbrev depth : Path → ℕ
+abbrev pub depth : Path → ℕ
 depth (InRecord n) = 0
 depth (Under a n) = suc (depth a)
 
-above-depth : (a p : Path) → IsAbove a p → depth a ≤ depth p
+pub above-depth : (a p : Path) → IsAbove a p → depth a ≤ depth p
 above-depth a (InRecord n) e = let d : depth a ≡ 0 = ap depth e in omega (arith, d)
 above-depth a (Under b n) (inl e) = let d : depth a ≡ suc (depth b) = ap depth e in omega (arith, d)
 above-depth a (Under b n) (inr r) = let d = above-depth a b r in omega (arith, d)
@@ -64,6 +64,17 @@ one-way (Under c m) b q n (inl e) (inr l) = let d : suc (depth b) ≡ suc (depth
     above-depth (Under b n) c l in absurd (omega (arith, d, r))
 one-way (Under c m) b q n (inr h) (inl f) = let d : suc (depth b) ≡ suc (depth c) = ap depth f in let r =
     above-depth (Under b q) c h in absurd (omega (arith, d, r))
+
+-- where the pointer under a slot that held and holds is the same, what is found there is
+pub kept-under : (s : ℕ) (X Y : Image) (i : ℕ) → Rewrites s X Y → agreed (files_in X) i ≡ true → SameIdentity X Y i → OldPointers s X i → (b : Path) (n : ℕ)
+    → IsSlot (Under b n) → (z : Pointer) → find X i b ≡ answer.Holds z → find Y i b ≡ answer.Holds z
+    → pointer_at (cell_at Y z.block).payload n ≡ pointer_at (cell_at X z.block).payload n → find Y i (Under b n) ≡ find X i (Under b n)
+kept-under s X Y i w owned same old b n slot z ex ey q =
+    let px : pointer X i (Under b n) ≡ pointer_at (cell_at X z.block).payload n = rw (ex, pointer) refl in
+    let lt : (pointer_at (cell_at X z.block).payload n).stamp < s = subst (λ (r : Pointer). r.stamp < s) px (old (Under b n) slot) in
+    let fx : judged X i (Under b n) (pointer_at (cell_at X z.block).payload n) ≡ find X i (Under b n) = rw (ex, find) refl in
+    rw (ex, ey, find) (ap (λ (x : Pointer). judged Y i (Under b n) x) q
+    ∙ judged-same s X Y w i owned same (Under b n) (pointer_at (cell_at X z.block).payload n) slot lt fx)
 
 -- a slot above a content slot is that slot or has pointers
 above-content : (a p : Path) → IsSlot p → IsAbove a p → (a ≡ p) ⊎ (is_pointer_slot a ≡ true)
@@ -106,20 +117,10 @@ module _ (s : ℕ) (X Y : Image) (i : ℕ) (w : Rewrites s X Y) (owned : agreed 
       ∙ judged-same s X Y w i owned same (InRecord n) (record_pointer (inode X i) n) slot (old (InRecord n) slot) refl
   off-path (Under b n) slot off = by-parent (above-or-not b p) (find X i b) refl (λ nb. off-path b slot.2 nb)
     where
-      -- where both pointers are one under a slot that held and holds
-      one : (z : Pointer) → find X i b ≡ answer.Holds z → find Y i b ≡ answer.Holds z
-          → pointer_at (cell_at Y z.block).payload n ≡ pointer_at (cell_at X z.block).payload n → find Y i (Under b n) ≡ find X i (Under b n)
-      one z ex ey q =
-          let px : pointer X i (Under b n) ≡ pointer_at (cell_at X z.block).payload n = rw (ex, pointer) refl in
-          let lt : (pointer_at (cell_at X z.block).payload n).stamp < s = subst (λ (r : Pointer). r.stamp < s) px (old (Under b n) slot) in
-          let fx : judged X i (Under b n) (pointer_at (cell_at X z.block).payload n) ≡ find X i (Under b n) = rw (ex, find) refl in
-          rw (ex, ey, find) (ap (λ (x : Pointer). judged Y i (Under b n) x) q
-          ∙ judged-same s X Y w i owned same (Under b n) (pointer_at (cell_at X z.block).payload n) slot lt fx)
-
       by-parent : IsAbove b p ⊎ (IsAbove b p → ⊥) → (f : PathAnswer) → find X i b ≡ f → ((IsAbove b p → ⊥) → find Y i b ≡ find X i b)
           → find Y i (Under b n) ≡ find X i (Under b n)
       by-parent (inl hb) f e ih = elim (beside b n slot hb off) [
-        | inl kept ↦ one (at b) kept.0 (on-path b hb) kept.1
+        | inl kept ↦ kept-under s X Y i w owned same old b n slot (at b) kept.0 (on-path b hb) kept.1
         | inr new ↦
             let y = on-path b hb in
             let yn : find Y i (Under b n) ≡ answer.Hole = rw (y, find)
@@ -130,7 +131,8 @@ module _ (s : ℕ) (X Y : Image) (i : ℕ) (w : Rewrites s X Y) (owned : agreed 
       ]
       by-parent (inr nb) answer.Hole e ih = let y : find Y i b ≡ answer.Hole = ih nb ∙ e in rw (e, y, find) refl
       by-parent (inr nb) answer.Lost e ih = let y : find Y i b ≡ answer.Lost = ih nb ∙ e in rw (e, y, find) refl
-      by-parent (inr nb) (answer.Holds z) e ih = one z e (ih nb ∙ e) (ap (λ (c : Cell). pointer_at c.payload n) (apart b z slot.2 nb e))
+      by-parent (inr nb) (answer.Holds z) e ih =
+          kept-under s X Y i w owned same old b n slot z e (ih nb ∙ e) (ap (λ (c : Cell). pointer_at c.payload n) (apart b z slot.2 nb e))
 
   -- values beside slot k
   pub value-off : (k l : ℕ) → p ≡ path_of k → k < slot_limit → l < slot_limit → l ≢ k → value Y i l ≡ value X i l

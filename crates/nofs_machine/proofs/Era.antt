@@ -120,16 +120,7 @@ current-given F given vals metas birth c = record {
         subst (λ (q : FileState). Good i q) s (vs, rw (em, append-nil (metas i old.generation)) (was refl))
     from i old f vs (Some Gone) em was e = cc
     from i old f vs (Some (Is kind size links)) em was e =
-        let new : FileState = record {
-          generation = old.generation;
-          kind = kind;
-          size = size;
-          links =
-              links;
-          values = (filled given i old).values;
-          nodes = (filled given i old).nodes;
-        } in
-        let s : new ≡ f = cc e in
+        let s : record (filled given i old) { kind = kind; size = size; links = links } ≡ f = cc e in
         subst (λ (q : FileState). Good i q) s (vs, rw em (last-push (metas i old.generation) (Is kind size links)))
 
     go : (i : ℕ) (f : FileState) (b : Option ℕ) → given.born i ≡ b → (o : Option FileState) → F i ≡ o → file_after given i (born_file b o) ≡ Some f → Good i f
@@ -202,16 +193,7 @@ current-base B = record {
     go i f false o eo e = cc
     go i f true None eo e = cc
     go i f true (Some kind) eo e =
-        let r : FileState = record {
-          generation = (inode B i).generation;
-          kind = kind;
-          size = (inode B i).size;
-          links = (inode B i).links;
-          values =
-              value B i;
-          nodes = λ path. node_in (find B i path);
-        } in
-        let s : r ≡ f = cc e in
+        let s = ap (λ (o : Option FileState). unwrap_or o f) e in
         let live : is_live (inode B i) ≡ true = rw eo in
         let g : is_generation B i (inode B i).generation ≡ true = rw (live, eq-eqb (inode B i).generation (inode B i).generation refl) in
         let m : meta_of (inode B i) ≡ Is kind (inode B i).size (inode B i).links = rw (eo, meta_of) in

@@ -9,14 +9,15 @@ both : (a b : Bool) → a && b ≡ true → (a ≡ true) × (b ≡ true)
 both true b e = (refl, e)
 both false b e = absurd (cc e)
 
-same-is : (a b : BackLink) → same_link a b ≡ true → a ≡ b
+pub same-is : (a b : BackLink) → same_link a b ≡ true → a ≡ b
 same-is a b e =
     let p = both (eqb a.directory b.directory) (eqb a.entry b.entry && eqb a.generation b.generation) e in
     let q = both (eqb a.entry b.entry) (eqb a.generation b.generation) p.1 in
-    let d = eqb-true a.directory b.directory p.0 in
-    let f = eqb-true a.entry b.entry q.0 in
-    let g = eqb-true a.generation b.generation q.1 in
-    λ j. record { directory = d j; entry = f j; generation = g j }
+    λ j. record {
+      directory = eqb-true a.directory b.directory p.0 j;
+      entry = eqb-true a.entry b.entry q.0 j;
+      generation = eqb-true a.generation b.generation q.1 j;
+    }
 
 -- among links, only the wanted one itself is asked for
 pub any_same : (p : BackLink → Bool) (wanted : BackLink) (links : List BackLink)

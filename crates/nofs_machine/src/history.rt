@@ -29,6 +29,15 @@ pub struct Claims {
     pub top: Pointer,
 }
 
+/// Nothing was claimed.
+pub const NO_CLAIMS: Claims = Claims {
+    inode: 0,
+    generation: 0,
+    cell: Pointer::NULL,
+    leaf: Pointer::NULL,
+    top: Pointer::NULL,
+};
+
 /// One entry of a history. `from` and `to` are the moments of the device as the step began and ended.
 #[derive(Drop)]
 pub struct Entry1 {
@@ -137,16 +146,6 @@ impl History {
 #[cfg(test)]
 mod tests {
     use super::*;
-
-    const NO_POINTER: Pointer = Pointer { block: 0, stamp: 0 };
-
-    const NO_CLAIMS: Claims = Claims {
-        inode: 0,
-        generation: 0,
-        cell: NO_POINTER,
-        leaf: NO_POINTER,
-        top: NO_POINTER,
-    };
 
     fn flushed(from: u64) -> Entry1
         requires { from < 100 }

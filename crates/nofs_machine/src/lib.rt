@@ -7,7 +7,7 @@ mod history;
 mod replies;
 mod steps;
 
-pub use history::{Claims, Entry1, History};
+pub use history::{Claims, Entry1, History, NO_CLAIMS};
 pub use nofs_inode::inode::FileKind;
 pub use replies::{Found, NameLine, NameList, Refusal, Reply, Stat};
 pub use steps::{ElementKind, Step, Steps};

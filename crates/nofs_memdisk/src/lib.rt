@@ -2,7 +2,8 @@
 //!
 //! Promise: a read, a write and a flush fail exactly where `fail_at` named their kind and number,
 //! `ready` and write-outs touch neither the counts nor what was named, and a crash may leave every
-//! image that takes for each block one of the cells that it may hold, and no other.
+//! image that takes for each block one of the cells that it may hold, and no other. A disk over another
+//! that finds memory only so often is that other one but in this.
 #![tactic(auto)]
 
 mod call;
@@ -11,6 +12,8 @@ mod memory;
 mod search;
 #[cfg(test)]
 mod tests;
+mod unready;
 
 pub use call::{CallCounts, CallKind, FaultAt, Pick};
 pub use memory::MemDisk;
+pub use unready::Unready;

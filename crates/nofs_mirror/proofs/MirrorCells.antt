@@ -16,7 +16,7 @@ use Rattle.nofs_mirror.specs.declared.log.Sides.{Sides}
 use Rattle.nofs_mirror.specs.declared.mirror.MirrorStart.{MirrorStart}
 use Rattle.nofs_mirror.specs.declared.past.MirrorCall.{MirrorCall}
 use Rattle.nofs_mirror.specs.declared.past.Span.{Span}
-use Rattle.nofs_mirror.specs.Asking.{SideFlushes, SideWrites, is_asked, lead_stays, other_stays}
+use Rattle.nofs_mirror.specs.Asking.{SideFlushes, SideWrites, is_asked, is_done, lead_stays, other_stays}
 use Rattle.nofs_mirror.specs.Laws.{MirrorKeeps, first_picks}
 use Rattle.nofs_mirror.specs.Mirror.{IsMirrored, IsSide, LeftBy, if_told, last_span, may_after, now_of}
 use Rattle.nofs_mirror.proofs.SidePast.{marked_later, marked_more}
@@ -162,14 +162,15 @@ lead_stays-asked Out o e = cc
 lead_stays-asked Done o e = refl
 lead_stays-asked Fault o e = refl
 
+done-asked : (o : SideAnswer) → IsTrue (is_done o) → IsTrue (is_asked o)
+done-asked Done e = refl
+done-asked Out e = cc
+done-asked Fault e = cc
+
 pub other_stays-asked : (a o : SideAnswer) → IsTrue (other_stays a o) → IsTrue (is_asked o)
 other_stays-asked Out o e = e
-other_stays-asked Done Out e = cc
-other_stays-asked Done Done e = refl
-other_stays-asked Done Fault e = cc
-other_stays-asked Fault Out e = cc
-other_stays-asked Fault Done e = refl
-other_stays-asked Fault Fault e = cc
+other_stays-asked Done o e = done-asked o e
+other_stays-asked Fault o e = done-asked o e
 
 -- a fact of each outcome
 pub on_ok : (result : Result (Unit {0}) Failed) (P : Type 0) → (is_ok result ≡ true → P) → OnOk result P

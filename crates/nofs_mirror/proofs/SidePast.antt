@@ -36,16 +36,8 @@ marked_more side opened past call u b e m = record { start = m.start; begins = b
 within_keeps : (l l' : ℕ → List Cell → Type 0) (n : ℕ) (is_in : Bool) (from to u : ℕ) (image : List Cell)
     → ((j : ℕ) (w : List Cell) → j ≤ u → l j w → l' j w) → to ≤ u → LeftBy l n is_in from to image → LeftBy l' n is_in from to image
 within_keeps l l' n is_in from to u image goes low w =
-    record {
-      in_then = w.in_then;
-      at = w.at;
-      low = w.low;
-      high = w.high;
-      whole = w.whole;
-      left =
-          goes w.at w.whole (let h = w.high in omega arith) w.left;
-      first = w.first;
-    }
+    let left = let high = w.high in goes w.at w.whole (omega arith) w.left in
+    record { in_then = w.in_then; at = w.at; low = w.low; high = w.high; whole = w.whole; left = left; first = w.first }
 
 -- what may be left, where the side may leave the same up to a moment
 pub left_keeps : (side : MirrorCall → Span) (l l' : ℕ → List Cell → Type 0) (n : ℕ) (opened : Span) (past : List MirrorCall) (to u m : ℕ) (image : List Cell)

@@ -1,7 +1,7 @@
 //! One call of one side, and what two answers make together.
 //!
 //! Promise: a side that is out is never called.
-ghost use Rattle.std.specs.Prelude.{◌≡◌, ◌<◌, ◌≤◌, IsFalse};
+ghost use Rattle.std.specs.Prelude.{◌≡◌, ◌<◌, ◌≤◌, true, IsFalse};
 ghost use Rattle.nofs_mirror.specs.Asking.{SideFlushes, SideReads, SideWrites, any_done, is_asked, is_done, lead_stays, other_stays};
 
 use nofs_disk::{Cell, Disk};
@@ -103,7 +103,14 @@ pub fn write_side<D: Disk>(disk: &mut D, is_in: bool, block: u64, cell: &Cell) -
     ensures untouched { IsFalse is_in → disk.new ≡ disk.old }
 {
     let began = disk.moment();
-    let answer = ask_write(disk, is_in, block, cell);
+    if !is_in {
+        return SideCall {
+            answer: SideAnswer::Out,
+            began,
+            ended: began,
+        };
+    }
+    let answer = written(disk, block, cell);
     let ended = disk.moment();
     SideCall {
         answer,
@@ -112,16 +119,12 @@ pub fn write_side<D: Disk>(disk: &mut D, is_in: bool, block: u64, cell: &Cell) -
     }
 }
 
-fn ask_write<D: Disk>(disk: &mut D, is_in: bool, block: u64, cell: &Cell) -> SideAnswer
+fn written<D: Disk>(disk: &mut D, block: u64, cell: &Cell) -> SideAnswer
     requires block { block < (D.state disk.old).blocks }
     requires spare { 1 ≤ (D.state disk.old).spare }
     ensures writes { SideWrites (D.state disk.old) (D.state disk.new) block cell.now result }
-    ensures asked { is_asked result ≡ is_in }
-    ensures untouched { IsFalse is_in → disk.new ≡ disk.old }
+    ensures asked { is_asked result ≡ true }
 {
-    if !is_in {
-        return SideAnswer::Out;
-    }
     match disk.write(block, cell) {
         Ok(()) => SideAnswer::Done,
         Err(_) => SideAnswer::Fault,

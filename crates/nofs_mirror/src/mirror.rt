@@ -105,18 +105,13 @@ fn read_either<A: Disk, B: Disk>(
     ensures reads { EitherReads (A.state lead.old) (A.state lead.new) (B.state other.old) (B.state other.new) sides block into.new result }
 {
     match read_side(lead, sides.lead_in, block, into) {
-        SideAnswer::Out => read_other(other, sides.other_in, block, into),
+        SideAnswer::Out => ask_other(other, sides.other_in, block, into),
         SideAnswer::Done => Ok(()),
-        SideAnswer::Fault => read_other(other, sides.other_in, block, into),
+        SideAnswer::Fault => ask_other(other, sides.other_in, block, into),
     }
 }
 
-fn read_other<B: Disk>(
-    other: &mut B,
-    is_in: bool,
-    block: u64,
-    into: &mut Cell,
-) -> Result<(), Failed>
+fn ask_other<B: Disk>(other: &mut B, is_in: bool, block: u64, into: &mut Cell) -> Result<(), Failed>
     requires { block < (B.state other.old).blocks }
     ensures stays { StaysButFaults (B.state other.old) (B.state other.new) }
     ensures cell { OnOk result (IsFrom is_in (B.state other.old) block into.new) }
@@ -188,16 +183,10 @@ impl<A: Disk + Drop, B: Disk + Drop> Mirror<A, B> {
         requires other { blocks ≤ (B.state other).blocks }
         requires first { StaysButFaults (A.state first.value) (A.state lead) }
         requires copied { IsTrue other_in → HasCopied (A.state lead) (B.state other) blocks × IsSettled (B.state other) }
-        ensures lead { result.lead ≡ lead }
-        ensures other { result.other ≡ other }
-        ensures first { result.first ≡ first }
+        ensures disks { (result.lead ≡ lead) × (result.other ≡ other) × (result.first ≡ first) }
         ensures blocks { result.opening.blocks ≡ blocks }
-        ensures past { past_calls result.log.past.value ≡ [] }
-        ensures spare { result.log.spare ≡ 0 }
-        ensures faults { result.log.faults ≡ 0 }
-        ensures lead_in { IsTrue result.log.sides.lead_in }
-        ensures other_in { result.log.sides.other_in ≡ other_in }
-        ensures opened { IsTrue result.opening.lead.is_in }
+        ensures fresh { (past_calls result.log.past.value ≡ []) × (result.log.spare ≡ 0) × (result.log.faults ≡ 0) }
+        ensures sides { IsTrue result.log.sides.lead_in × (result.log.sides.other_in ≡ other_in) × IsTrue result.opening.lead.is_in }
     {
         let lead_at = lead.moment();
         let other_at = other.moment();

@@ -17,12 +17,12 @@ same_kind-true Nothing Nothing e = refl
 same_kind-true Content Content e = refl
 same_kind-true Directory Directory e = refl
 same_kind-true Leaf Leaf e = refl
-same_kind-true Table Table e = refl
-same_kind-true Super Super e = refl
 same_kind-true Nothing _ e = grind arith
 same_kind-true Content _ e = grind arith
 same_kind-true Directory _ e = grind arith
 same_kind-true Leaf _ e = grind arith
+same_kind-true Table Table e = refl
+same_kind-true Super Super e = refl
 same_kind-true Table _ e = grind arith
 same_kind-true Super _ e = grind arith
 
@@ -82,18 +82,21 @@ pub record HoldsAt (X : Image) (i : ℕ) (path : Path) (x : Pointer) : Type 0 wh
   pub agrees : Agrees X i path x
   pub not_null : is_null x ≡ false
 
+-- what stands in a slot, by what stands in the one above it
+abbrev found_under : Image → ℕ → Path → ℕ → PathAnswer → PathAnswer
+found_under X i a n f = elim f [
+  | answer.Hole ↦ answer.Hole
+  | answer.Holds y ↦ judged X i (Under a n) (pointer_at (cell_at X y.block).payload n)
+  | answer.Lost ↦ answer.Lost
+]
+
 pub find-held : (X : Image) (i : ℕ) (path : Path) (x : Pointer) → find X i path ≡ answer.Holds x → HoldsAt X i path x
 find-held X i (InRecord n) x e =
     let p = judged-held X i (InRecord n) (record_pointer (inode X i) n) x e in
     record { above = tt; same = p.0; agrees = p.1; not_null = p.2 }
 find-held X i (Under a n) x e = go (find X i a) refl e
   where
-    go : (f : PathAnswer) → find X i a ≡ f → elim f [
-      | answer.Hole ↦ answer.Hole
-      | answer.Holds y ↦ judged X i (Under a n)
-          (pointer_at (cell_at X y.block).payload n)
-      | answer.Lost ↦ answer.Lost
-    ] ≡ answer.Holds x → HoldsAt X i (Under a n) x
+    go : (f : PathAnswer) → find X i a ≡ f → found_under X i a n f ≡ answer.Holds x → HoldsAt X i (Under a n) x
     go answer.Hole ef h = cc
     go answer.Lost ef h = cc
     go (answer.Holds y) ef h =
@@ -105,12 +108,7 @@ pub find-null : (X : Image) (i : ℕ) (a : Path) (n : ℕ) → find X i (Under a
     → (find X i a ≡ answer.Hole) ⊎ ((y : Pointer) × (find X i a ≡ answer.Holds y) × (is_null (pointer_at (cell_at X y.block).payload n) ≡ true))
 find-null X i a n e = go (find X i a) refl e
   where
-    go : (f : PathAnswer) → find X i a ≡ f → elim f [
-      | answer.Hole ↦ answer.Hole
-      | answer.Holds y ↦ judged X i (Under a n)
-          (pointer_at (cell_at X y.block).payload n)
-      | answer.Lost ↦ answer.Lost
-    ] ≡ answer.Hole
+    go : (f : PathAnswer) → find X i a ≡ f → found_under X i a n f ≡ answer.Hole
         → (find X i a ≡ answer.Hole) ⊎ ((y : Pointer) × (find X i a ≡ answer.Holds y) × (is_null (pointer_at (cell_at X y.block).payload n) ≡ true))
     go answer.Hole ef h = inl ef
     go answer.Lost ef h = cc

@@ -14,6 +14,7 @@ use Rattle.nofs_model.specs.Geometry.{IsGeometry}
 use Rattle.nofs_model.specs.Sound.{LawFormatted}
 use Rattle.nofs_model.proofs.Sound.{mountable-law}
 use Rattle.nofs_model.proofs.Spells.{spells}
+use Rattle.nofs_model.proofs.Vectors.{new_record}
 
 -- a tag without generation and stamp, of a kind that names nothing
 record IsPlain (t : Tag) : Type 0 where
@@ -50,18 +51,6 @@ unfolding tag_of number_at zero_cell zeros
 zero-tag = refl
 
 -- the records of a table
-abbrev new_record : ℕ → FileKind → Record
-new_record g kind = record {
-  generation = g;
-  kind = Some kind;
-  links = no_link ∷ no_link ∷ no_link ∷ no_link ∷ [];
-  size = 0;
-  direct =
-      null ∷ null ∷ null ∷ null ∷ null ∷ null ∷ null ∷ null ∷ [];
-  leaf = null;
-  top = null;
-}
-
 no-record : (j : ℕ) → j < 4 → record_at (zeros 1024) j ≡ free_record
 unfolding record_at record_of fields_in link_in pointer_in number_at zeros
 no-record zero lt = refl

@@ -128,15 +128,7 @@ file-of X i f e = go (inode X i).kind refl e
     go : (k : Option FileKind) → (inode X i).kind ≡ k → file_from X i k ≡ Some f → IsFileOf X i f
     go None ek h = cc
     go (Some kind) ek h =
-        let same : record {
-          generation = (inode X i).generation;
-          kind = kind;
-          size = (inode X i).size;
-          links = (inode X i).links;
-          values = value X i;
-          nodes =
-              λ path. node_in (find X i path);
-        } ≡ f = some-same _ f h in
+        let same = some-same _ f h in
         record {
           kind = ek ∙ ap (λ (q : FileState). Some q.kind) same;
           generation = sym (ap (λ (q : FileState). q.generation) same);

@@ -1,7 +1,7 @@
 -- The formats, at bytes that stand in their document.
 use Rattle.std.proofs.Common.{◌≡◌, ℕ, ◌+◌, ◌^◌, List, [], ◌∷◌, ◌++◌, Some, replicate, refl, true}
 use Rattle.nofs_inode.specs.InodeRecords.{no_link}
-use Rattle.nofs_model.specs.Cells.{number_at, fields_in, record_at, Cell, Content, File, tag_of, pointer_at, pointer_in, record_of, entry_of, null, link_in}
+use Rattle.nofs_model.specs.Cells.{FileKind, Record, number_at, fields_in, record_at, Cell, Content, File, tag_of, pointer_at, pointer_in, record_of, entry_of, null, link_in}
 use Rattle.nofs_model.specs.Image.{is_super, is_geometry}
 use Rattle.nofs_super.specs.Geometry.{format_fault}
 use Rattle.nofs_model.specs.Image.{Image, find, InRecord, value, files_in, agreed, owner, inode, super_at, is_mountable, path_of, slot_of, home_at}
@@ -9,6 +9,19 @@ use Rattle.nofs_model.specs.declared.value.Value.TheVariants.{Lost}
 use Rattle.nofs_model.specs.declared.path.PathAnswer.TheVariants as answer
 use Rattle.nofs_model.specs.Cells.{entry_fields, is_name}
 use Rattle.nofs_model.specs.Image.{super_in}
+
+-- the record of an empty file with no names
+abbrev pub new_record : ℕ → FileKind → Record
+new_record g kind = record {
+  generation = g;
+  kind = Some kind;
+  links = no_link ∷ no_link ∷ no_link ∷ no_link ∷ [];
+  size = 0;
+  direct =
+      null ∷ null ∷ null ∷ null ∷ null ∷ null ∷ null ∷ null ∷ [];
+  leaf = null;
+  top = null;
+}
 
 abbrev pub z : ℕ → List ℕ
 z n = replicate n 0
@@ -23,16 +36,7 @@ unfolding pointer_in number_at
 pointer_vector = refl
 
 record_vector : record_of 0 (2 ∷ z 7 ++ 1 ∷ z 3 ++ z 4 ++ 3 ∷ z 7 ++ z 8 ++ z 224) ≡ Some
-    (record {
-      generation = 2;
-      kind = Some File;
-      links = no_link ∷ no_link ∷ no_link ∷ no_link ∷ [];
-      size = 3;
-      direct =
-          null ∷ null ∷ null ∷ null ∷ null ∷ null ∷ null ∷ null ∷ [];
-      leaf = null;
-      top = null;
-    })
+    (record (new_record 2 File) { size = 3 })
 unfolding record_of record_at pointer_at number_at pointer_in link_in fields_in
 record_vector = refl
 

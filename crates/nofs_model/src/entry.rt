@@ -1,11 +1,10 @@
 //! Whether an entry of a directory names an inode. It takes no memory.
 ghost use Rattle.std.specs.Prelude.{◌≡◌, ◌<◌, ◌≤◌, ◌+◌, ◌&&◌, length, nat_eq, is_some, take, drop};
 ghost use Rattle.nofs_disk.specs.Number.{number_at};
-ghost use Rattle.std.specs.List.{list_all};
-ghost use Rattle.nofs_dirent.specs.Entries.{entry_bytes, entry_in, entry_of, entry_with, has_entry_spelling, has_zeros_after};
+ghost use Rattle.nofs_dirent.specs.Entries.{entry_in, entry_of, entry_with, has_entry_spelling};
 ghost use Rattle.nofs_model.specs.Files.{names};
 
-use nofs_dirent::name_ok;
+use nofs_dirent::{bytes_of, has_zeros_after, name_ok};
 use nofs_disk::{read_u32_at, read_u64_at};
 
 /// Whether the entry at a place of a directory cell names this generation of an inode.
@@ -13,8 +12,7 @@ pub fn names_inode(payload: &[u8; 1024], at: u32, inode: u32, generation: u64) -
     requires { at < 16 }
     ensures { result ≡ names (entry_in payload.now at) inode generation }
 {
-    let at = 64 * at as usize;
-    has_entry(&payload[at..at + 64], inode, generation)
+    has_entry(bytes_of(payload, at), inode, generation)
 }
 
 // Whether these 64 bytes spell an entry that names this generation of an inode.
@@ -53,17 +51,4 @@ fn has_spelling(bytes: &[u8], size: usize) -> bool
     ensures { result ≡ has_entry_spelling (entry_with (number_at 4 0 bytes.now) (number_at 8 8 bytes.now) (take size (drop 16 bytes.now))) }
 {
     read_u32_at(bytes, 0) >= 1 && read_u64_at(bytes, 8) >= 1 && name_ok(&bytes[16..16 + size])
-}
-
-fn has_zeros_after(bytes: &[u8], size: usize) -> bool
-    requires { length bytes.now ≡ 64 }
-    ensures { result ≡ has_zeros_after bytes.now size }
-{
-    size <= 48 && are_zero(&bytes[16 + size..64])
-}
-
-fn are_zero(bytes: &[u8]) -> bool
-    ensures { result ≡ list_all (λ b. nat_eq b 0) bytes.now }
-{
-    bytes.iter().all(|&byte| byte == 0)
 }

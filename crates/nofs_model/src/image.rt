@@ -1,11 +1,10 @@
 //! Cells and records of an image.
 ghost use Rattle.std.specs.Prelude.{◌≡◌, ◌<◌, length};
-ghost use Rattle.nofs_model.specs.Cells.{record_at};
 ghost use Rattle.nofs_model.specs.Geometry as image;
 ghost use Rattle.nofs_model.specs.Places.{IsRead, IsRecord};
 
 use nofs_disk::{Cell, read_u32_at, read_u64_at};
-use nofs_inode::{FREE_RECORD, Record, read_record};
+use nofs_inode::{FREE_RECORD, Record, record_at};
 use nofs_super::SuperBlock;
 
 /// The cell of a block.
@@ -49,15 +48,4 @@ pub(crate) fn read_inode(cells: &[Cell], at: &SuperBlock, inode: u32) -> Record
     }
     let block = cell_at(cells, 1 + (number - 1) / 4);
     record_at(&block.payload, ((number - 1) % 4) as u32)
-}
-
-#[tactic(auto, unfolding(nofs_inode::specs::InodeRecords::record_at))]
-fn record_at(payload: &[u8; 1024], index: u32) -> Record
-    requires { index < 4 }
-    ensures { result ≡ record_at payload.now index }
-{
-    match read_record(payload, index) {
-        None => FREE_RECORD,
-        Some(it) => it,
-    }
 }

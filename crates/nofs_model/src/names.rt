@@ -31,10 +31,7 @@ pub(crate) fn is_agreed(cells: &[Cell], at: &SuperBlock, known: &[bool], inode: 
     requires known { AreAgreed cells.now known.now }
     ensures { result ≡ files.agreed (files.files_in cells.now) inode }
 {
-    if is_known(known, inode) {
-        return true;
-    }
-    if is_root(cells, at, inode) {
+    if is_agreed_at_once(cells, at, known, inode) {
         return true;
     }
     if is_special(inode) {
@@ -42,6 +39,16 @@ pub(crate) fn is_agreed(cells: &[Cell], at: &SuperBlock, known: &[bool], inode: 
     }
     let it = read_inode(cells, at, inode);
     has_agreed_link(cells, at, known, inode, &it)
+}
+
+// Whether the inode is known to be agreed, or is the root or the label file.
+fn is_agreed_at_once(cells: &[Cell], at: &SuperBlock, known: &[bool], inode: u32) -> bool
+    requires numbers { IsRead cells.now at.now }
+    requires known { AreAgreed cells.now known.now }
+    ensures yes { result ≡ true → files.agreed (files.files_in cells.now) inode ≡ true }
+    ensures no { result ≡ false → files.is_root (files.files_in cells.now) inode ≡ false }
+{
+    is_known(known, inode) || is_root(cells, at, inode)
 }
 
 // Whether the inode is the root or the label file, and live as such.
@@ -158,10 +165,7 @@ fn is_agreed_directory(cells: &[Cell], at: &SuperBlock, known: &[bool], director
 {
     let mut here = directory;
     loop {
-        if is_known(known, here) {
-            return true;
-        }
-        if is_root(cells, at, here) {
+        if is_agreed_at_once(cells, at, known, here) {
             return true;
         }
         if is_special(here) {

@@ -22,6 +22,14 @@ pub struct ScanResult {
     pub blocks: Bits,
 }
 
+// An image that is scanned: its cells, its numbers, and which of its inodes are agreed.
+#[derive(Clone, Copy)]
+struct Scanned<'a> {
+    cells: &'a [Cell],
+    at: &'a SuperBlock,
+    known: &'a [bool],
+}
+
 /// Which inodes and blocks are used, by the definitions: an inode that is agreed, or is 1 or 2; a
 /// block that has an owner, or lies before the data area. It asks a mountable image. The error is
 /// want of memory alone.
@@ -31,8 +39,13 @@ pub fn full_scan(alloc: Global, cells: &[Cell]) -> Result<ScanResult, AllocError
 {
     let at = numbers_of(cells);
     let known = agreed_inodes(alloc, cells, &at)?;
-    let inodes = used_inodes(alloc, cells, &at, known.as_slice())?;
-    let blocks = used_blocks(alloc, cells, &at, known.as_slice())?;
+    let of = Scanned {
+        cells,
+        at: &at,
+        known: known.as_slice(),
+    };
+    let inodes = used_inodes(alloc, &of)?;
+    let blocks = used_blocks(alloc, &of)?;
     Ok(ScanResult { inodes, blocks })
 }
 
@@ -49,52 +62,42 @@ fn agreed_inodes(alloc: Global, cells: &[Cell], at: &SuperBlock) -> Result<Vec<b
     Ok(known)
 }
 
-fn used_inodes(
-    alloc: Global,
-    cells: &[Cell],
-    at: &SuperBlock,
-    known: &[bool],
-) -> Result<Bits, AllocError>
-    requires numbers { IsRead cells.now at.now }
-    requires known { AreAgreed cells.now known.now }
-    ensures { IfOk result (λ bits. (length bits ≡ at.now.inodes) × ((k : ℕ) → k < at.now.inodes → is_set bits k ≡ owners.is_used_inode cells.now (k + 1))) }
+fn used_inodes(alloc: Global, of: &Scanned<'_>) -> Result<Bits, AllocError>
+    requires numbers { IsRead of.now.cells.now of.now.at.now }
+    requires known { AreAgreed of.now.cells.now of.now.known.now }
+    ensures { IfOk result (λ bits. (length bits ≡ of.now.at.now.inodes) × ((k : ℕ) → k < of.now.at.now.inodes → is_set bits k ≡ owners.is_used_inode of.now.cells.now (k + 1))) }
 {
-    let mut bits = Bits::new(alloc, at.inodes)?;
-    for place in 0..at.inodes {
-        bits.set(place, is_used_inode(cells, at, known, place as u32 + 1));
+    let mut bits = Bits::new(alloc, of.at.inodes)?;
+    for place in 0..of.at.inodes {
+        bits.set(place, is_used_inode(of, place as u32 + 1));
     }
     Ok(bits)
 }
 
-fn used_blocks(
-    alloc: Global,
-    cells: &[Cell],
-    at: &SuperBlock,
-    known: &[bool],
-) -> Result<Bits, AllocError>
-    requires numbers { IsRead cells.now at.now }
-    requires known { AreAgreed cells.now known.now }
-    ensures { IfOk result (λ bits. (length bits ≡ at.now.blocks) × ((p : ℕ) → p < at.now.blocks → is_set bits p ≡ owners.is_used_block cells.now p)) }
+fn used_blocks(alloc: Global, of: &Scanned<'_>) -> Result<Bits, AllocError>
+    requires numbers { IsRead of.now.cells.now of.now.at.now }
+    requires known { AreAgreed of.now.cells.now of.now.known.now }
+    ensures { IfOk result (λ bits. (length bits ≡ of.now.at.now.blocks) × ((p : ℕ) → p < of.now.at.now.blocks → is_set bits p ≡ owners.is_used_block of.now.cells.now p)) }
 {
-    let mut bits = Bits::new(alloc, at.blocks)?;
-    for block in 0..at.blocks {
-        bits.set(block, is_used_block(cells, at, known, block));
+    let mut bits = Bits::new(alloc, of.at.blocks)?;
+    for block in 0..of.at.blocks {
+        bits.set(block, is_used_block(of, block));
     }
     Ok(bits)
 }
 
-fn is_used_inode(cells: &[Cell], at: &SuperBlock, known: &[bool], inode: u32) -> bool
-    requires numbers { IsRead cells.now at.now }
-    requires known { AreAgreed cells.now known.now }
-    ensures { result ≡ owners.is_used_inode cells.now inode }
+fn is_used_inode(of: &Scanned<'_>, inode: u32) -> bool
+    requires numbers { IsRead of.now.cells.now of.now.at.now }
+    requires known { AreAgreed of.now.cells.now of.now.known.now }
+    ensures { result ≡ owners.is_used_inode of.now.cells.now inode }
 {
-    inode == 1 || inode == 2 || is_agreed(cells, at, known, inode)
+    inode == 1 || inode == 2 || is_agreed(of.cells, of.at, of.known, inode)
 }
 
-fn is_used_block(cells: &[Cell], at: &SuperBlock, known: &[bool], block: u64) -> bool
-    requires numbers { IsRead cells.now at.now }
-    requires known { AreAgreed cells.now known.now }
-    ensures { result ≡ owners.is_used_block cells.now block }
+fn is_used_block(of: &Scanned<'_>, block: u64) -> bool
+    requires numbers { IsRead of.now.cells.now of.now.at.now }
+    requires known { AreAgreed of.now.cells.now of.now.known.now }
+    ensures { result ≡ owners.is_used_block of.now.cells.now block }
 {
-    block <= at.inodes / 4 || find_owner(cells, at, known, block).is_some()
+    block <= of.at.inodes / 4 || find_owner(of.cells, of.at, of.known, block).is_some()
 }

@@ -104,8 +104,8 @@ fn find_under_child(
     child: u64,
     place: u64,
 ) -> PathAnswer
-    requires known { IsRecord cells.now at.now inode it.now }
     requires place { IsPlace (Place.UnderChild child place) }
+    requires known { IsRecord cells.now at.now inode it.now }
     ensures found { result ≡ slots.find cells.now inode (slots.Under (slots.child child) place) }
     ensures area { InArea at.now result }
 {

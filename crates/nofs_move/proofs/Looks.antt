@@ -28,7 +28,7 @@ use Rattle.nofs_client.specs.Drive.{start_of, progress_after}
 use Rattle.nofs_client.specs.Runs.{Asked}
 use Rattle.nofs_move.specs.Linked.{is_idle, LinkedSteps}
 use Rattle.nofs_move.proofs.Driver.{looks-idle, Again, Stops, Answered, leads, Says, unsaid, none-in}
-use Rattle.nofs_move.proofs.Stages.{Told, AllTold, Moving, more-moving}
+use Rattle.nofs_move.proofs.Stages.{Told, AllTold, Moves, more-moves, Moving, more-moving}
 use Rattle.nofs_move.proofs.Walk.{after-told, first-told, Goes, passes, passes-other, refused-ends, not-linked, moving}
 
 tested : (a b : ℕ) (P : Bool → Type 0) → (a < b → P true) → (b ≤ a → P false) → P (nat_lt a b)
@@ -60,6 +60,12 @@ module _ (from to : Path) where
       ((t ≡ task.Looking place depth) × (depth < length (names_of from))) ⊎
       ((t ≡ arrived_new (command.Move from to) place (first_handle to) 0) × (length (names_of from) ≤ depth)) in
       tested depth (length (names_of from)) P (λ lt. inl (refl, lt)) (λ le. inr (refl, le))
+
+  -- the steps of a move from its first flush on
+  abbrev MovesOf : Type 0 → Location → Handle → List Made → Type 0
+  MovesOf S place into ms = Moves S (step.Drop place.directory.inode place.directory.generation (last_name from))
+      (step.Flush place.found.inode place.found.generation)
+      (step.Link into.inode into.generation (last_name to) place.found.inode place.found.generation) ms
 
   -- from the Look of the new path on
   record Reaching (S : Type 0) (place : Location) (ms : List Made) : Type 0 where
@@ -113,21 +119,13 @@ module _ (from to : Path) where
     pub into : Handle
     pub kind : FileKind
     pub look : ℕ
-    pub flush : ℕ
-    pub link : ℕ
-    pub second : ℕ
-    pub drop : ℕ
     pub looked : slice_get ms look ≡ Some (
       step.Look place.directory.inode place.directory.generation (last_name from),
       reply.Found (record { inode = place.found.inode; generation = place.found.generation; kind = kind }),
     )
+    pub moves : MovesOf S place into ms
+    pub open moves use *
     pub flush_after : look < flush
-    pub flushed : slice_get ms flush ≡ Some (step.Flush place.found.inode place.found.generation, reply.Flushed)
-    pub link_after : flush < link
-    pub linked : slice_get ms link ≡ Some (step.Link into.inode into.generation (last_name to) place.found.inode place.found.generation, reply.Linked)
-    pub ends : ((drop ≡ length ms) × (S → ⊥)) ⊎ ((link < second) × (second < drop) ×
-        (slice_get ms second ≡ Some (step.Flush place.found.inode place.found.generation, reply.Flushed))
-        × (r : Reply) × (slice_get ms drop ≡ Some (step.Drop place.directory.inode place.directory.generation (last_name from), r)))
     pub others : (k : ℕ) (m : Made) → look < k → slice_get ms k ≡ Some m → k ≢ link → k ≢ drop → is_idle m ≡ true
 
   more-located : (S : Type 0) (x : Made) (ms : List Made) → Located S ms → Located S (x ∷ ms)
@@ -136,16 +134,9 @@ module _ (from to : Path) where
     into = t.into;
     kind = t.kind;
     look = suc t.look;
-    flush = suc t.flush;
-    link = suc t.link;
-    second = suc t.second;
-    drop = suc t.drop;
     looked = t.looked;
+    moves = more-moves S _ _ _ x ms t.moves;
     flush_after = let a = t.flush_after in omega (arith, a);
-    flushed = t.flushed;
-    link_after = let a = t.link_after in omega (arith, a);
-    linked = t.linked;
-    ends = ⊎_elim (λ e. inl (omega (arith, e.0), e.1)) (λ r. inr (omega (arith, r.0), omega (arith, r.1), r.2, r.3, r.4)) t.ends;
     others = at;
   }
     where
@@ -164,16 +155,9 @@ module _ (from to : Path) where
     into = t.into;
     kind = kind;
     look = 0;
-    flush = suc t.moves.flush;
-    link = suc t.moves.link;
-    second = suc t.moves.second;
-    drop = suc t.moves.drop;
     looked = ap Some is;
+    moves = more-moves S _ _ _ x ms t.moves.moves;
     flush_after = omega arith;
-    flushed = t.moves.flushed;
-    link_after = let a = t.moves.link_after in omega (arith, a);
-    linked = t.moves.linked;
-    ends = ⊎_elim (λ e. inl (omega (arith, e.0), e.1)) (λ r. inr (omega (arith, r.0), omega (arith, r.1), r.2, r.3, r.4)) t.moves.ends;
     others = at;
   }
     where

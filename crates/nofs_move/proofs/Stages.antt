@@ -114,33 +114,50 @@ module _ (S : Type 0) (D : Step) where
     idle = later x ms idle (λ k m. k ≢ suc t.drop) (λ k m h nd. t.idle k m h (unlike t.drop nd));
   }
 
-  -- from Link on
-  pub record Linking (F L : Step) (ms : List Made) : Type 0 where
+  -- the steps from Link on
+  pub record Links (F L : Step) (ms : List Made) : Type 0 where
     pub link : ℕ
     pub second : ℕ
     pub drop : ℕ
     pub linked : slice_get ms link ≡ Some (L, reply.Linked)
     pub ends : ((drop ≡ length ms) × (S → ⊥)) ⊎ ((link < second) × (second < drop) × (slice_get ms second ≡ Some (F, reply.Flushed)) × (r : Reply) ×
         (slice_get ms drop ≡ Some (D, r)))
-    pub idle : (k : ℕ) (m : Made) → slice_get ms k ≡ Some m → (k ≢ link) × (k ≢ drop) → is_idle m ≡ true
 
-  pub more-linking : (F L : Step) (x : Made) (ms : List Made) → is_idle x ≡ true → Linking F L ms → Linking F L (x ∷ ms)
-  more-linking F L x ms idle t = record {
+  abbrev pub more-links : (F L : Step) (x : Made) (ms : List Made) → Links F L ms → Links F L (x ∷ ms)
+  more-links F L x ms t = record {
     link = suc t.link;
     second = suc t.second;
     drop = suc t.drop;
     linked = t.linked;
     ends = ⊎_elim (λ e. inl (omega (arith, e.0), e.1)) (λ r. inr (omega (arith, r.0), omega (arith, r.1), r.2, r.3, r.4)) t.ends;
-    idle = later x ms idle (λ k m. (k ≢ suc t.link) × (k ≢ suc t.drop)) (λ k m h nd. t.idle k m h (unlike t.link nd.0, unlike t.drop nd.1));
   }
+
+  -- each step beside Link and Drop changed nothing
+  abbrev pub AllIdle : List Made → ℕ → ℕ → Type 0
+  AllIdle ms link drop = (k : ℕ) (m : Made) → slice_get ms k ≡ Some m → (k ≢ link) × (k ≢ drop) → is_idle m ≡ true
+
+  more-idle : (x : Made) (ms : List Made) (link drop : ℕ) → is_idle x ≡ true → AllIdle ms link drop → AllIdle (x ∷ ms) (suc link) (suc drop)
+  more-idle x ms link drop idle rest =
+      later x ms idle (λ k m. (k ≢ suc link) × (k ≢ suc drop)) (λ k m h nd. rest k m h (unlike link nd.0, unlike drop nd.1))
+
+  -- from Link on
+  pub record Linking (F L : Step) (ms : List Made) : Type 0 where
+    pub links : Links F L ms
+    pub open links use *
+    pub idle : AllIdle ms link drop
+
+  pub more-linking : (F L : Step) (x : Made) (ms : List Made) → is_idle x ≡ true → Linking F L ms → Linking F L (x ∷ ms)
+  more-linking F L x ms idle t = record { links = more-links F L x ms t.links; idle = more-idle x ms t.link t.drop idle t.idle }
 
   pub linked-flushing : (F L : Step) (x : Made) (ms : List Made) → x ≡ (L, reply.Linked) → Flushing F ms → Linking F L (x ∷ ms)
   linked-flushing F L x ms is t = record {
-    link = 0;
-    second = suc t.second;
-    drop = suc t.drop;
-    linked = ap Some is;
-    ends = ⊎_elim (λ e. inl (omega (arith, e.0), e.1)) (λ r. inr (omega arith, omega (arith, r.0), r.1, r.2, r.3)) t.ends;
+    links = record {
+      link = 0;
+      second = suc t.second;
+      drop = suc t.drop;
+      linked = ap Some is;
+      ends = ⊎_elim (λ e. inl (omega (arith, e.0), e.1)) (λ r. inr (omega arith, omega (arith, r.0), r.1, r.2, r.3)) t.ends;
+    };
     idle = at;
   }
     where
@@ -148,41 +165,33 @@ module _ (S : Type 0) (D : Step) where
       at zero m h nd = absurd (nd.0 refl)
       at (suc k) m h nd = t.idle k m h (unlike t.drop nd.1)
 
-  -- from the first flush on
-  pub record Moving (F L : Step) (ms : List Made) : Type 0 where
+  -- the steps from the first flush on
+  pub record Moves (F L : Step) (ms : List Made) : Type 0 where
+    pub links : Links F L ms
+    pub open links use *
     pub flush : ℕ
-    pub link : ℕ
-    pub second : ℕ
-    pub drop : ℕ
     pub flushed : slice_get ms flush ≡ Some (F, reply.Flushed)
     pub link_after : flush < link
-    pub linked : slice_get ms link ≡ Some (L, reply.Linked)
-    pub ends : ((drop ≡ length ms) × (S → ⊥)) ⊎ ((link < second) × (second < drop) × (slice_get ms second ≡ Some (F, reply.Flushed)) × (r : Reply) ×
-        (slice_get ms drop ≡ Some (D, r)))
-    pub idle : (k : ℕ) (m : Made) → slice_get ms k ≡ Some m → (k ≢ link) × (k ≢ drop) → is_idle m ≡ true
 
-  pub more-moving : (F L : Step) (x : Made) (ms : List Made) → is_idle x ≡ true → Moving F L ms → Moving F L (x ∷ ms)
-  more-moving F L x ms idle t = record {
+  abbrev pub more-moves : (F L : Step) (x : Made) (ms : List Made) → Moves F L ms → Moves F L (x ∷ ms)
+  more-moves F L x ms t = record {
+    links = more-links F L x ms t.links;
     flush = suc t.flush;
-    link = suc t.link;
-    second = suc t.second;
-    drop = suc t.drop;
     flushed = t.flushed;
     link_after = let a = t.link_after in omega (arith, a);
-    linked = t.linked;
-    ends = ⊎_elim (λ e. inl (omega (arith, e.0), e.1)) (λ r. inr (omega (arith, r.0), omega (arith, r.1), r.2, r.3, r.4)) t.ends;
-    idle = later x ms idle (λ k m. (k ≢ suc t.link) × (k ≢ suc t.drop)) (λ k m h nd. t.idle k m h (unlike t.link nd.0, unlike t.drop nd.1));
   }
+
+  -- from the first flush on
+  pub record Moving (F L : Step) (ms : List Made) : Type 0 where
+    pub moves : Moves F L ms
+    pub open moves use *
+    pub idle : AllIdle ms link drop
 
   pub flushed-linking : (F L : Step) (x : Made) (ms : List Made) → is_idle x ≡ true → x ≡ (F, reply.Flushed) → Linking F L ms → Moving F L (x ∷ ms)
   flushed-linking F L x ms idle is t = record {
-    flush = 0;
-    link = suc t.link;
-    second = suc t.second;
-    drop = suc t.drop;
-    flushed = ap Some is;
-    link_after = omega arith;
-    linked = t.linked;
-    ends = ⊎_elim (λ e. inl (omega (arith, e.0), e.1)) (λ r. inr (omega (arith, r.0), omega (arith, r.1), r.2, r.3, r.4)) t.ends;
-    idle = later x ms idle (λ k m. (k ≢ suc t.link) × (k ≢ suc t.drop)) (λ k m h nd. t.idle k m h (unlike t.link nd.0, unlike t.drop nd.1));
+    moves = record { links = more-links F L x ms t.links; flush = 0; flushed = ap Some is; link_after = omega arith };
+    idle = more-idle x ms t.link t.drop idle t.idle;
   }
+
+  pub more-moving : (F L : Step) (x : Made) (ms : List Made) → is_idle x ≡ true → Moving F L ms → Moving F L (x ∷ ms)
+  more-moving F L x ms idle t = record { moves = more-moves F L x ms t.moves; idle = more-idle x ms t.link t.drop idle t.idle }

@@ -10,11 +10,13 @@ use Rattle.nofs_machine.specs.declared.replies.Reply.TheVariants as reply
 use Rattle.nofs_machine.specs.declared.replies.Refusal.{Refusal}
 use Rattle.nofs_client.specs.declared.commands.Command.TheVariants as command
 use Rattle.nofs_client.specs.declared.commands.Path.{Path}
+use Rattle.nofs_client.specs.declared.driver.Next.TheVariants.{Do}
 use Rattle.nofs_client.specs.declared.lines.Line.TheVariants as line
 use Rattle.nofs_client.specs.declared.places.Handle.{Handle}
 use Rattle.nofs_client.specs.declared.places.Location.{Location}
 use Rattle.nofs_client.specs.declared.progress.Progress.{Progress}
 use Rattle.nofs_client.specs.declared.task.Stage.TheVariants as stage
+use Rattle.nofs_client.specs.declared.task.Task.{Task}
 use Rattle.nofs_client.specs.declared.task.Task.TheVariants as task
 use Rattle.nofs_client.specs.Places.{last_name}
 use Rattle.nofs_client.specs.Asks.{task_asks}
@@ -66,6 +68,27 @@ module _ (from to : Path) where
 
   pub not-linked : (r : Reply) (why : Refusal) → r ≡ reply.Refused why → r ≡ reply.Linked → ⊥
   not-linked r why e h = let z : reply.Refused why ≡ reply.Linked = sym e ∙ h in cc z
+
+  -- A task of a move that links in the end asks for a step until it is answered
+  through : (T : Task) (s : Step) (R : Progress → List Made → Type 0) → task_asks (command.Move from to) T ≡ Do s
+      → ((why : Refusal) → task_after (command.Move from to) T (reply.Refused why) ≡ task.Ended (line.Refused why))
+      → ((x : Made) (ms : List Made) (p : Progress) → is_idle x ≡ true → R (progress_after (command.Move from to) p x.1) ms → R p (x ∷ ms))
+      → ((x : Made) (ms : List Made) (p : Progress) → x.0 ≡ s → is_refused x.1 ≡ false
+      → (progress_after (command.Move from to) p x.1).task ≡ task_after (command.Move from to) T x.1 → AllTold (x ∷ ms)
+      → Asked (command.Move from to) (progress_after (command.Move from to) p x.1) ms → Goes p (x ∷ ms) → R p (x ∷ ms))
+      → (ms : List Made) (p : Progress) → p.task ≡ T → AllTold ms → Asked (command.Move from to) p ms → Goes p ms → R p ms
+  through T s R asks ends again answered [] p t told asked (inl (k, d, h)) = absurd (none-in [] k (d, reply.Linked) refl h)
+  through T s R asks ends again answered [] p t told asked (inr says) =
+      absurd (unsaid from to p s line.Moved (ap (task_asks (command.Move from to)) t ∙ asks) says)
+  through T s R asks ends again answered (x ∷ ms) p t told asked goes =
+      elim (leads from to p s x (ap (task_asks (command.Move from to)) t ∙ asks)
+      (λ why. ap (λ t. task_after (command.Move from to) t (reply.Refused why)) t ∙ ends why) asked.0) [
+        | Again idle same ↦ again x ms p idle (through T s R asks ends again answered ms (progress_after (command.Move from to) p x.1) (same ∙ t)
+            (after-told x ms told) asked.1 (passes x ms p told idle goes))
+        | Stops by why r e ↦ absurd (refused-ends (progress_after (command.Move from to) p x.1) why e ms asked.1
+            (passes-other x ms p (not-linked x.1 why r) goes))
+        | Answered is ok e ↦ answered x ms p is ok (ap (λ (q : Progress). q.task) e ∙ ap (λ t. task_after (command.Move from to) t x.1) t) told asked.1 goes
+      ]
 
   module _ (place : Location) (into : Handle) where
     abbrev flush-step : Step
@@ -138,43 +161,24 @@ module _ (from to : Path) where
 
     linking : (ms : List Made) (p : Progress) → p.task ≡ task.Linking place into stage.Link → AllTold ms → Asked (command.Move from to) p ms → Goes p ms
         → Linking (Says from to p ms) drop-step flush-step link-it ms
-    linking [] p t told asked (inl (k, s, h)) = absurd (none-in [] k (s, reply.Linked) refl h)
-    linking [] p t told asked (inr says) = absurd (unsaid from to p link-it line.Moved (ap (task_asks (command.Move from to)) t) says)
-    linking (x ∷ ms) p t told asked goes =
-        elim (leads from to p link-it x (ap (task_asks (command.Move from to)) t)
-        (λ why. ap (λ t. task_after (command.Move from to) t (reply.Refused why)) t) asked.0) [
-          | Again idle same ↦
-              more-linking (Says from to p (x ∷ ms)) drop-step flush-step link-it x ms idle
-              (linking ms (progress_after (command.Move from to) p x.1) (same ∙ t) (after-told x ms told) asked.1 (passes x ms p told idle goes))
-          | Stops by why r e ↦ absurd (refused-ends (progress_after (command.Move from to) p x.1) why e ms asked.1
-              (passes-other x ms p (not-linked x.1 why r) goes))
-          | Answered is ok e ↦
-              let answer = told-link into.inode into.generation (last_name to) place.found.inode place.found.generation x.1
-              (subst (λ s. Told s x.1) is (first-told x ms told)) ok in
-              linked-flushing (Says from to p (x ∷ ms)) drop-step flush-step link-it x ms (λ j. (is j, answer j))
-              (flushing ms (progress_after (command.Move from to) p x.1)
-              (ap (λ (q : Progress). q.task) e ∙ ap (λ t. task_after (command.Move from to) t x.1) t
-              ∙ ap (λ r. task_after (command.Move from to) (task.Linking place into stage.Link) r) answer) (after-told x ms told) asked.1)
-        ]
+    linking ms p = through (task.Linking place into stage.Link) link-it (λ p ms. Linking (Says from to p ms) drop-step flush-step link-it ms) refl (λ why. refl)
+        (λ x ms p idle rest. more-linking (Says from to p (x ∷ ms)) drop-step flush-step link-it x ms idle rest)
+        (λ x ms p is ok next told asked goes.
+        let answer = told-link into.inode into.generation (last_name to) place.found.inode place.found.generation x.1
+        (subst (λ s. Told s x.1) is (first-told x ms told)) ok in
+        linked-flushing (Says from to p (x ∷ ms)) drop-step flush-step link-it x ms (λ j. (is j, answer j))
+        (flushing ms (progress_after (command.Move from to) p x.1)
+        (next ∙ ap (λ r. task_after (command.Move from to) (task.Linking place into stage.Link) r) answer) (after-told x ms told) asked)) ms p
 
     pub moving : (ms : List Made) (p : Progress) → p.task ≡ task.Linking place into stage.Flush → AllTold ms → Asked (command.Move from to) p ms → Goes p ms
         → Moving (Says from to p ms) drop-step flush-step link-it ms
-    moving [] p t told asked (inl (k, s, h)) = absurd (none-in [] k (s, reply.Linked) refl h)
-    moving [] p t told asked (inr says) = absurd (unsaid from to p flush-step line.Moved (ap (task_asks (command.Move from to)) t) says)
-    moving (x ∷ ms) p t told asked goes =
-        elim (leads from to p flush-step x (ap (task_asks (command.Move from to)) t)
-        (λ why. ap (λ t. task_after (command.Move from to) t (reply.Refused why)) t) asked.0) [
-          | Again idle same ↦
-              more-moving (Says from to p (x ∷ ms)) drop-step flush-step link-it x ms idle
-              (moving ms (progress_after (command.Move from to) p x.1) (same ∙ t) (after-told x ms told) asked.1 (passes x ms p told idle goes))
-          | Stops by why r e ↦ absurd (refused-ends (progress_after (command.Move from to) p x.1) why e ms asked.1
-              (passes-other x ms p (not-linked x.1 why r) goes))
-          | Answered is ok e ↦
-              let answer = told-flush place.found.inode place.found.generation x.1 (subst (λ s. Told s x.1) is (first-told x ms told)) ok in
-              let idle = looks-idle x flush-step is refl in
-              flushed-linking (Says from to p (x ∷ ms)) drop-step flush-step link-it x ms idle (λ j. (is j, answer j))
-              (linking ms (progress_after (command.Move from to) p x.1)
-              (ap (λ (q : Progress). q.task) e ∙ ap (λ t. task_after (command.Move from to) t x.1) t
-              ∙ ap (λ r. task_after (command.Move from to) (task.Linking place into stage.Flush) r) answer) (after-told x ms told) asked.1
-              (passes x ms p told idle goes))
-        ]
+    moving ms p = through (task.Linking place into stage.Flush) flush-step (λ p ms. Moving (Says from to p ms) drop-step flush-step link-it ms) refl
+        (λ why. refl)
+        (λ x ms p idle rest. more-moving (Says from to p (x ∷ ms)) drop-step flush-step link-it x ms idle rest)
+        (λ x ms p is ok next told asked goes.
+        let answer = told-flush place.found.inode place.found.generation x.1 (subst (λ s. Told s x.1) is (first-told x ms told)) ok in
+        let idle = looks-idle x flush-step is refl in
+        flushed-linking (Says from to p (x ∷ ms)) drop-step flush-step link-it x ms idle (λ j. (is j, answer j))
+        (linking ms (progress_after (command.Move from to) p x.1)
+        (next ∙ ap (λ r. task_after (command.Move from to) (task.Linking place into stage.Flush) r) answer) (after-told x ms told) asked
+        (passes x ms p told idle goes))) ms p

@@ -3,10 +3,11 @@
 mod asked;
 
 use crate::move_file;
+use crate::tests::Answer::{Dropped, File, Flushed, Folder, Full, Linked, No, Seen};
 use crate::tests::asked::AskedSteps;
 use nofs_client::{Client, Line, Path};
 use nofs_machine::{FileKind, Found, Refusal, Reply};
-use nofs_told::{InTurn, Notepad, Told, path_names};
+use nofs_told::{InTurn, Notepad, Told, full, path_names};
 use std::alloc::{AllocError, Global};
 use std::process::Abort;
 use std::test::Fail;
@@ -37,19 +38,14 @@ fn found(inode: u32, generation: u64, kind: FileKind) -> Reply {
 
 fn reply(answer: Answer) -> Reply {
     match answer {
-        Answer::File => found(3, 7, FileKind::File),
-        Answer::Folder => found(4, 9, FileKind::Directory),
-        Answer::Flushed => Reply::Flushed,
-        Answer::Linked => Reply::Linked,
-        Answer::Dropped => Reply::Dropped { removed: false },
-        Answer::Seen => Reply::Seen { used: false },
-        Answer::Full(unverified) => Reply::Refused(Refusal::Full {
-            needed: 1,
-            free: 0,
-            unverified,
-            next: 24,
-        }),
-        Answer::No(refusal) => Reply::Refused(refusal),
+        File => found(3, 7, FileKind::File),
+        Folder => found(4, 9, FileKind::Directory),
+        Flushed => Reply::Flushed,
+        Linked => Reply::Linked,
+        Dropped => Reply::Dropped { removed: false },
+        Seen => Reply::Seen { used: false },
+        Full(unverified) => Reply::Refused(full(unverified)),
+        No(refusal) => Reply::Refused(refusal),
     }
 }
 
@@ -60,8 +56,7 @@ fn stand_in(alloc: Global, answers: &[Answer]) -> Result<StandIn, AllocError> {
     for answer in answers.iter().rev() {
         replies.push(reply(*answer))?;
     }
-    let pad = Notepad::new(alloc);
-    let asked = AskedSteps { pad };
+    let asked = AskedSteps(Notepad::new(alloc));
     Ok(Told::new(InTurn { replies, asked }))
 }
 
@@ -82,7 +77,7 @@ fn line_text(line: &Line) -> &'static str {
 
 /// The notes of the steps that a client made.
 fn asked_of(client: Client<StandIn>) -> Notepad {
-    client.into_inner().answers.asked.pad
+    client.into_inner().answers.asked.0
 }
 
 /// The steps and the line of a move to which these replies come.
@@ -116,28 +111,21 @@ const MOVES: [Row<'static>; 3] = [
     (
         "/a",
         "/d/b",
-        &[
-            Answer::File,
-            Answer::Folder,
-            Answer::Flushed,
-            Answer::Linked,
-            Answer::Flushed,
-            Answer::Dropped,
-        ],
+        &[File, Folder, Flushed, Linked, Flushed, Dropped],
         "look 1 1 a; look 1 1 d; flush 3 7; link 4 9 b; flush 3 7; drop 1 1 a; moved",
     ),
     (
         "/d/a",
         "/b",
         &[
-            Answer::Folder,
-            Answer::File,
-            Answer::Flushed,
-            Answer::Full(2),
-            Answer::Seen,
-            Answer::Linked,
-            Answer::Flushed,
-            Answer::Dropped,
+            Folder,
+            File,
+            Flushed,
+            Full(2),
+            Seen,
+            Linked,
+            Flushed,
+            Dropped,
         ],
         "look 1 1 d; look 4 9 a; flush 3 7; link 1 1 b; block 0 24; link 1 1 b; flush 3 7; drop 4 9 a; moved",
     ),
@@ -151,49 +139,29 @@ fn a_move_makes_its_steps_and_says_moved(rt: HostRuntime) -> Result<(), Fail> {
 
 /// Moves of which a step is refused.
 const REFUSED: [Row<'static>; 5] = [
-    (
-        "/a",
-        "/b",
-        &[Answer::No(Refusal::Missing)],
-        "look 1 1 a; missing",
-    ),
+    ("/a", "/b", &[No(Refusal::Missing)], "look 1 1 a; missing"),
     (
         "/d",
         "/e",
-        &[
-            Answer::Folder,
-            Answer::Flushed,
-            Answer::No(Refusal::IsDirectory),
-        ],
+        &[Folder, Flushed, No(Refusal::IsDirectory)],
         "look 1 1 d; flush 4 9; link 1 1 e; is directory",
     ),
     (
         "/a",
         "/a",
-        &[Answer::File, Answer::Flushed, Answer::No(Refusal::Exists)],
+        &[File, Flushed, No(Refusal::Exists)],
         "look 1 1 a; flush 3 7; link 1 1 a; exists",
     ),
     (
         "/a",
         "/b",
-        &[
-            Answer::File,
-            Answer::Flushed,
-            Answer::Linked,
-            Answer::No(Refusal::WriteFault),
-        ],
+        &[File, Flushed, Linked, No(Refusal::WriteFault)],
         "look 1 1 a; flush 3 7; link 1 1 b; flush 3 7; write fault",
     ),
     (
         "/a",
         "/b",
-        &[
-            Answer::File,
-            Answer::Flushed,
-            Answer::Linked,
-            Answer::No(Refusal::OutOfMemory),
-            Answer::Dropped,
-        ],
+        &[File, Flushed, Linked, No(Refusal::OutOfMemory), Dropped],
         "look 1 1 a; flush 3 7; link 1 1 b; flush 3 7; no memory",
     ),
 ];

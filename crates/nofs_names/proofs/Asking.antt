@@ -1,15 +1,14 @@
 -- What a Make asks for, and what it claims.
-use Rattle.std.proofs.Common.{◌≡◌, ◌≢◌, ℕ, zero, suc, ◌+◌, ◌-◌, ◌*◌, ◌/◌, ◌^◌, ◌<◌, ◌≤◌, ◌⊎◌, true, false, eqb, ne_eqb, ltb, not, List, [], ◌∷◌}
+use Rattle.std.proofs.Common.{◌≡◌, ◌≢◌, ℕ, zero, suc, ◌+◌, ◌-◌, ◌*◌, ◌/◌, ◌^◌, ◌<◌, ◌≤◌, ◌⊎◌, Bool, true, false, eqb, ne_eqb, ltb, not, List, [], ◌∷◌, length}
+use Rattle.std.proofs.Common.{Some, inl, inr, refl, sym, ap, ◌∙◌, subst, arith, Contains}
 use Rattle.nofs_agree.proofs.Learning.{told-other, told-set}
-use Rattle.std.proofs.Common.{length, Some, inl, inr, refl, sym, ap, ◌∙◌, subst, arith, Contains}
 use Rattle.std.specs.Prelude.{slice_set}
 use Rattle.std.proofs.lemmas.Bool.{cases_eq}
 use Rattle.nofs_dirent.specs.Entries.{entry_limit}
 use Rattle.nofs_bits.specs.Bits.{is_set}
 use Rattle.nofs_disk.specs.Disk.{DiskState}
 use Rattle.nofs_model.specs.Cells.{FileKind, Pointer, SuperBlock, null}
-use Rattle.nofs_model.specs.Image.{Image, value_in, leaf, path_of, find, files_in, agreed, Files, NodeState, Absent, Present, Damaged}
-use Rattle.nofs_model.specs.Image.{node_in}
+use Rattle.nofs_model.specs.Image.{Image, value_in, leaf, path_of, find, files_in, agreed, Files, NodeState, Absent, Present, Damaged, node_in}
 use Rattle.nofs_model.specs.declared.path.PathAnswer.TheVariants as answer
 use Rattle.nofs_model.proofs.Paths.{path-direct, path-leaf}
 use Rattle.nofs_machine.specs.Meta.{is_bytes}
@@ -30,7 +29,7 @@ use Rattle.nofs_state.proofs.Maps.{set-here, set-other, set-length}
 use Rattle.nofs_names.specs.Placing.{FitsSlot, IsEntrySlot, slot_blocks}
 use Rattle.nofs_names.specs.declared.placing.EntrySlot.{EntrySlot}
 use Rattle.nofs_names.specs.declared.placing.EntrySlot.TheVariants as entry
-use Rattle.nofs_names.proofs.Claiming.{Taken}
+use Rattle.nofs_names.proofs.Claiming.{TakenBoth, TakenInode}
 
 plus-none : (m : ℕ) → 1 + (0 + m) ≡ 1 + m
 plus-none m = omega arith
@@ -143,9 +142,6 @@ module _ (d : DiskState) (k : Books) (H : List Entry1) (p : Past) (safe : IsSafe
 
 -- The books after the claims
 
-null-unclaimed : is_claimed null ≡ false
-null-unclaimed = refl
-
 not-null : (x : Pointer) → null ≡ x → is_claimed x ≡ true → ⊥
 not-null x e t = let z : is_claimed x ≡ false = ap is_claimed (sym e) in cc (z, t)
 
@@ -153,62 +149,65 @@ module _ (k : Books) (i n : ℕ) (low : 1 ≤ i) (high : i ≤ length k.free_ino
   other-place : (j : ℕ) → 1 ≤ j → j ≢ i → j - 1 ≢ i - 1
   other-place j a ne e = ne (let l = low in omega (arith, a, l, e))
 
-  pub taken-none : Taken k (made_books k i) (make_claims i n null null) 0
+  inode-taken : TakenInode k (slice_set k.free_inodes (i - 1) false) (slice_set k.agreement (i - 1) (Some true)) i
+  inode-taken = record {
+    here = set-here k.free_inodes (i - 1) false (let h = high in let l = low in omega (arith, h, l));
+    others = λ j a ne. set-other k.free_inodes (i - 1) (j - 1) false (other-place j a ne);
+    agreed = λ a t. told-set k.agreement i (Some true) a low t;
+    told_as = λ j ne. told-other k.agreement i j (Some true) low ne;
+  }
+
+  -- with these blocks free, and this serial
+  abbrev books : List Bool → ℕ → Books
+  books free m = record k {
+    free_inodes = slice_set k.free_inodes (i - 1) false;
+    agreement = slice_set k.agreement (i - 1) (Some true);
+    free_blocks = free;
+    serial = m;
+  }
+
+  pub taken-none : TakenBoth k (made_books k i) (make_claims i n null null) 0
   taken-none = record {
-    same = ap (λ (m : ℕ). record k { free_inodes = slice_set k.free_inodes (i - 1) false; agreement = slice_set k.agreement (i - 1) (Some true); serial = m })
-        (let e : k.serial + 1 ≡ k.serial + 1 + 0 = omega arith in e);
-    inode_here = set-here k.free_inodes (i - 1) false (let h = high in let l = low in omega (arith, h, l));
-    inodes = λ j a ne. set-other k.free_inodes (i - 1) (j - 1) false (other-place j a ne);
-    agreed_here = λ a t. told-set k.agreement i (Some true) a low t;
-    agreed = λ j ne. told-other k.agreement i j (Some true) low ne;
-    here = λ x h. absurd (elim h.1 [ inl e ↦ not-null x e h.0 | inr r ↦ elim r [ inl e ↦ not-null x e h.0 | inr e ↦ not-null x e h.0 ] ]);
-    other = λ m none. refl;
+    all = record {
+      same = ap (books k.free_blocks) (let e : k.serial + 1 ≡ k.serial + (1 + 0) = omega arith in e);
+      here = λ x h. absurd (elim h.1 [ inl e ↦ not-null x e h.0 | inr r ↦ elim r [ inl e ↦ not-null x e h.0 | inr e ↦ not-null x e h.0 ] ]);
+      other = λ m none. refl;
+    };
+    inode = inode-taken;
   }
 
   pub taken-one : (x : Pointer) → x.block < length k.free_blocks → is_claimed x ≡ true
-      → Taken k (claimed_books (made_books k i) x.block) (make_claims i n x null) 1
+      → TakenBoth k (claimed_books (made_books k i) x.block) (make_claims i n x null) 1
   taken-one x range named = record {
-    same = ap (λ (m : ℕ). record k {
-      free_inodes = slice_set k.free_inodes (i - 1) false;
-      agreement = slice_set k.agreement (i - 1) (Some true);
-      free_blocks = slice_set k.free_blocks x.block false;
-      serial = m;
-    }) (let e : k.serial + 1 + 1 ≡ k.serial + 1 + 1 = refl in e);
-    inode_here = set-here k.free_inodes (i - 1) false (let h = high in let l = low in omega (arith, h, l));
-    inodes = λ j a ne. set-other k.free_inodes (i - 1) (j - 1) false (other-place j a ne);
-    agreed_here = λ a t. told-set k.agreement i (Some true) a low t;
-    agreed = λ j ne. told-other k.agreement i j (Some true) low ne;
-    here = λ q h. elim h.1 [
-      | inl e ↦ subst (λ (z : Pointer). is_set (slice_set k.free_blocks x.block false) z.block ≡ false) e (set-here k.free_blocks x.block false range)
-      | inr r ↦ absurd (elim r [ inl e ↦ not-null q e h.0 | inr e ↦ not-null q e h.0 ])
-    ];
-    other = λ m none. set-other k.free_blocks x.block m false (none x (named, inl refl));
+    all = record {
+      same = ap (books (slice_set k.free_blocks x.block false)) (let e : k.serial + 1 + 1 ≡ k.serial + (1 + 1) = omega arith in e);
+      here = λ q h. elim h.1 [
+        | inl e ↦ subst (λ (z : Pointer). is_set (slice_set k.free_blocks x.block false) z.block ≡ false) e (set-here k.free_blocks x.block false range)
+        | inr r ↦ absurd (elim r [ inl e ↦ not-null q e h.0 | inr e ↦ not-null q e h.0 ])
+      ];
+      other = λ m none. set-other k.free_blocks x.block m false (none x (named, inl refl));
+    };
+    inode = inode-taken;
   }
 
   pub taken-two : (x y : Pointer) → x.block < length k.free_blocks → y.block < length k.free_blocks → is_claimed x ≡ true → is_claimed y ≡ true
-      → Taken k (claimed_books (claimed_books (made_books k i) x.block) y.block) (make_claims i n x y) 2
+      → TakenBoth k (claimed_books (claimed_books (made_books k i) x.block) y.block) (make_claims i n x y) 2
   taken-two x y range range_y named named_y = record {
-    same = ap (λ (m : ℕ). record k {
-      free_inodes = slice_set k.free_inodes (i - 1) false;
-      agreement = slice_set k.agreement (i - 1) (Some true);
-      free_blocks = slice_set (slice_set k.free_blocks x.block false) y.block false;
-      serial = m;
-    })
-        (let e : k.serial + 1 + 1 + 1 ≡ k.serial + 1 + 2 = omega arith in e);
-    inode_here = set-here k.free_inodes (i - 1) false (let h = high in let l = low in omega (arith, h, l));
-    inodes = λ j a ne. set-other k.free_inodes (i - 1) (j - 1) false (other-place j a ne);
-    agreed_here = λ a t. told-set k.agreement i (Some true) a low t;
-    agreed = λ j ne. told-other k.agreement i j (Some true) low ne;
-    here = λ q h. elim h.1 [
-      | inl e ↦ subst (λ (z : Pointer). is_set (slice_set (slice_set k.free_blocks x.block false) y.block false) z.block ≡ false) e
-          (first (cases_eq x.block y.block))
-      | inr r ↦ elim r [
-        | inl e ↦ subst (λ (z : Pointer). is_set (slice_set (slice_set k.free_blocks x.block false) y.block false) z.block ≡ false) e second
-        | inr e ↦ absurd (not-null q e h.0)
-      ]
-    ];
-    other = λ m none. set-other (slice_set k.free_blocks x.block false) y.block m false (none y (named_y, inr (inl refl)))
-        ∙ set-other k.free_blocks x.block m false (none x (named, inl refl));
+    all = record {
+      same = ap (books (slice_set (slice_set k.free_blocks x.block false) y.block false)) (let e : k.serial + 1 + 1 + 1 ≡ k.serial +
+          (1 + 2) = omega arith in e);
+      here = λ q h. elim h.1 [
+        | inl e ↦ subst (λ (z : Pointer). is_set (slice_set (slice_set k.free_blocks x.block false) y.block false) z.block ≡ false) e
+            (first (cases_eq x.block y.block))
+        | inr r ↦ elim r [
+          | inl e ↦ subst (λ (z : Pointer). is_set (slice_set (slice_set k.free_blocks x.block false) y.block false) z.block ≡ false) e second
+          | inr e ↦ absurd (not-null q e h.0)
+        ]
+      ];
+      other = λ m none. set-other (slice_set k.free_blocks x.block false) y.block m false (none y (named_y, inr (inl refl)))
+          ∙ set-other k.free_blocks x.block m false (none x (named, inl refl));
+    };
+    inode = inode-taken;
   }
     where
       inside : y.block < length (slice_set k.free_blocks x.block false)

@@ -9,7 +9,7 @@ use Rattle.nofs_ptrs.specs.Paths.{slot_limit}
 use Rattle.nofs_bits.specs.Bits.{is_set}
 use Rattle.nofs_disk.specs.Disk.{DiskState, StaysButFaults}
 use Rattle.std.specs.Prelude.{IfErr, OnOk}
-use Rattle.nofs_disk.specs.Chains.{StaysButFaults-refl, StaysButFaults-trans}
+use Rattle.nofs_disk.specs.Chains.{StaysButFaults-trans}
 use Rattle.nofs_disk.specs.declared.Failed.{Failed}
 use Rattle.nofs_machine.specs.declared.replies.Refusal.{Refusal}
 use Rattle.nofs_model.specs.Cells.{Pointer, SuperBlock}
@@ -20,11 +20,10 @@ use Rattle.nofs_model.proofs.Owners.{owner-of, owner-holds, owner-slot}
 use Rattle.nofs_model.proofs.Paths.{path_of-number}
 use Rattle.nofs_ptrs.specs.PathLaws.{path-far}
 use Rattle.nofs_agree.specs.Finding.{FindsSlot}
-use Rattle.nofs_agree.specs.Reading.{IsLast}
 use Rattle.nofs_agree.specs.declared.reads.LastRead.{LastRead}
 use Rattle.nofs_state.proofs.Maps.{set-none}
 use Rattle.nofs_names.specs.Removing.{is_of}
-use Rattle.nofs_state.proofs.MarkedSlots.{fails-on, marked-begins}
+use Rattle.nofs_state.proofs.MarkedSlots.{fails-on}
 use Rattle.nofs_names.specs.Owning.{MarksInode}
 use Rattle.nofs_state.specs.Owning.{MarkFails, MarksAll, Marked, IsBlockAmong}
 
@@ -206,18 +205,6 @@ marks-join old mid new at i from cut to bits b c last next low high f s =
       kept = q.kept;
       refused = tt;
     }
-
-pub marks-begin : (old : DiskState) (at : SuperBlock) (i from : ℕ) (bits : List Bool) (last : LastRead) → IsLast old last
-    → MarksAll old old at i from from bits bits last (Ok tt)
-marks-begin old at i from bits last kept = record
-    { stays = StaysButFaults-refl old; marked_as = marked-begins old.now old.tells at i from bits; kept = kept; refused = tt }
-
-pub marks-fail : (old mid new : DiskState) (at : SuperBlock) (i from cut to end : ℕ) (bits b c z : List Bool) (last next : LastRead) (why : Refusal)
-    → MarksAll old mid at i from cut bits b last (Ok tt) → MarksAll mid new at i cut to b c next (Err why)
-    → MarksAll old new at i from end bits z next (Err why)
-marks-fail old mid new at i from cut to end bits b c z last next why m s =
-    let q = marks-after old mid new at i cut to b c next (Err why) m.stays s in
-    record { stays = q.stays; marked_as = tt; kept = tt; refused = q.refused }
 
 pub inode-marked : (old mid new : DiskState) (at : SuperBlock) (i : ℕ) (z b c : List Bool) (last next : LastRead) → z ≡ replicate at.blocks false
     → MarksAll old mid at i 0 slot_limit z b last (Ok tt) → MarksAll mid new at i (2 ^ 32) (2 ^ 32 + 66) b c next (Ok tt)

@@ -1,6 +1,6 @@
 -- The disk after one cell of the data area was written.
-use Rattle.std.proofs.Common.{◌≡◌, ◌≢◌, ℕ, ◌+◌, ◌-◌, ◌/◌, ◌%◌, ◌<◌, ◌≤◌, Bool, true, false, leb, ltb, ltb-true, leb-true, ◌&&◌, [], ◌∷◌, length, refl, sym}
-use Rattle.std.proofs.Common.{ap, ◌∙◌, arith}
+use Rattle.std.proofs.Common.{◌≡◌, ◌≢◌, ℕ, ◌+◌, ◌-◌, ◌/◌, ◌%◌, ◌<◌, ◌≤◌, Bool, true, false, leb, ltb, ltb-true, leb-true, ◌&&◌, [], ◌∷◌, length, refl, sym, ap}
+use Rattle.std.proofs.Common.{◌∙◌, arith}
 use Rattle.std.proofs.lemmas.List.{get_or-set_same, get_or-set_other}
 use Rattle.nofs_disk.specs.Disk.{cell_at, no_cell}
 use Rattle.nofs_model.specs.Cells.{Cell, Pointer, SuperBlock, record_at, free_record}
@@ -17,19 +17,22 @@ outside : (X : Image) (j : ℕ) → is_inode X j ≡ false → inode X j ≡ fre
 unfolding inode
 outside X j e = rw e refl
 
+-- where a block of the data area lies
+pub data-place : (X : Image) (b : ℕ) → is_data_block X b ≡ true → (1 + (super_at X).inodes / 4 ≤ b) × (b < (super_at X).blocks)
+data-place X b area =
+    let p = and-both (leb (1 + (super_at X).inodes / 4) b) (ltb b (super_at X).blocks) area in
+    (leb-true (1 + (super_at X).inodes / 4) b p.0, ltb-true b (super_at X).blocks p.1)
+
 module _ (X : Image) (x : Pointer) (c : Cell) (whole : (super_at X).blocks ≤ length X) (quarters : (super_at X).inodes % 4 ≡ 0)
     (area : is_data_block X x.block ≡ true) where
   abbrev pub after : Image
   after = image_after ((x.block, c) ∷ []) X
 
-  parts : (leb (1 + (super_at X).inodes / 4) x.block ≡ true) × (ltb x.block (super_at X).blocks ≡ true)
-  parts = and-both (leb (1 + (super_at X).inodes / 4) x.block) (ltb x.block (super_at X).blocks) area
-
   above : 1 + (super_at X).inodes / 4 ≤ x.block
-  above = leb-true (1 + (super_at X).inodes / 4) x.block parts.0
+  above = (data-place X x.block area).0
 
   below : x.block < (super_at X).blocks
-  below = ltb-true x.block (super_at X).blocks parts.1
+  below = (data-place X x.block area).1
 
   pub here : cell_at after x.block ≡ c
   here = get_or-set_same X x.block c no_cell (let b = below in let w = whole in omega (arith, b, w))

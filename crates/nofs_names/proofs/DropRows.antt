@@ -1,6 +1,6 @@
 -- The refusals of Drop.
-use Rattle.std.proofs.Common.{◌≡◌, ℕ, Bool, true, false, not, eqb, ◌&&◌, is_some, List, [], ◌∷◌, ◌++◌, Option, Some, None, IsTrue, Result, Ok, Err, IfErr}
-use Rattle.std.proofs.Common.{refl, sym, ap, ◌∙◌, ◌<◌, subst, arith}
+use Rattle.std.proofs.Common.{◌≡◌, ℕ, Bool, true, false, not, eqb, ◌&&◌, is_some, List, [], ◌∷◌, ◌++◌, Option, Some, None, IsTrue, Result, Ok, Err, IfErr, refl}
+use Rattle.std.proofs.Common.{sym, ap, ◌∙◌, ◌<◌, subst, arith}
 use Rattle.nofs_dirent.specs.Entries.{entry_limit}
 use Rattle.nofs_disk.specs.Disk.{DiskState, IsDisk, StaysButFaults}
 use Rattle.nofs_disk.specs.Chains.{StaysButFaults-refl, StaysButFaults-trans}
@@ -35,7 +35,7 @@ use Rattle.nofs_names.specs.declared.searching.Paired.{Paired}
 use Rattle.nofs_names.proofs.Least.{least-none}
 use Rattle.nofs_names.proofs.Looked.{missing-late}
 use Rattle.nofs_names.proofs.Onward.{directory-on, there-on, paired-on, found-on, no-names-on}
-use Rattle.nofs_names.proofs.Parts.{first-left, first-right, fails-after, fails-given, goes-fails}
+use Rattle.nofs_names.proofs.Parts.{first-left, first-right, fails-after, goes-fails, opened-fails}
 
 filled-late : (W : World) (d : ℕ) (name : List ℕ) → IsLate (not_empty W d name)
 filled-late W d name = go (found W.files d name)
@@ -91,9 +91,7 @@ module _ (old : DiskState) (k : Books) (d g : ℕ) (name : List ℕ) (is : IsDis
             → Goes old k new k (step.Drop d g name) no_claims (reply.Refused why)
         drop-missing res why finds e = goes-fails old new k (step.Drop d g name) (missing_rows d name) why is safe going
             (StaysButFaults-trans old mid new opens.stays finds.stays)
-            (fails-given old new (IsThere d) (KnownTrue k) (missing_rows d name) why opens.there
-            (fails-after old mid new (IsThere d) (missing_rows d name) why opens.stays
-            (subst (λ (q : Result Paired Refusal). IfErr q (Fails mid new (IsThere d) (missing_rows d name))) e finds.refused)))
+            (opened-fails old mid new k d (missing_rows d name) res why opens.stays opens.there e finds.refused)
             (λ t H p o q. rows-are p.world p.world ∙ first-right (directory_rows d g p.world) (missing_rows d name p.world ++ (not_empty p.world d name ∷ []))
             (none-before t H p o) ∙ first-left (missing_rows d name p.world) (not_empty p.world d name ∷ []) why q) late
 

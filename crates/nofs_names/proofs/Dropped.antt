@@ -1,11 +1,10 @@
 -- The contract of the writes of Drop where the inode has another name.
-use Rattle.std.proofs.Common.{◌≡◌, ℕ, ◌*◌, ◌/◌, ◌%◌, ◌<◌, Bool, true, false, cond, not, ◌&&◌, List, [], ◌∷◌, length, Option, Some, None, IsTrue, Result, Ok}
-use Rattle.std.proofs.Common.{Err, refl, sym, ap, ◌∙◌, subst, subst₂, arith}
+use Rattle.std.proofs.Common.{◌≡◌, ℕ, ◌/◌, ◌%◌, ◌<◌, Bool, true, false, cond, not, ◌&&◌, List, [], ◌∷◌, Option, Some, None, IsTrue, Result, refl, sym, ap, ◌∙◌}
+use Rattle.std.proofs.Common.{subst}
 use Rattle.std.specs.List.{list_any}
 use Rattle.nofs_disk.specs.Disk.{DiskState, IsDisk, StaysButFaults, cell_at}
-use Rattle.nofs_disk.specs.Number.{put_bytes, zeros}
 use Rattle.nofs_model.specs.Cells.{Cell, BackLink, Pointer, Record, tag_of}
-use Rattle.nofs_model.specs.Image.{Image, path_of, find, files_in, agreed, is_special, is_pair, FileState, Files}
+use Rattle.nofs_model.specs.Image.{Image, path_of, find, is_special, is_pair, FileState, Files}
 use Rattle.nofs_model.specs.declared.path.PathAnswer.TheVariants as answer
 use Rattle.nofs_machine.specs.Meta.{Gone, Is, is_gone}
 use Rattle.nofs_machine.specs.Machine.{drop_meta, without_link, link_to}
@@ -16,30 +15,27 @@ use Rattle.nofs_machine.specs.declared.steps.Step.TheVariants as step
 use Rattle.nofs_machine.specs.declared.replies.Reply.TheVariants as reply
 use Rattle.nofs_machine.specs.declared.replies.Refusal.{Refusal}
 use Rattle.nofs_machine.specs.declared.replies.Refusal.TheVariants as refusal
-use Rattle.nofs_crashlaw.proofs.Below.{live-stands}
 use Rattle.nofs_agree.specs.Reading.{KnowsInode, KnowsDirectory}
-use Rattle.nofs_agree.proofs.Climbs.{KnowsInode-on}
 use Rattle.nofs_law_numbers.specs.Cells.{table_tag}
 use Rattle.nofs_state.specs.Books.{IsSafe}
 use Rattle.nofs_state.specs.Standing.{IsOpen, Past}
 use Rattle.nofs_state.specs.Steps.{Goes, entry}
-use Rattle.nofs_state.specs.Writing.{IsApart, Stores, Stored, NotStored}
+use Rattle.nofs_state.specs.Writing.{Stores}
 use Rattle.nofs_state.specs.declared.books.Books.{Books}
-use Rattle.nofs_state.proofs.Done.{goes-done}
-use Rattle.nofs_state.proofs.Faults.{goes-fault, stopped_books, stopped_world}
-use Rattle.nofs_state.proofs.TwoWrites.{safe-writes}
 use Rattle.nofs_state.proofs.Keeping.{goes-after, open-back, reads-keep, safe-keeps}
 use Rattle.nofs_state.proofs.Replies.{open-files}
-use Rattle.nofs_state.proofs.Machine.{agreed-live, are-agreed}
-use Rattle.nofs_state.proofs.Tables.{HasRecord, table_block}
+use Rattle.nofs_state.proofs.Machine.{are-agreed}
+use Rattle.nofs_state.proofs.Tables.{table_block}
 use Rattle.nofs_names.specs.Searching.{IsFoundEntry}
 use Rattle.nofs_names.specs.Refusing.{IsThere, KnownTrue}
 use Rattle.nofs_names.specs.Renames.{FoundIn, done_answer}
-use Rattle.nofs_state.specs.Owing.{RowsPass}
+use Rattle.nofs_state.specs.Owing.{RowsPass, RecordIn}
 use Rattle.nofs_names.specs.Drops.{ClearedIn, HasNoNames, KeepsName, relinked}
-use Rattle.nofs_state.specs.Owing.{RecordIn}
 use Rattle.nofs_names.specs.declared.searching.Paired.{Paired}
-use Rattle.nofs_names.proofs.Dropping.{its, kept-ends, kept-done, drop-proper, EndsWell, drop-numbered}
+use Rattle.nofs_law_untouched.proofs.Matching.{Matched}
+use Rattle.nofs_names.proofs.DropFacts.{IsDropping, drop-apart, dropping-on, drops-in, is-dropping}
+use Rattle.nofs_names.proofs.Dropping.{Drops, its, kept-comes}
+use Rattle.nofs_names.proofs.NameSteps.{NameComes, stores-goes}
 
 -- the meta that stays, by the file
 meta-of : (F : Files) (i : ℕ) (link : BackLink) (f : FileState) → F i ≡ Some f → is_gone (drop_meta F i link) ≡ false
@@ -62,95 +58,33 @@ meta-of F i link f e stays = go (not (is_special i) && not (list_any (λ l. is_p
     go false e h = e
 
 pub dropped-goes : (b new : DiskState) (k l : Books) (d g : ℕ) (name : List ℕ) (r : Record) (x : Pointer) (c1 c2 : Cell) (q : Paired)
-    (result : Result (Unit {0}) Refusal) → IsDisk b → IsDisk new → IsSafe b k → k.stopped ≡ false
-    → KnowsDirectory b k.at d r.generation r → r.generation ≡ g → (IsTrue b.tells → KnownTrue k b.now → IsThere d b.now) → KnowsInode b k.at q.inode q.record
-    → FoundIn b d name q → HasNoNames b q.inode → KeepsName b k d g q → 0 < x.block
-    → (IsTrue b.tells → find b.now d (path_of (q.entry / 16)) ≡ answer.Holds x) → ClearedIn b x (q.entry % 16) c1
+    (result : Result (Unit {0}) Refusal) → IsDisk b → IsDisk new → IsSafe b k → k.stopped ≡ false → IsDropping b k d g name r x c1 q → KeepsName b k d g q
     → (IsTrue b.tells → RecordIn (cell_at b.now (table_block q.inode)) q.inode (relinked q.record (link_to d q.entry g)) c2)
     → tag_of c2.tag ≡ Some (table_tag (table_block q.inode))
     → RowsPass b k (step.Drop d g name) → Stores b k new l ((x.block, c1) ∷ (table_block q.inode, c2) ∷ []) result
     → Goes b k new l (step.Drop d g name) no_claims (done_answer (reply.Dropped false) result)
-dropped-goes b new k l d g name r x c1 c2 q result is_b is_new safe going directory gen there record-known found-in no_names keeps positive held cleared
-    table table-tag pass stores = go stores
+dropped-goes b new k l d g name r x c1 c2 q result is_b is_new safe going it keeps table table-tag pass stores =
+    stores-goes b new k k l (step.Drop d g name) no_claims (reply.Dropped false) ((x.block, c1) ∷ (table_block q.inode, c2) ∷ []) result is_b is_new safe going
+    safe (record { at = refl; history = refl; stopped = refl }) (drop-apart b k d g name r x c1 q it c2) refl refl refl comes pass stores
   where
-    apart : IsApart ((x.block, c1) ∷ (table_block q.inode, c2) ∷ []) 0
-    apart = ((λ e. omega (arith, e, positive)), ((λ e. omega (arith, e)), tt))
+    comes : (tells : IsTrue b.tells) (H : List Entry1) (p : Past) → IsOpen b k H p
+        → NameComes b H p k (step.Drop d g name) no_claims (reply.Dropped false) ((x.block, c1) ∷ (table_block q.inode, c2) ∷ [])
+    comes tells H p o = kept-comes b k H p d g name r x c1 c2 q (relinked q.record (link_to d q.entry g)) is_b tells o facts (it.known.same tells) kept refl
+      where
+        facts : Drops b p d g name r x c1 c2 q (relinked q.record (link_to d q.entry g))
+        facts = drops-in b k d g name r x c1 q it H p tells safe o c2 (relinked q.record (link_to d q.entry g)) (table tells) table-tag
 
-    agrees : (H : List Entry1) (p : Past) → IsTrue b.tells → IsOpen b k H p → agreed (files_in b.now) d ≡ true
-    agrees H p tells o = there tells (are-agreed b k H p safe o)
+        f : IsFoundEntry p.world.files b.now d name q
+        f = facts.pair
 
-    pair : (H : List Entry1) (p : Past) → IsTrue b.tells → IsOpen b k H p → IsFoundEntry p.world.files b.now d name q
-    pair H p tells o = found-in tells (agrees H p tells o) p.world.files (open-files b k H p o)
+        m : Matched p.world.files b.now q.inode
+        m = its b k H p d g name r x c1 c2 q (relinked q.record (link_to d q.entry g)) is_b tells o facts
 
-    has : (H : List Entry1) (p : Past) → IsTrue b.tells → IsOpen b k H p → HasRecord b.now q.inode (relinked q.record (link_to d q.entry g)) c2
-    has H p tells o = let f = pair H p tells o in record {
-      range = (live-stands b.now q.inode (agreed-live b.now q.inode f.pair.agreed)).range;
-      here = (table tells).here;
-      others = (table tells).others;
-    }
-
-    kept : (H : List Entry1) (p : Past) (tells : IsTrue b.tells) (o : IsOpen b k H p)
-        → drop_meta p.world.files (pair H p tells o).pair.entry.inode (link_to d q.entry g)
-        ≡ Is (its b new k H p d g name r x c1 c2 q (relinked q.record (link_to d q.entry g)) is_b tells o (directory.known.same tells) directory.kind gen
-        (agrees H p tells o) (pair H p tells o) (held tells) (cleared.whole tells) (cleared.payload tells) (cleared.tag tells) (has H p tells o)
-        table-tag (no_names tells p.world.files (open-files b k H p o))).file.kind
-        (its b new k H p d g name r x c1 c2 q (relinked q.record (link_to d q.entry g)) is_b tells o (directory.known.same tells) directory.kind gen
-        (agrees H p tells o) (pair H p tells o) (held tells) (cleared.whole tells) (cleared.payload tells) (cleared.tag tells) (has H p tells o)
-        table-tag (no_names tells p.world.files (open-files b k H p o))).file.size
-        (without_link (link_to d q.entry g) (its b new k H p d g name r x c1 c2 q (relinked q.record (link_to d q.entry g)) is_b tells o
-        (directory.known.same tells) directory.kind gen (agrees H p tells o) (pair H p tells o) (held tells) (cleared.whole tells)
-        (cleared.payload tells) (cleared.tag tells) (has H p tells o) table-tag (no_names tells p.world.files (open-files b k H p o))).file.links)
-    kept H p tells o =
-        let m = its b new k H p d g name r x c1 c2 q (relinked q.record (link_to d q.entry g)) is_b tells o (directory.known.same tells) directory.kind gen
-        (agrees H p tells o) (pair H p tells o) (held tells) (cleared.whole tells) (cleared.payload tells) (cleared.tag tells) (has H p tells o)
-        table-tag (no_names tells p.world.files (open-files b k H p o)) in
-        let f = pair H p tells o in
-        meta-of p.world.files f.pair.entry.inode (link_to d q.entry g) m.file (ap p.world.files f.pair.names ∙ m.is)
-        (ap (λ (i : ℕ). is_gone (drop_meta p.world.files i (link_to d q.entry g))) f.pair.names
-        ∙ keeps tells (are-agreed b k H p safe o) p.world.files (open-files b k H p o))
-
-    go : Stores b k new l ((x.block, c1) ∷ (table_block q.inode, c2) ∷ []) result
-        → Goes b k new l (step.Drop d g name) no_claims (done_answer (reply.Dropped false) result)
-    go (Stored writes same e) = subst₂ (λ (m : Books) (z : Result (Unit {0}) Refusal). Goes b k new m (step.Drop d g name) no_claims
-        (done_answer (reply.Dropped false) z)) (sym same) (sym e)
-        (goes-done b new k k (step.Drop d g name) no_claims (reply.Dropped false) ((x.block, c1) ∷ (table_block q.inode, c2) ∷ [])
-        is_b is_new going refl refl going
-        (safe-writes b new k ((x.block, c1) ∷ (table_block q.inode, c2) ∷ []) (Ok tt) k.stopped writes apart safe)
-        refl writes.adds.disk writes.adds.past writes.later safe
-        (λ tells H p o. kept-done b new k H p d g name r x c1 c2 q (relinked q.record (link_to d q.entry g)) is_b tells o (directory.known.same tells)
-        directory.kind gen (agrees H p tells o) (pair H p tells o) (held tells) (cleared.whole tells) (cleared.payload tells) (cleared.tag tells)
-        (has H p tells o) table-tag (no_names tells p.world.files (open-files b k H p o)) (record-known.same tells) (kept H p tells o) refl writes
-        (pass tells H p o)))
-    go (NotStored f writes same e) = subst₂ (λ (m : Books) (z : Result (Unit {0}) Refusal). Goes b k new m (step.Drop d g name) no_claims
-        (done_answer (reply.Dropped false) z)) (sym same) (sym e)
-        (goes-fault b new k (stopped_books k) (step.Drop d g name)
-        no_claims is_b going refl refl refl writes.adds.disk writes.adds.past writes.cause writes.later safe
-        (safe-writes b new k ((x.block, c1) ∷ (table_block q.inode, c2) ∷ []) (Err f) true writes apart safe)
-        (λ tells H p o.
-        let w : EndsWell b new k H p d g name r x c1 c2 q (relinked q.record (link_to d q.entry g)) is_b tells o (directory.known.same tells)
-        directory.kind gen (agrees H p tells o) (pair H p tells o) (held tells) (cleared.whole tells) (cleared.payload tells) (cleared.tag tells)
-        (has H p tells o) table-tag (no_names tells p.world.files (open-files b k H p o)) =
-        kept-ends b new k H p d g name r x c1 c2 q (relinked q.record (link_to d q.entry g)) is_b tells o (directory.known.same tells) directory.kind gen
-        (agrees H p tells o) (pair H p tells o) (held tells) (cleared.whole tells) (cleared.payload tells) (cleared.tag tells) (has H p tells o)
-        table-tag (no_names tells p.world.files (open-files b k H p o)) (record-known.same tells) (kept H p tells o)
-        refl in drop-numbered b new k H p d g name r x c1 c2 q (relinked q.record (link_to d q.entry g)) is_b tells o (directory.known.same tells)
-        directory.kind gen (agrees H p tells o) (pair H p tells o) (held tells) (cleared.whole tells) (cleared.payload tells) (cleared.tag tells)
-        (has H p tells o) table-tag (no_names tells p.world.files (open-files b k H p o)) w writes.adds)
-        (λ tells caller H p o.
-        let w : EndsWell b new k H p d g name r x c1 c2 q (relinked q.record (link_to d q.entry g)) is_b tells o (directory.known.same tells)
-        directory.kind gen (agrees H p tells o) (pair H p tells o) (held tells) (cleared.whole tells) (cleared.payload tells) (cleared.tag tells)
-        (has H p tells o) table-tag (no_names tells p.world.files (open-files b k H p o)) =
-        kept-ends b new k H p d g name r x c1 c2 q (relinked q.record (link_to d q.entry g)) is_b tells o (directory.known.same tells) directory.kind gen
-        (agrees H p tells o) (pair H p tells o) (held tells) (cleared.whole tells) (cleared.payload tells) (cleared.tag tells) (has H p tells o)
-        table-tag (no_names tells p.world.files (open-files b k H p o)) (record-known.same tells) (kept H p tells o) refl in (
-          drop-proper b new k H p d g name r x c1 c2 q (relinked q.record (link_to d q.entry g)) is_b tells o (directory.known.same tells) directory.kind gen
-              (agrees H p tells o) (pair H p tells o) (held tells) (cleared.whole tells) (cleared.payload tells) (cleared.tag tells) (has H p tells o)
-              table-tag (no_names tells p.world.files (open-files b k H p o)) w
-              (entry caller b new (step.Drop d g name) no_claims (reply.Refused refusal.WriteFault)) refl writes.adds,
-          pass tells H p o (stopped_world p.world),
-          refl,
-          w.claim,
-        )))
+        kept : drop_meta p.world.files facts.pair.pair.entry.inode (link_to d q.entry g)
+            ≡ Is m.file.kind m.file.size (without_link (link_to d q.entry g) m.file.links)
+        kept = meta-of p.world.files f.pair.entry.inode (link_to d q.entry g) m.file (ap p.world.files f.pair.names ∙ m.is)
+            (ap (λ (i : ℕ). is_gone (drop_meta p.world.files i (link_to d q.entry g))) f.pair.names
+            ∙ keeps tells (are-agreed b k H p safe o) p.world.files (open-files b k H p o))
 
 -- from the state before the table was read
 pub drop-ends : (old mid new : DiskState) (k l : Books) (d g : ℕ) (name : List ℕ) (r : Record) (x : Pointer) (c1 before c2 : Cell) (q : Paired)
@@ -166,20 +100,9 @@ drop-ends old mid new k l d g name r x c1 before c2 q result is_mid is_new stays
     held cleared table record-in table-tag pass stores =
     goes-after old mid (reads-keep old mid stays) new k l (step.Drop d g name) no_claims (done_answer (reply.Dropped false) result)
     (dropped-goes mid new k l d g name r x c1 c2 q result is_mid is_new (safe-keeps old mid (reads-keep old mid stays) k safe) going
-    (record { known = KnowsInode-on old mid k.at d r stays directory.known; kind = directory.kind; generation = directory.generation }) gen
-    (λ t. subst (λ (X : Image). KnownTrue k X → IsThere d X) (sym now) (there (told t)))
-    (KnowsInode-on old mid k.at q.inode q.record stays record-known)
-    (λ t. subst (λ (X : Image). IsThere d X → (F : Files) → FilesMatch F X → IsFoundEntry F X d name q) (sym now) (found-in (told t)))
-    (λ t F m. no_names (told t) F (subst (λ (X : Image). FilesMatch F X) now m))
+    (dropping-on old k d g name r x c1 q
+    (is-dropping old k d g name r x c1 q directory gen there record-known found-in no_names positive held cleared) mid stays)
     (λ t all F m. keeps (told t) (subst (λ (X : Image). KnownTrue k X) now all) F (subst (λ (X : Image). FilesMatch F X) now m))
-    positive
-    (λ t. subst (λ (X : Image). find X d (path_of (q.entry / 16)) ≡ answer.Holds x) (sym now) (held (told t)))
-    (record {
-      whole = λ t. subst (λ (X : Image). length (cell_at X x.block).payload ≡ 1024) (sym now) (cleared.whole (told t));
-      payload = λ t. subst (λ (X : Image). c1.payload ≡ put_bytes (64 * (q.entry % 16)) (zeros 64) (cell_at X x.block).payload) (sym now)
-          (cleared.payload (told t));
-      tag = λ t. subst (λ (X : Image). c1.tag ≡ (cell_at X x.block).tag) (sym now) (cleared.tag (told t));
-    })
     (λ t. subst (λ (z : Cell). RecordIn z q.inode (relinked q.record (link_to d q.entry g)) c2)
     (table (told t) ∙ ap (λ (X : Image). cell_at X (table_block q.inode)) (sym now)) record-in)
     table-tag

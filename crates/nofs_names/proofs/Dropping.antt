@@ -1,69 +1,51 @@
 -- Drop: the directory's cell and the record of the inode are written. The inode has another name, or it goes.
 use Rattle.std.proofs.Common.{◌≡◌, ◌≢◌, ℕ, ◌+◌, ◌-◌, ◌*◌, ◌/◌, ◌%◌, ◌<◌, ◌⊎◌, inl, inr, Bool, true, false, cond, eqb, eqb-true, eq-eqb, leb, leb-true, ltb}
-use Rattle.std.proofs.Common.{◌&&◌, ◌||◌, not, List, [], ◌∷◌, ◌++◌, length, Option, Some, None, is_some, IsTrue, Ok, refl, sym, ap, ◌∙◌, subst, subst₂, arith}
-use Rattle.std.proofs.lemmas.Bool.{cases_lt}
-use Rattle.std.proofs.lemmas.Bool.Decides.{nat_tests}
+use Rattle.std.proofs.Common.{◌&&◌, not, List, [], ◌∷◌, length, Option, Some, None, is_some, IsTrue, refl, sym, ap, ◌∙◌, subst, subst₂, arith}
+use Rattle.std.proofs.lemmas.Bool.{cases_lt, lt-leb}
 use Rattle.std.specs.List.{list_any}
 use Rattle.nofs_dirent.specs.Entries.{entry_limit}
-use Rattle.nofs_disk.specs.Disk.{DiskState, IsDisk, Picks, cell_at}
+use Rattle.nofs_disk.specs.Disk.{DiskState, IsDisk, cell_at}
 use Rattle.nofs_disk.specs.Number.{put_bytes}
 use Rattle.nofs_disk.specs.Number as number
-use Rattle.nofs_disk.specs.Adds.{Adds}
-use Rattle.nofs_super.specs.Geometry.{IsGeometry}
 use Rattle.nofs_inode.specs.declared.inode.FileKind.TheVariants.{Directory as Folder}
-use Rattle.nofs_model.specs.Cells.{Cell, BackLink, Entry, Pointer, Record, SuperBlock, tag_of, is_live}
+use Rattle.nofs_model.specs.Cells.{Cell, Entry, Pointer, Record, SuperBlock, tag_of, is_live}
 use Rattle.nofs_model.specs.Image.{Image, super_at, is_data_block, inode, path_of, find, record_pointer, files_in, agreed, is_folder, is_special, FileState}
-use Rattle.nofs_model.specs.Image.{Files, Home, is_pair, IsBelow}
+use Rattle.nofs_model.specs.Image.{Files, Home, is_pair}
 use Rattle.nofs_model.specs.declared.path.PathAnswer.TheVariants as answer
 use Rattle.nofs_model.specs.declared.value.Value.{Value}
 use Rattle.nofs_model.specs.declared.value.Value.TheVariants.{Bytes}
 use Rattle.nofs_model.proofs.Find.{and-both, find-held, HoldsAt}
 use Rattle.nofs_model.proofs.Owners.{owner-holds}
-use Rattle.nofs_model.proofs.Sound.{mountable-law, supers}
+use Rattle.nofs_model.proofs.Sound.{supers}
 use Rattle.nofs_law_images.specs.Proper.{Proper}
-use Rattle.nofs_law_images.specs.Moments.{during, Survives}
-use Rattle.nofs_crashlaw.proofs.Histories.{now-picks}
-use Rattle.nofs_law_images.proofs.Moments.{law-images}
+use Rattle.nofs_law_images.specs.Moments.{during}
 use Rattle.nofs_machine.specs.Meta.{Meta, Gone, Is, is_bytes, is_gone}
 use Rattle.nofs_machine.specs.Marks.{Mark}
-use Rattle.nofs_machine.specs.Search.{first_of}
 use Rattle.nofs_machine.specs.Machine as machine
-use Rattle.nofs_machine.specs.Machine.{Given, gives, given_by, drop_given, drop_meta, entry_given, meta_given, is_at, without_link, link_to, zeros, at_place}
-use Rattle.nofs_machine.specs.Machine.{files_after, value_of, with_entry, found, is_paired, is_refused, nothing}
+use Rattle.nofs_machine.specs.Machine.{Given, gives, drop_given, drop_meta, entry_given, meta_given, is_at, without_link, link_to, zeros, at_place, files_after}
+use Rattle.nofs_machine.specs.Machine.{value_of, with_entry, found, is_paired, nothing}
 use Rattle.nofs_machine.specs.World.{World, is_fixed}
 use Rattle.nofs_machine.specs.Claims.{no_claims, next_stamp, IsClaim, has_block}
-use Rattle.nofs_machine.specs.Refusals.{rows}
 use Rattle.nofs_machine.specs.Answers.{dropped_reply, dropped_entry}
-use Rattle.nofs_machine.specs.History.{FilesMatch, agreed_files, files_along, mark_at}
-use Rattle.nofs_machine.specs.Steady.{SteadyRest}
-use Rattle.nofs_machine.specs.Next.{Learns}
-use Rattle.nofs_state.specs.Books.{Says}
+use Rattle.nofs_machine.specs.History.{FilesMatch, mark_at}
 use Rattle.nofs_machine.specs.declared.history.Entry1.{Entry1}
 use Rattle.nofs_machine.specs.declared.steps.Step.TheVariants as step
 use Rattle.nofs_machine.specs.declared.replies.Reply.TheVariants as reply
 use Rattle.nofs_machine.proofs.EntryPut.{with-entry-put, zeros-are}
-use Rattle.nofs_law_untouched.specs.Frames.{OldPointers}
 use Rattle.nofs_machine.specs.Gives.{GivesNothing}
 use Rattle.nofs_law_untouched.proofs.Matching.{Matched, matched-agreed, matched-file}
 use Rattle.nofs_law_maps.specs.Homes.{HomesMove}
 use Rattle.nofs_law_maps.specs.Fresh.{Numbered, CellNumbers}
-use Rattle.nofs_law_maps.proofs.Fresh.{law-old}
-use Rattle.nofs_crashlaw.specs.Stage.{AddsProper}
-use Rattle.nofs_crashlaw.proofs.Resting.{law-rest}
 use Rattle.nofs_law_old_names.specs.Names.{InPlace, Relinked, DropLies}
 use Rattle.nofs_law_old_names.proofs.NameLaws.{law-drop-entry, law-drop-name, law-drop-file}
 use Rattle.nofs_law_old_names.proofs.NameInPlace.{cell-elsewhere, in-place-writes}
-use Rattle.nofs_law_old_names.proofs.NameFiles.{touches-of}
 use Rattle.nofs_law_homes.proofs.OldHomes.{law-drop-name-homes, law-drop-file-homes}
-use Rattle.nofs_law_numbers.specs.Cells.{OldNumbers, RecordWritten, AsBefore, table_tag}
+use Rattle.nofs_law_numbers.specs.Cells.{RecordWritten, AsBefore, table_tag}
 use Rattle.nofs_law_numbers.proofs.NameNumbers.{law-drop-numbers}
 use Rattle.nofs_law_numbers.proofs.WrittenTables.{law-table-numbers}
 use Rattle.nofs_state.specs.Standing.{IsOpen, Past}
-use Rattle.nofs_state.specs.Writing.{OneOf, image_after, WritesAll}
+use Rattle.nofs_state.specs.Writing.{OneOf, image_after}
 use Rattle.nofs_state.specs.declared.books.Books.{Books}
-use Rattle.nofs_state.proofs.Done.{IsDone, Adds-map, after_world}
-use Rattle.nofs_state.proofs.Sounded.{AddsNumbered}
-use Rattle.nofs_state.proofs.Replies.{open-files}
 use Rattle.nofs_state.proofs.Machine.{agreed-live}
 use Rattle.nofs_state.proofs.Tables.{HasRecord, table_block, table-records}
 use Rattle.nofs_names.specs.Searching.{IsFoundEntry}
@@ -71,15 +53,13 @@ use Rattle.nofs_names.specs.declared.searching.Paired.{Paired}
 use Rattle.nofs_names.specs.Removing.{is_of}
 use Rattle.nofs_names.proofs.NameWrite as write
 use Rattle.nofs_names.proofs.NameWrite.{KeepsFile, file-used, file-blocks}
-use Rattle.nofs_names.proofs.Quiet.{IsQuiet, quiet-claim, quiet-learns, quiet-says}
-use Rattle.nofs_names.proofs.Leaving.{IsLeaving, Freed, leaving-claim, leaving-learns, leaving-says}
+use Rattle.nofs_names.proofs.NameSteps.{Follows, NameComes, NameStep, OpenImage, open-image}
+use Rattle.nofs_names.proofs.Quiet.{IsQuiet, quiet-claim, quiet-follows}
+use Rattle.nofs_names.proofs.Leaving.{IsLeaving, Freed, leaving-claim, leaving-follows}
 
 entry-bytes : (v : Value) (e : ℕ) (bytes : List ℕ) → is_bytes (with_entry v e bytes) ≡ true
 unfolding with_entry
 entry-bytes v e bytes = refl
-
-not-leb : (a b : ℕ) → b < a → leb a b ≡ false
-not-leb a b h = grind (arith, nat_tests)
 
 -- a meta that goes to inode i goes to no other
 meta-else : (i g : ℕ) (m : Meta) (j : ℕ) → j ≢ i → (h : ℕ) → meta_given i g m j h ≡ None
@@ -107,14 +87,24 @@ given_for F d g e o = elim o [
       (meta_given entry.inode entry.generation (drop_meta F entry.inode (link_to d e g)))
 ]
 
-module _ (old new : DiskState) (k : Books) (H : List Entry1) (p : Past) (d g : ℕ) (name : List ℕ) (r : Record) (x : Pointer) (c1 c2 : Cell) (q : Paired)
+-- what a Drop stands on: its directory, the entry that was found, and the two cells that are written
+pub record Drops (old : DiskState) (p : Past) (d g : ℕ) (name : List ℕ) (r : Record) (x : Pointer) (c1 c2 : Cell) (q : Paired) (r' : Record) : Type 0 where
+  pub record_is : inode old.now d ≡ r
+  pub kind : r.kind ≡ Some Folder
+  pub generation : r.generation ≡ g
+  pub agrees : agreed (files_in old.now) d ≡ true
+  pub pair : IsFoundEntry p.world.files old.now d name q
+  pub held : find old.now d (path_of (q.entry / 16)) ≡ answer.Holds x
+  pub whole : length (cell_at old.now x.block).payload ≡ 1024
+  pub payload : c1.payload ≡ put_bytes (64 * (q.entry % 16)) (number.zeros 64) (cell_at old.now x.block).payload
+  pub tag : c1.tag ≡ (cell_at old.now x.block).tag
+  pub has : HasRecord old.now q.inode r' c2
+  pub table_tag : tag_of c2.tag ≡ Some (table_tag (table_block q.inode))
+  pub no_names : machine.is_folder_at p.world.files q.inode ≡ true → (b : ℕ) → b < entry_limit → is_paired p.world.files q.inode b ≡ false
+
+module _ (old : DiskState) (k : Books) (H : List Entry1) (p : Past) (d g : ℕ) (name : List ℕ) (r : Record) (x : Pointer) (c1 c2 : Cell) (q : Paired)
     (r' : Record) (is_old : IsDisk old) (tells : IsTrue old.tells) (o : IsOpen old k H p)
-    (rec : inode old.now d ≡ r) (kind : r.kind ≡ Some Folder) (gen : r.generation ≡ g) (agrees : agreed (files_in old.now) d ≡ true)
-    (pair : IsFoundEntry p.world.files old.now d name q)
-    (held : find old.now d (path_of (q.entry / 16)) ≡ answer.Holds x) (whole : length (cell_at old.now x.block).payload ≡ 1024)
-    (payload : c1.payload ≡ put_bytes (64 * (q.entry % 16)) (number.zeros 64) (cell_at old.now x.block).payload) (tag : c1.tag ≡ (cell_at old.now x.block).tag)
-    (has : HasRecord old.now q.inode r' c2) (table-tag : tag_of c2.tag ≡ Some (table_tag (table_block q.inode)))
-    (no_names : machine.is_folder_at p.world.files q.inode ≡ true → (b : ℕ) → b < entry_limit → is_paired p.world.files q.inode b ≡ false) where
+    (drops : Drops old p d g name r x c1 c2 q r') where
   abbrev W : World
   W = p.world
 
@@ -125,60 +115,44 @@ module _ (old new : DiskState) (k : Books) (H : List Entry1) (p : Past) (d g : �
   Y = image_after ((x.block, c1) ∷ (table_block q.inode, c2) ∷ []) old.now
 
   abbrev it : Entry
-  it = pair.pair.entry
-
-  abbrev L : BackLink
-  L = link_to d q.entry g
+  it = drops.pair.pair.entry
 
   same : it.inode ≡ q.inode
-  same = pair.pair.names
+  same = drops.pair.pair.names
 
-  geometry : IsGeometry (length X) (super_at X).blocks (super_at X).inodes
-  geometry = let m = (mountable-law X).1 o.mountable in m.fits
+  on : OpenImage old H p
+  on = open-image old k H p is_old tells o
 
   hx : HoldsAt X d (path_of (q.entry / 16)) x
-  hx = find-held X d (path_of (q.entry / 16)) x held
+  hx = find-held X d (path_of (q.entry / 16)) x drops.held
 
   area : is_data_block X x.block ≡ true
   area = hx.agrees.area
 
-  match : FilesMatch W.files X
-  match = open-files old k H p o
-
   own : Matched W.files X d
-  own = matched-agreed W.files X d match (agreed-live X d agrees) agrees
+  own = matched-agreed W.files X d on.match (agreed-live X d drops.agrees) drops.agrees
 
   pub its : Matched W.files X q.inode
-  its = matched-agreed W.files X q.inode match (agreed-live X q.inode pair.pair.agreed) pair.pair.agreed
+  its = matched-agreed W.files X q.inode on.match (agreed-live X q.inode drops.pair.pair.agreed) drops.pair.pair.agreed
 
   named : W.files it.inode ≡ Some its.file
   named = ap W.files same ∙ its.is
 
-  all-below : IsBelow (next_stamp W) X
-  all-below b lt = o.stage.ready.fresh b (cell_at X b) lt (is_old.has_now b tells (let w = is_old.whole tells in let h =
-      geometry.fits in omega (arith, lt, w, h)))
-
-  old-numbers : OldNumbers W X
-  old-numbers = record { positive = o.stage.ready.positive; mountable = o.mountable; below = all-below }
-
-  old-pointers : (j : ℕ) → is_live (inode X j) ≡ true → OldPointers (next_stamp W) X j
-  old-pointers j live = law-old (next_stamp W) X j o.stage.ready.positive o.mountable all-below live
-
   here : inode Y q.inode ≡ r'
-  here = write.record-new X q.inode x c1 c2 r' geometry.fits geometry.table geometry.multiple area has
+  here = write.record-new X q.inode x c1 c2 r' on.geometry.fits on.geometry.table on.geometry.multiple area drops.has
 
   in-slot : cell_at Y x.block ≡ c1
-  in-slot = write.in-slot X q.inode x c1 c2 r' geometry.fits geometry.table geometry.multiple area has
+  in-slot = write.in-slot X q.inode x c1 c2 r' on.geometry.fits on.geometry.table on.geometry.multiple area drops.has
 
   in-table : cell_at Y (table_block q.inode) ≡ c2
-  in-table = write.in-table X q.inode x c1 c2 r' geometry.fits geometry.table geometry.multiple area has
+  in-table = write.in-table X q.inode x c1 c2 r' on.geometry.fits on.geometry.table on.geometry.multiple area drops.has
 
   in-place : InPlace X Y x it.inode
   in-place = subst (λ (i : ℕ). InPlace X Y x i) (sym same) (record {
-    super = write.super-stays X q.inode x c1 c2 r' geometry.fits geometry.table geometry.multiple area has;
-    blocks = λ b data_b ne. write.data-stays X q.inode x c1 c2 r' geometry.fits geometry.table geometry.multiple area has b data_b ne;
-    tag = ap (λ (z : Cell). tag_of z.tag) in-slot ∙ ap tag_of tag;
-    records = λ j ne. write.record-old X q.inode x c1 c2 r' geometry.fits geometry.table geometry.multiple area has j ne;
+    super = write.super-stays X q.inode x c1 c2 r' on.geometry.fits on.geometry.table on.geometry.multiple area drops.has;
+    blocks = λ b data_b ne. write.data-stays X q.inode x c1 c2 r' on.geometry.fits on.geometry.table on.geometry.multiple area drops.has b data_b ne;
+    tag = ap (λ (z : Cell). tag_of z.tag) in-slot ∙ ap tag_of drops.tag;
+    records = λ j ne. write.record-old X q.inode x c1 c2 r' on.geometry.fits on.geometry.table on.geometry.multiple area drops.has j ne;
   })
 
   folder-at : is_folder its.file.kind ≡ true → machine.is_folder_at W.files q.inode ≡ true
@@ -186,76 +160,50 @@ module _ (old new : DiskState) (k : Books) (H : List Entry1) (p : Past) (d g : �
 
   lies : DropLies W.files X Y d g q.entry (next_stamp W) own.file its.file x it
   lies = record {
-    files = match;
+    files = on.match;
     is = own.is;
-    generation = own.generation ∙ ap (λ (z : Record). z.generation) rec ∙ gen;
-    found = pair.pair.at;
-    paired = pair.pair.paired;
+    generation = own.generation ∙ ap (λ (z : Record). z.generation) drops.record_is ∙ drops.generation;
+    found = drops.pair.pair.at;
+    paired = drops.pair.pair.paired;
     named = named;
-    no_names = λ e b low. ap (λ (i : ℕ). is_paired W.files i b) same ∙ no_names (folder-at e) b low;
-    held = held;
-    whole = whole;
+    no_names = λ e b low. ap (λ (i : ℕ). is_paired W.files i b) same ∙ drops.no_names (folder-at e) b low;
+    held = drops.held;
+    whole = drops.whole;
     content = ap (λ (z : Cell). Bytes z.payload) in-slot ∙ ap Bytes
-        (payload ∙ ap (λ (z : List ℕ). put_bytes (64 * (q.entry % 16)) z (cell_at X x.block).payload) (sym (zeros-are 64)))
+        (drops.payload ∙ ap (λ (z : List ℕ). put_bytes (64 * (q.entry % 16)) z (cell_at X x.block).payload) (sym (zeros-are 64)))
         ∙ sym (with-entry-put (Bytes (cell_at X x.block).payload) q.entry (zeros 64) refl);
     writes = in-place;
-    old = λ j some. old-pointers j (matched-file W.files X j match some).live;
+    old = λ j some. on.pointers j (matched-file W.files X j on.match some).live;
   }
 
   -- what the step gives
 
-  abbrev G : Given
-  G = drop_given W.files d g q.entry
-
   gives-it : (F : Files) → F ≡ W.files → gives F (step.Drop d g name) no_claims ≡ drop_given F d g q.entry
   unfolding gives
-  gives-it F e = ap (λ (at : Option ℕ). at_place at (λ n. drop_given F d g n)) (ap (λ (E : Files). found E d name) e ∙ pair.found)
-
-  pub given-is : gives (files_along (agreed_files p.base) H) (step.Drop d g name) no_claims ≡ drop_given W.files d g q.entry
-  given-is = gives-it (files_along (agreed_files p.base) H) (sym o.files) ∙ ap (λ (E : Files). drop_given E d g q.entry) (sym o.files)
+  gives-it F e = ap (λ (at : Option ℕ). at_place at (λ n. drop_given F d g n)) (ap (λ (E : Files). found E d name) e ∙ drops.pair.found)
 
   after-files : files_after W.files (gives W.files (step.Drop d g name) no_claims) ≡ files_after W.files (drop_given W.files d g q.entry)
   after-files = ap (files_after W.files) (gives-it W.files refl)
 
-  abbrev metas : ℕ → ℕ → Option Meta
-  metas = meta_given it.inode it.generation (drop_meta W.files it.inode (link_to d q.entry g))
-
-  abbrev v : Value
-  v = with_entry (value_of W.files d (q.entry / 16)) q.entry (zeros 64)
-
   cell-is : drop_given W.files d g q.entry ≡ machine.cell_given d g (q.entry / 16) (with_entry (value_of W.files d (q.entry / 16)) q.entry (zeros 64))
       (meta_given it.inode it.generation (drop_meta W.files it.inode (link_to d q.entry g)))
-  cell-is = ap (given_for W.files d g q.entry) pair.pair.at
+  cell-is = ap (given_for W.files d g q.entry) drops.pair.pair.at
 
   -- The writes are proper
 
-  pick : Picks old.may (length p.mark) X
-  pick = now-picks old p.mark is_old tells o.stage.ready.survives.size
-
-  survives : Survives (mark_at p.base H (old.moment + 1) p.mark p.stamps) X
-  survives = law-images (mark_at p.base H (old.moment + 1) p.mark p.stamps) old.may X o.stage.ready.survives.mark o.stage.ready.survives.explained pick
-
-  mark-super : super_at p.mark ≡ super_at X
-  mark-super = supers X p.mark (sym survives.reads.super)
-
-  mark-area : is_data_block p.mark x.block ≡ true
-  mark-area = subst (λ (z : SuperBlock). (leb (1 + z.inodes / 4) x.block && ltb x.block z.blocks) ≡ true) (sym mark-super) area
-
   mark-table : is_data_block p.mark (table_block q.inode) ≡ false
-  mark-table = ap (λ (z : SuperBlock). leb (1 + z.inodes / 4) (table_block q.inode) && ltb (table_block q.inode) z.blocks) mark-super
-      ∙ (let t : leb (1 + (super_at X).inodes / 4) (table_block q.inode) ≡ false =
-      not-leb (1 + (super_at X).inodes / 4) (table_block q.inode) (let l =
-      write.table-low X q.inode x c1 c2 r' geometry.fits geometry.table geometry.multiple area has in omega (arith, l)) in rw t refl)
+  mark-table = on.table (table_block q.inode) (write.table-low X q.inode x c1 c2 r' on.geometry.fits on.geometry.table on.geometry.multiple area drops.has)
 
   super-after : super_at p.mark ≡ super_at Y
-  super-after = mark-super ∙ sym (supers X Y in-place.super)
+  super-after = on.super ∙ sym (supers X Y in-place.super)
 
   cell-proper : Proper (during (mark_at p.base H (old.moment + 1) p.mark p.stamps) (drop_given W.files d g q.entry)) X x.block c1
   cell-proper = subst (λ (z : Cell). Proper (during (mark_at p.base H (old.moment + 1) p.mark p.stamps) (drop_given W.files d g q.entry)) X x.block z) in-slot
-      (law-drop-entry W.files X Y d g q.entry (next_stamp W) own.file its.file x it lies (mark_at p.base H (old.moment + 1) p.mark p.stamps) mark-area)
+      (law-drop-entry W.files X Y d g q.entry (next_stamp W) own.file its.file x it lies (mark_at p.base H (old.moment + 1) p.mark p.stamps)
+      (on.area x.block area))
 
   -- what both endings owe of the table
-  pub record EndsWell : Type 0 where
+  record EndsWell : Type 0 where
     pub numbered : Relinked X Y it.inode (without_link (link_to d q.entry g) its.file.links) ⊎ ((inode Y it.inode).kind ≡ None)
     pub table : Proper (during (mark_at p.base H (old.moment + 1) p.mark p.stamps) (drop_given W.files d g q.entry)) X (table_block q.inode) c2
     pub files : FilesMatch (files_after W.files (drop_given W.files d g q.entry)) Y
@@ -265,34 +213,25 @@ module _ (old new : DiskState) (k : Books) (H : List Entry1) (p : Past) (d g : �
     pub owned : is_live (inode Y it.inode) ≡ true → is_some (files_after W.files (drop_given W.files d g q.entry) it.inode) ≡ true
 
   module _ (w : EndsWell) where
-    pub proper-one : (G' : Given) → G' ≡ drop_given W.files d g q.entry → (b : ℕ) (cell : Cell)
-        → OneOf ((x.block, c1) ∷ (table_block q.inode, c2) ∷ []) b cell → Proper (during (mark_at p.base H (old.moment + 1) p.mark p.stamps) G') X b cell
-    proper-one G' ge b cell one = subst (λ (z : Given). Proper (during (mark_at p.base H (old.moment + 1) p.mark p.stamps) z) X b cell) (sym ge) (go one)
-      where
-        go : OneOf ((x.block, c1) ∷ (table_block q.inode, c2) ∷ []) b cell
-            → Proper (during (mark_at p.base H (old.moment + 1) p.mark p.stamps) (drop_given W.files d g q.entry)) X b cell
-        go (inl one) = subst₂ (λ (n : ℕ) (z : Cell). Proper (during (mark_at p.base H (old.moment + 1) p.mark p.stamps) (drop_given W.files d g q.entry))
-            X n z) (sym one.0) (sym one.1) cell-proper
-        go (inr (inl one)) = subst₂ (λ (n : ℕ) (z : Cell). Proper
-            (during (mark_at p.base H (old.moment + 1) p.mark p.stamps) (drop_given W.files d g q.entry)) X n z) (sym one.0) (sym one.1) w.table
-        go (inr (inr none)) = absurd none
+    proper : (b : ℕ) (cell : Cell) → OneOf ((x.block, c1) ∷ (table_block q.inode, c2) ∷ []) b cell
+        → Proper (during (mark_at p.base H (old.moment + 1) p.mark p.stamps) (drop_given W.files d g q.entry)) X b cell
+    proper b cell (inl one) = subst₂ (λ (n : ℕ) (z : Cell). Proper (during (mark_at p.base H (old.moment + 1) p.mark p.stamps) (drop_given W.files d g q.entry))
+        X n z) (sym one.0) (sym one.1) cell-proper
+    proper b cell (inr (inl one)) = subst₂ (λ (n : ℕ) (z : Cell). Proper
+        (during (mark_at p.base H (old.moment + 1) p.mark p.stamps) (drop_given W.files d g q.entry)) X n z) (sym one.0) (sym one.1) w.table
+    proper b cell (inr (inr none)) = absurd none
 
     numbers : (b : ℕ) (cell : Cell) → OneOf ((x.block, c1) ∷ (table_block q.inode, c2) ∷ []) b cell → CellNumbers (Numbered W no_claims) X b cell
     numbers b cell (inl one) = subst₂ (λ (n : ℕ) (z : Cell). CellNumbers (Numbered W no_claims) X n z) (sym one.0) (sym one.1)
         (subst (λ (z : Cell). CellNumbers (Numbered W no_claims) X x.block z) in-slot
-        (law-drop-numbers W X Y d g q.entry (next_stamp W) own.file its.file x it no_claims old-numbers lies).0)
+        (law-drop-numbers W X Y d g q.entry (next_stamp W) own.file its.file x it no_claims on.numbers lies).0)
     numbers b cell (inr (inl one)) = subst₂ (λ (n : ℕ) (z : Cell). CellNumbers (Numbered W no_claims) X n z) (sym one.0) (sym one.1)
-        (law-table-numbers W no_claims X (table_block q.inode) c2 old-numbers table-tag (λ j e s. elim (table-records X q.inode r' c2 has j e s) [
+        (law-table-numbers W no_claims X (table_block q.inode) c2 on.numbers drops.table_tag (λ j e s. elim (table-records X q.inode r' c2 drops.has j e s) [
           | inl new ↦ subst (λ (z : Record). RecordWritten W no_claims X j z) (sym (new.1 ∙ sym here ∙ ap (inode Y) (sym new.0)))
-              ((law-drop-numbers W X Y d g q.entry (next_stamp W) own.file its.file x it no_claims old-numbers lies).1 w.numbered j)
+              ((law-drop-numbers W X Y d g q.entry (next_stamp W) own.file its.file x it no_claims on.numbers lies).1 w.numbered j)
           | inr was ↦ AsBefore was
         ]))
     numbers b cell (inr (inr none)) = absurd none
-
-    or-false : (a b : Bool) → (a || b) ≡ false → (a ≡ false) × (b ≡ false)
-    or-false true b e = cc
-    or-false false true e = cc
-    or-false false false e = (refl, refl)
 
     nothing-else : (j : ℕ) → j ≢ d → j ≢ it.inode → GivesNothing (drop_given W.files d g q.entry) j
     nothing-else j nd ni = subst (λ (z : Given). GivesNothing z j) (sym cell-is)
@@ -300,81 +239,41 @@ module _ (old new : DiskState) (k : Books) (H : List Entry1) (p : Past) (d g : �
         (meta_given it.inode it.generation (drop_meta W.files it.inode (link_to d q.entry g))) j nd
         (λ h. meta-else it.inode it.generation (drop_meta W.files it.inode (link_to d q.entry g)) j ni h))
 
-    not-eq : (j n : ℕ) → eqb j n ≡ false → j ≢ n
-    not-eq j n t e = let b = eq-eqb j n e in cc (t, b)
-
-    rest : (e : Entry1) → given_by (files_along (agreed_files p.base) H) e ≡ drop_given W.files d g q.entry → SteadyRest p.base (H ++ e ∷ []) Y
-    rest e ge = law-rest p.base H e (next_stamp W) (λ j. eqb j d || eqb j it.inode) X Y (files_after W.files (drop_given W.files d g q.entry)) o.rest (record {
-      before = o.stage.ready.files;
-      after = w.files;
-      touches = touches-of (next_stamp W) d it.inode X Y (in-place-writes (next_stamp W) d it.inode (q.entry / 16) X Y x held in-place);
-      old = old-pointers;
-      owned = λ j t live. owned-case j (eqb j it.inode) refl t live;
-      stays = λ j t some. let a = or-false (eqb j d) (eqb j it.inode) t in w.others j (not-eq j it.inode a.1) ∙ ap (λ (F : Files). is_some (F j)) o.files
-          ∙ some;
-      no_value = λ j h l t some. let a = or-false (eqb j d) (eqb j it.inode) t in (λ z. (ge z).slots j h l)
-          ∙ (nothing-else j (not-eq j d a.0) (not-eq j it.inode a.1)).slots h l;
-      no_meta = λ j h t some. let a = or-false (eqb j d) (eqb j it.inode) t in (λ z. (ge z).metas j h)
-          ∙ (nothing-else j (not-eq j d a.0) (not-eq j it.inode a.1)).metas h;
-    })
-      where
-        owned-case : (j : ℕ) (b : Bool) → eqb j it.inode ≡ b → (eqb j d || eqb j it.inode) ≡ true → is_live (inode Y j) ≡ true
-            → is_some (files_after W.files (drop_given W.files d g q.entry) j) ≡ true
-        owned-case j true e t live = let s = eqb-true j it.inode e in subst
-            (λ (n : ℕ). is_some (files_after W.files (drop_given W.files d g q.entry) n) ≡ true) (sym s)
-            (w.owned (subst (λ (n : ℕ). is_live (inode Y n) ≡ true) s live))
-        owned-case j false e t live = w.others j (not-eq j it.inode e)
-            ∙ subst (λ (n : ℕ). is_some (W.files n) ≡ true) (sym (eqb-true j d (only (eqb j d) (eqb j it.inode) e t))) (ap is_some own.is)
-          where
-            only : (a b : Bool) → b ≡ false → (a || b) ≡ true → a ≡ true
-            only true b eb h = refl
-            only false b eb h = cc (eb, h)
-
-    pub drop-numbered : Adds (OneOf ((x.block, c1) ∷ (table_block q.inode, c2) ∷ [])) old new → AddsNumbered W no_claims old new
-    drop-numbered = Adds-map (OneOf ((x.block, c1) ∷ (table_block q.inode, c2) ∷ [])) (λ n cell. CellNumbers (Numbered W no_claims) X n cell) old new numbers
-
-    pub drop-proper : (e : Entry1) → given_by (files_along (agreed_files p.base) H) e ≡ gives (files_along (agreed_files p.base) H) (step.Drop d g name)
-        no_claims → Adds (OneOf ((x.block, c1) ∷ (table_block q.inode, c2) ∷ [])) old new → AddsProper p.base H e p.mark p.stamps old new
-    drop-proper e ge adds = Adds-map (OneOf ((x.block, c1) ∷ (table_block q.inode, c2) ∷ []))
-        (Proper (during (mark_at p.base H (old.moment + 1) p.mark p.stamps) (given_by (files_along (agreed_files p.base) H) e)) old.now) old new
-        (λ b cell one. proper-one (given_by (files_along (agreed_files p.base) H) e) (ge ∙ given-is) b cell one) adds
+    drop-step : NameStep old H p (step.Drop d g name) no_claims ((x.block, c1) ∷ (table_block q.inode, c2) ∷ [])
+    drop-step = record {
+      given = drop_given W.files d g q.entry;
+      directory = d;
+      file = it.inode;
+      gives = record {
+        is = gives-it W.files refl;
+        claim = w.claim;
+        nothing = nothing-else;
+        there = ap is_some own.is;
+        used = w.others;
+        owned = w.owned;
+      };
+      ends = record {
+        proper = proper;
+        numbers = numbers;
+        files = w.files;
+        move = w.move;
+        writes = in-place-writes (next_stamp W) d it.inode (q.entry / 16) X Y x drops.held in-place;
+      };
+    }
 
     answer-is : reply.Dropped (is_gone (drop_meta W.files it.inode (link_to d q.entry g))) ≡ dropped_reply W.files d (found W.files d name)
-    answer-is = sym (ap (dropped_reply W.files d) pair.found
-        ∙ (λ j. dropped_entry W.files (link_to d q.entry (generation-is j)) (pair.pair.at j)))
+    answer-is = sym (ap (dropped_reply W.files d) drops.pair.found
+        ∙ (λ j. dropped_entry W.files (link_to d q.entry (generation-is j)) (drops.pair.pair.at j)))
       where
         generation-is : machine.generation_of W.files d ≡ g
         generation-is = (let s = own.is in rw (s, machine.generation_of) refl) ∙ lies.generation
 
-    -- the step is done, with these maps after it
-    pub drop-done : (l : Books) (removed : Bool) → l.at ≡ k.at → l.history ≡ k.history → l.stopped ≡ false
-        → is_gone (drop_meta W.files it.inode (link_to d q.entry g)) ≡ removed
-        → Learns W (step.Drop d g name) true (after_world W (step.Drop d g name) no_claims l) → Says l (after_world W (step.Drop d g name) no_claims l)
-        → WritesAll old new ((x.block, c1) ∷ (table_block q.inode, c2) ∷ []) (Ok tt) → ((U : World) → first_of (rows W U (step.Drop d g name)) ≡ None)
-        → IsDone old new k l H p (step.Drop d g name) no_claims (reply.Dropped removed) ((x.block, c1) ∷ (table_block q.inode, c2) ∷ [])
-    drop-done l removed at history going er learns says writes none = record {
-      adds = writes.adds;
-      later = writes.later;
-      proper = λ e es ec ge b cell one. proper-one (given_by (files_along (agreed_files p.base) H) e) (ge ∙ given-is) b cell one;
-      numbers = numbers;
-      super = ap (λ (Z : Image). cell_at Z 0) writes.now ∙ in-place.super;
-      size = writes.adds.disk.blocks;
-      none = none (after_world W (step.Drop d g name) no_claims l);
-      answer = ap reply.Dropped (sym er) ∙ answer-is;
-      accepted = refl;
-      no_flush = refl;
-      claim = w.claim;
-      learns = learns;
-      files = subst₂ (λ (F : Files) (Z : Image). FilesMatch F Z) (sym after-files) (sym writes.now) w.files;
-      move = subst (λ (Z : Image). HomesMove W.files (step.Drop d g name) no_claims X Z) (sym writes.now) w.move;
-      rest = λ e es ec ge. subst (λ (Z : Image). SteadyRest p.base (H ++ e ∷ []) Z) (sym writes.now) (rest e (ge ∙ given-is));
-      says = says;
-      books_at = at;
-      history = history;
-      going = going;
-    }
+    drop-comes : (l : Books) (removed : Bool) → is_gone (drop_meta W.files it.inode (link_to d q.entry g)) ≡ removed
+        → Follows W (step.Drop d g name) no_claims l
+        → NameComes old H p l (step.Drop d g name) no_claims (reply.Dropped removed) ((x.block, c1) ∷ (table_block q.inode, c2) ∷ [])
+    drop-comes l removed er follows = record { step = drop-step; follows = follows; answer = ap reply.Dropped (sym er) ∙ answer-is }
 
-  -- The inode has another name
+  -- The inode drops.has another name
 
   to-table : (P : ℕ → Cell → Type 0) → P (1 + (it.inode - 1) / 4) (cell_at Y (1 + (it.inode - 1) / 4)) → P (table_block q.inode) c2
   to-table P h = subst (λ (z : Cell). P (table_block q.inode) z) in-table (subst (λ (i : ℕ). P (1 + (i - 1) / 4) (cell_at Y (1 + (i - 1) / 4))) same h)
@@ -420,9 +319,6 @@ module _ (old new : DiskState) (k : Books) (H : List Entry1) (p : Past) (d g : �
         pointers = λ n low. ap (λ (z : Record). record_pointer z n) new-record;
       }
 
-      abbrev kept-meta : Meta
-      kept-meta = Is its.file.kind its.file.size (without_link (link_to d q.entry g) its.file.links)
-
       keeps : (j h : ℕ) → KeepsFile (meta_given it.inode it.generation (Is its.file.kind its.file.size (without_link (link_to d q.entry g) its.file.links)) j h)
       keeps j h = keeps-meta it.inode it.generation (Is its.file.kind its.file.size (without_link (link_to d q.entry g) its.file.links)) refl j h
 
@@ -444,9 +340,9 @@ module _ (old new : DiskState) (k : Books) (H : List Entry1) (p : Past) (d g : �
       }
 
       kept-claim : IsClaim W (step.Drop d g name) no_claims
-      kept-claim = quiet-claim X k W (step.Drop d g name) (files_after W.files (drop_given W.files d g q.entry)) o.says match o.homes o.homes_past quiet
+      kept-claim = quiet-claim X k W (step.Drop d g name) (files_after W.files (drop_given W.files d g q.entry)) o.says on.match o.homes o.homes_past quiet
 
-      pub kept-ends : EndsWell
+      kept-ends : EndsWell
       kept-ends = record {
         numbered = inl relinked;
         table = to-table (λ b z. Proper (during (mark_at p.base H (old.moment + 1) p.mark p.stamps) (drop_given W.files d g q.entry)) X b z)
@@ -459,12 +355,9 @@ module _ (old new : DiskState) (k : Books) (H : List Entry1) (p : Past) (d g : �
         owned = λ live. quiet.used it.inode ∙ ap is_some named;
       }
 
-      pub kept-done : WritesAll old new ((x.block, c1) ∷ (table_block q.inode, c2) ∷ []) (Ok tt)
-          → ((U : World) → first_of (rows W U (step.Drop d g name)) ≡ None)
-          → IsDone old new k k H p (step.Drop d g name) no_claims (reply.Dropped false) ((x.block, c1) ∷ (table_block q.inode, c2) ∷ [])
-      kept-done = drop-done kept-ends k false refl refl o.going (ap is_gone keep)
-          (quiet-learns X k W (step.Drop d g name) (files_after W.files (drop_given W.files d g q.entry)) o.says match o.homes o.homes_past quiet)
-          (quiet-says X k W (step.Drop d g name) (files_after W.files (drop_given W.files d g q.entry)) o.says match o.homes o.homes_past quiet)
+      pub kept-comes : NameComes old H p k (step.Drop d g name) no_claims (reply.Dropped false) ((x.block, c1) ∷ (table_block q.inode, c2) ∷ [])
+      kept-comes = drop-comes kept-ends k false (ap is_gone keep)
+          (quiet-follows X k W (step.Drop d g name) (files_after W.files (drop_given W.files d g q.entry)) o.says on.match o.homes o.homes_past quiet)
 
     -- The inode goes
 
@@ -473,11 +366,11 @@ module _ (old new : DiskState) (k : Books) (H : List Entry1) (p : Past) (d g : �
       no-kind = ap (λ (z : Record). z.kind) (ap (inode Y) same ∙ here) ∙ free
 
       generation-is : it.generation ≡ its.file.generation
-      generation-is = pair.pair.generation ∙ sym (its.generation ∙ ap (λ (z : Record). z.generation) rec-q)
+      generation-is = drops.pair.pair.generation ∙ sym (its.generation ∙ ap (λ (z : Record). z.generation) rec-q)
 
       -- what stands at the mark is this generation
       stood : (n : ℕ) → (mark_at p.base H (old.moment + 1) p.mark p.stamps).stands it.inode n ≡ true → its.file.generation ≡ n
-      stood n st = its.generation ∙ ap (λ (i : ℕ). (inode X i).generation) (sym same) ∙ (survives.keeps.records it.inode n st).1
+      stood n st = its.generation ∙ ap (λ (i : ℕ). (inode X i).generation) (sym same) ∙ (on.survives.keeps.records it.inode n st).1
 
       law-file : ((m : Mark) → super_at m.image ≡ super_at Y → is_data_block m.image (1 + (it.inode - 1) / 4) ≡ false
           → ((n : ℕ) → m.stands it.inode n ≡ true → its.file.generation ≡ n)
@@ -538,14 +431,14 @@ module _ (old new : DiskState) (k : Books) (H : List Entry1) (p : Past) (d g : �
                 let above = leb-true (1 + (super_at X).inodes / 4) w.0.block a.0 in
                 let s = w.3 in
                 let i = inodes-are in
-                not-leb b (W.inodes / 4) (omega (arith, above, s, i))
+                lt-leb b (W.inodes / 4) (omega (arith, above, s, i))
             | inr high ↦ absurd (let n = o.homes_past b high in cc (n, e))
           ]
 
       gone-claim : IsClaim W (step.Drop d g name) no_claims
       gone-claim = leaving-claim W (step.Drop d g name) (files_after W.files (drop_given W.files d g q.entry)) it.inode leaving
 
-      pub gone-ends : EndsWell
+      gone-ends : EndsWell
       gone-ends = record {
         numbered = inr no-kind;
         table = to-table (λ b z. Proper (during (mark_at p.base H (old.moment + 1) p.mark p.stamps) (drop_given W.files d g q.entry)) X b z)
@@ -558,11 +451,11 @@ module _ (old new : DiskState) (k : Books) (H : List Entry1) (p : Past) (d g : �
         owned = λ live. absurd (let z : is_live (inode Y it.inode) ≡ false = let n = no-kind in rw n refl in cc (z, live));
       }
 
-      pub gone-done : (l : Books) → Freed k l it.inode (λ b. is_of it.inode (W.homes b)) → l.at ≡ k.at → l.history ≡ k.history → l.stopped ≡ false
-          → WritesAll old new ((x.block, c1) ∷ (table_block q.inode, c2) ∷ []) (Ok tt) → ((U : World) → first_of (rows W U (step.Drop d g name)) ≡ None)
-          → IsDone old new k l H p (step.Drop d g name) no_claims (reply.Dropped true) ((x.block, c1) ∷ (table_block q.inode, c2) ∷ [])
-      gone-done l freed at history going = drop-done gone-ends l true at history going (ap is_gone goes)
-          (leaving-learns X k l W (step.Drop d g name) (files_after W.files (drop_given W.files d g q.entry))
-          it.inode o.says match o.homes o.homes_past leaving freed)
-          (leaving-says X k l W (step.Drop d g name) (files_after W.files (drop_given W.files d g q.entry))
-          it.inode o.says match o.homes o.homes_past leaving freed)
+      pub gone-step : NameStep old H p (step.Drop d g name) no_claims ((x.block, c1) ∷ (table_block q.inode, c2) ∷ [])
+      gone-step = drop-step gone-ends
+
+      pub gone-comes : (l : Books) → Freed k l it.inode (λ b. is_of it.inode (W.homes b))
+          → NameComes old H p l (step.Drop d g name) no_claims (reply.Dropped true) ((x.block, c1) ∷ (table_block q.inode, c2) ∷ [])
+      gone-comes l freed = drop-comes gone-ends l true (ap is_gone goes)
+          (leaving-follows X k l W (step.Drop d g name) (files_after W.files (drop_given W.files d g q.entry))
+          it.inode o.says on.match o.homes o.homes_past leaving freed)

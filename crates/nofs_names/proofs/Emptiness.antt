@@ -5,7 +5,6 @@ use Rattle.std.proofs.lemmas.Bool.{cases_lt}
 use Rattle.nofs_dirent.specs.Entries.{entry_limit}
 use Rattle.nofs_disk.specs.Disk.{DiskState}
 use Rattle.nofs_disk.specs.Chains.{StaysButFaults-refl}
-use Rattle.nofs_disk.specs.declared.Failed.{Failed}
 use Rattle.nofs_inode.specs.declared.inode.FileKind.TheVariants.{File, Directory}
 use Rattle.nofs_model.specs.Cells.{SuperBlock}
 use Rattle.nofs_model.specs.Image.{Image, files_in, agreed, is_folder, FileState, Files}
@@ -16,7 +15,7 @@ use Rattle.nofs_machine.specs.declared.replies.Refusal.TheVariants as refusal
 use Rattle.nofs_law_untouched.proofs.Matching.{matched-file}
 use Rattle.nofs_agree.specs.declared.reads.LastRead.{LastRead}
 use Rattle.nofs_names.specs.Searching.{KnowsPaired}
-use Rattle.nofs_names.specs.Refusing.{ByRow, ByRead}
+use Rattle.nofs_names.specs.Refusing.{ByRow}
 use Rattle.nofs_names.specs.Filled.{NamesOn}
 use Rattle.nofs_names.specs.Dropping.{FindsEmpty}
 use Rattle.nofs_names.specs.declared.searching.Paired.{Paired}
@@ -69,6 +68,3 @@ module _ (old : DiskState) (at : SuperBlock) (q : Paired) (known : KnowsPaired o
           let l = least-some (λ e. is_paired W.files q.inode e) 0 entry_limit w.0 w.2 (omega arith) (let b = w.1 in omega (arith, b)) in
           rw (f, l) refl);
     }
-
-    pub is-unread : (e : Failed) → NamesOn old new q.inode 0 entry_limit last (Err e) → FindsEmpty old new q.inode (Err refusal.ReadFault)
-    is-unread e s = record { stays = s.stays; none = tt; refused = ByRead refl s.cause }

@@ -4,7 +4,7 @@ use Rattle.std.proofs.Common.{List, [], ◌∷◌, length, get_or, Some, None, r
 use Rattle.std.specs.Prelude.{slice_set}
 use Rattle.std.proofs.lemmas.Bool.{cases_eq, cases_lt}
 use Rattle.std.proofs.lemmas.Bool.Decides.{nat_tests}
-use Rattle.std.proofs.lemmas.List.{get_or-set_same, get_or-set_other, length-set}
+use Rattle.std.proofs.lemmas.List.{get_or-set_same, get_or-set_other}
 use Rattle.nofs_disk.specs.Disk.{cell_at, no_cell}
 use Rattle.nofs_disk.specs.Number.{zeros}
 use Rattle.nofs_inode.specs.InodeRecords.{record_or_free}
@@ -25,10 +25,6 @@ use Rattle.nofs_names.specs.Entering.{AreTables, IsTable, entered, with_direct, 
 use Rattle.nofs_names.specs.declared.entering.Tables.{Tables}
 
 -- Some writes
-
-pub written-length : (ws : List (ℕ × Cell)) (X : Image) → length (image_after ws X) ≡ length X
-written-length [] X = refl
-written-length (w ∷ ws) X = written-length ws (slice_set X w.0 w.1) ∙ length-set X w.0 w.1
 
 pub written-apart : (ws : List (ℕ × Cell)) (X : Image) (b : ℕ) → IsApart ws b → cell_at (image_after ws X) b ≡ cell_at X b
 written-apart [] X b apart = refl
@@ -139,12 +135,6 @@ module _ (X Y : Image) (d i : ℕ) (dr r : Record) (before after : Tables) (tabl
   pub records-beside : (j : ℕ) → j ≢ d → j ≢ i → inode Y j ≡ inode X j
   records-beside = both.others
 
-  pub low-d : table_block d ≤ (super_at X).inodes / 4
-  low-d = low d d-range
-
-  pub low-i : table_block i ≤ (super_at X).inodes / 4
-  low-i = low i i-range
-
   tags : ((d - 1) / 4 ≡ (i - 1) / 4) ⊎ ((d - 1) / 4 ≢ (i - 1) / 4)
       → (tag_of after.directory.tag ≡ Some (table_tag (table_block d))) × (tag_of after.inode.tag ≡ Some (table_tag (table_block i)))
   tags (inl e) =
@@ -222,14 +212,18 @@ unfolding slot_of
 new-leaf-tag Y d stamp g gen = λ j. record { kind = Leaf; inode = d; generation = sym gen j; slot = 2 ^ 32; stamp = stamp }
 
 -- a record has eight direct pointers
-eight : (b : Bool) (r : Record) → length r.direct ≡ 8 → length (record_or_free (cond b (Some r) None)).direct ≡ 8
-eight true r e = e
-eight false r e = refl
+
+abbrev HasEight : Record → Type 0
+HasEight r = length r.direct ≡ 8
 
 pub eight-direct : (X : Image) (i : ℕ) → length (inode X i).direct ≡ 8
 unfolding inode record_at record_of fields_in
 eight-direct X i = go (is_inode X i)
   where
-    go : (b : Bool) → length (cond b (record_or_free (record_of ((i - 1) % 4) (cell_at X (1 + (i - 1) / 4)).payload)) free_record).direct ≡ 8
-    go true = eight _ (fields_in (256 * ((i - 1) % 4)) (cell_at X (1 + (i - 1) / 4)).payload) refl
+    as-read : (b : Bool) (r : Record) → HasEight r → HasEight (record_or_free (cond b (Some r) None))
+    as-read true r e = e
+    as-read false r e = refl
+
+    go : (b : Bool) → HasEight (cond b (record_or_free (record_of ((i - 1) % 4) (cell_at X (1 + (i - 1) / 4)).payload)) free_record)
+    go true = as-read _ (fields_in (256 * ((i - 1) % 4)) (cell_at X (1 + (i - 1) / 4)).payload) refl
     go false = refl

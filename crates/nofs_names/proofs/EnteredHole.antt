@@ -1,6 +1,5 @@
 -- The disk after a new entry was written into a hole: its block, the leaf above it, and the records.
-use Rattle.std.proofs.Common.{◌≡◌, ◌≢◌, ℕ, ◌+◌, ◌-◌, ◌/◌, ◌%◌, ◌<◌, ◌≤◌, ◌⊎◌, inl, inr, true, leb, leb-true, ltb, ltb-true, [], ◌∷◌, length, Some, sym, ap}
-use Rattle.std.proofs.Common.{◌∙◌, arith}
+use Rattle.std.proofs.Common.{◌≡◌, ◌≢◌, ℕ, ◌+◌, ◌-◌, ◌/◌, ◌%◌, ◌<◌, ◌≤◌, ◌⊎◌, inl, inr, true, leb, leb-true, [], ◌∷◌, length, Some, sym, ap, ◌∙◌, arith}
 use Rattle.std.specs.Prelude.{slice_set}
 use Rattle.std.proofs.lemmas.Bool.{cases_eq, cases_lt}
 use Rattle.std.proofs.lemmas.List.{get_or-set_same, get_or-set_other, length-set}
@@ -8,20 +7,24 @@ use Rattle.nofs_dirent.specs.Entries.{entry_limit}
 use Rattle.nofs_disk.specs.Disk.{cell_at, no_cell}
 use Rattle.nofs_inode.specs.declared.inode.FileKind.TheVariants.{Directory as Folder}
 use Rattle.nofs_model.specs.Cells.{Cell, Entry, Pointer, Record, tag_of, is_null, pointer_at, record_of, spelled_entry}
-use Rattle.nofs_model.specs.Image.{Image, super_at, is_data_block, is_inode, inode, leaf, path_of, tag_for, find, record_pointer, files_in, agreed, IsFree}
+use Rattle.nofs_model.specs.Image.{Image, super_at, is_data_block, is_inode, inode, leaf, InRecord, Path, Under, path_of, tag_for, find, record_pointer}
+use Rattle.nofs_model.specs.Image.{files_in, agreed, IsFree}
 use Rattle.nofs_model.specs.declared.path.PathAnswer.TheVariants as answer
-use Rattle.nofs_model.specs.declared.value.Value.TheVariants.{Bytes}
+use Rattle.nofs_model.specs.declared.value.Value.TheVariants.{Bytes, Hole}
 use Rattle.nofs_model.proofs.Find.{and-both, find-held}
 use Rattle.nofs_ptrs.specs.PathLaws.{path-direct, path-leaf}
+use Rattle.nofs_machine.specs.Machine.{with_entry}
+use Rattle.nofs_law_untouched.specs.Grows.{ClaimedCell}
 use Rattle.nofs_law_new_names.specs.Holes.{EntryInHole, HoleInRecord, HoleUnderLeaf, HoleWithLeaf, Direct, UnderLeaf, WithLeaf}
 use Rattle.nofs_law_numbers.specs.Cells.{table_tag}
 use Rattle.nofs_state.specs.Writing.{OneOf, image_after}
 use Rattle.nofs_state.proofs.Tables.{HasRecord, record-here, record-other}
 use Rattle.nofs_names.specs.Entering.{AreTables, IsMoreLeaf, IsNewCell, IsNewLeaf, IsTable, with_direct, with_leaf, table_block}
 use Rattle.nofs_names.specs.declared.entering.Tables.{Tables}
+use Rattle.nofs_names.proofs.CellWrite.{data-place}
 use Rattle.nofs_names.proofs.Entered.{written-apart, written-here, record-of-directory, record-of-inode, records-beside, tables-tagged, pointed-here}
 use Rattle.nofs_names.proofs.Entered.{pointed-other, rooted-other, content-new, new-cell-tag, new-leaf-tag}
-use Rattle.nofs_names.proofs.ZeroPointers.{past-null, past-same}
+use Rattle.nofs_state.proofs.ZeroPointers.{past-null, past-same}
 
 -- what holds of the disk before: its numbers, the directory and the inode
 pub record IsReady (X : Image) (d i e : ℕ) (dr : Record) : Type 0 where
@@ -59,9 +62,8 @@ module _ (X : Image) (d i e : ℕ) (dr : Record) (ready : IsReady X d i e dr) wh
 
   above : (b : ℕ) → is_data_block X b ≡ true → ((super_at X).inodes / 4 < b) × (b < length X)
   above b t =
-      let p = and-both (leb (1 + (super_at X).inodes / 4) b) (ltb b (super_at X).blocks) t in
-      let a = leb-true (1 + (super_at X).inodes / 4) b p.0 in
-      let l = ltb-true b (super_at X).blocks p.1 in
+      let a = (data-place X b t).0 in
+      let l = (data-place X b t).1 in
       let w = ready.whole in
       (omega (arith, a), omega (arith, l, w))
 
@@ -80,6 +82,27 @@ module _ (X : Image) (d i e : ℕ) (dr : Record) (ready : IsReady X d i e dr) wh
     ap (λ (z : Cell). tag_of z.tag) ec ∙ tag ∙ ap
         (λ (n : ℕ). Some (table_tag n)) (sym eb),
   )
+
+  below : e / 16 < 72
+  below = let g = ready.range in omega (arith, g)
+
+  -- the entry's block, once it is written: the directory is of the same kind and generation
+  claimed-cell : (s : ℕ) (x : Pointer) → IsNewBlock s X x → (Y : Image) (c : Cell) (it : Entry) → IsNewCell d dr.generation e it x.stamp c
+      → cell_at Y x.block ≡ c → (inode Y d).kind ≡ Some Folder → (inode Y d).generation ≡ dr.generation → (path : Path) → path_of (e / 16) ≡ path
+      → ClaimedCell s X Y d path x
+  claimed-cell s x block Y c it filled here kind generation path is = record {
+    free = block.free;
+    area = block.area;
+    fresh = block.fresh;
+    tag = ap (λ (z : Cell). tag_of z.tag) here ∙ filled.tag
+        ∙ ap Some (new-cell-tag Y d (e / 16) x.stamp dr.generation kind generation below ∙ (λ j. tag_for Y d (is j) x.stamp));
+  }
+
+  -- and its content
+  content-is : (x : Pointer) (Y : Image) (c : Cell) (it : Entry) → IsNewCell d dr.generation e it x.stamp c → cell_at Y x.block ≡ c
+      → length (spelled_entry it.inode it.generation it.name) ≡ 64
+      → Bytes (cell_at Y x.block).payload ≡ with_entry Hole e (spelled_entry it.inode it.generation it.name)
+  content-is x Y c it filled here short = ap (λ (z : Cell). Bytes z.payload) here ∙ ap Bytes filled.payload ∙ content-new e it short
 
   -- the two tables are written last
   module _ (before after : Tables) (new : Record) (r : Record) (tables : AreTables before d new i r after) (Z : Image) (len : length Z ≡ length X) where
@@ -147,15 +170,8 @@ module _ (X : Image) (d i e : ℕ) (dr : Record) (ready : IsReady X d i e dr) wh
       super = super1;
       records = records-beside X Y1 d i (with_direct dr (e / 16) x) r before after tables ready.apart ready.whole ready.room ready.quarters ready.d_range
           ready.i_range first second super1 at-d1 at-i1 beside1;
-      cell = record {
-        free = block.free;
-        area = block.area;
-        fresh = block.fresh;
-        tag = ap (λ (z : Cell). tag_of z.tag) cell1 ∙ filled.tag ∙ ap Some
-            (new-cell-tag Y1 d (e / 16) x.stamp dr.generation (ap (λ (q : Record). q.kind) d1 ∙ ready.kind) (ap (λ (q : Record). q.generation) d1)
-            (omega (arith, small))
-            ∙ (λ j. tag_for Y1 d (path-direct (e / 16) small j) x.stamp));
-      };
+      cell = claimed-cell s x block Y1 c it filled cell1 (ap (λ (q : Record). q.kind) d1 ∙ ready.kind) (ap (λ (q : Record). q.generation) d1)
+          (InRecord (e / 16)) (path-direct (e / 16) small);
       blocks = λ b t ne. other1 b ne (off b d t ready.d_range) (off b i t ready.i_range);
       meta = record {
         kind = ap (λ (q : Record). q.kind) (d1 ∙ ap (λ (q : Record). with_direct q (e / 16) x) (sym ready.directory));
@@ -170,11 +186,8 @@ module _ (X : Image) (d i e : ℕ) (dr : Record) (ready : IsReady X d i e dr) wh
 
     pub direct-enters : find X d (path_of (e / 16)) ≡ answer.Hole → length (spelled_entry it.inode it.generation it.name) ≡ 64 → (y : Pointer)
         → EntryInHole s X Y1 d e i (spelled_entry it.inode it.generation it.name) x y
-    direct-enters hole short y = record {
-      empty = hole;
-      claimed = Direct small direct-hole;
-      content = ap (λ (z : Cell). Bytes z.payload) cell1 ∙ ap Bytes filled.payload ∙ content-new e it short;
-    }
+    direct-enters hole short y =
+        record { empty = hole; claimed = Direct small direct-hole; content = content-is x Y1 c it filled cell1 short }
 
     tagged1 : (tag_of after.directory.tag ≡ Some (table_tag (table_block d))) × (tag_of after.inode.tag ≡ Some (table_tag (table_block i)))
     tagged1 = tables-tagged X Y1 d i (with_direct dr (e / 16) x) r before after tables ready.apart ready.whole ready.room ready.quarters ready.d_range
@@ -257,15 +270,8 @@ module _ (X : Image) (d i e : ℕ) (dr : Record) (ready : IsReady X d i e dr) wh
       super = super2;
       records = records2;
       held = held;
-      cell = record {
-        free = block.free;
-        area = block.area;
-        fresh = block.fresh;
-        tag = ap (λ (z : Cell). tag_of z.tag) cell2 ∙ filled.tag ∙ ap Some
-            (new-cell-tag Y2 d (e / 16) x.stamp dr.generation (ap (λ (q : Record). q.kind) d2 ∙ ready.kind) (ap (λ (q : Record). q.generation) d2)
-            (let g = ready.range in omega (arith, g))
-            ∙ (λ j. tag_for Y2 d (path-leaf (e / 16) high (let g = ready.range in omega (arith, g)) j) x.stamp));
-      };
+      cell = claimed-cell s x block Y2 c it filled cell2 (ap (λ (q : Record). q.kind) d2 ∙ ready.kind) (ap (λ (q : Record). q.generation) d2)
+          (Under leaf (e / 16 - 8)) (path-leaf (e / 16) high below);
       blocks = λ b t nx ny. other2 b nx ny (off b i t ready.i_range);
       tag = ap (λ (z : Cell). tag_of z.tag) leaf2 ∙ ap tag_of more.tag ∙ ap (λ (z : Cell). tag_of z.tag) was;
       pointer = ap (λ (z : Cell). pointer_at z.payload (e / 16 - 8)) leaf2 ∙ more.here;
@@ -277,11 +283,8 @@ module _ (X : Image) (d i e : ℕ) (dr : Record) (ready : IsReady X d i e dr) wh
 
     pub under-enters : find X d (path_of (e / 16)) ≡ answer.Hole → length (spelled_entry it.inode it.generation it.name) ≡ 64
         → EntryInHole s X Y2 d e i (spelled_entry it.inode it.generation it.name) x y
-    under-enters hole short = record {
-      empty = hole;
-      claimed = UnderLeaf high (let g = ready.range in omega (arith, g)) under-hole;
-      content = ap (λ (z : Cell). Bytes z.payload) cell2 ∙ ap Bytes filled.payload ∙ content-new e it short;
-    }
+    under-enters hole short =
+        record { empty = hole; claimed = UnderLeaf high below under-hole; content = content-is x Y2 c it filled cell2 short }
 
     pub under-each : (b : ℕ) (cell : Cell) → OneOf ((x.block, c) ∷ (y.block, u) ∷ (table_block i, t) ∷ []) b cell → IsWritten X Y2 e x y b cell
     under-each b cell (inl one) = (one.1 ∙ sym (ap (cell_at Y2) one.0 ∙ cell2), inl one.0)
@@ -351,15 +354,8 @@ module _ (X : Image) (d i e : ℕ) (dr : Record) (ready : IsReady X d i e dr) wh
       records = records-beside X Y3 d i (with_leaf dr y) r before after tables ready.apart ready.whole ready.room ready.quarters ready.d_range ready.i_range
           first second super3 at-d3 at-i3 beside3;
       empty = none;
-      cell = record {
-        free = block.free;
-        area = block.area;
-        fresh = block.fresh;
-        tag = ap (λ (z : Cell). tag_of z.tag) cell3 ∙ filled.tag ∙ ap Some
-            (new-cell-tag Y3 d (e / 16) x.stamp dr.generation (ap (λ (q : Record). q.kind) d3 ∙ ready.kind) (ap (λ (q : Record). q.generation) d3)
-            (let g = ready.range in omega (arith, g))
-            ∙ (λ j. tag_for Y3 d (path-leaf (e / 16) high (let g = ready.range in omega (arith, g)) j) x.stamp));
-      };
+      cell = claimed-cell s x block Y3 c it filled cell3 (ap (λ (q : Record). q.kind) d3 ∙ ready.kind) (ap (λ (q : Record). q.generation) d3)
+          (Under leaf (e / 16 - 8)) (path-leaf (e / 16) high below);
       above = record {
         free = leaf-block.free;
         area = leaf-block.area;
@@ -384,11 +380,8 @@ module _ (X : Image) (d i e : ℕ) (dr : Record) (ready : IsReady X d i e dr) wh
 
     pub with-enters : find X d (path_of (e / 16)) ≡ answer.Hole → length (spelled_entry it.inode it.generation it.name) ≡ 64
         → EntryInHole s X Y3 d e i (spelled_entry it.inode it.generation it.name) x y
-    with-enters hole short = record {
-      empty = hole;
-      claimed = WithLeaf high (let g = ready.range in omega (arith, g)) with-hole;
-      content = ap (λ (z : Cell). Bytes z.payload) cell3 ∙ ap Bytes filled.payload ∙ content-new e it short;
-    }
+    with-enters hole short =
+        record { empty = hole; claimed = WithLeaf high below with-hole; content = content-is x Y3 c it filled cell3 short }
 
     tagged3 : (tag_of after.directory.tag ≡ Some (table_tag (table_block d))) × (tag_of after.inode.tag ≡ Some (table_tag (table_block i)))
     tagged3 = tables-tagged X Y3 d i (with_leaf dr y) r before after tables ready.apart ready.whole ready.room ready.quarters ready.d_range ready.i_range first

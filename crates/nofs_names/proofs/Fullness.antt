@@ -1,10 +1,9 @@
 -- Whether a directory has a name of a file, place by place and slot by slot.
-use Rattle.std.proofs.Common.{◌≡◌, ℕ, ◌+◌, ◌*◌, ◌<◌, inl, inr, Bool, true, false, List, [], Option, Some, None, IsTrue, Result, Ok, Err, refl, sym, ap, ◌∙◌}
-use Rattle.std.proofs.Common.{subst, arith, le_refl}
-use Rattle.std.specs.Prelude.{IfOk, OnErr}
+use Rattle.std.proofs.Common.{◌≡◌, ℕ, ◌+◌, ◌*◌, ◌<◌, inl, inr, Bool, true, false, List, [], Option, Some, None, IsTrue, Result, Ok, refl, sym, ap, ◌∙◌, subst}
+use Rattle.std.proofs.Common.{arith}
 use Rattle.std.proofs.lemmas.Bool.{cases_lt}
-use Rattle.nofs_disk.specs.Disk.{DiskState, StaysButFaults, Rose}
-use Rattle.nofs_disk.specs.Chains.{StaysButFaults-refl, StaysButFaults-trans, Rose-within}
+use Rattle.nofs_disk.specs.Disk.{DiskState, StaysButFaults}
+use Rattle.nofs_disk.specs.Chains.{StaysButFaults-trans}
 use Rattle.nofs_disk.specs.declared.Failed.{Failed}
 use Rattle.nofs_model.specs.Cells.{Entry, Record, SuperBlock, entry_in}
 use Rattle.nofs_model.specs.Image.{Image, inode, Path, path_of, find, Files, entry_at, entry_held, value, value_in}
@@ -19,61 +18,14 @@ use Rattle.nofs_agree.proofs.Climbs.{told-on}
 use Rattle.nofs_state.proofs.Opens.{IsLast-on}
 use Rattle.nofs_names.specs.Searching.{named_in}
 use Rattle.nofs_names.specs.Refusing.{IsThere}
-use Rattle.nofs_names.specs.Filled.{pair_in, TellsPair, NoPairs, NamesAre, NamesOn}
+use Rattle.nofs_names.specs.Filled.{pair_in, TellsPair, NoPairs, NamesOn}
 use Rattle.nofs_names.proofs.PairTests.{paired-is}
 use Rattle.nofs_names.proofs.Passing.{entry-is, held-at}
-
-pub names-after : (old mid new : DiskState) (d n m : ℕ) (last : LastRead) (res : Result Bool Failed) → StaysButFaults old mid
-    → NamesOn mid new d n m last res → NamesOn old new d n m last res
-names-after old mid new d n m last res stays s = record {
-  stays = StaysButFaults-trans old mid new stays s.stays;
-  names = on-ok res s.names;
-  kept = s.kept;
-  cause = on-err res s.cause;
-}
-  where
-    on-ok : (r : Result Bool Failed) → IfOk r (λ b. IsTrue mid.tells → IsThere d mid.now → (F : Files) → FilesMatch F mid.now → NoPairs F d n
-        → NamesAre F d m b) → IfOk r (λ b. IsTrue old.tells → IsThere d old.now → (F : Files) → FilesMatch F old.now → NoPairs F d n → NamesAre F d m b)
-    on-ok (Err e) h = tt
-    on-ok (Ok b) h = λ t. subst (λ (X : Image). IsThere d X → (F : Files) → FilesMatch F X → NoPairs F d n → NamesAre F d m b) stays.cells.now
-        (h (told-on old mid stays t))
-
-    on-err : (r : Result Bool Failed) → OnErr r (Rose mid.faults new.faults) → OnErr r (Rose old.faults new.faults)
-    on-err (Err e) h = Rose-within old.faults mid.faults new.faults new.faults stays.disk.faults h (le_refl new.faults)
-    on-err (Ok b) h = tt
 
 pub record Emptying (old now : DiskState) (d n m : ℕ) (last : LastRead) : Type 0 where
   pub stays : StaysButFaults old now
   pub kept : IsLast now last
   pub none : IsTrue old.tells → IsThere d old.now → (F : Files) → FilesMatch F old.now → NoPairs F d n → NoPairs F d m
-
-pub emptying-begins : (old : DiskState) (d n m : ℕ) (last : LastRead) → IsLast old last → m ≡ n → Emptying old old d n m last
-emptying-begins old d n m last kept e = record { stays = StaysButFaults-refl old; kept = kept; none = λ t a F w p. subst (NoPairs F d) (sym e) p }
-
--- a search of the next entries goes on from here
-module _ (old now new : DiskState) (d n m q : ℕ) (last next : LastRead) (g : Emptying old now d n m last) where
-  pub emptying-on : NamesOn now new d m q next (Ok false) → Emptying old new d n q next
-  emptying-on s = let r = names-after old now new d m q next (Ok false) g.stays s in record {
-    stays = r.stays;
-    kept = r.kept;
-    none =
-        λ t a F w p. r.names t a F w (g.none t a F w p);
-  }
-
-  pub emptying-found : (z : ℕ) → NamesOn now new d m q next (Ok true) → NamesOn old new d n z next (Ok true)
-  emptying-found z s = let r = names-after old now new d m q next (Ok true) g.stays s in record {
-    stays = r.stays;
-    names =
-        λ t a F w p. r.names t a F w (g.none t a F w p);
-    kept = r.kept;
-    cause = tt;
-  }
-
-  pub emptying-failed : (z : ℕ) (e : Failed) → NamesOn now new d m q next (Err e) → NamesOn old new d n z next (Err e)
-  emptying-failed z e s = let r = names-after old now new d m q next (Err e) g.stays s in record { stays = r.stays; names = tt; kept = tt; cause = r.cause }
-
-pub emptying-ends : (old now : DiskState) (d n m q : ℕ) (last : LastRead) → Emptying old now d n m last → m ≡ q → NamesOn old now d n q last (Ok false)
-emptying-ends old now d n m q last g e = record { stays = g.stays; names = λ t a F w p. subst (NoPairs F d) e (g.none t a F w p); kept = g.kept; cause = tt }
 
 -- one place
 

@@ -1,8 +1,9 @@
 -- A step with which one inode goes: what it used is free, and known to be.
-use Rattle.std.proofs.Common.{◌≡◌, ◌≢◌, ℕ, ◌+◌, ◌-◌, ◌<◌, ◌≤◌, ◌⊎◌, Bool, true, false, cond, ltb, eqb, eqb-true, eq-eqb, ◌&&◌, ◌||◌, not, Option, Some, None}
-use Rattle.std.proofs.Common.{is_some, inl, inr, refl, sym, ap, ◌∙◌, subst, arith}
+use Rattle.std.proofs.Common.{◌≡◌, ◌≢◌, ℕ, ◌+◌, ◌-◌, ◌<◌, ◌≤◌, ◌⊎◌, Bool, true, false, cond, ltb, eqb, eq-eqb, ◌&&◌, ◌||◌, not, Option, Some, None, is_some}
+use Rattle.std.proofs.Common.{inl, inr, refl, sym, ap, ◌∙◌, subst, arith}
 use Rattle.nofs_agree.specs.Chains.{told}
-use Rattle.std.proofs.lemmas.Bool.{cases_eq}
+use Rattle.std.proofs.lemmas.Bool.{cases_eq, ne_eqb}
+use Rattle.std.proofs.Math.Bool.{or-false, or-true}
 use Rattle.nofs_ptrs.specs.Paths.{slot_limit}
 use Rattle.nofs_bits.specs.Bits.{is_set}
 use Rattle.nofs_model.specs.Cells.{SuperBlock, null}
@@ -18,6 +19,7 @@ use Rattle.nofs_state.specs.Books.{Says, knows_inode, knows_block}
 use Rattle.nofs_state.specs.declared.books.Books.{Books}
 use Rattle.nofs_state.proofs.Done.{after_world}
 use Rattle.nofs_state.proofs.Replies.{home-has}
+use Rattle.nofs_names.proofs.NameSteps.{Follows}
 use Rattle.nofs_names.specs.Removing.{is_of}
 use Rattle.nofs_names.proofs.Quiet.{block_in}
 
@@ -47,21 +49,6 @@ pub record Freed (k l : Books) (i : ℕ) (owned : ℕ → Bool) : Type 0 where
   pub free_inodes : (j : ℕ) → 1 ≤ j → j ≤ k.at.inodes → is_set l.free_inodes (j - 1) ≡ (is_set k.free_inodes (j - 1) || eqb j i)
   pub free_blocks : (q : ℕ) → q < k.at.blocks → is_set l.free_blocks q ≡ (is_set k.free_blocks q || owned q)
   pub agreement : (j : ℕ) (a : Bool) → told l.agreement j ≡ Some a → (j ≢ i) × (told k.agreement j ≡ Some a)
-
-not-eqb : (a b : ℕ) → a ≢ b → eqb a b ≡ false
-not-eqb a b ne = go (eqb a b) refl
-  where
-    go : (c : Bool) → eqb a b ≡ c → eqb a b ≡ false
-    go true e = absurd (ne (eqb-true a b e))
-    go false e = e
-
-or-true : (b : Bool) → (b || true) ≡ true
-or-true true = refl
-or-true false = refl
-
-or-false : (b : Bool) → (b || false) ≡ b
-or-false true = refl
-or-false false = refl
 
 pub leaving-claim : (W : World) (s : Step) (G : Files) (i : ℕ) → IsLeaving W s G i → IsClaim W s no_claims
 leaving-claim W s G i leaving = record {
@@ -103,7 +90,7 @@ module _ (X : Image) (k l : Books) (W : World) (s : Step) (G : Files) (i : ℕ) 
       at home e (inr other) =
           let b : has_block V.files home ≡ true = subst (λ (F : Files). has_block F home ≡ true) (sym leaving.files)
           (leaving.blocks home other (home-has W X match homes past q home e)) in
-          let t : eqb home.inode i ≡ false = not-eqb home.inode i other in
+          let t : eqb home.inode i ≡ false = ne_eqb home.inode i other in
           rw (b, t) refl
 
       go : (h : Option Home) → W.homes q ≡ h
@@ -139,8 +126,8 @@ module _ (X : Image) (k l : Books) (W : World) (s : Step) (G : Files) (i : ℕ) 
   differ : (a b : Bool) → a ≡ false → b ≡ true → a ≢ b
   differ a b ea eb e = cc (ea, eb, e)
 
-  pub leaving-learns : Learns W s true V
-  leaving-learns = record {
+  learns : Learns W s true V
+  learns = record {
     inodes_stay = λ j kn. let a = sym (says.known_inodes j) ∙ kn in freed.known_inodes j ∙ (λ n. a n || eqb j i);
     blocks_stay = λ q kn. let a = sym (says.known_blocks q) ∙ kn in freed.known_blocks q ∙ (λ n. a n || is_of i (W.homes q));
     inodes_change = λ j ne. elim (cases_eq j i) [
@@ -153,7 +140,7 @@ module _ (X : Image) (k l : Books) (W : World) (s : Step) (G : Files) (i : ℕ) 
     inodes_why = λ j kn. elim (cases_eq j i) [
       | inl here ↦ inr (inr (inl (subst (λ (n : ℕ). uses_inode V n ≢ uses_inode W n) (sym here)
           (differ (uses_inode V i) (uses_inode W i) inode-gone inode-was))))
-      | inr other ↦ inl (says.known_inodes j ∙ sym (freed.known_inodes j ∙ (λ n. knows_inode k j || not-eqb j i other n) ∙ or-false (knows_inode k j)) ∙ kn)
+      | inr other ↦ inl (says.known_inodes j ∙ sym (freed.known_inodes j ∙ (λ n. knows_inode k j || ne_eqb j i other n) ∙ or-false (knows_inode k j)) ∙ kn)
     ];
     blocks_why = λ q kn. why-case q (is_of i (W.homes q)) refl kn;
   }
@@ -167,8 +154,8 @@ module _ (X : Image) (k l : Books) (W : World) (s : Step) (G : Files) (i : ℕ) 
       why-case q true o kn = inr (inr (inl (differ (uses_block V q) (uses_block W q) (block-gone q o) (block-was q o))))
       why-case q false o kn = inl (says.known_blocks q ∙ sym (freed.known_blocks q ∙ (λ n. knows_block k q || o n) ∙ or-false (knows_block k q)) ∙ kn)
 
-  pub leaving-says : Says l V
-  leaving-says = record {
+  said : Says l V
+  said = record {
     version = says.version ∙ sym (ap (λ (q : SuperBlock). q.version) freed.at);
     blocks = says.blocks ∙ sym (ap (λ (q : SuperBlock). q.blocks) freed.at);
     inodes = says.inodes ∙ sym (ap (λ (q : SuperBlock). q.inodes) freed.at);
@@ -181,9 +168,9 @@ module _ (X : Image) (k l : Books) (W : World) (s : Step) (G : Files) (i : ℕ) 
       | inl here ↦ freed.free_inodes j a top ∙ (λ n. is_set k.free_inodes (j - 1) || eq-eqb j i here n) ∙ or-true (is_set k.free_inodes (j - 1))
           ∙ sym ((λ n. (freed.known_inodes j ∙ (λ m. knows_inode k j || eq-eqb j i here m) ∙ or-true (knows_inode k j)) n && not (uses_inode V (here n)))
           ∙ ap not inode-gone)
-      | inr other ↦ freed.free_inodes j a top ∙ (λ n. is_set k.free_inodes (j - 1) || not-eqb j i other n) ∙ or-false (is_set k.free_inodes (j - 1))
+      | inr other ↦ freed.free_inodes j a top ∙ (λ n. is_set k.free_inodes (j - 1) || ne_eqb j i other n) ∙ or-false (is_set k.free_inodes (j - 1))
           ∙ says.free_inodes j a top
-          ∙ (λ n. (says.known_inodes j ∙ sym (freed.known_inodes j ∙ (λ m. knows_inode k j || not-eqb j i other m) ∙ or-false (knows_inode k j))) n
+          ∙ (λ n. (says.known_inodes j ∙ sym (freed.known_inodes j ∙ (λ m. knows_inode k j || ne_eqb j i other m) ∙ or-false (knows_inode k j))) n
           && not (sym (inode-same j other) n))
     ];
     free_blocks = λ q lt. let low : q < k.at.blocks = subst (λ (n : ℕ). q < n) (ap (λ (q : SuperBlock). q.blocks) freed.at) lt in free-case q low
@@ -197,3 +184,6 @@ module _ (X : Image) (k l : Books) (W : World) (s : Step) (G : Files) (i : ℕ) 
       free-case q low false o = freed.free_blocks q low ∙ (λ n. is_set k.free_blocks q || o n) ∙ or-false (is_set k.free_blocks q) ∙ says.free_blocks q low
           ∙ (λ n. (says.known_blocks q ∙ sym (freed.known_blocks q ∙ (λ m. knows_block k q || o m) ∙ or-false (knows_block k q))) n
           && not (sym (block-same q o) n))
+
+  pub leaving-follows : Follows W s no_claims l
+  leaving-follows = record { learns = learns; says = said }

@@ -1,12 +1,12 @@
 -- The lines of a slot.
 use Rattle.std.proofs.Common.{◌≡◌, ℕ, zero, suc, ◌+◌, ◌*◌, ◌/◌, ◌%◌, ◌<◌, true, List, [], ◌∷◌, ◌++◌, append-nil, append_assoc, Option, Some, None, is_some}
-use Rattle.std.proofs.Common.{option_to_list, IsTrue, Result, Ok, Err, inl, inr, refl, sym, ap, ◌∙◌, subst, arith, le_refl, length, length-append, ◌≤◌}
-use Rattle.std.specs.Prelude.{All, IfErr, IfSome}
-use Rattle.std.proofs.lemmas.List.Elements.{All-nil, All-push}
+use Rattle.std.proofs.Common.{option_to_list, IsTrue, Result, Ok, refl, sym, ap, ◌∙◌, subst, arith, length, length-append, ◌≤◌}
+use Rattle.std.specs.Prelude.{All, IfSome}
+use Rattle.std.proofs.lemmas.List.Elements.{All-push}
 use Rattle.nofs_dirent.specs.Names.{NameOk, is_name}
 use Rattle.nofs_dirent.specs.NameLaws.{is_name-Decides}
 use Rattle.nofs_disk.specs.Disk.{DiskState, StaysButFaults}
-use Rattle.nofs_disk.specs.Chains.{StaysButFaults-refl, StaysButFaults-trans, Rose-within}
+use Rattle.nofs_disk.specs.Chains.{StaysButFaults-trans}
 use Rattle.nofs_inode.specs.declared.inode.FileKind.TheVariants.{File, Directory}
 use Rattle.nofs_model.specs.Cells.{Entry, FileKind, Record, SuperBlock, entry_in}
 use Rattle.nofs_model.specs.Image.{Image, inode, Files, files_in, agreed, is_folder, entry_at, value}
@@ -22,7 +22,7 @@ use Rattle.nofs_agree.specs.declared.reads.LastRead.{LastRead}
 use Rattle.nofs_agree.proofs.Climbs.{told-on}
 use Rattle.nofs_names.specs.Searching.{paired_kind}
 use Rattle.nofs_names.specs.Refusing.{IsThere}
-use Rattle.nofs_names.specs.Listing.{line_with, name_line_in, LinesFail, ReadsLine, ReadsLines}
+use Rattle.nofs_names.specs.Listing.{line_with, name_line_in, ReadsLine, ReadsLines}
 use Rattle.nofs_names.proofs.PairTests.{named_by, paired-is, paired-agreed}
 use Rattle.nofs_names.proofs.Passing.{entry-is}
 use Rattle.nofs_names.proofs.Rowing.{folder-at}
@@ -78,16 +78,6 @@ named-more : (so_far : List NameLine) (line : Option NameLine) → All (λ x. Is
 named-more so_far None all ok = subst (All (λ (x : NameLine). IsTrue (is_name x.name))) (sym (append-nil so_far)) all
 named-more so_far (Some x) all ok = All-push (λ (x : NameLine). IsTrue (is_name x.name)) so_far x all ((is_name-Decides x.name).1 ok)
 
-pub lining-begins : (old : DiskState) (d slot : ℕ) (last : LastRead) → IsLast old last → Lining old old d slot 0 [] last
-lining-begins old d slot last kept = record {
-  stays = StaysButFaults-refl old;
-  kept = kept;
-  lines = λ t a F m. refl;
-  few = omega arith;
-  named =
-      All-nil (λ (x : NameLine). IsTrue (is_name x.name));
-}
-
 module _ (old now new : DiskState) (at : SuperBlock) (d slot n : ℕ) (dr : Record) (payload : List ℕ) (so_far : List NameLine) (last next : LastRead)
     (known : KnowsDirectory old at d dr.generation dr) (low : slot < 72) (cell : IsTrue old.tells → value old.now d slot ≡ Bytes payload)
     (s : Lining old now d slot n so_far last) (small : n < 16) (res : Result (Option NameLine) Refusal)
@@ -111,22 +101,6 @@ module _ (old now new : DiskState) (at : SuperBlock) (d slot n : ℕ) (dr : Reco
         few = subst (λ (ls : List NameLine). length ls ≤ n + 1) (sym el) (few-more so_far line n s.few);
         named = subst (All (λ (x : NameLine). IsTrue (is_name x.name))) (sym el) (named-more so_far line s.named q.named);
       }
-
-  pub lining-failed : (why : Refusal) → res ≡ Err why → ReadsLines old new d slot (Err why)
-  lining-failed why e = record {
-    stays = StaysButFaults-trans old now new s.stays reads.stays;
-    lines = tt;
-    few = tt;
-    named = tt;
-    refused = go (subst (λ (r : Result (Option NameLine) Refusal). IfErr r (LinesFail now new)) e reads.refused);
-  }
-    where
-      go : LinesFail now new why → LinesFail old new why
-      go (inl m) = inl m
-      go (inr f) = inr (f.0, Rose-within old.faults now.faults new.faults new.faults s.stays.disk.faults f.1 (le_refl new.faults))
-
-  pub lining-full : (line : Option NameLine) → res ≡ Ok line → ReadsLines old new d slot (Err refusal.OutOfMemory)
-  lining-full line e = record { stays = StaysButFaults-trans old now new s.stays reads.stays; lines = tt; few = tt; named = tt; refused = inl refl }
 
 pub lining-ends : (old now : DiskState) (d slot n : ℕ) (so_far : List NameLine) (last : LastRead) → Lining old now d slot n so_far last → n ≡ 16
     → ReadsLines old now d slot (Ok so_far)

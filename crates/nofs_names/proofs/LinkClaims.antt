@@ -1,6 +1,6 @@
 -- How many blocks a new entry asks for, and what a Link claims.
-use Rattle.std.proofs.Common.{◌≡◌, ◌≢◌, ℕ, zero, suc, ◌+◌, ◌*◌, ◌^◌, ◌<◌, ◌≤◌, inl, inr, Bool, true, false, cond, ne_eqb, ltb, not, List, [], ◌∷◌, ◌++◌}
-use Rattle.std.proofs.Common.{length, refl, sym, ap, ◌∙◌, subst, arith, Contains}
+use Rattle.std.proofs.Common.{◌≡◌, ◌≢◌, ℕ, zero, suc, ◌+◌, ◌*◌, ◌^◌, ◌<◌, ◌≤◌, inl, inr, Bool, true, false, cond, ne_eqb, ltb, not, List, [], ◌∷◌, ◌++◌, length}
+use Rattle.std.proofs.Common.{refl, sym, ap, ◌∙◌, subst, arith, Contains}
 use Rattle.std.specs.Prelude.{slice_set}
 use Rattle.std.proofs.lemmas.Bool.{cases_eq}
 use Rattle.nofs_bits.specs.Bits.{is_set}
@@ -32,7 +32,7 @@ use Rattle.nofs_state.proofs.Replies.{open-files}
 use Rattle.nofs_names.specs.Placing.{IsEntrySlot, slot_blocks}
 use Rattle.nofs_names.specs.declared.placing.EntrySlot.{EntrySlot}
 use Rattle.nofs_names.specs.declared.placing.EntrySlot.TheVariants as entry
-use Rattle.nofs_names.proofs.BlockClaims.{TakenBlocks}
+use Rattle.nofs_state.proofs.ClaimedBlocks.{Takes}
 use Rattle.nofs_names.proofs.EnteredHole.{IsNewBlock}
 
 -- The blocks of a slot of a directory
@@ -170,7 +170,7 @@ no-claim : (q : Pointer) → IsClaimed no_claims q → ⊥
 no-claim q h = let e : null ≡ q = elim h.1 [ inl e ↦ e | inr r ↦ elim r [ inl e ↦ e | inr e ↦ e ] ] in let t = h.0 in let z : is_claimed q ≡ false = sym
     (ap is_claimed e) in cc (z, t)
 
-pub taken-none : (k : Books) → TakenBlocks k k no_claims 0
+pub taken-none : (k : Books) → Takes k k no_claims 0
 taken-none k = record {
   same = (λ j. record k { serial = add-zero k.serial j });
   here = λ x h. absurd (no-claim x h);
@@ -187,7 +187,7 @@ one-claim x q h = elim h.1 [ inl e ↦ e | inr r ↦ absurd (not-null (elim r [ 
     not-null : null ≡ q → ⊥
     not-null e = let t = h.0 in let z : is_claimed q ≡ false = sym (ap is_claimed e) in cc (z, t)
 
-pub taken-cell : (k : Books) (b : ℕ) → 0 < b → b < length k.free_blocks → TakenBlocks k (claimed_books k b) (claims_of (claimed_pointer k b) null) 1
+pub taken-cell : (k : Books) (b : ℕ) → 0 < b → b < length k.free_blocks → Takes k (claimed_books k b) (claims_of (claimed_pointer k b) null) 1
 taken-cell k b positive low = record {
   same = refl;
   here = λ x h. subst (λ (q : Pointer). is_set (slice_set k.free_blocks b false) q.block ≡ false) (one-claim (claimed_pointer k b) x h)
@@ -197,7 +197,7 @@ taken-cell k b positive low = record {
 }
 
 pub taken-both : (k : Books) (b b2 : ℕ) → 0 < b → 0 < b2 → b < length k.free_blocks → b2 < length k.free_blocks
-    → TakenBlocks k (claimed_books (claimed_books k b) b2) (claims_of (claimed_pointer k b) (claimed_pointer (claimed_books k b) b2)) 2
+    → Takes k (claimed_books (claimed_books k b) b2) (claims_of (claimed_pointer k b) (claimed_pointer (claimed_books k b) b2)) 2
 taken-both k b b2 positive positive2 low low2 = record {
   same = (λ j. record (claimed_books (claimed_books k b) b2) { serial = twice k.serial j });
   here = λ x h. elim h.1 [

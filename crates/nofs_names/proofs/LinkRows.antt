@@ -2,11 +2,10 @@
 use Rattle.std.proofs.Common.{◌≡◌, ◌≢◌, ℕ, zero, suc, ◌+◌, ◌<◌, ◌≤◌, inl, inr, Bool, true, false, not, eq-eqb, ne_eqb, List, [], ◌∷◌, length, get_or, Option}
 use Rattle.std.proofs.Common.{Some, None, IsTrue, Result, Ok, Err, IfErr, refl, sym, ap, ◌∙◌, subst, arith, le_refl}
 use Rattle.std.proofs.lemmas.Bool.{cases_lt}
-use Rattle.std.proofs.lemmas.List.Elements.{All-set}
 use Rattle.nofs_disk.specs.Disk.{DiskState, StaysButFaults}
 use Rattle.nofs_disk.specs.Chains.{StaysButFaults-refl, StaysButFaults-trans, Rose-within}
 use Rattle.nofs_disk.specs.declared.Failed.{Failed}
-use Rattle.nofs_inode.specs.InodeRecords.{AllowsRecord, HasRecordSpelling, IsTidyLink, is_empty_link}
+use Rattle.nofs_inode.specs.InodeRecords.{is_empty_link}
 use Rattle.nofs_inode.specs.declared.inode.FileKind.TheVariants.{File, Directory}
 use Rattle.nofs_model.specs.Cells.{BackLink, FileKind, Record, SuperBlock, no_link}
 use Rattle.nofs_model.specs.Image.{Image, inode, Files, files_in, agreed, is_folder, is_pair, links_of, links_in_file}
@@ -27,21 +26,20 @@ use Rattle.nofs_state.specs.declared.books.Books.{Books}
 use Rattle.nofs_state.specs.declared.opening.Opened.{Opened}
 use Rattle.nofs_state.proofs.Machine.{agreed-live, machine-pair, stale-none, stale-some}
 use Rattle.nofs_names.specs.Refusing.{Fails, ByRow, ByRead, KnownTrue}
-use Rattle.nofs_names.specs.Linking.{FindsLinkPlace, IsKnown, OpensBoth, TellsDeadPlace, both_as, both_rows, dead_place, with_link, place_or_many}
-use Rattle.nofs_names.proofs.Rowing.{current-agreed, folder-at}
+use Rattle.nofs_names.specs.Linking.{FindsLinkPlace, IsKnown, OpensBoth, TellsDeadPlace, both_as, both_rows, dead_place, place_or_many}
+use Rattle.nofs_state.proofs.CurrentFiles.{current-agreed}
+use Rattle.nofs_names.proofs.Rowing.{folder-at}
 
 -- The directory and the file
 
+both-refused : (old new : DiskState) (k : Books) (d g i of : ℕ) (why : Refusal) → StaysButFaults old new
+    → Fails old new (KnownTrue k) (both_rows d g i of) why → OpensBoth old new k d g i of (Err why)
+both-refused old new k d g i of why stays fails = record { stays = stays; known = tt; there = tt; passes = tt; refused = fails }
+
 module _ (old mid : DiskState) (k : Books) (d g i of : ℕ) (last : LastRead) (res : Result Opened Refusal) (opens : Opens old mid k d g last res) where
   pub both-no-directory : (why : Refusal) → res ≡ Err why → OpensBoth old mid k d g i of (Err why)
-  both-no-directory why e = record {
-    stays = opens.stays;
-    known = tt;
-    there = tt;
-    passes = tt;
-    refused = go why
-        (subst (λ (q : Result Opened Refusal). IfErr q (OpenFails old mid k d g)) e opens.refused);
-  }
+  both-no-directory why e = both-refused old mid k d g i of why opens.stays
+      (go why (subst (λ (q : Result Opened Refusal). IfErr q (OpenFails old mid k d g)) e opens.refused))
     where
       go : (w : Refusal) → OpenFails old mid k d g w → Fails old mid (KnownTrue k) (both_rows d g i of) w
       go refusal.Stale fails = ByRow refl tt (λ t all W match. rw (stale-some W old.now d g match (fails t all)) refl)
@@ -56,14 +54,8 @@ module _ (old mid : DiskState) (k : Books) (d g i of : ℕ) (last : LastRead) (r
     after = StaysButFaults-trans old mid new one.stays opens2.stays
 
     pub both-no-file : (why : Refusal) → res2 ≡ Err why → OpensBoth old new k d g i of (Err why)
-    both-no-file why e = record {
-      stays = after;
-      known = tt;
-      there = tt;
-      passes = tt;
-      refused = go why
-          (subst (λ (q : Result Opened Refusal). IfErr q (OpenFails mid new k i of)) e opens2.refused);
-    }
+    both-no-file why e = both-refused old new k d g i of why after
+        (go why (subst (λ (q : Result Opened Refusal). IfErr q (OpenFails mid new k i of)) e opens2.refused))
       where
         go : (w : Refusal) → OpenFails mid new k i of w → Fails old new (KnownTrue k) (both_rows d g i of) w
         go refusal.Stale fails = ByRow refl tt (λ t all W match.
@@ -93,25 +85,13 @@ module _ (old mid : DiskState) (k : Books) (d g i of : ℕ) (last : LastRead) (r
       both-are result e = subst (λ (r : Result _ Refusal). OpensBoth old new k d g i of r) (sym e) (go a.kind b.kind refl refl)
         where
           go : (p q : FileKind) → a.kind ≡ p → b.kind ≡ q → OpensBoth old new k d g i of (both_as p q a.found b.found)
-          go File q ep eq = record {
-            stays = after;
-            known = tt;
-            there = tt;
-            passes = tt;
-            refused = ByRow refl tt (λ t all W match.
-                let f : is_folder_at W.files d ≡ false = directory-kind t all W match ∙ ap is_folder ep in
-                rw (stale-none W old.now d g match (one.current t all), stale-none W old.now i of match (file-current t all), f) refl);
-          }
-          go Directory Directory ep eq = record {
-            stays = after;
-            known = tt;
-            there = tt;
-            passes = tt;
-            refused = ByRow refl tt (λ t all W match.
-                let f : is_folder_at W.files d ≡ true = directory-kind t all W match ∙ ap is_folder ep in
-                let h : is_folder_at W.files i ≡ true = file-kind t all W match ∙ ap is_folder eq in
-                rw (stale-none W old.now d g match (one.current t all), stale-none W old.now i of match (file-current t all), f, h) refl);
-          }
+          go File q ep eq = both-refused old new k d g i of refusal.NotDirectory after (ByRow refl tt (λ t all W match.
+              let f : is_folder_at W.files d ≡ false = directory-kind t all W match ∙ ap is_folder ep in
+              rw (stale-none W old.now d g match (one.current t all), stale-none W old.now i of match (file-current t all), f) refl))
+          go Directory Directory ep eq = both-refused old new k d g i of refusal.IsDirectory after (ByRow refl tt (λ t all W match.
+              let f : is_folder_at W.files d ≡ true = directory-kind t all W match ∙ ap is_folder ep in
+              let h : is_folder_at W.files i ≡ true = file-kind t all W match ∙ ap is_folder eq in
+              rw (stale-none W old.now d g match (one.current t all), stale-none W old.now i of match (file-current t all), f, h) refl))
           go Directory File ep eq = record {
             stays = after;
             known = record {
@@ -153,9 +133,6 @@ pub record Lives (old now : DiskState) (known : List (Option Bool)) (i : ℕ) (r
   pub stays : StaysButFaults old now
   pub kept : IsLast now last
   pub all : IsTrue old.tells → AreTrue old.now known → (m : ℕ) → m < place → is_agreed_link (files_in old.now) i (get_or r.links m no_link) ≡ true
-
-pub lives-begins : (old : DiskState) (known : List (Option Bool)) (i : ℕ) (r : Record) (last : LastRead) → IsLast old last → Lives old old known i r last 0
-lives-begins old known i r last kept = record { stays = StaysButFaults-refl old; kept = kept; all = λ t a m low. absurd (omega (arith, low)) }
 
 module _ (old now new : DiskState) (known : List (Option Bool)) (i : ℕ) (r : Record) (last next : LastRead) (place : ℕ) (res : Result Bool Failed)
     (p : Lives old now known i r last place)
@@ -269,17 +246,6 @@ module _ (old : DiskState) (at : SuperBlock) (known : List (Option Bool)) (i : �
               tells.kept;
           refused = tt;
         }
-
--- The record with the link has a spelling
-pub linked-spells : (r : Record) (b : ℕ) (link : BackLink) → r.kind ≡ Some File → 1 ≤ link.directory → HasRecordSpelling r
-    → HasRecordSpelling (with_link r b link)
-linked-spells r b link e one s =
-    let live = subst (λ (o : Option FileKind). AllowsRecord o r) e s in
-    subst (λ (o : Option FileKind). AllowsRecord o (with_link r b link)) (sym e) (record {
-      generation = live.generation;
-      tidy = All-set IsTidyLink r.links b link (λ z. absurd (omega (arith, one, z))) live.tidy;
-      allowed = live.allowed;
-    })
 
 -- there are four places for links
 pub four-of : (old : DiskState) (at : SuperBlock) (i : ℕ) (r : Record) → KnowsInode old at i r → IsTrue old.tells → length r.links ≡ 4

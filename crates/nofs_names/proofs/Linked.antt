@@ -1,6 +1,6 @@
 -- The contract of the writes of Link.
-use Rattle.std.proofs.Common.{◌≡◌, ◌≢◌, ℕ, ◌+◌, ◌*◌, ◌/◌, ◌^◌, ◌<◌, ◌≤◌, inl, inr, true, false, ne_eqb, List, [], ◌∷◌, length, Some, IsTrue, Result, Ok, Err}
-use Rattle.std.proofs.Common.{refl, sym, ap, ◌∙◌, subst, subst₂, arith}
+use Rattle.std.proofs.Common.{◌≡◌, ◌≢◌, ℕ, ◌+◌, ◌*◌, ◌/◌, ◌^◌, ◌<◌, ◌≤◌, inl, inr, true, false, ne_eqb, List, [], ◌∷◌, length, Some, IsTrue, Result, refl, sym}
+use Rattle.std.proofs.Common.{ap, ◌∙◌, subst, arith}
 use Rattle.nofs_bits.specs.Bits.{is_set}
 use Rattle.nofs_disk.specs.Disk.{DiskState, IsDisk, cell_at}
 use Rattle.nofs_super.specs.Geometry.{IsGeometry}
@@ -11,7 +11,7 @@ use Rattle.nofs_model.specs.declared.path.PathAnswer.TheVariants as answer
 use Rattle.nofs_model.specs.declared.value.Value.TheVariants.{Bytes}
 use Rattle.nofs_model.proofs.Find.{find-held}
 use Rattle.nofs_model.proofs.Sound.{mountable-law}
-use Rattle.nofs_machine.specs.Machine.{link_to, with_entry}
+use Rattle.nofs_machine.specs.Machine.{link_to, with_entry, link_given}
 use Rattle.nofs_machine.specs.World.{blocks_needed}
 use Rattle.nofs_machine.specs.Claims.{IsClaim, is_claimed, next_stamp, no_claims}
 use Rattle.nofs_machine.specs.declared.history.Claims.{Claims}
@@ -25,14 +25,11 @@ use Rattle.nofs_crashlaw.proofs.Below.{live-stands}
 use Rattle.nofs_state.specs.Books.{IsSafe, claimed_books, claimed_pointer}
 use Rattle.nofs_state.specs.Standing.{IsOpen, Past}
 use Rattle.nofs_state.specs.Steps.{Goes, entry}
-use Rattle.nofs_state.specs.Writing.{IsApart, Stores, Stored, NotStored, stopped_books, image_after}
+use Rattle.nofs_state.specs.Writing.{IsApart, Stores, image_after}
 use Rattle.nofs_state.specs.declared.books.Books.{Books}
-use Rattle.nofs_state.proofs.Done.{goes-done}
-use Rattle.nofs_state.proofs.Faults.{goes-fault, stopped_world}
 use Rattle.nofs_state.proofs.Machine.{agreed-live, are-agreed}
 use Rattle.nofs_state.proofs.Replies.{open-files}
 use Rattle.nofs_state.proofs.Tables.{HasRecord}
-use Rattle.nofs_state.proofs.TwoWrites.{safe-writes}
 use Rattle.nofs_names.specs.Renames.{done_answer}
 use Rattle.nofs_state.specs.Owing.{RowsPass}
 use Rattle.nofs_names.specs.Placing.{FitsSlot, IsEntrySlot, IsSlotCell, slot_blocks}
@@ -44,59 +41,44 @@ use Rattle.nofs_names.specs.declared.entering.Tables.{Tables}
 use Rattle.nofs_names.specs.declared.links.Both.{Both}
 use Rattle.nofs_names.specs.declared.placing.EntrySlot.{EntrySlot}
 use Rattle.nofs_names.specs.declared.placing.EntrySlot.TheVariants as slots
-use Rattle.nofs_names.proofs.BlockClaims.{TakenBlocks}
+use Rattle.nofs_state.proofs.ClaimedBlocks.{Takes}
 use Rattle.nofs_names.proofs.Entered.{content-held, eight-direct}
 use Rattle.nofs_names.proofs.EnteredHole.{IsReady, IsNewBlock, direct-inode, direct-enters, direct-each, under-inode, under-enters, under-each, with-inode}
 use Rattle.nofs_names.proofs.EnteredHole.{with-enters, with-each}
 use Rattle.nofs_names.proofs.LinkClaims.{slot-needs, claims_of, claimed-first, claimed-second, claim-none, claim-cell, claim-both, new-block, taken-none}
 use Rattle.nofs_names.proofs.LinkClaims.{taken-cell, taken-both}
-use Rattle.nofs_names.proofs.LinkSafe.{claim-safe}
-use Rattle.nofs_names.proofs.Linking.{Links, EndsWell, in-place-ends, in-hole-ends, link-done, link-proper, link-numbered}
+use Rattle.nofs_state.proofs.ClaimedBooks.{claimed-safe}
+use Rattle.nofs_names.proofs.Claiming.{taken-by, taken-same}
+use Rattle.nofs_names.proofs.Linking.{Links, in-place-ends, in-hole-ends, link-follows, link-given}
+use Rattle.nofs_names.proofs.NameSteps.{WritesName, stores-goes}
 use Rattle.nofs_names.proofs.NameWrite as write
 
 -- what a Link comes to, where the mount is open
-pub record Comes (b new : DiskState) (k : Books) (H : List Entry1) (p : Past) (d g : ℕ) (name : List ℕ) (i of e spot : ℕ) (c : Claims) (m : ℕ)
-    (ws : List (ℕ × Cell)) (is_b : IsDisk b) (tells : IsTrue b.tells) (o : IsOpen b k H p) : Type 0 where
+pub record Comes (b : DiskState) (H : List Entry1) (p : Past) (d g : ℕ) (name : List ℕ) (i of e spot : ℕ) (c : Claims) (m : ℕ) (ws : List (ℕ × Cell)) :
+    Type 0 where
   pub it : Links b.now (image_after ws b.now) p.world d g name i of e spot c
-  pub ends : EndsWell b new k H p d g name i of e spot c ws is_b tells o it
+  pub ends : WritesName b H p (step.Link d g name i of) c (link_given p.world.files d g name i of e spot) d i ws
   pub needs : blocks_needed p.world.files (step.Link d g name i of) ≡ m
 
 -- the writes are done, or one failed
-pub stores-goes : (b new : DiskState) (k k' l : Books) (d g : ℕ) (name : List ℕ) (i of e spot : ℕ) (c : Claims) (m : ℕ) (ws : List (ℕ × Cell))
-    (result : Result (Unit {0}) Refusal) (is_b : IsDisk b) → IsDisk new → IsSafe b k → k.stopped ≡ false → IsSafe b k' → IsApart ws 0
-    → TakenBlocks k k' c m → ((tells : IsTrue b.tells) (H : List Entry1) (p : Past) (o : IsOpen b k H p)
-    → Comes b new k H p d g name i of e spot c m ws is_b tells o) → RowsPass b k (step.Link d g name i of)
-    → Stores b k' new l ws result → Goes b k new l (step.Link d g name i of) c (done_answer reply.Linked result)
-stores-goes b new k k' l d g name i of e spot c m ws result is_b is_new safe going safe' apart taken comes pass stores = go stores
-  where
-    same-at : k'.at ≡ k.at
-    same-at = ap (λ (q : Books). q.at) taken.same
-
-    same-history : k'.history ≡ k.history
-    same-history = ap (λ (q : Books). q.history) taken.same
-
-    runs : k'.stopped ≡ false
-    runs = ap (λ (q : Books). q.stopped) taken.same ∙ going
-
-    go : Stores b k' new l ws result → Goes b k new l (step.Link d g name i of) c (done_answer reply.Linked result)
-    go (Stored writes same er) = subst₂ (λ (q : Books) (z : Result (Unit {0}) Refusal). Goes b k new q (step.Link d g name i of) c
-        (done_answer reply.Linked z)) (sym same) (sym er)
-        (goes-done b new k k' (step.Link d g name i of) c reply.Linked ws is_b is_new going same-at same-history runs
-        (safe-writes b new k' ws (Ok tt) k'.stopped writes apart safe') refl writes.adds.disk writes.adds.past writes.later safe
-        (λ tells H p o. let q = comes tells H p o in link-done b new k H p d g name i of e spot c ws is_b tells o q.it q.ends k' m taken q.needs writes
-        (pass tells H p o)))
-    go (NotStored f writes same er) = subst₂ (λ (q : Books) (z : Result (Unit {0}) Refusal). Goes b k new q (step.Link d g name i of) c
-        (done_answer reply.Linked z)) (sym same) (sym er)
-        (goes-fault b new k (stopped_books k') (step.Link d g name i of) c is_b going same-at same-history refl writes.adds.disk writes.adds.past writes.cause
-        writes.later safe (safe-writes b new k' ws (Err f) true writes apart safe')
-        (λ tells H p o. let q = comes tells H p o in link-numbered b new k H p d g name i of e spot c ws is_b tells o q.it q.ends writes.adds)
-        (λ tells caller H p o. let q = comes tells H p o in (
-          link-proper b new k H p d g name i of e spot c ws is_b tells o q.it q.ends
-              (entry caller b new (step.Link d g name i of) c (reply.Refused refusal.WriteFault)) refl writes.adds,
-          pass tells H p o (stopped_world p.world),
-          refl,
-          q.it.claim,
-        )))
+pub linked-goes : (b new : DiskState) (k k' l : Books) (d g : ℕ) (name : List ℕ) (i of e spot : ℕ) (c : Claims) (m : ℕ) (ws : List (ℕ × Cell))
+    (result : Result (Unit {0}) Refusal) → IsDisk b → IsDisk new → IsSafe b k → k.stopped ≡ false → IsSafe b k' → IsApart ws 0
+    → Takes k k' c m → ((tells : IsTrue b.tells) (H : List Entry1) (p : Past) → IsOpen b k H p → Comes b H p d g name i of e spot c m ws)
+    → RowsPass b k (step.Link d g name i of) → Stores b k' new l ws result → Goes b k new l (step.Link d g name i of) c (done_answer reply.Linked result)
+linked-goes b new k k' l d g name i of e spot c m ws result is_b is_new safe going safe' apart takes comes pass stores =
+    stores-goes b new k k' l (step.Link d g name i of) c reply.Linked ws result is_b is_new safe going safe'
+    (taken-same k k' c m (taken-by k k' c m takes)) apart refl refl refl
+    (λ tells H p o. let f = comes tells H p o in record {
+      step = record {
+        given = link_given p.world.files d g name i of e spot;
+        directory = d;
+        file = i;
+        gives = link-given b k H p d g name i of e spot c ws is_b tells o f.it;
+        ends = f.ends;
+      };
+      follows = link-follows b k H p d g name i of e spot c ws is_b tells o f.it k' m takes f.needs;
+      answer = refl;
+    }) pass stores
 
 module _ (first b new : DiskState) (k l : Books) (d g : ℕ) (both : Both) (p : EntryPlace) (it : Entry) (spot : ℕ) (t : Tables) (ended : Ended)
     (is_b : IsDisk b) (is_new : IsDisk new) (safe : IsSafe b k) (going : k.stopped ≡ false) (may : MayLink b k d g both p it spot)
@@ -181,6 +163,20 @@ module _ (first b new : DiskState) (k l : Books) (d g : ℕ) (both : Both) (p : 
     stamp-is : k.at.mount * 2 ^ 40 + k.serial ≡ next_stamp q.world
     stamp-is = let m = o.says.mount in let n = o.says.serial in (λ j. sym m j * 2 ^ 40 + sym n j)
 
+    -- the block of the entry, where it is the only one that is claimed
+    module _ (one : slot_blocks p.slot ≡ 1) where
+      free1 : (is_set k.free_blocks p.blocks.cell ≡ true) × (p.blocks.cell < length k.free_blocks)
+      free1 = enters.free.cell (omega (arith, one))
+
+      claim1 : IsClaim q.world s (claims_of (claimed_pointer k p.blocks.cell) null)
+      claim1 = claim-cell k q.world o.says d g it.name it.inode it.generation p.blocks.cell free1.0
+          (let a = free1.1 in let n = safe.free_blocks in omega (arith, a, n)) (needs ∙ one)
+
+      block1 : IsNewBlock (next_stamp q.world) b.now (claimed_pointer k p.blocks.cell)
+      block1 = new-block b k H q s (claims_of (claimed_pointer k p.blocks.cell) null) o claim1 (claimed_pointer k p.blocks.cell)
+          (let t = ne_eqb p.blocks.cell 0 (λ e. let f = far p.blocks.cell free1.0 in omega (arith, e, f)) in rw t (0, omega arith, refl))
+          (let e = stamp-is in omega (arith, e))
+
     -- a slot that holds
     module _ (x : Pointer) (eq : p.slot ≡ slots.Held x) (w : EntersHeld b k new l p x it new_record t ended) where
       abbrev ws1 : List (ℕ × Cell)
@@ -213,10 +209,10 @@ module _ (first b new : DiskState) (k l : Books) (d g : ℕ) (both : Both) (p : 
       link1 = links no_claims ws1 (claim-none k q.world o.says d g it.name it.inode it.generation (needs ∙ ap slot_blocks eq))
           (write.record-new b.now it.inode x w.cell w.table new_record geometry.fits geometry.table geometry.multiple area has)
 
-      pub held-comes : Comes b new k H q d g it.name it.inode it.generation p.entry spot no_claims 0 ws1 is_b tells o
+      pub held-comes : Comes b H q d g it.name it.inode it.generation p.entry spot no_claims 0 ws1
       held-comes = record {
         it = link1;
-        ends = in-place-ends b new k H q d g it.name it.inode it.generation p.entry spot no_claims ws1 is_b tells o link1 x (record {
+        ends = in-place-ends b k H q d g it.name it.inode it.generation p.entry spot no_claims ws1 is_b tells o link1 x (record {
           entry = record {
             held = held;
             whole = sym (ap (λ (z : Cell). length z.payload) was) ∙ w.whole;
@@ -246,17 +242,11 @@ module _ (first b new : DiskState) (k l : Books) (d g : ℕ) (both : Both) (p : 
       abbrev ws2 : List (ℕ × Cell)
       ws2 = (p.blocks.cell, w.cell) ∷ (table_block d, w.after.directory) ∷ (table_block it.inode, w.after.inode) ∷ []
 
-      free2 : (is_set k.free_blocks p.blocks.cell ≡ true) × (p.blocks.cell < length k.free_blocks)
-      free2 = enters.free.cell (subst (λ (z : EntrySlot). 1 ≤ slot_blocks z) (sym eq) (omega arith))
-
       claim2 : IsClaim q.world s (claims_of x2 null)
-      claim2 = claim-cell k q.world o.says d g it.name it.inode it.generation p.blocks.cell free2.0
-          (let a = free2.1 in let n = safe.free_blocks in omega (arith, a, n)) (needs ∙ ap slot_blocks eq)
+      claim2 = claim1 (ap slot_blocks eq)
 
       block2 : IsNewBlock (next_stamp q.world) b.now x2
-      block2 = new-block b k H q s (claims_of x2 null) o claim2 x2
-          (let t = ne_eqb p.blocks.cell 0 (λ e. let f = far p.blocks.cell free2.0 in omega (arith, e, f)) in rw t (0, omega arith, refl))
-          (let e = stamp-is in omega (arith, e))
+      block2 = block1 (ap slot_blocks eq)
 
       small : p.entry / 16 < 8
       small = subst (λ (z : EntrySlot). FitsSlot k.at (p.entry / 16) z) eq enters.fits
@@ -268,10 +258,10 @@ module _ (first b new : DiskState) (k l : Books) (d g : ℕ) (both : Both) (p : 
       link2 = links (claims_of x2 null) ws2 claim2 (direct-inode b.now d it.inode p.entry both.directory ready (next_stamp q.world) x2 block2 w.cell t w.after
           new_record it small w.filled w.tables (at-d tells) (at-i tells))
 
-      pub direct-comes : Comes b new k H q d g it.name it.inode it.generation p.entry spot (claims_of x2 null) 1 ws2 is_b tells o
+      pub direct-comes : Comes b H q d g it.name it.inode it.generation p.entry spot (claims_of x2 null) 1 ws2
       direct-comes = record {
         it = link2;
-        ends = in-hole-ends b new k H q d g it.name it.inode it.generation p.entry spot (claims_of x2 null) ws2 is_b tells o link2 x2 x2 (record {
+        ends = in-hole-ends b k H q d g it.name it.inode it.generation p.entry spot (claims_of x2 null) ws2 is_b tells o link2 x2 x2 (record {
           entry = direct-enters b.now d it.inode p.entry both.directory ready (next_stamp q.world) x2 block2 w.cell t w.after new_record it small w.filled
               w.tables (at-d tells) (at-i tells) hole2 may.spells.short x2;
           claims = record { place = may.place tells H q o; cell = refl; leaf = λ z. absurd (let n : is_claimed null ≡ false = refl in cc (z, n)) };
@@ -291,17 +281,11 @@ module _ (first b new : DiskState) (k l : Books) (d g : ℕ) (both : Both) (p : 
       abbrev ws3 : List (ℕ × Cell)
       ws3 = (p.blocks.cell, w.cell) ∷ (y.block, w.leaf) ∷ (table_block it.inode, w.table) ∷ []
 
-      free3 : (is_set k.free_blocks p.blocks.cell ≡ true) × (p.blocks.cell < length k.free_blocks)
-      free3 = enters.free.cell (subst (λ (z : EntrySlot). 1 ≤ slot_blocks z) (sym eq) (omega arith))
-
       claim3 : IsClaim q.world s (claims_of x3 null)
-      claim3 = claim-cell k q.world o.says d g it.name it.inode it.generation p.blocks.cell free3.0
-          (let a = free3.1 in let n = safe.free_blocks in omega (arith, a, n)) (needs ∙ ap slot_blocks eq)
+      claim3 = claim1 (ap slot_blocks eq)
 
       block3 : IsNewBlock (next_stamp q.world) b.now x3
-      block3 = new-block b k H q s (claims_of x3 null) o claim3 x3
-          (let t = ne_eqb p.blocks.cell 0 (λ e. let f = far p.blocks.cell free3.0 in omega (arith, e, f)) in rw t (0, omega arith, refl))
-          (let e = stamp-is in omega (arith, e))
+      block3 = block1 (ap slot_blocks eq)
 
       high3 : 8 ≤ p.entry / 16
       high3 = (subst (λ (z : EntrySlot). FitsSlot k.at (p.entry / 16) z) eq enters.fits).0
@@ -316,10 +300,10 @@ module _ (first b new : DiskState) (k l : Books) (d g : ℕ) (both : Both) (p : 
       link3 = links (claims_of x3 null) ws3 claim3 (under-inode b.now d it.inode p.entry both.directory ready (next_stamp q.world) x3 y block3 agrees hole3.1
           w.cell w.leaf w.table p.cell t.inode new_record it high3 w.filled w.above was3 w.written (at-i tells))
 
-      pub under-comes : Comes b new k H q d g it.name it.inode it.generation p.entry spot (claims_of x3 null) 1 ws3 is_b tells o
+      pub under-comes : Comes b H q d g it.name it.inode it.generation p.entry spot (claims_of x3 null) 1 ws3
       under-comes = record {
         it = link3;
-        ends = in-hole-ends b new k H q d g it.name it.inode it.generation p.entry spot (claims_of x3 null) ws3 is_b tells o link3 x3 y (record {
+        ends = in-hole-ends b k H q d g it.name it.inode it.generation p.entry spot (claims_of x3 null) ws3 is_b tells o link3 x3 y (record {
           entry = under-enters b.now d it.inode p.entry both.directory ready (next_stamp q.world) x3 y block3 agrees hole3.1 w.cell w.leaf w.table p.cell
               t.inode new_record it high3 w.filled w.above was3 w.written (at-i tells) hole3.0 may.spells.short;
           claims = record { place = may.place tells H q o; cell = refl; leaf = λ z. absurd (let n : is_claimed null ≡ false = refl in cc (z, n)) };
@@ -378,10 +362,10 @@ module _ (first b new : DiskState) (k l : Books) (d g : ℕ) (both : Both) (p : 
       link4 = links (claims_of x4 y4) ws4 claim4 (with-inode b.now d it.inode p.entry both.directory ready (next_stamp q.world) x4 y4 block4 leaf-block4 xy4
           hole4.1 w.cell w.leaf t w.after new_record it high4 w.filled w.above w.tables (at-d tells) (at-i tells))
 
-      pub with-comes : Comes b new k H q d g it.name it.inode it.generation p.entry spot (claims_of x4 y4) 2 ws4 is_b tells o
+      pub with-comes : Comes b H q d g it.name it.inode it.generation p.entry spot (claims_of x4 y4) 2 ws4
       with-comes = record {
         it = link4;
-        ends = in-hole-ends b new k H q d g it.name it.inode it.generation p.entry spot (claims_of x4 y4) ws4 is_b tells o link4 x4 y4 (record {
+        ends = in-hole-ends b k H q d g it.name it.inode it.generation p.entry spot (claims_of x4 y4) ws4 is_b tells o link4 x4 y4 (record {
           entry = with-enters b.now d it.inode p.entry both.directory ready (next_stamp q.world) x4 y4 block4 leaf-block4 xy4 hole4.1 w.cell w.leaf t w.after
               new_record it high4 w.filled w.above w.tables (at-d tells) (at-i tells) hole4.0 may.spells.short;
           claims = record { place = may.place tells H q o; cell = refl; leaf = λ z. refl };
@@ -407,25 +391,25 @@ module _ (first b new : DiskState) (k l : Books) (d g : ℕ) (both : Both) (p : 
       go : (z : EntrySlot) → p.slot ≡ z → Enters b k new l d both.directory p it new_record t z ended
           → Goes b k new l s ended.claims (done_answer reply.Linked ended.result)
       go (slots.Held x) eq w = as-claims no_claims w.claims
-          (stores-goes b new k k l d g it.name it.inode it.generation p.entry spot no_claims 0 _ ended.result is_b is_new safe going safe
+          (linked-goes b new k k l d g it.name it.inode it.generation p.entry spot no_claims 0 _ ended.result is_b is_new safe going safe
           ((λ e. let a = (subst (λ (z : EntrySlot). FitsSlot k.at (p.entry / 16) z) eq enters.fits).0 in omega (arith, a, e)), ((λ e. omega (arith, e)), tt))
           (taken-none k) (λ tells H q o. held-comes tells H q o x eq w) may.rows w.stores)
       go slots.Direct eq w =
           let c = enters.free.cell (subst (λ (z : EntrySlot). 1 ≤ slot_blocks z) (sym eq) (omega arith)) in
           let a = c.1 in let n = safe.free_blocks in let m = ap slot_blocks eq in let q = enters.stamps in
           as-claims (claims_of (claimed_pointer k p.blocks.cell) null) w.claims
-          (stores-goes b new k (claimed_books k p.blocks.cell) l d g it.name it.inode it.generation p.entry spot
+          (linked-goes b new k (claimed_books k p.blocks.cell) l d g it.name it.inode it.generation p.entry spot
           (claims_of (claimed_pointer k p.blocks.cell) null) 1 _ ended.result is_b is_new safe going
-          (claim-safe b k p.blocks.cell (omega (arith, a, n)) (omega (arith, q, m)) safe)
+          (claimed-safe b k p.blocks.cell (omega (arith, a, n)) (omega (arith, q, m)) safe)
           (apart-far p.blocks.cell (far p.blocks.cell c.0), ((λ e. omega (arith, e)), ((λ e. omega (arith, e)), tt)))
           (taken-cell k p.blocks.cell (far p.blocks.cell c.0) a) (λ tells H q o. direct-comes tells H q o eq w) may.rows w.stores)
       go (slots.UnderLeaf y) eq w =
           let c = enters.free.cell (subst (λ (z : EntrySlot). 1 ≤ slot_blocks z) (sym eq) (omega arith)) in
           let a = c.1 in let n = safe.free_blocks in let m = ap slot_blocks eq in let q = enters.stamps in
           as-claims (claims_of (claimed_pointer k p.blocks.cell) null) w.claims
-          (stores-goes b new k (claimed_books k p.blocks.cell) l d g it.name it.inode it.generation p.entry spot
+          (linked-goes b new k (claimed_books k p.blocks.cell) l d g it.name it.inode it.generation p.entry spot
           (claims_of (claimed_pointer k p.blocks.cell) null) 1 _ ended.result is_b is_new safe going
-          (claim-safe b k p.blocks.cell (omega (arith, a, n)) (omega (arith, q, m)) safe) (
+          (claimed-safe b k p.blocks.cell (omega (arith, a, n)) (omega (arith, q, m)) safe) (
             apart-far p.blocks.cell (far p.blocks.cell c.0),
             (
               (λ e. let f = (subst (λ (z : EntrySlot). FitsSlot k.at (p.entry / 16) z) eq enters.fits).1.0 in omega (arith, f, e)),
@@ -438,11 +422,11 @@ module _ (first b new : DiskState) (k l : Books) (d g : ℕ) (both : Both) (p : 
           let f = enters.free.leaf (subst (λ (z : EntrySlot). 2 ≤ slot_blocks z) (sym eq) (omega arith)) in
           let a = c.1 in let a2 = f.1 in let n = safe.free_blocks in let m = ap slot_blocks eq in let q = enters.stamps in
           as-claims (claims_of (claimed_pointer k p.blocks.cell) (claimed_pointer (claimed_books k p.blocks.cell) p.blocks.leaf)) w.claims
-          (stores-goes b new k (claimed_books (claimed_books k p.blocks.cell) p.blocks.leaf) l d g it.name it.inode it.generation p.entry spot
+          (linked-goes b new k (claimed_books (claimed_books k p.blocks.cell) p.blocks.leaf) l d g it.name it.inode it.generation p.entry spot
           (claims_of (claimed_pointer k p.blocks.cell) (claimed_pointer (claimed_books k p.blocks.cell) p.blocks.leaf)) 2 _ ended.result is_b is_new safe
           going
-          (claim-safe b (claimed_books k p.blocks.cell) p.blocks.leaf (omega (arith, a2, n)) (omega (arith, q, m))
-          (claim-safe b k p.blocks.cell (omega (arith, a, n)) (omega (arith, q, m)) safe)) (
+          (claimed-safe b (claimed_books k p.blocks.cell) p.blocks.leaf (omega (arith, a2, n)) (omega (arith, q, m))
+          (claimed-safe b k p.blocks.cell (omega (arith, a, n)) (omega (arith, q, m)) safe)) (
             apart-far p.blocks.cell (far p.blocks.cell c.0),
             (apart-far p.blocks.leaf (far p.blocks.leaf f.0), ((λ e. omega (arith, e)), ((λ e. omega (arith, e)), tt))),
           )

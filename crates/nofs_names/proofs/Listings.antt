@@ -40,15 +40,8 @@ use Rattle.nofs_names.proofs.Parts.{goes-fails}
 
 list-reads : (d g slot : ℕ) → IsReading (step.List d g slot)
 unfolding gives
-list-reads d g slot = record {
-  no_inode = refl;
-  no_block = λ F. refl;
-  gives = λ F. refl;
-  no_slot = λ F. refl;
-  sees_no_inode = λ j. refl;
-  sees_no_block =
-      λ p. refl;
-}
+list-reads d g slot =
+    record { no_inode = refl; no_block = λ F. refl; gives = λ F. refl; no_slot = λ F. refl; sees_no_inode = λ j. refl; sees_no_block = λ p. refl }
 
 -- it may be one that found no memory, wherever it ends
 module _ (old : DiskState) (k : Books) (d g slot : ℕ) (safe : IsSafe old k) where

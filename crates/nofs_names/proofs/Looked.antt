@@ -1,6 +1,6 @@
 -- What Look answers.
-use Rattle.std.proofs.Common.{◌≡◌, ℕ, Bool, true, false, cond, ◌&&◌, not, eqb, is_some, option_map, List, [], ◌∷◌, ◌++◌, Option, Some, None, IsTrue, Result}
-use Rattle.std.proofs.Common.{Ok, Err, IfErr, refl, sym, ap, ◌∙◌, subst}
+use Rattle.std.proofs.Common.{◌≡◌, ℕ, Bool, true, false, cond, ◌&&◌, not, eqb, is_some, option_map, List, [], ◌∷◌, ◌++◌, Option, Some, None, IsTrue, Result, Ok}
+use Rattle.std.proofs.Common.{Err, IfErr, refl, sym, ap, ◌∙◌, subst}
 use Rattle.nofs_disk.specs.Disk.{DiskState, IsDisk}
 use Rattle.nofs_disk.specs.Chains.{StaysButFaults-refl, StaysButFaults-trans}
 use Rattle.nofs_dirent.specs.Names.{is_name}
@@ -32,19 +32,12 @@ use Rattle.nofs_names.specs.Searching.{IsFoundEntry}
 use Rattle.nofs_names.specs.Refusing.{Fails, KnownTrue, IsThere, directory_rows, missing_rows, OpensDirectory, FindsPair}
 use Rattle.nofs_names.specs.declared.searching.Paired.{Paired}
 use Rattle.nofs_names.proofs.PairTests.{kind-of}
-use Rattle.nofs_names.proofs.Parts.{first-left, first-right, fails-after, fails-given, goes-fails}
+use Rattle.nofs_names.proofs.Parts.{first-left, first-right, goes-fails, opened-fails}
 
 pub look-reads : (d g : ℕ) (name : List ℕ) → IsReading (step.Look d g name)
 unfolding gives
-look-reads d g name = record {
-  no_inode = refl;
-  no_block = λ F. refl;
-  gives = λ F. refl;
-  no_slot = λ F. refl;
-  sees_no_inode = λ j. refl;
-  sees_no_block =
-      λ p. refl;
-}
+look-reads d g name =
+    record { no_inode = refl; no_block = λ F. refl; gives = λ F. refl; no_slot = λ F. refl; sees_no_inode = λ j. refl; sees_no_block = λ p. refl }
 
 -- a name that is missing is so after reads
 pub missing-late : (W : World) (d : ℕ) (name : List ℕ) → IsLate (missing W d name)
@@ -86,9 +79,7 @@ module _ (old : DiskState) (k : Books) (d g : ℕ) (name : List ℕ) (is : IsDis
           → Goes old k new k (step.Look d g name) no_claims (reply.Refused why)
       look-missing res why finds e = goes-fails old new k (step.Look d g name) (missing_rows d name) why is safe going
           (StaysButFaults-trans old mid new opens.stays finds.stays)
-          (fails-given old new (IsThere d) (KnownTrue k) (missing_rows d name) why opens.there
-          (fails-after old mid new (IsThere d) (missing_rows d name) why opens.stays
-          (subst (λ (q : Result Paired Refusal). IfErr q (Fails mid new (IsThere d) (missing_rows d name))) e finds.refused)))
+          (opened-fails old mid new k d (missing_rows d name) res why opens.stays opens.there e finds.refused)
           (λ t H p o q. rows-are p.world ∙ first-right (directory_rows d g p.world) (missing_rows d name p.world) (none-before t H p o) ∙ q) look-late
 
       pub look-found : (it : Paired) → FindsPair mid new k.at d name names records (Ok it)

@@ -1,6 +1,6 @@
 -- Make, by what stands in the slot of its entry.
-use Rattle.std.proofs.Common.{◌≡◌, ℕ, zero, suc, ◌+◌, ◌*◌, ◌/◌, ◌%◌, ◌^◌, ◌<◌, ◌≤◌, ◌⊎◌, inl, inr, true, leb}
-use Rattle.std.proofs.Common.{le-leb, List, [], ◌∷◌, length, Some, IsTrue, refl, sym, ap, ◌∙◌, subst, arith}
+use Rattle.std.proofs.Common.{◌≡◌, ℕ, zero, suc, ◌+◌, ◌*◌, ◌/◌, ◌%◌, ◌^◌, ◌<◌, ◌≤◌, ◌⊎◌, inl, inr, true, leb, le-leb, List, [], ◌∷◌, length, Some, IsTrue, refl}
+use Rattle.std.proofs.Common.{sym, ap, ◌∙◌, subst, arith}
 use Rattle.nofs_disk.specs.Disk.{DiskState, IsDisk, cell_at}
 use Rattle.nofs_disk.specs.Number.{put_bytes}
 use Rattle.nofs_dirent.specs.Entries.{spelled_entry}
@@ -13,7 +13,7 @@ use Rattle.nofs_model.specs.declared.value.Value.TheVariants.{Bytes}
 use Rattle.nofs_model.proofs.Find.{find-held}
 use Rattle.nofs_model.proofs.Sound.{mountable-law}
 use Rattle.nofs_machine.specs.Machine.{link_to, place_for}
-use Rattle.nofs_machine.specs.World.{World, blocks_needed}
+use Rattle.nofs_machine.specs.World.{blocks_needed}
 use Rattle.nofs_machine.specs.Claims.{IsClaim, IsInodeClaim, next_stamp}
 use Rattle.nofs_machine.specs.declared.history.Entry1.{Entry1}
 use Rattle.nofs_machine.specs.declared.steps.Step.TheVariants as step
@@ -67,15 +67,6 @@ next_of k = k.at.mount * 2 ^ 40 + k.serial
 
 module _ (b : DiskState) (k : Books) (H : List Entry1) (p : Past) (d g : ℕ) (name : List ℕ) (kind : FileKind) (dr : Record) (place : EntryPlace) (i : ℕ)
     (tells : IsTrue b.tells) (safe : IsSafe b k) (o : IsOpen b k H p) (may : MayMake b k d g name dr place i) where
-  abbrev W : World
-  W = p.world
-
-  abbrev X : Image
-  X = b.now
-
-  abbrev e : ℕ
-  e = place.entry
-
   pub agrees : agreed (files_in b.now) d ≡ true
   agrees = may.there tells (are-agreed b k H p safe o)
 
@@ -120,7 +111,7 @@ module _ (b : DiskState) (k : Books) (H : List Entry1) (p : Past) (d g : ℕ) (n
 
   -- The slot holds
 
-  module _ (new : DiskState) (is_b : IsDisk b) (x : Pointer) (slot-is : place.slot ≡ entry.Held x) (whole : length place.cell.payload ≡ 1024)
+  module _ (is_b : IsDisk b) (x : Pointer) (slot-is : place.slot ≡ entry.Held x) (whole : length place.cell.payload ≡ 1024)
       (cell table before : Cell)
       (payload : cell.payload ≡ entered place.cell.payload place.entry (record { inode = i; generation = next_of k; name = name }))
       (tag : cell.tag ≡ place.cell.tag)
@@ -143,9 +134,6 @@ module _ (b : DiskState) (k : Books) (H : List Entry1) (p : Past) (d g : ℕ) (n
       others = λ j ne lt. written-table.here.others j ne lt
           ∙ ap (λ (z : Cell). Rattle.nofs_model.specs.Cells.record_of j z.payload) was;
     }
-
-    abbrev ws : List (ℕ × Cell)
-    ws = (x.block, cell) ∷ (table_block i, table) ∷ []
 
     here : cell_at (image_after ((x.block, cell) ∷ (table_block i, table) ∷ []) b.now) x.block ≡ cell
     here = write.in-slot b.now i x cell table _ geometry.fits geometry.table geometry.multiple area has
@@ -190,11 +178,11 @@ module _ (b : DiskState) (k : Books) (H : List Entry1) (p : Past) (d g : ℕ) (n
         )
         each-one n z (inr (inr none)) = absurd none
 
-    pub held-made : IsMade b new k H p d g name kind place.entry (make_claims i (next_of k) null null)
-        ((x.block, cell) ∷ (table_block i, table) ∷ []) 0 is_b tells o
+    pub held-made : IsMade b H p d g name kind place.entry (make_claims i (next_of k) null null)
+        ((x.block, cell) ∷ (table_block i, table) ∷ []) 0
     held-made = record {
       it = made-held;
-      ends = in-place-ends b new k H p d g name kind place.entry (make_claims i (next_of k) null null)
+      ends = in-place-ends b k H p d g name kind place.entry (make_claims i (next_of k) null null)
           ((x.block, cell) ∷ (table_block i, table) ∷ []) is_b tells o made-held x writes-held;
       needs = needs-are ∙ ap slot_blocks slot-is;
     }

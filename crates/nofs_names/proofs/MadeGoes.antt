@@ -1,6 +1,5 @@
 -- The contract of Make, by how its entry was written.
-use Rattle.std.proofs.Common.{◌≡◌, ℕ, ◌/◌, ◌^◌, ◌<◌, ◌≤◌, true, false, eqb, ne_eqb, not, List, length, IsTrue, sym, ap}
-use Rattle.std.proofs.Common.{subst, arith}
+use Rattle.std.proofs.Common.{◌≡◌, ℕ, ◌/◌, ◌^◌, ◌<◌, ◌≤◌, true, false, eqb, ne_eqb, not, List, length, IsTrue, sym, ap, subst, arith}
 use Rattle.nofs_bits.specs.Bits.{is_set}
 use Rattle.nofs_disk.specs.Disk.{DiskState, IsDisk, cell_at}
 use Rattle.nofs_model.specs.Cells.{FileKind, Record}
@@ -24,7 +23,8 @@ use Rattle.nofs_names.proofs.Asking.{taken-none, taken-one, taken-two}
 use Rattle.nofs_names.proofs.Made.{made-goes}
 use Rattle.nofs_names.proofs.MadeEntry.{next_of, held-made}
 use Rattle.nofs_names.proofs.MadeHole.{direct-made, under-made, with-made}
-use Rattle.nofs_names.proofs.Safely.{block-safe, inode-safe, in-data, free-above, no-table}
+use Rattle.nofs_state.proofs.ClaimedBooks.{claimed-safe, made-safe}
+use Rattle.nofs_names.proofs.Safely.{in-data, free-above, no-table}
 
 module _ (b new : DiskState) (k l : Books) (d g : ℕ) (name : List ℕ) (kind : FileKind) (dr : Record) (place : EntryPlace) (i : ℕ) (t : Tables) (ended : Ended)
     (is_b : IsDisk b) (is_new : IsDisk new) (safe : IsSafe b k) (going : k.stopped ≡ false) (may : MayMake b k d g name dr place i)
@@ -45,7 +45,7 @@ module _ (b new : DiskState) (k l : Books) (d g : ℕ) (name : List ℕ) (kind :
   one-left = let s = may.stamps in omega (arith, s)
 
   first-safe : IsSafe b (made_books k i)
-  first-safe = inode-safe b k i one-left safe
+  first-safe = made-safe b k i one-left safe
 
   module _ (n : ℕ) (blocks-are : slot_blocks place.slot ≡ n) (one : 1 ≤ n) where
     cell-free : is_set k.free_blocks place.blocks.cell ≡ true
@@ -61,7 +61,7 @@ module _ (b new : DiskState) (k l : Books) (d g : ℕ) (name : List ℕ) (kind :
     cell-named = let z : eqb place.blocks.cell 0 ≡ false = ne_eqb place.blocks.cell 0 (λ e. free-above b k place.blocks.cell safe cell-free (sym e)) in ap not z
 
     cell-safe : IsSafe b (claimed_books (made_books k i) place.blocks.cell)
-    cell-safe = block-safe b (made_books k i) place.blocks.cell cell-within (let s = may.stamps in let e = blocks-are in omega (arith, s, e, one)) first-safe
+    cell-safe = claimed-safe b (made_books k i) place.blocks.cell cell-within (let s = may.stamps in let e = blocks-are in omega (arith, s, e, one)) first-safe
 
   pub entered-goes : (s : EntrySlot) → place.slot ≡ s → Enters b (made_books k i) new l d dr place (record { inode = i; generation = next_of k; name = name })
       (made_record kind (next_of k) (link_to d place.entry g)) t s ended
@@ -70,7 +70,7 @@ module _ (b new : DiskState) (k l : Books) (d g : ℕ) (name : List ℕ) (kind :
   entered-goes (entry.Held x) is w = subst IsEnd (sym w.claims)
       (made-goes b new k (made_books k i) l d g name kind place.entry _ _ 0 ended.result is_b is_new safe first-safe going
       (in-data k.at x (subst (λ (q : EntrySlot). FitsSlot k.at (place.entry / 16) q) is may.fits), (no-table i, tt)) (taken-none k i (next_of k) may.above high)
-      (λ tells H p o. held-made b k H p d g name kind dr place i tells safe o may new is_b x is w.whole w.cell w.table t.inode w.payload w.tag (was_i tells)
+      (λ tells H p o. held-made b k H p d g name kind dr place i tells safe o may is_b x is w.whole w.cell w.table t.inode w.payload w.tag (was_i tells)
       w.written)
       pass w.stores)
   entered-goes entry.Direct is w = subst IsEnd (sym w.claims)
@@ -79,7 +79,7 @@ module _ (b new : DiskState) (k l : Books) (d g : ℕ) (name : List ℕ) (kind :
       (free-above b k place.blocks.cell safe (cell-free 1 (ap slot_blocks is) (omega arith)), (no-table d, (no-table i, tt)))
       (taken-one k i (next_of k) may.above high (claimed_pointer (made_books k i) place.blocks.cell) (cell-range 1 (ap slot_blocks is) (omega arith))
       (cell-named 1 (ap slot_blocks is) (omega arith)))
-      (λ tells H p o. direct-made b k H p d g name kind dr place i tells safe o may new is_b w.cell w.filled is t w.after w.tables (was_d tells) (was_i tells))
+      (λ tells H p o. direct-made b k H p d g name kind dr place i tells safe o may is_b w.cell w.filled is t w.after w.tables (was_d tells) (was_i tells))
       pass w.stores)
   entered-goes (entry.UnderLeaf y) is w = subst IsEnd (sym w.claims)
       (made-goes b new k (claimed_books (made_books k i) place.blocks.cell) l d g name kind place.entry _ _ 1 ended.result is_b is_new safe
@@ -89,7 +89,7 @@ module _ (b new : DiskState) (k l : Books) (d g : ℕ) (name : List ℕ) (kind :
       )
       (taken-one k i (next_of k) may.above high (claimed_pointer (made_books k i) place.blocks.cell) (cell-range 1 (ap slot_blocks is) (omega arith))
       (cell-named 1 (ap slot_blocks is) (omega arith)))
-      (λ tells H p o. under-made b k H p d g name kind dr place i tells safe o may new is_b w.cell w.filled y is w.leaf w.table t.inode w.above w.written
+      (λ tells H p o. under-made b k H p d g name kind dr place i tells safe o may is_b w.cell w.filled y is w.leaf w.table t.inode w.above w.written
       (was_i tells)) pass w.stores)
   entered-goes entry.WithLeaf is w =
       let f = may.blocks.leaf (let e = ap slot_blocks is in omega (arith, e)) in
@@ -98,7 +98,7 @@ module _ (b new : DiskState) (k l : Books) (d g : ℕ) (name : List ℕ) (kind :
       subst IsEnd (sym w.claims)
       (made-goes b new k (claimed_books (claimed_books (made_books k i) place.blocks.cell) place.blocks.leaf) l d g name kind place.entry _ _ 2 ended.result
       is_b is_new safe
-      (block-safe b (claimed_books (made_books k i) place.blocks.cell) place.blocks.leaf n
+      (claimed-safe b (claimed_books (made_books k i) place.blocks.cell) place.blocks.leaf n
       (let s = may.stamps in let e = ap slot_blocks is in omega (arith, s, e)) (cell-safe 2 (ap slot_blocks is) (omega arith))) going (
         free-above b k place.blocks.cell safe (cell-free 2 (ap slot_blocks is) (omega arith)),
         (free-above b k place.blocks.leaf safe f.0, (no-table d, (no-table i, tt))),
@@ -106,7 +106,7 @@ module _ (b new : DiskState) (k l : Books) (d g : ℕ) (name : List ℕ) (kind :
       (taken-two k i (next_of k) may.above high (claimed_pointer (made_books k i) place.blocks.cell)
       (claimed_pointer (claimed_books (made_books k i) place.blocks.cell) place.blocks.leaf)
       (cell-range 2 (ap slot_blocks is) (omega arith)) f.1 (cell-named 2 (ap slot_blocks is) (omega arith)) (ap not z))
-      (λ tells H p o. with-made b k H p d g name kind dr place i tells safe o may new is_b w.cell w.filled is w.leaf t w.after w.above w.tables (was_d tells)
+      (λ tells H p o. with-made b k H p d g name kind dr place i tells safe o may is_b w.cell w.filled is w.leaf t w.after w.above w.tables (was_d tells)
       (was_i tells)) pass w.stores)
 
 -- the entry that was written, by the claim's numbers

@@ -1,11 +1,10 @@
 -- Make, where the slot of its entry is a hole: a block is claimed for it, and a leaf where there is none.
-use Rattle.std.proofs.Common.{◌≡◌, ◌≢◌, ℕ, ◌+◌, ◌-◌, ◌*◌, ◌/◌, ◌%◌, ◌<◌, ◌≤◌, inl, inr, Bool, true, false, cond, leb, ◌&&◌, ◌||◌, not, is_some, List, [], ◌∷◌}
-use Rattle.std.proofs.Common.{length, Some, None, IsTrue, refl, sym, ap, ◌∙◌, subst, arith}
+use Rattle.std.proofs.Common.{◌≡◌, ◌≢◌, ℕ, ◌+◌, ◌-◌, ◌/◌, ◌%◌, ◌<◌, ◌≤◌, inl, inr, Bool, true, false, leb, ◌&&◌, ◌||◌, not, is_some, List, [], ◌∷◌, length}
+use Rattle.std.proofs.Common.{IsTrue, refl, sym, ap, ◌∙◌, subst, arith}
 use Rattle.nofs_bits.specs.Bits.{is_set}
 use Rattle.nofs_disk.specs.Disk.{DiskState, IsDisk, cell_at}
-use Rattle.nofs_inode.specs.InodeRecords.{fields_in, free_record, record_of, record_or_free}
 use Rattle.nofs_model.specs.Cells.{Cell, Entry, FileKind, Pointer, Record, SuperBlock, null, record_at, spelled_entry}
-use Rattle.nofs_model.specs.Image.{Image, is_inode, inode, leaf, find, files_in, agreed, is_special}
+use Rattle.nofs_model.specs.Image.{Image, inode, leaf, find, files_in, agreed, is_special}
 use Rattle.nofs_model.specs.declared.path.PathAnswer.TheVariants as answer
 use Rattle.nofs_model.proofs.Sound.{supers}
 use Rattle.nofs_machine.specs.Machine.{link_to}
@@ -37,25 +36,13 @@ use Rattle.nofs_names.specs.declared.entering.Tables.{Tables}
 use Rattle.nofs_names.specs.declared.placing.EntrySlot.{EntrySlot}
 use Rattle.nofs_names.specs.declared.placing.EntrySlot.TheVariants as entry
 use Rattle.nofs_names.proofs.Asking.{make_claims, IsPicked, block-picked, claims-one, claims-two}
-use Rattle.nofs_names.proofs.Claiming.{claim-was}
+use Rattle.nofs_state.proofs.ClaimedBlocks.{claim-was}
+use Rattle.nofs_names.proofs.Entered.{eight-direct}
 use Rattle.nofs_names.proofs.EnteredHole.{IsReady, IsNewBlock, IsWritten, direct-hole, direct-inode, direct-enters, direct-each, under-hole, under-inode}
 use Rattle.nofs_names.proofs.EnteredHole.{under-enters, under-each, with-hole, with-inode, with-enters, with-each}
 use Rattle.nofs_names.proofs.Making.{Makes, WritesInHole, IsHoleWrite, OfEntry, OfLeaf, OfTable, in-hole-ends}
 use Rattle.nofs_names.proofs.Made.{IsMade}
 use Rattle.nofs_names.proofs.MadeEntry.{next_of, agrees, place-here, rec, inode-claim, needs-are, spelled, in-table, geometry, makes-from}
-
-eight : (b : Bool) (r : Record) → length r.direct ≡ 8 → length (record_or_free (cond b (Some r) None)).direct ≡ 8
-eight true r e = e
-eight false r e = refl
-
--- a record has eight direct pointers
-pub eight-direct : (X : Image) (i : ℕ) → length (inode X i).direct ≡ 8
-unfolding inode record_at record_of fields_in
-eight-direct X i = go (is_inode X i)
-  where
-    go : (b : Bool) → length (cond b (record_or_free (record_of ((i - 1) % 4) (cell_at X (1 + (i - 1) / 4)).payload)) free_record).direct ≡ 8
-    go true = eight _ (fields_in (256 * ((i - 1) % 4)) (cell_at X (1 + (i - 1) / 4)).payload) refl
-    go false = refl
 
 module _ (b : DiskState) (k : Books) (H : List Entry1) (p : Past) (d g : ℕ) (name : List ℕ) (kind : FileKind) (dr : Record) (place : EntryPlace) (i : ℕ)
     (tells : IsTrue b.tells) (safe : IsSafe b k) (o : IsOpen b k H p) (may : MayMake b k d g name dr place i) where
@@ -141,7 +128,7 @@ module _ (b : DiskState) (k : Books) (H : List Entry1) (p : Past) (d g : ℕ) (n
   needs : (s : EntrySlot) → place.slot ≡ s → blocks_needed p.world.files (step.Make d g name kind) ≡ slot_blocks s
   needs s e = needs-are b k H p d g name kind dr place i tells safe o may ∙ ap slot_blocks e
 
-  module _ (new : DiskState) (is_b : IsDisk b) (cell : Cell) (filled : IsNewCell d dr.generation place.entry
+  module _ (is_b : IsDisk b) (cell : Cell) (filled : IsNewCell d dr.generation place.entry
       (record { inode = i; generation = next_of k; name = name }) (claimed_pointer (made_books k i) place.blocks.cell).stamp cell) where
     abbrev x : Pointer
     x = claimed_pointer (made_books k i) place.blocks.cell
@@ -211,11 +198,11 @@ module _ (b : DiskState) (k : Books) (H : List Entry1) (p : Past) (d g : ℕ) (n
             (fits-slot entry.Direct slot-is) filled tables was_d was_i (claimed_pointer (made_books k i) place.blocks.cell) n z one);
       }
 
-      pub direct-made : IsMade b new k H p d g name kind place.entry (make_claims i (next_of k) (claimed_pointer (made_books k i) place.blocks.cell) null)
-          ((place.blocks.cell, cell) ∷ (table_block d, after.directory) ∷ (table_block i, after.inode) ∷ []) 1 is_b tells o
+      pub direct-made : IsMade b H p d g name kind place.entry (make_claims i (next_of k) (claimed_pointer (made_books k i) place.blocks.cell) null)
+          ((place.blocks.cell, cell) ∷ (table_block d, after.directory) ∷ (table_block i, after.inode) ∷ []) 1
       direct-made = record {
         it = makes1;
-        ends = in-hole-ends b new k H p d g name kind place.entry C1 ws1 is_b tells o makes1
+        ends = in-hole-ends b k H p d g name kind place.entry C1 ws1 is_b tells o makes1
             (claimed_pointer (made_books k i) place.blocks.cell) writes1;
         needs = needs entry.Direct slot-is;
       }
@@ -279,11 +266,11 @@ module _ (b : DiskState) (k : Books) (H : List Entry1) (p : Past) (d g : ℕ) (n
             (fits-slot (entry.UnderLeaf y) slot-is).0 filled more leaf-was table was_i n z one);
       }
 
-      pub under-made : IsMade b new k H p d g name kind place.entry (make_claims i (next_of k) (claimed_pointer (made_books k i) place.blocks.cell) null)
-          ((place.blocks.cell, cell) ∷ (y.block, u) ∷ (table_block i, t) ∷ []) 1 is_b tells o
+      pub under-made : IsMade b H p d g name kind place.entry (make_claims i (next_of k) (claimed_pointer (made_books k i) place.blocks.cell) null)
+          ((place.blocks.cell, cell) ∷ (y.block, u) ∷ (table_block i, t) ∷ []) 1
       under-made = record {
         it = makes2;
-        ends = in-hole-ends b new k H p d g name kind place.entry C2 ws2 is_b tells o makes2 y writes2;
+        ends = in-hole-ends b k H p d g name kind place.entry C2 ws2 is_b tells o makes2 y writes2;
         needs = needs
             (entry.UnderLeaf y) slot-is;
       }
@@ -369,12 +356,12 @@ module _ (b : DiskState) (k : Books) (H : List Entry1) (p : Past) (d g : ℕ) (n
             (fits-slot entry.WithLeaf slot-is) filled leafed tables was_d was_i n z one);
       }
 
-      pub with-made : IsMade b new k H p d g name kind place.entry (make_claims i (next_of k) (claimed_pointer (made_books k i) place.blocks.cell)
+      pub with-made : IsMade b H p d g name kind place.entry (make_claims i (next_of k) (claimed_pointer (made_books k i) place.blocks.cell)
           (claimed_pointer (claimed_books (made_books k i) place.blocks.cell) place.blocks.leaf))
-          ((place.blocks.cell, cell) ∷ (place.blocks.leaf, u) ∷ (table_block d, after.directory) ∷ (table_block i, after.inode) ∷ []) 2 is_b tells o
+          ((place.blocks.cell, cell) ∷ (place.blocks.leaf, u) ∷ (table_block d, after.directory) ∷ (table_block i, after.inode) ∷ []) 2
       with-made = record {
         it = makes3;
-        ends = in-hole-ends b new k H p d g name kind place.entry C3 ws3 is_b tells o makes3 y writes3;
+        ends = in-hole-ends b k H p d g name kind place.entry C3 ws3 is_b tells o makes3 y writes3;
         needs = needs
             entry.WithLeaf slot-is;
       }

@@ -1,6 +1,6 @@
 -- The refusals of Make.
-use Rattle.std.proofs.Common.{◌≡◌, ℕ, ◌+◌, ◌-◌, ◌/◌, ◌^◌, ◌<◌, ◌≤◌, ◌⊎◌, inl, inr, Bool, true, false, not, eqb, ltb, ◌&&◌, ◌||◌, is_some, List, [], ◌∷◌, ◌++◌}
-use Rattle.std.proofs.Common.{length, Option, Some, None, IsTrue, Result, Ok, Err, IfOk, IfErr, OnOk, refl, sym, ap, ◌∙◌, subst, arith}
+use Rattle.std.proofs.Common.{◌≡◌, ℕ, ◌+◌, ◌-◌, ◌/◌, ◌^◌, ◌<◌, ◌≤◌, inl, inr, Bool, true, false, not, eqb, ltb, ◌&&◌, ◌||◌, is_some, List, ◌∷◌, ◌++◌, length}
+use Rattle.std.proofs.Common.{Option, Some, None, IsTrue, Result, Ok, Err, IfErr, refl, sym, ap, ◌∙◌, subst, arith}
 use Rattle.std.proofs.lemmas.Bool.Decides.{nat_tests}
 use Rattle.std.proofs.lemmas.List.Sums.{count_by-le-length}
 use Rattle.nofs_dirent.specs.Entries.{entry_limit}
@@ -15,7 +15,7 @@ use Rattle.nofs_machine.specs.Search.{first_of}
 use Rattle.nofs_machine.specs.Machine.{generation_of, is_folder_at, found, place_for}
 use Rattle.nofs_machine.specs.World.{World, free_inodes, blocks_needed}
 use Rattle.nofs_machine.specs.Claims.{no_claims}
-use Rattle.nofs_machine.specs.Refusals.{rows, directory_full, inodes_full, full, serials_spent}
+use Rattle.nofs_machine.specs.Refusals.{rows, directory_full}
 use Rattle.nofs_machine.specs.History.{FilesMatch}
 use Rattle.nofs_machine.specs.declared.history.Entry1.{Entry1}
 use Rattle.nofs_machine.specs.declared.steps.Step.TheVariants as step
@@ -46,7 +46,7 @@ use Rattle.nofs_names.specs.declared.placing.EntryBlocks.{EntryBlocks}
 use Rattle.nofs_names.specs.declared.placing.EntrySlot.{EntrySlot}
 use Rattle.nofs_names.specs.declared.searching.Unfound.{Unfound}
 use Rattle.nofs_names.proofs.Rowing.{exists-none, place-is}
-use Rattle.nofs_names.proofs.Parts.{first-left, first-right, fails-after, fails-given, goes-fails}
+use Rattle.nofs_names.proofs.Parts.{first-left, first-right, goes-fails, opened-fails}
 use Rattle.nofs_law_new_names.proofs.NameRows.{least-passes}
 
 not-less : (a b : ℕ) → b ≤ a → ltb a b ≡ false
@@ -116,9 +116,7 @@ module _ (old : DiskState) (k : Books) (d g : ℕ) (name : List ℕ) (kind : Fil
           → Goes old k new k (step.Make d g name kind) no_claims (reply.Refused why)
       make-exists res why none e = goes-fails old new k (step.Make d g name kind) (exists_rows d name) why is safe going
           (StaysButFaults-trans old mid new opens.stays none.stays)
-          (fails-given old new (IsThere d) (KnownTrue k) (exists_rows d name) why opens.there
-          (fails-after old mid new (IsThere d) (exists_rows d name) why opens.stays
-          (subst (λ (z : Result Unfound Refusal). IfErr z (Fails mid new (IsThere d) (exists_rows d name))) e none.refused)))
+          (opened-fails old mid new k d (exists_rows d name) res why opens.stays opens.there e none.refused)
           (λ t H p o z. to-exists t H p o p.world ∙ first-left (exists_rows d name p.world)
           (directory_full p.world d name ∷ room_left d g name kind p.world p.world) why z) make-late
 

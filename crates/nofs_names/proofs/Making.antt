@@ -1,55 +1,41 @@
 -- Make: a new entry and the record of a claimed inode are written, in a slot that holds or in a hole.
-use Rattle.std.proofs.Common.{◌≡◌, ◌≢◌, ℕ, ◌+◌, ◌-◌, ◌/◌, ◌%◌, ◌<◌, ◌≤◌, ◌⊎◌, inl, inr, Bool, true, false, cond, eqb, eqb-true, eq-eqb, ne_eqb, leb}
-use Rattle.std.proofs.Common.{ltb, ◌&&◌, ◌||◌, not, List, [], ◌∷◌, ◌++◌, length, Option, Some, None, is_some, unwrap_or, IsTrue, Ok, refl, sym, ap}
-use Rattle.std.proofs.Common.{◌∙◌, subst, subst₂, arith, Contains}
+use Rattle.std.proofs.Common.{◌≡◌, ◌≢◌, ℕ, ◌+◌, ◌-◌, ◌/◌, ◌%◌, ◌<◌, ◌≤◌, ◌⊎◌, inl, inr, Bool, true, false, cond, eqb, ne_eqb, leb, ltb, ◌&&◌, ◌||◌, not, List}
+use Rattle.std.proofs.Common.{Option, Some, None, is_some, unwrap_or, IsTrue, refl, sym, ap, ◌∙◌, subst, subst₂, arith, Contains}
 use Rattle.std.proofs.lemmas.Bool.{cases_eq}
-use Rattle.std.proofs.lemmas.Bool.Decides.{nat_tests}
 use Rattle.nofs_dirent.specs.Entries.{entry_limit}
 use Rattle.nofs_ptrs.specs.Paths.{slot_limit}
-use Rattle.nofs_disk.specs.Disk.{DiskState, IsDisk, Picks, cell_at}
-use Rattle.nofs_disk.specs.Adds.{Adds}
+use Rattle.nofs_disk.specs.Disk.{DiskState, IsDisk, cell_at}
 use Rattle.nofs_dirent.specs.EntryLaws.{Spells}
-use Rattle.nofs_super.specs.Geometry.{IsGeometry}
 use Rattle.nofs_inode.specs.declared.inode.FileKind.TheVariants.{Directory as Folder}
-use Rattle.nofs_model.specs.Cells.{Cell, FileKind, Pointer, Record, SuperBlock, tag_of, is_live, record_at, spelled_entry}
+use Rattle.nofs_model.specs.Cells.{Cell, FileKind, Pointer, SuperBlock, tag_of, record_at, spelled_entry}
 use Rattle.nofs_model.specs.Image.{Image, super_at, is_data_block, is_inode, inode, leaf, Path, path_of, find, files_in, agreed, is_folder, is_special}
-use Rattle.nofs_model.specs.Image.{FileState, Files, Home, home_at, NodeState, Present, IsBelow}
+use Rattle.nofs_model.specs.Image.{FileState, Files, Home, home_at, NodeState, Present}
 use Rattle.nofs_model.specs.declared.path.PathAnswer.TheVariants as answer
 use Rattle.nofs_model.specs.declared.value.Value.{Value}
 use Rattle.nofs_model.proofs.Find.{find-held}
-use Rattle.nofs_model.proofs.Sound.{mountable-law, supers}
+use Rattle.nofs_model.proofs.Sound.{supers}
 use Rattle.nofs_law_images.specs.Proper.{Proper}
-use Rattle.nofs_law_images.specs.Moments.{during, Survives}
-use Rattle.nofs_law_images.proofs.Moments.{law-images}
-use Rattle.nofs_crashlaw.proofs.Histories.{now-picks}
+use Rattle.nofs_law_images.specs.Moments.{during}
 use Rattle.nofs_machine.specs.Marks.{Mark}
 use Rattle.nofs_machine.specs.Meta.{Meta, is_bytes}
-use Rattle.nofs_machine.specs.Search.{first_of}
-use Rattle.nofs_machine.specs.Machine.{Given, gives, given_by, make_given, born_file, file_after, after_meta, filled, is_at, lies_above, files_after, value_of}
-use Rattle.nofs_machine.specs.Machine.{with_entry, place_for}
+use Rattle.nofs_machine.specs.Machine.{Given, make_given, born_file, file_after, after_meta, filled, is_at, lies_above, files_after, value_of, with_entry}
+use Rattle.nofs_machine.specs.Machine.{place_for}
 use Rattle.nofs_machine.specs.World.{World, blocks_needed}
 use Rattle.nofs_machine.specs.Claims.{has_block, is_present, next_stamp, IsClaim}
-use Rattle.nofs_machine.specs.Refusals.{rows}
-use Rattle.nofs_machine.specs.History.{FilesMatch, agreed_files, files_along, mark_at}
-use Rattle.nofs_machine.specs.Steady.{SteadyRest}
+use Rattle.nofs_machine.specs.History.{FilesMatch, mark_at}
 use Rattle.nofs_machine.specs.declared.history.Claims.{Claims}
 use Rattle.nofs_machine.specs.declared.history.Entry1.{Entry1}
 use Rattle.nofs_machine.specs.declared.steps.Step.TheVariants as step
 use Rattle.nofs_machine.specs.declared.replies.Reply.TheVariants as reply
-use Rattle.nofs_law_untouched.specs.Frames.{OldPointers}
 use Rattle.nofs_law_untouched.proofs.Matching.{Matched, matched-agreed, matched-file}
-use Rattle.nofs_law_maps.specs.Homes.{HomesMove}
 use Rattle.nofs_law_maps.specs.Fresh.{Numbered, CellNumbers}
-use Rattle.nofs_law_maps.proofs.Fresh.{law-old, old-record}
-use Rattle.nofs_crashlaw.specs.Stage.{AddsProper}
+use Rattle.nofs_law_maps.proofs.Fresh.{old-record}
 use Rattle.nofs_crashlaw.proofs.Marks.{stands-none}
-use Rattle.nofs_crashlaw.proofs.Resting.{law-rest}
 use Rattle.nofs_crashlaw.proofs.Staging.{all-begun}
 use Rattle.nofs_law_old_names.specs.Names.{NameWrites}
-use Rattle.nofs_law_old_names.proofs.NameFiles.{file-of, touches-of}
+use Rattle.nofs_law_old_names.proofs.NameFiles.{file-of}
 use Rattle.nofs_law_old_names.proofs.NameInPlace.{in-place-writes}
-use Rattle.nofs_law_old_names.proofs.NameLinks.{record-in}
-use Rattle.nofs_law_new_names.specs.Holes.{IsNewRecord, first_links, MakeLies, EntryInPlace, EntryInHole, HoleClaimed, Direct, UnderLeaf, WithLeaf}
+use Rattle.nofs_law_new_names.specs.Holes.{IsNewRecord, first_links, MakeLies, EntryInPlace, EntryInHole}
 use Rattle.nofs_law_new_names.proofs.NameGives.{make-birth, make-nothing}
 use Rattle.nofs_law_new_names.proofs.NameHoles.{hole-cell, hole-leaf-proper, hole-writes}
 use Rattle.nofs_law_new_names.proofs.NameNew.{birth-is}
@@ -58,26 +44,21 @@ use Rattle.nofs_law_new_names.proofs.NewLaws.{law-make-in-place, law-make-in-hol
 use Rattle.nofs_law_homes.specs.Homes.{EntryClaims}
 use Rattle.nofs_law_homes.proofs.EntryPlace.{law-entry-place}
 use Rattle.nofs_law_homes.proofs.NewHomes.{law-make-in-place-homes, law-make-in-hole-homes}
-use Rattle.nofs_law_numbers.specs.Cells.{OldNumbers, RecordWritten, table_tag}
+use Rattle.nofs_law_numbers.specs.Cells.{RecordWritten, table_tag}
 use Rattle.nofs_law_numbers.proofs.NewNumbers.{law-make-in-place-numbers, law-make-in-hole-numbers}
-use Rattle.nofs_law_numbers.proofs.WrittenTables.{law-table-moment, law-table-numbers}
+use Rattle.nofs_law_numbers.proofs.WrittenTables.{law-table-moment}
 use Rattle.nofs_state.specs.Standing.{IsOpen, Past}
-use Rattle.nofs_state.specs.Writing.{OneOf, image_after, WritesAll}
+use Rattle.nofs_state.specs.Writing.{OneOf, image_after}
 use Rattle.nofs_state.specs.declared.books.Books.{Books}
-use Rattle.nofs_state.proofs.Done.{IsDone, Adds-map, after_world}
-use Rattle.nofs_state.proofs.Sounded.{AddsNumbered}
-use Rattle.nofs_state.proofs.Replies.{open-files}
 use Rattle.nofs_state.proofs.Machine.{agreed-live}
 use Rattle.nofs_state.proofs.Tables.{table_block}
 use Rattle.nofs_names.proofs.Quiet.{block_in}
-use Rattle.nofs_names.proofs.Claiming.{InodeWas, inode-was, IsTaking, Taken, taking-learns, taking-says}
+use Rattle.nofs_names.proofs.Claiming.{InodeWas, inode-was, IsClaiming, TakenBoth, claiming-follows, made-inode}
+use Rattle.nofs_names.proofs.NameSteps.{Follows, GivesName, OpenImage, WritesName, hole-area, hole-generation, open-image, table-numbers}
 
 entry-bytes : (v : Value) (e : ℕ) (bytes : List ℕ) → is_bytes (with_entry v e bytes) ≡ true
 unfolding with_entry
 entry-bytes v e bytes = refl
-
-not-leb : (a b : ℕ) → b < a → leb a b ≡ false
-not-leb a b h = grind (arith, nat_tests)
 
 -- A file to which no birth and no meta is given stays, and keeps its blocks where bytes and blocks of pointers are given
 
@@ -152,7 +133,7 @@ pub record WritesInHole (s : ℕ) (X Y : Image) (F : Files) (d e : ℕ) (c : Cla
   pub leaf_newer : stamps ≤ y.stamp ⊎ ((z : Pointer) × (find X d leaf ≡ answer.Holds z))
   pub each : (b : ℕ) (cell : Cell) → OneOf ws b cell → IsHoleWrite X Y e c y b cell
 
-module _ (old new : DiskState) (k : Books) (H : List Entry1) (p : Past) (d g : ℕ) (name : List ℕ) (kind : FileKind) (e : ℕ) (c : Claims) (ws : List (ℕ × Cell))
+module _ (old : DiskState) (k : Books) (H : List Entry1) (p : Past) (d g : ℕ) (name : List ℕ) (kind : FileKind) (e : ℕ) (c : Claims) (ws : List (ℕ × Cell))
     (is_old : IsDisk old) (tells : IsTrue old.tells) (o : IsOpen old k H p)
     (it : Makes old.now (image_after ws old.now) p.world d g name kind e c) where
   abbrev W : World
@@ -164,34 +145,21 @@ module _ (old new : DiskState) (k : Books) (H : List Entry1) (p : Past) (d g : �
   abbrev Y : Image
   Y = image_after ws old.now
 
-  geometry : IsGeometry (length X) (super_at X).blocks (super_at X).inodes
-  geometry = let m = (mountable-law X).1 o.mountable in m.fits
-
-  match : FilesMatch W.files X
-  match = open-files old k H p o
+  on : OpenImage old H p
+  on = open-image old k H p is_old tells o
 
   own : Matched W.files X d
-  own = matched-agreed W.files X d match (agreed-live X d it.agrees) it.agrees
+  own = matched-agreed W.files X d on.match (agreed-live X d it.agrees) it.agrees
 
   own-kind : own.file.kind ≡ Folder
-  own-kind = let e : Some own.file.kind ≡ Some Folder = sym (file-of W.files X d own.file match own.is).0 ∙ it.folder in cc e
+  own-kind = let e : Some own.file.kind ≡ Some Folder = sym (file-of W.files X d own.file on.match own.is).0 ∙ it.folder in cc e
 
   generation : own.file.generation ≡ g
   generation = own.generation ∙ it.generation
 
-  all-below : IsBelow (next_stamp W) X
-  all-below b lt = o.stage.ready.fresh b (cell_at X b) lt (is_old.has_now b tells
-      (let w = is_old.whole tells in let h = geometry.fits in omega (arith, lt, w, h)))
-
-  old-numbers : OldNumbers W X
-  old-numbers = record { positive = o.stage.ready.positive; mountable = o.mountable; below = all-below }
-
-  old-pointers : (j : ℕ) → is_live (inode X j) ≡ true → OldPointers (next_stamp W) X j
-  old-pointers j live = law-old (next_stamp W) X j o.stage.ready.positive o.mountable all-below live
-
   at : (e < entry_limit) × (Rattle.nofs_machine.specs.Machine.is_paired W.files d e ≡ false) ×
       (((x : Pointer) × (find X d (path_of (e / 16)) ≡ answer.Holds x)) ⊎ (find X d (path_of (e / 16)) ≡ answer.Hole))
-  at = law-entry-place W.files X d e name own.file match own.is it.place
+  at = law-entry-place W.files X d e name own.file on.match own.is it.place
 
   was : InodeWas W c
   was = inode-was W (step.Make d g name kind) c it.claim refl
@@ -210,7 +178,7 @@ module _ (old new : DiskState) (k : Books) (H : List Entry1) (p : Past) (d g : �
 
   lies : MakeLies W.files X Y d g e (next_stamp W) name kind c own.file
   lies = record {
-    files = match;
+    files = on.match;
     is = own.is;
     generation = generation;
     folder = ap is_folder own-kind;
@@ -218,11 +186,14 @@ module _ (old new : DiskState) (k : Books) (H : List Entry1) (p : Past) (d g : �
     unpaired = at.1;
     none = free.1;
     plain = free.0;
-    young = (let a = own.generation in let b = (old-record (next_stamp W) X d o.mountable all-below own.live).generation in let q = was.generation in omega
-        (arith, a, b, q));
+    young =
+        let a = own.generation in
+        let b = (old-record (next_stamp W) X d o.mountable on.numbers.below own.live).generation in
+        let q = was.generation in
+        omega (arith, a, b, q);
     spells = it.spells;
     made = it.made;
-    old = λ j some. old-pointers j (matched-file W.files X j match some).live;
+    old = λ j some. on.pointers j (matched-file W.files X j on.match some).live;
   }
 
   apart : c.inode ≢ d
@@ -230,20 +201,11 @@ module _ (old new : DiskState) (k : Books) (H : List Entry1) (p : Past) (d g : �
 
   -- What the step gives
 
-  abbrev G : Given
-  G = make_given W.files d g name kind c e
-
-  given-is : gives (files_along (agreed_files p.base) H) (step.Make d g name kind) c ≡ make_given W.files d g name kind c e
-  given-is = ap (λ (F : Files). gives F (step.Make d g name kind) c) (sym o.files) ∙ make-given-is W.files d g name kind c e it.place
-
   no-birth : (j : ℕ) → j ≢ c.inode → (make_given W.files d g name kind c e).born j ≡ None
   no-birth j ne = let w = ne_eqb j c.inode ne in rw w refl
 
   no-meta : (j : ℕ) → j ≢ c.inode → (h : ℕ) → (make_given W.files d g name kind c e).metas j h ≡ None
   no-meta j ne h = let w = ne_eqb j c.inode ne in rw w refl
-
-  abbrev v : Value
-  v = with_entry (value_of W.files d (e / 16)) e (spelled_entry c.inode c.generation name)
 
   values-stay : (j : ℕ) → j ≢ c.inode → (h l : ℕ) → KeepsValue ((make_given W.files d g name kind c e).slots j h l)
   values-stay j ne h l = let y = ne_eqb c.inode j (λ t. ne (sym t)) in rw y (go (is_at d g j h && eqb (e / 16) l))
@@ -277,39 +239,31 @@ module _ (old new : DiskState) (k : Books) (H : List Entry1) (p : Past) (d g : �
       nothing true t = cc t
       nothing false t = cc t
 
-  taking : IsTaking W (step.Make d g name kind) c (files_after W.files (make_given W.files d g name kind c e)) (home_at d (e / 16))
-  taking = record {
+  claiming : IsClaiming W (step.Make d g name kind) c (files_after W.files (make_given W.files d g name kind c e)) (home_at d (e / 16))
+  claiming = record {
     slot = let s = it.place in rw s refl;
-    one = refl;
     claim = it.claim;
     files = ap (files_after W.files) (make-given-is W.files d g name kind c e it.place);
-    made = made-file;
-    used = used;
     blocks = blocks;
     sees_no_inode = λ j. refl;
     sees_no_block = λ q. refl;
   }
 
-  -- The mark
+  pub make-gives : GivesName W Y (step.Make d g name kind) c (make_given W.files d g name kind c e) d c.inode
+  make-gives = record {
+    is = make-given-is W.files d g name kind c e it.place;
+    claim = it.claim;
+    nothing = make-nothing W.files d g e name kind c apart;
+    there = ap is_some own.is;
+    used = used;
+    owned = λ live. made-file;
+  }
 
-  abbrev M : Mark
-  M = mark_at p.base H (old.moment + 1) p.mark p.stamps
-
-  pick : Picks old.may (length p.mark) X
-  pick = now-picks old p.mark is_old tells o.stage.ready.survives.size
-
-  survives : Survives (mark_at p.base H (old.moment + 1) p.mark p.stamps) X
-  survives = law-images (mark_at p.base H (old.moment + 1) p.mark p.stamps) old.may X o.stage.ready.survives.mark o.stage.ready.survives.explained pick
-
-  mark-super : super_at p.mark ≡ super_at X
-  mark-super = supers X p.mark (sym survives.reads.super)
-
-  mark-area : (b : ℕ) → is_data_block X b ≡ true → is_data_block p.mark b ≡ true
-  mark-area b = subst (λ (z : SuperBlock). (leb (1 + z.inodes / 4) b && ltb b z.blocks) ≡ true) (sym mark-super)
-
-  mark-table : (b : ℕ) → b ≤ (super_at X).inodes / 4 → is_data_block p.mark b ≡ false
-  mark-table b low = ap (λ (z : SuperBlock). leb (1 + z.inodes / 4) b && ltb b z.blocks) mark-super
-      ∙ (let t : leb (1 + (super_at X).inodes / 4) b ≡ false = not-leb (1 + (super_at X).inodes / 4) b (omega (arith, low)) in rw t refl)
+  -- the books say what the machine has after it
+  pub make-follows : (l : Books) (m : ℕ) → TakenBoth k l c m → blocks_needed W.files (step.Make d g name kind) ≡ m → Follows W (step.Make d g name kind) c l
+  make-follows l m taken needs = claiming-follows X k l W (step.Make d g name kind) c (1 + m)
+      (files_after W.files (make_given W.files d g name kind c e)) (home_at d (e / 16)) o.says on.match o.homes o.homes_past claiming taken.all
+      (omega (arith, needs)) (made-inode W k l c (files_after W.files (make_given W.files d g name kind c e)) was taken.inode made-file used)
 
   -- nothing stands there for the claimed inode, and its generation is newer
   none-stands : (q : ℕ) → (mark_at p.base H (old.moment + 1) p.mark p.stamps).stands c.inode q ≡ false
@@ -324,105 +278,13 @@ module _ (old new : DiskState) (k : Books) (H : List Entry1) (p : Past) (d g : �
       let low = was.low in
       let high = was.high in
       let n : W.inodes ≡ (super_at X).inodes = o.says.inodes ∙ ap (λ (q : SuperBlock). q.inodes) (sym o.at) in
-      let q = geometry.multiple in
+      let q = on.geometry.multiple in
       omega (arith, low, high, n, q)
-
-  -- what both ways owe
-  pub record EndsWell : Type 0 where
-    pub proper : (b : ℕ) (cell : Cell) → OneOf ws b cell → Proper (during (mark_at p.base H (old.moment + 1) p.mark p.stamps)
-        (make_given W.files d g name kind c e)) X b cell
-    pub numbers : (b : ℕ) (cell : Cell) → OneOf ws b cell → CellNumbers (Numbered W c) X b cell
-    pub files : FilesMatch (files_after W.files (make_given W.files d g name kind c e)) Y
-    pub move : HomesMove W.files (step.Make d g name kind) c X Y
-    pub writes : NameWrites (next_stamp W) d c.inode X Y
-
-  module _ (w : EndsWell) where
-    proper-one : (G' : Given) → G' ≡ make_given W.files d g name kind c e → (b : ℕ) (cell : Cell) → OneOf ws b cell
-        → Proper (during (mark_at p.base H (old.moment + 1) p.mark p.stamps) G') X b cell
-    proper-one G' ge b cell one = subst (λ (z : Given). Proper (during (mark_at p.base H (old.moment + 1) p.mark p.stamps) z) X b cell) (sym ge)
-        (w.proper b cell one)
-
-    or-false : (a b : Bool) → (a || b) ≡ false → (a ≡ false) × (b ≡ false)
-    or-false true b e = cc
-    or-false false true e = cc
-    or-false false false e = (refl, refl)
-
-    not-eq : (j n : ℕ) → eqb j n ≡ false → j ≢ n
-    not-eq j n t e = let b = eq-eqb j n e in cc (t, b)
-
-    rest : (e' : Entry1) → given_by (files_along (agreed_files p.base) H) e' ≡ make_given W.files d g name kind c e → SteadyRest p.base (H ++ e' ∷ []) Y
-    rest e' ge = law-rest p.base H e' (next_stamp W) (λ j. eqb j d || eqb j c.inode) X Y (files_after W.files (make_given W.files d g name kind c e)) o.rest
-        (record {
-          before = o.stage.ready.files;
-          after = w.files;
-          touches = touches-of (next_stamp W) d c.inode X Y w.writes;
-          old = old-pointers;
-          owned = λ j t live. owned-case j (eqb j c.inode) refl t;
-          stays = λ j t some. let a = or-false (eqb j d) (eqb j c.inode) t in used j (not-eq j c.inode a.1) ∙ ap (λ (F : Files). is_some (F j)) o.files ∙ some;
-          no_value = λ j h l t some. let a = or-false (eqb j d) (eqb j c.inode) t in (λ z. (ge z).slots j h l)
-              ∙ (make-nothing W.files d g e name kind c apart j (not-eq j d a.0) (not-eq j c.inode a.1)).slots h l;
-          no_meta = λ j h t some. let a = or-false (eqb j d) (eqb j c.inode) t in (λ z. (ge z).metas j h)
-              ∙ (make-nothing W.files d g e name kind c apart j (not-eq j d a.0) (not-eq j c.inode a.1)).metas h;
-        })
-      where
-        only : (a b : Bool) → b ≡ false → (a || b) ≡ true → a ≡ true
-        only true b eb h = refl
-        only false b eb h = cc (eb, h)
-
-        owned-case : (j : ℕ) (b : Bool) → eqb j c.inode ≡ b → (eqb j d || eqb j c.inode) ≡ true
-            → is_some (files_after W.files (make_given W.files d g name kind c e) j) ≡ true
-        owned-case j true eb t = subst (λ (n : ℕ). is_some (files_after W.files (make_given W.files d g name kind c e) n) ≡ true)
-            (sym (eqb-true j c.inode eb)) made-file
-        owned-case j false eb t = used j (not-eq j c.inode eb) ∙ subst (λ (n : ℕ). is_some (W.files n) ≡ true)
-            (sym (eqb-true j d (only (eqb j d) (eqb j c.inode) eb t))) (ap is_some own.is)
-
-    pub make-numbered : Adds (OneOf ws) old new → AddsNumbered W c old new
-    make-numbered = Adds-map (OneOf ws) (λ n cell. CellNumbers (Numbered W c) X n cell) old new w.numbers
-
-    pub make-proper : (e' : Entry1) → given_by (files_along (agreed_files p.base) H) e' ≡ gives (files_along (agreed_files p.base) H)
-        (step.Make d g name kind) c → Adds (OneOf ws) old new → AddsProper p.base H e' p.mark p.stamps old new
-    make-proper e' ge adds = Adds-map (OneOf ws) (Proper (during (mark_at p.base H (old.moment + 1) p.mark p.stamps)
-        (given_by (files_along (agreed_files p.base) H) e')) old.now) old new
-        (λ b cell one. proper-one (given_by (files_along (agreed_files p.base) H) e') (ge ∙ given-is) b cell one) adds
-
-    -- the step is done, with these maps after it
-    pub make-done : (l : Books) (m : ℕ) → Taken k l c m → blocks_needed W.files (step.Make d g name kind) ≡ m → WritesAll old new ws (Ok tt)
-        → ((U : World) → first_of (rows W U (step.Make d g name kind)) ≡ None)
-        → IsDone old new k l H p (step.Make d g name kind) c (reply.Made c.inode c.generation) ws
-    make-done l m taken needs writes none = record {
-      adds = writes.adds;
-      later = writes.later;
-      proper = λ e' es ec ge b cell one. proper-one (given_by (files_along (agreed_files p.base) H) e') (ge ∙ given-is) b cell one;
-      numbers = w.numbers;
-      super = ap (λ (Z : Image). cell_at Z 0) writes.now ∙ w.writes.super;
-      size = writes.adds.disk.blocks;
-      none = none (after_world W (step.Make d g name kind) c l);
-      answer = refl;
-      accepted = refl;
-      no_flush = refl;
-      claim = it.claim;
-      learns = taking-learns X k l W (step.Make d g name kind) c m (files_after W.files (make_given W.files d g name kind c e))
-          (home_at d (e / 16)) o.says match o.homes o.homes_past taking taken needs;
-      files = subst₂ (λ (F : Files) (Z : Image). FilesMatch F Z) (sym taking.files) (sym writes.now) w.files;
-      move = subst (λ (Z : Image). HomesMove W.files (step.Make d g name kind) c X Z) (sym writes.now) w.move;
-      rest = λ e' es ec ge. subst (λ (Z : Image). SteadyRest p.base (H ++ e' ∷ []) Z) (sym writes.now) (rest e' (ge ∙ given-is));
-      says = taking-says X k l W (step.Make d g name kind) c m (files_after W.files (make_given W.files d g name kind c e))
-          (home_at d (e / 16)) o.says match o.homes o.homes_past taking taken needs;
-      books_at = ap (λ (b : Books). b.at) taken.same;
-      history = ap (λ (b : Books). b.history) taken.same;
-      going = ap (λ (b : Books). b.stopped) taken.same ∙ o.going;
-    }
-
-  -- the record of an inode in its cell of the table after the step
-  table-numbers : ((j : ℕ) → RecordWritten W c X j (inode Y j)) → cell_at Y 0 ≡ cell_at X 0 → (b : ℕ) (cell : Cell) → cell ≡ cell_at Y b
-      → tag_of cell.tag ≡ Some (table_tag b) → CellNumbers (Numbered W c) X b cell
-  table-numbers each super b cell is tag = law-table-numbers W c X b cell old-numbers tag (λ j range same.
-      subst (λ (q : Record). RecordWritten W c X j q) (sym (ap (λ (z : Cell). record_at z.payload ((j - 1) % 4)) (is ∙ ap (cell_at Y) (sym same))
-      ∙ record-in Y j (ap (λ (q : SuperBlock). leb 1 j && leb j q.inodes) (supers X Y super) ∙ range))) (each j))
 
   -- The entry's slot holds
 
-  pub in-place-ends : (x : Pointer) → WritesInPlace X Y d e c name x ws → EndsWell
+  pub in-place-ends : (x : Pointer) → WritesInPlace X Y d e c name x ws
+      → WritesName old H p (step.Make d g name kind) c (make_given W.files d g name kind c e) d c.inode ws
   in-place-ends x h = record {
     proper = λ b cell one. let q = h.each b cell one in subst (λ (z : Cell). Proper
         (during (mark_at p.base H (old.moment + 1) p.mark p.stamps) (make_given W.files d g name kind c e)) X b z) (sym q.0) (proper-at b q.1);
@@ -443,33 +305,24 @@ module _ (old new : DiskState) (k : Books) (H : List Entry1) (p : Past) (d g : �
           (during (mark_at p.base H (old.moment + 1) p.mark p.stamps) (make_given W.files d g name kind c e)) X b (cell_at Y b)
       proper-at b (inl eb) = subst (λ (n : ℕ). Proper (during (mark_at p.base H (old.moment + 1) p.mark p.stamps) (make_given W.files d g name kind c e)) X n
           (cell_at Y n)) (sym eb)
-          (law.0 (mark_at p.base H (old.moment + 1) p.mark p.stamps) (mark-area x.block (find-held X d (path_of (e / 16)) x h.entry.held).agrees.area))
+          (law.0 (mark_at p.base H (old.moment + 1) p.mark p.stamps) (on.area x.block (find-held X d (path_of (e / 16)) x h.entry.held).agrees.area))
       proper-at b (inr eb) = subst (λ (n : ℕ). Proper (during (mark_at p.base H (old.moment + 1) p.mark p.stamps) (make_given W.files d g name kind c e)) X n
           (cell_at Y n)) (sym eb)
-          (law.1 (mark_at p.base H (old.moment + 1) p.mark p.stamps) (mark-super ∙ sym (supers X Y h.entry.writes.super))
-          (mark-table (table_block c.inode) table-low) newer none-stands)
+          (law.1 (mark_at p.base H (old.moment + 1) p.mark p.stamps) (on.super ∙ sym (supers X Y h.entry.writes.super))
+          (on.table (table_block c.inode) table-low) newer none-stands)
 
       numbered : CellNumbers (Numbered W c) X x.block (cell_at Y x.block) × ((j : ℕ) → RecordWritten W c X j (inode Y j))
-      numbered = law-make-in-place-numbers W X Y d g e (next_stamp W) name kind c own.file x old-numbers lies h.entry it.claim
+      numbered = law-make-in-place-numbers W X Y d g e (next_stamp W) name kind c own.file x on.numbers lies h.entry it.claim
 
       numbers-at : (b : ℕ) → (b ≡ x.block) ⊎ (b ≡ table_block c.inode) → CellNumbers (Numbered W c) X b (cell_at Y b)
       numbers-at b (inl eb) = subst (λ (n : ℕ). CellNumbers (Numbered W c) X n (cell_at Y n)) (sym eb) numbered.0
       numbers-at b (inr eb) = subst (λ (n : ℕ). CellNumbers (Numbered W c) X n (cell_at Y n)) (sym eb)
-          (table-numbers numbered.1 h.entry.writes.super (table_block c.inode) (cell_at Y (table_block c.inode)) refl h.tag)
+          (table-numbers W c X Y on.numbers numbered.1 h.entry.writes.super (table_block c.inode) (cell_at Y (table_block c.inode)) refl h.tag)
 
   -- It is a hole
 
-  hole-area : (y : Pointer) → HoleClaimed (next_stamp W) X Y d c.inode (e / 16) c.cell y → 8 ≤ e / 16 → is_data_block X y.block ≡ true
-  hole-area y (Direct lt h) far = absurd (omega (arith, far, lt))
-  hole-area y (UnderLeaf le lt h) far = (find-held X d leaf y h.held).agrees.area
-  hole-area y (WithLeaf le lt h) far = h.above.area
-
-  hole-generation : (y : Pointer) → HoleClaimed (next_stamp W) X Y d c.inode (e / 16) c.cell y → (inode Y d).generation ≡ (inode X d).generation
-  hole-generation y (Direct lt h) = h.meta.generation
-  hole-generation y (UnderLeaf le lt h) = ap (λ (q : Record). q.generation) (h.records d (λ t. apart (sym t)))
-  hole-generation y (WithLeaf le lt h) = h.meta.generation
-
-  pub in-hole-ends : (y : Pointer) → WritesInHole (next_stamp W) X Y W.files d e c name y p.stamps ws → EndsWell
+  pub in-hole-ends : (y : Pointer) → WritesInHole (next_stamp W) X Y W.files d e c name y p.stamps ws
+      → WritesName old H p (step.Make d g name kind) c (make_given W.files d g name kind c e) d c.inode ws
   in-hole-ends y h = record {
     proper = λ b cell one. proper-at b cell (h.each b cell one);
     numbers = λ b cell one. numbers-at b cell (h.each b cell one);
@@ -496,21 +349,23 @@ module _ (old new : DiskState) (k : Books) (H : List Entry1) (p : Past) (d g : �
           (during (mark_at p.base H (old.moment + 1) p.mark p.stamps) (make_given W.files d g name kind c e)) X b cell
       proper-at b cell (OfEntry eb ec) = subst₂ (λ (n : ℕ) (z : Cell). Proper
           (during (mark_at p.base H (old.moment + 1) p.mark p.stamps) (make_given W.files d g name kind c e)) X n z) (sym eb) (sym ec)
-          (law.0 (mark_at p.base H (old.moment + 1) p.mark p.stamps) (mark-area c.cell.block
-          (hole-cell (next_stamp W) X Y d c.inode (e / 16) c.cell y h.entry.claimed).area) (hole-generation y h.entry.claimed ∙ sym own.generation))
+          (law.0 (mark_at p.base H (old.moment + 1) p.mark p.stamps) (on.area c.cell.block
+          (hole-cell (next_stamp W) X Y d c.inode (e / 16) c.cell y h.entry.claimed).area) (hole-generation (next_stamp W) X Y d c.inode (e / 16) c.cell y
+          (λ t. apart (sym t)) h.entry.claimed ∙ sym own.generation))
       proper-at b cell (OfLeaf far eb ec) = subst₂ (λ (n : ℕ) (z : Cell). Proper
           (during (mark_at p.base H (old.moment + 1) p.mark p.stamps) (make_given W.files d g name kind c e)) X n z) (sym eb) (sym ec)
           (hole-leaf-proper (next_stamp W) (mark_at p.base H (old.moment + 1) p.mark p.stamps) (make_given W.files d g name kind c e) X Y d c.inode
-          (e / 16) c.cell y survives.reads own.live h.entry.empty (mark-area y.block (hole-area y h.entry.claimed far)) h.newer far h.entry.claimed)
-      proper-at b cell (OfTable pos low tag each) = law.1 (mark_at p.base H (old.moment + 1) p.mark p.stamps) b cell pos (mark-table b low)
-          (λ j range same. each j (ap (λ (q : SuperBlock). leb 1 j && leb j q.inodes) (sym mark-super) ∙ range) same)
-          (survives.reads.metas d own.live) h.newer h.leaf_newer newer none-stands
+          (e / 16) c.cell y on.survives.reads own.live h.entry.empty (on.area y.block (hole-area (next_stamp W) X Y d c.inode
+          (e / 16) c.cell y h.entry.claimed far)) h.newer far h.entry.claimed)
+      proper-at b cell (OfTable pos low tag each) = law.1 (mark_at p.base H (old.moment + 1) p.mark p.stamps) b cell pos (on.table b low)
+          (λ j range same. each j (ap (λ (q : SuperBlock). leb 1 j && leb j q.inodes) (sym on.super) ∙ range) same)
+          (on.survives.reads.metas d own.live) h.newer h.leaf_newer newer none-stands
 
       numbered : CellNumbers (Numbered W c) X c.cell.block (cell_at Y c.cell.block) × (8 ≤ e / 16 → CellNumbers (Numbered W c) X y.block (cell_at Y y.block)) ×
           ((j : ℕ) → RecordWritten W c X j (inode Y j))
-      numbered = law-make-in-hole-numbers W X Y d g e (next_stamp W) name kind c own.file y old-numbers lies h.entry h.claims it.claim
+      numbered = law-make-in-hole-numbers W X Y d g e (next_stamp W) name kind c own.file y on.numbers lies h.entry h.claims it.claim
 
       numbers-at : (b : ℕ) (cell : Cell) → IsHoleWrite X Y e c y b cell → CellNumbers (Numbered W c) X b cell
       numbers-at b cell (OfEntry eb ec) = subst₂ (λ (n : ℕ) (z : Cell). CellNumbers (Numbered W c) X n z) (sym eb) (sym ec) numbered.0
       numbers-at b cell (OfLeaf far eb ec) = subst₂ (λ (n : ℕ) (z : Cell). CellNumbers (Numbered W c) X n z) (sym eb) (sym ec) (numbered.1 far)
-      numbers-at b cell (OfTable pos low tag each) = law-table-moment W c X Y b cell old-numbers tag each numbered.2
+      numbers-at b cell (OfTable pos low tag each) = law-table-moment W c X Y b cell on.numbers tag each numbered.2

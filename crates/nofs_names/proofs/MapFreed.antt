@@ -1,41 +1,21 @@
 -- What the maps say after an inode and its blocks were freed.
-use Rattle.std.proofs.Common.{◌≡◌, ◌≢◌, ℕ, ◌-◌, ◌<◌, ◌≤◌, ◌⊎◌, inl, inr, Bool, true, false, leb, ltb, eqb, eqb-true, eq-eqb, lt-ltb, ◌&&◌, ◌||◌, not, List}
-use Rattle.std.proofs.Common.{length, refl, sym, ap, ◌∙◌, arith, Option, None, Some, subst}
+use Rattle.std.proofs.Common.{◌≡◌, ◌≢◌, ℕ, ◌-◌, ◌<◌, ◌≤◌, ◌⊎◌, inl, inr, Bool, true, false, leb, ltb, eqb, eq-eqb, lt-ltb, ◌&&◌, ◌||◌, not, List, length, refl}
+use Rattle.std.proofs.Common.{sym, ap, ◌∙◌, arith, Option, None, Some, subst}
 use Rattle.nofs_agree.proofs.Learning.{told-other, told-set}
 use Rattle.nofs_agree.specs.Chains.{told}
 use Rattle.std.specs.Prelude.{slice_set}
-use Rattle.std.proofs.lemmas.Bool.{cases_lt, cases_eq}
+use Rattle.std.proofs.lemmas.Bool.{cases_lt, cases_eq, ne_eqb}
+use Rattle.std.proofs.Math.Bool.{or-false, or-true}
 use Rattle.std.proofs.lemmas.Bool.Decides.{nat_tests}
 use Rattle.nofs_bits.specs.Bits.{is_set}
 use Rattle.nofs_state.specs.Books.{knows_inode, knows_block}
 use Rattle.nofs_state.specs.declared.books.Books.{Books}
 use Rattle.nofs_state.proofs.Maps.{set-here, set-other}
-use Rattle.nofs_names.specs.Removing.{FreedAs, HasSizes}
+use Rattle.nofs_names.specs.Removing.{FreedAs}
 use Rattle.nofs_names.proofs.Leaving.{Freed}
-
-in-range : (i n : ℕ) → 1 ≤ i → i ≤ n → (leb 1 i && leb i n) ≡ true
-in-range i n a b = grind (arith, nat_tests)
-
-not-eqb : (a b : ℕ) → a ≢ b → eqb a b ≡ false
-not-eqb a b ne = go (eqb a b) refl
-  where
-    go : (c : Bool) → eqb a b ≡ c → eqb a b ≡ false
-    go true e = absurd (ne (eqb-true a b e))
-    go false e = e
 
 high-none : (q n : ℕ) → n ≤ q → ltb q n ≡ false
 high-none q n h = grind (arith, nat_tests)
-
-or-true : (b : Bool) → (b || true) ≡ true
-or-true true = refl
-or-true false = refl
-
-or-false : (b : Bool) → (b || false) ≡ b
-or-false true = refl
-or-false false = refl
-
-low-known : (a b c : Bool) → (a && (b && not c)) ≡ (a && (b && not c))
-low-known a b c = refl
 
 known-bit : (u f : Bool) → not (u && not f) ≡ (not u || f)
 known-bit true true = refl
@@ -43,7 +23,8 @@ known-bit true false = refl
 known-bit false true = refl
 known-bit false false = refl
 
-module _ (k l : Books) (i : ℕ) (freed : List Bool) (owned : ℕ → Bool) (sizes : HasSizes k) (above : 1 ≤ i) (below : i ≤ k.at.inodes)
+module _ (k l : Books) (i : ℕ) (freed : List Bool) (owned : ℕ → Bool) (sizes : (length k.unknown_inodes ≡ k.at.inodes) ×
+    (length k.free_inodes ≡ k.at.inodes)) (above : 1 ≤ i) (below : i ≤ k.at.inodes)
     (a : FreedAs k l i freed) (same : (q : ℕ) → q < k.at.blocks → is_set freed q ≡ owned q) (beyond : (q : ℕ) → k.at.blocks ≤ q → owned q ≡ false) where
   place : i - 1 < k.at.inodes
   place = omega (arith, above, below)
@@ -62,7 +43,7 @@ module _ (k l : Books) (i : ℕ) (freed : List Bool) (owned : ℕ → Bool) (siz
           → (leb 1 j && (leb j k.at.inodes && not (is_set (slice_set k.unknown_inodes (i - 1) false) (j - 1)))) ≡ (knows_inode k j || eqb j i)
       go (inl here) low =
           let b : is_set (slice_set k.unknown_inodes (i - 1) false) (j - 1) ≡ false =
-          ap (λ (n : ℕ). is_set (slice_set k.unknown_inodes (i - 1) false) (n - 1)) here ∙ bit-here k.unknown_inodes false sizes.unknown_inodes in
+          ap (λ (n : ℕ). is_set (slice_set k.unknown_inodes (i - 1) false) (n - 1)) here ∙ bit-here k.unknown_inodes false sizes.0 in
           let t : eqb j i ≡ true = eq-eqb j i here in
           let one : leb 1 j ≡ true = ap (leb 1) here ∙ first in
           let most : leb j k.at.inodes ≡ true = ap (λ (n : ℕ). leb n k.at.inodes) here ∙ last in
@@ -78,7 +59,7 @@ module _ (k l : Books) (i : ℕ) (freed : List Bool) (owned : ℕ → Bool) (siz
               le-is x y h = grind (arith, nat_tests)
       go (inr other) (inl zero) =
           let n : leb 1 j ≡ false = none j zero in
-          let t : eqb j i ≡ false = not-eqb j i other in
+          let t : eqb j i ≡ false = ne_eqb j i other in
           (λ z. n z && (leb j k.at.inodes && not (is_set (slice_set k.unknown_inodes (i - 1) false) (j - 1))))
           ∙ sym ((λ z. (n z && (leb j k.at.inodes && not (is_set k.unknown_inodes (j - 1)))) || t z))
         where
@@ -86,7 +67,7 @@ module _ (k l : Books) (i : ℕ) (freed : List Bool) (owned : ℕ → Bool) (siz
           none j h = grind (arith, nat_tests)
       go (inr other) (inr one) =
           let b = bit-other k.unknown_inodes false j one other in
-          let t : eqb j i ≡ false = not-eqb j i other in
+          let t : eqb j i ≡ false = ne_eqb j i other in
           (λ z. leb 1 j && (leb j k.at.inodes && not (b z))) ∙ sym ((λ z. knows_inode k j || t z) ∙ or-false (knows_inode k j))
 
   known-block : (q : ℕ) → knows_block l q ≡ (knows_block k q || owned q)
@@ -110,10 +91,10 @@ module _ (k l : Books) (i : ℕ) (freed : List Bool) (owned : ℕ → Bool) (siz
     known_inodes = known-inode;
     known_blocks = known-block;
     free_inodes = λ j one most. ap (λ (bits : List Bool). is_set bits (j - 1)) a.free_inodes ∙ (elim (cases_eq j i) [
-      | inl here ↦ ap (λ (n : ℕ). is_set (slice_set k.free_inodes (i - 1) true) (n - 1)) here ∙ bit-here k.free_inodes true sizes.free_inodes
+      | inl here ↦ ap (λ (n : ℕ). is_set (slice_set k.free_inodes (i - 1) true) (n - 1)) here ∙ bit-here k.free_inodes true sizes.1
           ∙ sym ((λ z. is_set k.free_inodes (j - 1) || eq-eqb j i here z) ∙ or-true (is_set k.free_inodes (j - 1)))
       | inr other ↦ bit-other k.free_inodes true j one other
-          ∙ sym ((λ z. is_set k.free_inodes (j - 1) || not-eqb j i other z) ∙ or-false (is_set k.free_inodes (j - 1)))
+          ∙ sym ((λ z. is_set k.free_inodes (j - 1) || ne_eqb j i other z) ∙ or-false (is_set k.free_inodes (j - 1)))
     ]);
     free_blocks = λ q low. a.blocks.freeing q low ∙ (λ z. is_set k.free_blocks q || same q low z);
     agreement = λ j v t. elim (cases_eq j i) [

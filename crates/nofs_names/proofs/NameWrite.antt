@@ -1,12 +1,12 @@
 -- The disk after a cell of the data area and a record of the table were written, and what a step on names gives to files.
-use Rattle.std.proofs.Common.{◌≡◌, ◌≢◌, ℕ, ◌+◌, ◌/◌, ◌%◌, ◌<◌, ◌≤◌, Bool, true, false, cond, leb, ltb, ltb-true, leb-true, [], ◌∷◌, length, Option, Some}
-use Rattle.std.proofs.Common.{None, is_some, unwrap_or, refl, ◌∙◌, arith}
+use Rattle.std.proofs.Common.{◌≡◌, ◌≢◌, ℕ, ◌+◌, ◌/◌, ◌%◌, ◌<◌, ◌≤◌, Bool, true, false, cond, leb, ltb, leb-true, [], ◌∷◌, length, Option, Some, None, is_some}
+use Rattle.std.proofs.Common.{refl, ◌∙◌, arith}
 use Rattle.std.specs.Prelude.{slice_set}
 use Rattle.std.proofs.lemmas.List.{get_or-set_same, get_or-set_other, length-set}
 use Rattle.nofs_ptrs.specs.Paths.{slot_limit}
 use Rattle.nofs_disk.specs.Disk.{cell_at, no_cell}
 use Rattle.nofs_model.specs.Cells.{Cell, Pointer, Record}
-use Rattle.nofs_model.specs.Image.{Image, super_at, is_data_block, inode, path_of, FileState, Files, NodeState, Present}
+use Rattle.nofs_model.specs.Image.{Image, super_at, is_data_block, inode, path_of, FileState, Files}
 use Rattle.nofs_model.specs.declared.value.Value.{Value}
 use Rattle.nofs_model.proofs.Find.{and-both}
 use Rattle.nofs_machine.specs.Meta.{Meta, Gone, Is, is_bytes}
@@ -14,7 +14,8 @@ use Rattle.nofs_machine.specs.Machine.{cell_given, files_after, file_after, afte
 use Rattle.nofs_machine.specs.Claims.{is_present}
 use Rattle.nofs_state.specs.Writing.{image_after}
 use Rattle.nofs_state.proofs.Tables.{HasRecord, table_block, record-here, record-other}
-use Rattle.nofs_names.proofs.Quiet.{block_in}
+use Rattle.nofs_names.proofs.CellWrite.{data-place}
+use Rattle.nofs_names.proofs.Quiet.{block_in, kept-bytes, kept-node}
 
 module _ (X : Image) (i : ℕ) (x : Pointer) (c1 c2 : Cell) (r' : Record) (whole : (super_at X).blocks ≤ length X)
     (table : 2 + (super_at X).inodes / 4 ≤ (super_at X).blocks) (quarters : (super_at X).inodes % 4 ≡ 0)
@@ -22,14 +23,11 @@ module _ (X : Image) (i : ℕ) (x : Pointer) (c1 c2 : Cell) (r' : Record) (whole
   abbrev pub after : Image
   after = image_after ((x.block, c1) ∷ (table_block i, c2) ∷ []) X
 
-  parts : (leb (1 + (super_at X).inodes / 4) x.block ≡ true) × (ltb x.block (super_at X).blocks ≡ true)
-  parts = and-both (leb (1 + (super_at X).inodes / 4) x.block) (ltb x.block (super_at X).blocks) area
-
   above : 1 + (super_at X).inodes / 4 ≤ x.block
-  above = leb-true (1 + (super_at X).inodes / 4) x.block parts.0
+  above = (data-place X x.block area).0
 
   below : x.block < (super_at X).blocks
-  below = ltb-true x.block (super_at X).blocks parts.1
+  below = (data-place X x.block area).1
 
   inside : (1 ≤ i) × (i ≤ (super_at X).inodes)
   inside = let b = and-both (leb 1 i) (leb i (super_at X).inodes) has.range in (leb-true 1 i b.0, leb-true i (super_at X).inodes b.1)
@@ -71,14 +69,6 @@ abbrev pub KeepsFile : Option Meta → Type 0
 KeepsFile None = Unit {0}
 KeepsFile (Some Gone) = ⊥
 KeepsFile (Some (Is kind size links)) = Unit {0}
-
-kept-bytes : (b : Bool) (u v : Value) → is_bytes u ≡ true → is_bytes v ≡ true → is_bytes (unwrap_or (cond b (Some u) None) v) ≡ true
-kept-bytes true u v eu e = eu
-kept-bytes false u v eu e = e
-
-kept-node : (b : Bool) (v : NodeState) → is_present v ≡ true → is_present (unwrap_or (cond b (Some Present) None) v) ≡ true
-kept-node true v e = refl
-kept-node false v e = e
 
 module _ (F : Files) (d g k : ℕ) (v : Value) (metas : ℕ → ℕ → Option Meta) (j : ℕ) (keeps : (h : ℕ) → KeepsFile (metas j h)) where
   meta-some : (o : Option Meta) (f : FileState) → KeepsFile o → is_some (after_meta o f) ≡ true

@@ -7,8 +7,8 @@ use Rattle.std.proofs.lemmas.Bool.Decides.{nat_tests}
 use Rattle.nofs_inode.specs.declared.inode.FileKind.TheVariants.{File, Directory as Folder}
 use Rattle.nofs_model.specs.Cells.{BackLink, Entry, FileKind, Record}
 use Rattle.nofs_model.specs.Files.{is_record}
-use Rattle.nofs_model.specs.Image.{Image, inode, file_from, files_in, agreed, Agreed, root, linked, FileState, Files, is_folder, entry_at, entry_in_file}
-use Rattle.nofs_model.specs.Image.{names, pairs, is_pair, links_in_file, links_of, is_root, is_special, is_a, value, find, node_in}
+use Rattle.nofs_model.specs.Image.{Image, inode, file_from, files_in, agreed, Agreed, root, linked, FileState, Files, is_folder, entry_at, entry_in_file, names}
+use Rattle.nofs_model.specs.Image.{pairs, is_pair, links_in_file, links_of, is_root, is_special, is_a, value, find, node_in}
 use Rattle.nofs_model.proofs.Chains.{agreed-holds, holds-agreed, any-true}
 use Rattle.nofs_machine.specs.Machine.{same_link, link_to, generation_of, is_paired}
 use Rattle.nofs_machine.specs.History.{FilesMatch, SameFile}
@@ -92,11 +92,11 @@ shuffle false false o = refl
 same-is : (a b : BackLink) → same_link a b ≡ true → a ≡ b
 same-is a b e =
     let p = and_parts (eqb a.directory b.directory) (eqb a.entry b.entry && eqb a.generation b.generation) e in
-    let q = and_parts (eqb a.entry b.entry) (eqb a.generation b.generation) p.1 in
-    let d = eqb-true a.directory b.directory p.0 in
-    let f = eqb-true a.entry b.entry q.0 in
-    let g = eqb-true a.generation b.generation q.1 in
-    λ j. record { directory = d j; entry = f j; generation = g j }
+    let q = and_parts (eqb a.entry b.entry) (eqb a.generation b.generation) p.1 in λ j. record {
+      directory = eqb-true a.directory b.directory p.0 j;
+      entry = eqb-true a.entry b.entry q.0 j;
+      generation = eqb-true a.generation b.generation q.1 j;
+    }
 
 some-if : (b : Bool) (k : FileKind) → is_some (cond b (Some k) None) ≡ b
 some-if true k = refl
@@ -111,15 +111,8 @@ kind-of F X i f match a e = go (inode X i).kind (subst (λ (o : Option FileState
     go (Some k) s = ap Some (sym s.kind)
 
 abbrev file_of : Image → ℕ → FileKind → FileState
-file_of X i kind = record {
-  generation = (inode X i).generation;
-  kind = kind;
-  size = (inode X i).size;
-  links = (inode X i).links;
-  values = value X i;
-  nodes =
-      λ path. node_in (find X i path);
-}
+file_of X i kind = let r = inode X i in
+    record { generation = r.generation; kind = kind; size = r.size; links = r.links; values = value X i; nodes = λ path. node_in (find X i path) }
 
 same-none : (o : Option FileState) → SameFile o None → o ≡ None
 same-none None s = refl

@@ -1,5 +1,5 @@
 -- How the parts of a step make the step: their rows stand one after another.
-use Rattle.std.proofs.Common.{◌≡◌, false, List, [], ◌∷◌, ◌++◌, Option, Some, None, IsTrue, refl, sym, subst, le_refl}
+use Rattle.std.proofs.Common.{◌≡◌, false, List, [], ◌∷◌, ◌++◌, Option, Some, None, IsTrue, Result, Err, IfErr, ℕ, refl, sym, subst, le_refl}
 use Rattle.nofs_disk.specs.Disk.{DiskState, IsDisk, StaysButFaults}
 use Rattle.nofs_disk.specs.Chains.{Rose-within}
 use Rattle.nofs_model.specs.Image.{Image}
@@ -20,7 +20,7 @@ use Rattle.nofs_state.specs.declared.books.Books.{Books}
 use Rattle.nofs_state.proofs.Replies.{goes-row, goes-read, open-files}
 use Rattle.nofs_state.proofs.Rows.{IsLate}
 use Rattle.nofs_state.proofs.Machine.{are-agreed}
-use Rattle.nofs_names.specs.Refusing.{Fails, ByRow, ByRead, KnownTrue}
+use Rattle.nofs_names.specs.Refusing.{Fails, ByRow, ByRead, IsThere, KnownTrue}
 
 pub first-left : (a b : List (Option Refusal)) (w : Refusal) → first_of a ≡ Some w → first_of (a ++ b) ≡ Some w
 first-left [] b w e = cc e
@@ -45,6 +45,13 @@ pub fails-given : (old new : DiskState) (given first : Image → Type 0) (part :
     → (IsTrue old.tells → first old.now → given old.now) → Fails old new given part why → Fails old new first part why
 fails-given old new given first part why follows (ByRow plain range comes) = ByRow plain range (λ t f. comes t (follows t f))
 fails-given old new given first part why follows (ByRead is rose) = ByRead is rose
+
+-- a part that was refused once the directory was open
+pub opened-fails : {A : Type 0} (old mid new : DiskState) (k : Books) (d : ℕ) (part : World → List (Option Refusal)) (res : Result A Refusal) (why : Refusal)
+    → StaysButFaults old mid → (IsTrue old.tells → KnownTrue k old.now → IsThere d old.now) → res ≡ Err why → IfErr res (Fails mid new (IsThere d) part)
+    → Fails old new (KnownTrue k) part why
+opened-fails {A} old mid new k d part res why stays there e refused = fails-given old new (IsThere d) (KnownTrue k) part why there
+    (fails-after old mid new (IsThere d) part why stays (subst (λ (q : Result A Refusal). IfErr q (Fails mid new (IsThere d) part)) e refused))
 
 -- the step refuses where a part of it does
 pub goes-fails : (old new : DiskState) (k : Books) (s : Step) (part : World → List (Option Refusal)) (why : Refusal) → IsDisk old → IsSafe old k

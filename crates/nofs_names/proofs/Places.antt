@@ -9,7 +9,6 @@ use Rattle.nofs_dirent.specs.OneEntry.{spelled}
 use Rattle.nofs_dirent.specs.declared.entry.Entry.{Entry}
 use Rattle.nofs_model.specs.Files.{names}
 use Rattle.nofs_names.specs.Searching.{named_in, IsEntrySpelled}
-use Rattle.nofs_names.specs.declared.entries.Named.{Named}
 
 pub named-none : (bytes : List ℕ) (i g : ℕ) → i ≡ number_at 4 0 bytes → g ≡ number_at 8 8 bytes → names (entry_of bytes) i g ≡ false
     → None ≡ named_in (entry_of bytes)
@@ -22,17 +21,6 @@ named-none bytes i g ei eg e = go (has_zeros_after bytes (number_at 4 4 bytes) &
     go true h = absurd (let a = eq-eqb (number_at 4 0 bytes) i (sym ei) in let b =
         eq-eqb (number_at 8 8 bytes) g (sym eg) in let z : (eqb (number_at 4 0 bytes) i && eqb (number_at 8 8 bytes) g) ≡ true = rw (a, b) refl in cc (z, h))
     go false h = refl
-
-pub named-spelled : (bytes : List ℕ) (n : Named) → length bytes ≡ 64 → named_in (entry_of bytes) ≡ Some n → IsEntrySpelled n
-named-spelled bytes n len e = go (entry_of bytes) refl e
-  where
-    go : (o : Option Entry) → entry_of bytes ≡ o → named_in o ≡ Some n → IsEntrySpelled n
-    go None eo h = cc h
-    go (Some it) eo h = let s = spelled bytes it len eo in let q : named_in (Some it) ≡ Some n =
-        h in let r : record { inode = it.inode; generation = it.generation } ≡ n = cc q in subst IsEntrySpelled r (s.has.inode, s.has.generation)
-
-pub named-some : (bytes : List ℕ) (n : Named) → length bytes ≡ 64 → Some n ≡ named_in (entry_of bytes) → IsEntrySpelled n
-named-some bytes n len e = named-spelled bytes n len (sym e)
 
 pub names-spelled : (payload : List ℕ) (at i g : ℕ) → length payload ≡ 1024 → at < 16 → true ≡ names (entry_in payload at) i g
     → IsEntrySpelled (record { inode = i; generation = g })

@@ -1,6 +1,6 @@
 -- A step that claims nothing and leaves used what was used: what the maps say stays.
-use Rattle.std.proofs.Common.{◌≡◌, ℕ, ◌+◌, ◌≤◌, Bool, true, false, cond, ltb, ◌&&◌, ◌||◌, not, Option, Some, None, is_some, unwrap_or, inl, refl, sym, ap}
-use Rattle.std.proofs.Common.{◌∙◌, subst, arith}
+use Rattle.std.proofs.Common.{◌≡◌, ℕ, ◌+◌, ◌≤◌, Bool, true, false, cond, ltb, ◌&&◌, ◌||◌, not, Option, Some, None, is_some, unwrap_or, inl, refl, sym, ap, ◌∙◌}
+use Rattle.std.proofs.Common.{subst, arith}
 use Rattle.nofs_ptrs.specs.Paths.{slot_limit}
 use Rattle.nofs_model.specs.Cells.{null}
 use Rattle.nofs_model.specs.Image.{Image, path_of, is_special, FileState, Files, Home, NodeState, Present, Absent}
@@ -19,6 +19,7 @@ use Rattle.nofs_state.specs.Books.{Says}
 use Rattle.nofs_state.specs.declared.books.Books.{Books}
 use Rattle.nofs_state.proofs.Done.{after_world}
 use Rattle.nofs_state.proofs.Replies.{home-has}
+use Rattle.nofs_names.proofs.NameSteps.{Follows}
 
 -- what a step owes that changes no map
 pub record IsQuiet (W : World) (s : Step) (G : Files) : Type 0 where
@@ -63,8 +64,8 @@ module _ (X : Image) (k : Books) (W : World) (s : Step) (G : Files) (says : Says
   V-block : (q : ℕ) → uses_block V q ≡ uses_block W q
   V-block q = ap (λ (h : Option Home). is_fixed W q || is_some h) (homes-same q)
 
-  pub quiet-learns : Learns W s true V
-  quiet-learns = record {
+  learns : Learns W s true V
+  learns = record {
     inodes_stay = λ j kn. sym (says.known_inodes j) ∙ kn;
     blocks_stay = λ q kn. sym (says.known_blocks q) ∙ kn;
     inodes_change = λ j ne. absurd (ne (V-inode j));
@@ -75,8 +76,8 @@ module _ (X : Image) (k : Books) (W : World) (s : Step) (G : Files) (says : Says
     blocks_why = λ q kn. inl (says.known_blocks q ∙ kn);
   }
 
-  pub quiet-says : Says k V
-  quiet-says = record {
+  said : Says k V
+  said = record {
     version = says.version;
     blocks = says.blocks;
     inodes = says.inodes;
@@ -90,13 +91,16 @@ module _ (X : Image) (k : Books) (W : World) (s : Step) (G : Files) (says : Says
     agreement = λ j a t. V-file j ∙ says.agreement j a t;
   }
 
+  pub quiet-follows : Follows W s no_claims k
+  quiet-follows = record { learns = learns; says = said }
+
 -- A cell of a directory is given, and nothing else
 
-kept-bytes : (b : Bool) (u v : Value) → is_bytes u ≡ true → is_bytes v ≡ true → is_bytes (unwrap_or (cond b (Some u) None) v) ≡ true
+pub kept-bytes : (b : Bool) (u v : Value) → is_bytes u ≡ true → is_bytes v ≡ true → is_bytes (unwrap_or (cond b (Some u) None) v) ≡ true
 kept-bytes true u v eu e = eu
 kept-bytes false u v eu e = e
 
-kept-node : (b : Bool) (v : NodeState) → is_present v ≡ true → is_present (unwrap_or (cond b (Some Present) None) v) ≡ true
+pub kept-node : (b : Bool) (v : NodeState) → is_present v ≡ true → is_present (unwrap_or (cond b (Some Present) None) v) ≡ true
 kept-node true v e = refl
 kept-node false v e = e
 

@@ -1,11 +1,10 @@
 -- The contract of the writes of Drop where the inode goes.
-use Rattle.std.proofs.Common.{◌≡◌, ℕ, ◌+◌, ◌-◌, ◌*◌, ◌/◌, ◌%◌, ◌^◌, ◌<◌, ◌≤◌, ◌||◌, inl, inr, Bool, true, false, List, [], ◌∷◌, length, Some, IsTrue, Result}
-use Rattle.std.proofs.Common.{Ok, Err, refl, sym, ap, ◌∙◌, subst, subst₂, arith, None}
+use Rattle.std.proofs.Common.{◌≡◌, ℕ, ◌+◌, ◌-◌, ◌/◌, ◌%◌, ◌^◌, ◌<◌, ◌≤◌, ◌||◌, inl, inr, Bool, true, false, List, [], ◌∷◌, length, Some, IsTrue, Result, Ok}
+use Rattle.std.proofs.Common.{Err, refl, sym, ap, ◌∙◌, subst, subst₂, None}
 use Rattle.std.proofs.lemmas.List.{length-set}
 use Rattle.nofs_disk.specs.Disk.{DiskState, IsDisk, StaysButFaults, cell_at}
-use Rattle.nofs_disk.specs.Number.{put_bytes, zeros}
 use Rattle.nofs_model.specs.Cells.{Cell, Pointer, Record, SuperBlock, tag_of, is_live, free_record}
-use Rattle.nofs_model.specs.Image.{Image, path_of, find, files_in, agreed, owner, Files}
+use Rattle.nofs_model.specs.Image.{Image, path_of, find, files_in, agreed, owner}
 use Rattle.nofs_model.specs.declared.path.PathAnswer.TheVariants as answer
 use Rattle.nofs_machine.specs.Meta.{Meta, Gone, Is, is_gone}
 use Rattle.nofs_machine.specs.Machine.{drop_meta, link_to}
@@ -16,48 +15,33 @@ use Rattle.nofs_machine.specs.declared.steps.Step.TheVariants as step
 use Rattle.nofs_machine.specs.declared.replies.Reply.TheVariants as reply
 use Rattle.nofs_machine.specs.declared.replies.Refusal.{Refusal}
 use Rattle.nofs_machine.specs.declared.replies.Refusal.TheVariants as refusal
-use Rattle.nofs_crashlaw.proofs.Below.{live-stands}
-use Rattle.nofs_agree.specs.Reading.{KnowsInode, KnowsDirectory}
-use Rattle.nofs_agree.proofs.Climbs.{KnowsInode-on}
+use Rattle.nofs_agree.specs.Reading.{KnowsInode, KnowsDirectory, IsAt}
 use Rattle.nofs_law_numbers.specs.Cells.{table_tag}
 use Rattle.nofs_bits.specs.Bits.{is_set}
 use Rattle.std.proofs.lemmas.Bool.{cases_lt}
-use Rattle.nofs_agree.specs.Reading.{IsAt}
 use Rattle.nofs_state.proofs.Maps.{set-length}
 use Rattle.nofs_state.specs.Books.{IsSafe}
 use Rattle.nofs_state.specs.Standing.{IsOpen, Past}
 use Rattle.nofs_state.specs.Steps.{Goes, entry}
 use Rattle.nofs_state.specs.Writing.{IsApart, Stores, Stored, NotStored}
 use Rattle.nofs_state.specs.declared.books.Books.{Books}
-use Rattle.nofs_state.proofs.Done.{goes-done}
-use Rattle.nofs_state.proofs.Faults.{goes-fault, stopped_books, stopped_world}
 use Rattle.nofs_state.proofs.TwoWrites.{safe-writes}
 use Rattle.nofs_state.proofs.Keeping.{goes-after, open-back, reads-keep, safe-keeps}
 use Rattle.nofs_state.proofs.Replies.{open-files}
-use Rattle.nofs_state.proofs.Machine.{agreed-live, are-agreed}
-use Rattle.nofs_state.proofs.Tables.{HasRecord, table_block}
-use Rattle.nofs_names.specs.Searching.{IsFoundEntry}
+use Rattle.nofs_state.proofs.Machine.{are-agreed}
+use Rattle.nofs_state.proofs.Tables.{table_block}
 use Rattle.nofs_names.specs.Refusing.{IsThere, KnownTrue}
 use Rattle.nofs_names.specs.Renames.{FoundIn, done_answer}
-use Rattle.nofs_state.specs.Owing.{RowsPass}
+use Rattle.nofs_state.specs.Owing.{RowsPass, RecordIn}
 use Rattle.nofs_names.specs.Drops.{ClearedIn, HasNoNames}
-use Rattle.nofs_state.specs.Owing.{RecordIn}
-use Rattle.nofs_names.specs.Removing.{BlocksOf, FreedAs, HasSizes, LosesName, is_of}
+use Rattle.nofs_names.specs.Removing.{BlocksOf, FreedAs, LosesName, is_of}
 use Rattle.nofs_names.proofs.MapFreed.{freed-from}
 use Rattle.nofs_names.proofs.Leaving.{Freed}
 use Rattle.nofs_names.specs.declared.searching.Paired.{Paired}
-use Rattle.nofs_names.proofs.Dropping.{gone-ends, gone-done, drop-proper, EndsWell, drop-numbered}
-
--- the maps have the sizes of the disk
-pub sizes-of : (d : DiskState) (k : Books) → IsSafe d k → HasSizes k
-sizes-of d k s = record {
-  unknown_inodes = s.unknown_inodes;
-  free_inodes = s.free_inodes;
-  agreement = s.agreement;
-  unknown_blocks =
-      s.unknown_blocks;
-  free_blocks = s.free_blocks;
-}
+use Rattle.nofs_names.proofs.DropFacts.{IsDropping, drop-apart, dropping-on, drops-in, is-dropping}
+use Rattle.nofs_names.proofs.Dropping.{Drops, gone-comes, gone-step}
+use Rattle.nofs_names.proofs.NameSteps.{done-goes, fault-goes}
+use Rattle.std.proofs.Math.Bool.{or-false}
 
 -- the maps after the removal have the sizes, too, and free blocks of the data area alone
 pub safe-freed : (d : DiskState) (k l : Books) (i : ℕ) (freed : List Bool) → IsSafe d k → FreedAs k l i freed → length freed ≡ k.at.blocks
@@ -77,48 +61,30 @@ safe-freed d k l i freed s a size in_area = record {
   ]);
 }
   where
-    or-false : (b : Bool) → (b || false) ≡ b
-    or-false true = refl
-    or-false false = refl
-
     by-bit : (n : ℕ) (b : Bool) → is_set freed n ≡ b → (is_set k.free_blocks n || is_set freed n) ≡ true → 1 + k.at.inodes / 4 ≤ n
     by-bit n true e t = in_area n e
     by-bit n false e t = s.in_area n (sym ((λ z. is_set k.free_blocks n || e z) ∙ or-false (is_set k.free_blocks n)) ∙ t)
 
 pub removed-goes : (b new : DiskState) (k l : Books) (d g : ℕ) (name : List ℕ) (r : Record) (x : Pointer) (c1 c2 : Cell) (q : Paired) (freed : List Bool)
-    → IsDisk b → IsDisk new → IsSafe b k → k.stopped ≡ false
-    → KnowsDirectory b k.at d r.generation r → r.generation ≡ g → (IsTrue b.tells → KnownTrue k b.now → IsThere d b.now) → KnowsInode b k.at q.inode q.record
-    → q.record.kind ≡ Some q.kind → FoundIn b d name q → HasNoNames b q.inode → LosesName b k d g q → 0 < x.block
-    → (IsTrue b.tells → find b.now d (path_of (q.entry / 16)) ≡ answer.Holds x) → ClearedIn b x (q.entry % 16) c1
+    → IsDisk b → IsDisk new → IsSafe b k → k.stopped ≡ false → IsDropping b k d g name r x c1 q → q.record.kind ≡ Some q.kind → LosesName b k d g q
     → (IsTrue b.tells → RecordIn (cell_at b.now (table_block q.inode)) q.inode free_record c2) → tag_of c2.tag ≡ Some (table_tag (table_block q.inode))
     → BlocksOf b k.at q.inode freed
     → RowsPass b k (step.Drop d g name) → (result : Result (Unit {0}) Refusal) (m : Books)
     → Stores b k new m ((x.block, c1) ∷ (table_block q.inode, c2) ∷ []) result → (result ≡ Ok tt → FreedAs m l q.inode freed)
     → ((why : Refusal) → result ≡ Err why → l ≡ m)
     → Goes b k new l (step.Drop d g name) no_claims (done_answer (reply.Dropped true) result)
-removed-goes b new k l d g name r x c1 c2 q freed is_b is_new safe going directory gen there record-known q-kind found-in no_names loses positive held
-    cleared table table-tag blocks pass result m stores ok err = go stores
+removed-goes b new k l d g name r x c1 c2 q freed is_b is_new safe going it q-kind loses table table-tag blocks pass result m stores ok err = go stores
   where
     apart : IsApart ((x.block, c1) ∷ (table_block q.inode, c2) ∷ []) 0
-    apart = ((λ e. omega (arith, e, positive)), ((λ e. omega (arith, e)), tt))
+    apart = drop-apart b k d g name r x c1 q it c2
 
-    agrees : (H : List Entry1) (p : Past) → IsTrue b.tells → IsOpen b k H p → agreed (files_in b.now) d ≡ true
-    agrees H p tells o = there tells (are-agreed b k H p safe o)
+    facts : (tells : IsTrue b.tells) (H : List Entry1) (p : Past) → IsOpen b k H p → Drops b p d g name r x c1 c2 q free_record
+    facts tells H p o = drops-in b k d g name r x c1 q it H p tells safe o c2 free_record (table tells) table-tag
 
-    pair : (H : List Entry1) (p : Past) → IsTrue b.tells → IsOpen b k H p → IsFoundEntry p.world.files b.now d name q
-    pair H p tells o = found-in tells (agrees H p tells o) p.world.files (open-files b k H p o)
-
-    has : (H : List Entry1) (p : Past) → IsTrue b.tells → IsOpen b k H p → HasRecord b.now q.inode free_record c2
-    has H p tells o = let f = pair H p tells o in record {
-      range = (live-stands b.now q.inode (agreed-live b.now q.inode f.pair.agreed)).range;
-      here = (table tells).here;
-      others = (table tells).others;
-    }
-
-    gone : (H : List Entry1) (p : Past) (tells : IsTrue b.tells) (o : IsOpen b k H p)
-        → drop_meta p.world.files (pair H p tells o).pair.entry.inode (link_to d q.entry g) ≡ Gone
-    gone H p tells o = is-gone (drop_meta p.world.files (pair H p tells o).pair.entry.inode (link_to d q.entry g))
-        (ap (λ (i : ℕ). is_gone (drop_meta p.world.files i (link_to d q.entry g))) (pair H p tells o).pair.names
+    gone : (tells : IsTrue b.tells) (H : List Entry1) (p : Past) (o : IsOpen b k H p)
+        → drop_meta p.world.files (facts tells H p o).pair.pair.entry.inode (link_to d q.entry g) ≡ Gone
+    gone tells H p o = is-gone (drop_meta p.world.files (facts tells H p o).pair.pair.entry.inode (link_to d q.entry g))
+        (ap (λ (i : ℕ). is_gone (drop_meta p.world.files i (link_to d q.entry g))) (facts tells H p o).pair.pair.names
         ∙ loses tells (are-agreed b k H p safe o) p.world.files (open-files b k H p o))
       where
         is-gone : (w : Meta) → is_gone w ≡ true → w ≡ Gone
@@ -126,60 +92,33 @@ removed-goes b new k l d g name r x c1 c2 q freed is_b is_new safe going directo
         is-gone (Is kind size links) e = cc e
 
     -- the maps once the blocks are freed
-    freed-now : (H : List Entry1) (p : Past) (tells : IsTrue b.tells) (o : IsOpen b k H p) → FreedAs k l q.inode freed
-        → Freed k l (pair H p tells o).pair.entry.inode (λ n. is_of (pair H p tells o).pair.entry.inode (p.world.homes n))
-    freed-now H p tells o a = subst (λ (i : ℕ). Freed k l i (λ n. is_of i (p.world.homes n))) (sym (pair H p tells o).pair.names)
-        (freed-from k l q.inode freed (λ n. is_of q.inode (p.world.homes n)) (sizes-of b k safe) range.0 range.1 a
-        (λ n low. blocks.owned tells (pair H p tells o).pair.agreed n low
+    freed-now : (tells : IsTrue b.tells) (H : List Entry1) (p : Past) (o : IsOpen b k H p) → FreedAs k l q.inode freed
+        → Freed k l (facts tells H p o).pair.pair.entry.inode (λ n. is_of (facts tells H p o).pair.pair.entry.inode (p.world.homes n))
+    freed-now tells H p o a = subst (λ (i : ℕ). Freed k l i (λ n. is_of i (p.world.homes n))) (sym (facts tells H p o).pair.pair.names)
+        (freed-from k l q.inode freed (λ n. is_of q.inode (p.world.homes n)) (safe.unknown_inodes, safe.free_inodes) range.0 range.1 a
+        (λ n low. blocks.owned tells (facts tells H p o).pair.pair.agreed n low
         ∙ ap (is_of q.inode) (sym (o.homes n (subst (λ (z : ℕ). n < z) (sym o.says.blocks) low))))
         (λ n high. ap (is_of q.inode) (o.homes_past n (subst (λ (z : ℕ). z ≤ n) (sym o.says.blocks) high))))
       where
         range : (1 ≤ q.inode) × (q.inode ≤ k.at.inodes)
-        range = record-known.range (let e : is_live q.record ≡ true = rw q-kind refl in e)
+        range = it.known.range (let e : is_live q.record ≡ true = rw q-kind refl in e)
 
     go : Stores b k new m ((x.block, c1) ∷ (table_block q.inode, c2) ∷ []) result
         → Goes b k new l (step.Drop d g name) no_claims (done_answer (reply.Dropped true) result)
     go (Stored writes same e) =
         let a : FreedAs k l q.inode freed = subst (λ (z : Books). FreedAs z l q.inode freed) same (ok e) in
         subst (λ (z : Result (Unit {0}) Refusal). Goes b k new l (step.Drop d g name) no_claims (done_answer (reply.Dropped true) z)) (sym e)
-        (goes-done b new k l (step.Drop d g name) no_claims (reply.Dropped true) ((x.block, c1) ∷ (table_block q.inode, c2) ∷ [])
-        is_b is_new going a.at a.history (a.stopped ∙ going)
+        (done-goes b new k l (step.Drop d g name) no_claims (reply.Dropped true) ((x.block, c1) ∷ (table_block q.inode, c2) ∷ []) is_b is_new safe going
         (safe-freed new k l q.inode freed (safe-writes b new k ((x.block, c1) ∷ (table_block q.inode, c2) ∷ []) (Ok tt) k.stopped writes apart safe)
-        a blocks.size blocks.in_area) refl writes.adds.disk writes.adds.past writes.later safe
-        (λ tells H p o. gone-done b new k H p d g name r x c1 c2 q free_record is_b tells o (directory.known.same tells) directory.kind gen
-        (agrees H p tells o) (pair H p tells o) (held tells) (cleared.whole tells) (cleared.payload tells) (cleared.tag tells) (has H p tells o)
-        table-tag (no_names tells p.world.files (open-files b k H p o)) (record-known.same tells) (gone H p tells o) refl l (freed-now H p tells o a)
-        a.at a.history (a.stopped ∙ going) writes (pass tells H p o)))
+        a blocks.size blocks.in_area) (record { at = a.at; history = a.history; stopped = a.stopped }) refl refl
+        (λ tells H p o. gone-comes b k H p d g name r x c1 c2 q free_record is_b tells o (facts tells H p o) (it.known.same tells) (gone tells H p o) refl l
+        (freed-now tells H p o a)) pass writes)
     go (NotStored f writes same e) = subst₂ (λ (z : Books) (w : Result (Unit {0}) Refusal). Goes b k new z (step.Drop d g name) no_claims
         (done_answer (reply.Dropped true) w)) (sym (err refusal.WriteFault e ∙ same)) (sym e)
-        (goes-fault b new k (stopped_books k) (step.Drop d g name)
-        no_claims is_b going refl refl refl writes.adds.disk writes.adds.past writes.cause writes.later safe
-        (safe-writes b new k ((x.block, c1) ∷ (table_block q.inode, c2) ∷ []) (Err f) true writes apart safe)
-        (λ tells H p o.
-        let w : EndsWell b new k H p d g name r x c1 c2 q free_record is_b tells o (directory.known.same tells) directory.kind gen (agrees H p tells o)
-        (pair H p tells o) (held tells) (cleared.whole tells) (cleared.payload tells) (cleared.tag tells) (has H p tells o) table-tag
-        (no_names tells p.world.files (open-files b k H p o)) =
-        gone-ends b new k H p d g name r x c1 c2 q free_record is_b tells o (directory.known.same tells) directory.kind gen (agrees H p tells o)
-        (pair H p tells o) (held tells) (cleared.whole tells) (cleared.payload tells) (cleared.tag tells) (has H p tells o) table-tag
-        (no_names tells p.world.files (open-files b k H p o)) (record-known.same tells) (gone H p tells o)
-        refl in drop-numbered b new k H p d g name r x c1 c2 q free_record is_b tells o (directory.known.same tells) directory.kind gen
-        (agrees H p tells o) (pair H p tells o) (held tells) (cleared.whole tells) (cleared.payload tells) (cleared.tag tells) (has H p tells o)
-        table-tag (no_names tells p.world.files (open-files b k H p o)) w writes.adds)
-        (λ tells caller H p o.
-        let w : EndsWell b new k H p d g name r x c1 c2 q free_record is_b tells o (directory.known.same tells) directory.kind gen (agrees H p tells o)
-        (pair H p tells o) (held tells) (cleared.whole tells) (cleared.payload tells) (cleared.tag tells) (has H p tells o) table-tag
-        (no_names tells p.world.files (open-files b k H p o)) =
-        gone-ends b new k H p d g name r x c1 c2 q free_record is_b tells o (directory.known.same tells) directory.kind gen (agrees H p tells o)
-        (pair H p tells o) (held tells) (cleared.whole tells) (cleared.payload tells) (cleared.tag tells) (has H p tells o) table-tag
-        (no_names tells p.world.files (open-files b k H p o)) (record-known.same tells) (gone H p tells o) refl in (
-          drop-proper b new k H p d g name r x c1 c2 q free_record is_b tells o (directory.known.same tells) directory.kind gen (agrees H p tells o)
-              (pair H p tells o) (held tells) (cleared.whole tells) (cleared.payload tells) (cleared.tag tells) (has H p tells o) table-tag
-              (no_names tells p.world.files (open-files b k H p o)) w (entry caller b new (step.Drop d g name) no_claims (reply.Refused refusal.WriteFault))
-              refl writes.adds,
-          pass tells H p o (stopped_world p.world),
-          refl,
-          w.claim,
-        )))
+        (fault-goes b new k k (step.Drop d g name) no_claims ((x.block, c1) ∷ (table_block q.inode, c2) ∷ []) f is_b safe going safe
+        (record { at = refl; history = refl; stopped = refl }) apart refl
+        (λ tells H p o. gone-step b k H p d g name r x c1 c2 q free_record is_b tells o (facts tells H p o) (it.known.same tells) (gone tells H p o) refl)
+        pass writes)
 
 -- from the state before the table was read
 pub remove-ends : (old mid new : DiskState) (k m l : Books) (d g : ℕ) (name : List ℕ) (r : Record) (x : Pointer) (c1 before c2 : Cell) (q : Paired)
@@ -196,20 +135,10 @@ remove-ends old mid new k m l d g name r x c1 before c2 q freed result is_mid is
     no_names loses positive held cleared table record-in table-tag blocks pass stores ok err =
     goes-after old mid (reads-keep old mid stays) new k l (step.Drop d g name) no_claims (done_answer (reply.Dropped true) result)
     (removed-goes mid new k l d g name r x c1 c2 q freed is_mid is_new (safe-keeps old mid (reads-keep old mid stays) k safe) going
-    (record { known = KnowsInode-on old mid k.at d r stays directory.known; kind = directory.kind; generation = directory.generation }) gen
-    (λ t. subst (λ (X : Image). KnownTrue k X → IsThere d X) (sym now) (there (told t)))
-    (KnowsInode-on old mid k.at q.inode q.record stays record-known) q-kind
-    (λ t. subst (λ (X : Image). IsThere d X → (F : Files) → FilesMatch F X → IsFoundEntry F X d name q) (sym now) (found-in (told t)))
-    (λ t F w. no_names (told t) F (subst (λ (X : Image). FilesMatch F X) now w))
+    (dropping-on old k d g name r x c1 q
+    (is-dropping old k d g name r x c1 q directory gen there record-known found-in no_names positive held cleared) mid stays)
+    q-kind
     (λ t all F w. loses (told t) (subst (λ (X : Image). KnownTrue k X) now all) F (subst (λ (X : Image). FilesMatch F X) now w))
-    positive
-    (λ t. subst (λ (X : Image). find X d (path_of (q.entry / 16)) ≡ answer.Holds x) (sym now) (held (told t)))
-    (record {
-      whole = λ t. subst (λ (X : Image). length (cell_at X x.block).payload ≡ 1024) (sym now) (cleared.whole (told t));
-      payload = λ t. subst (λ (X : Image). c1.payload ≡ put_bytes (64 * (q.entry % 16)) (zeros 64) (cell_at X x.block).payload) (sym now)
-          (cleared.payload (told t));
-      tag = λ t. subst (λ (X : Image). c1.tag ≡ (cell_at X x.block).tag) (sym now) (cleared.tag (told t));
-    })
     (λ t. subst (λ (z : Cell). RecordIn z q.inode free_record c2) (table (told t) ∙ ap (λ (X : Image). cell_at X (table_block q.inode)) (sym now)) record-in)
     table-tag
     (record {

@@ -1,6 +1,6 @@
 -- The contract of Rename, from its parts.
-use Rattle.std.proofs.Common.{◌≡◌, ℕ, ◌*◌, ◌/◌, ◌%◌, ◌<◌, inl, inr, Bool, true, false, List, [], ◌∷◌, length, Some, IsTrue, Result, Ok, Err, IfErr, refl, sym}
-use Rattle.std.proofs.Common.{ap, ◌∙◌, subst, subst₂, arith}
+use Rattle.std.proofs.Common.{◌≡◌, ℕ, ◌*◌, ◌/◌, ◌%◌, ◌<◌, inl, inr, Bool, true, false, List, [], ◌∷◌, length, Some, IsTrue, Result, Err, IfErr, refl, sym, ap}
+use Rattle.std.proofs.Common.{◌∙◌, subst, arith}
 use Rattle.nofs_disk.specs.Disk.{DiskState, IsDisk, StaysButFaults, cell_at}
 use Rattle.nofs_disk.specs.Number.{put_bytes}
 use Rattle.nofs_dirent.specs.EntryLaws.{Spells}
@@ -24,11 +24,8 @@ use Rattle.nofs_agree.proofs.Climbs.{KnowsInode-on}
 use Rattle.nofs_state.specs.Books.{IsSafe}
 use Rattle.nofs_state.specs.Standing.{IsOpen, Past}
 use Rattle.nofs_state.specs.Steps.{Goes, entry}
-use Rattle.nofs_state.specs.Writing.{IsApart, Stores, Stored, NotStored}
+use Rattle.nofs_state.specs.Writing.{IsApart, Stores}
 use Rattle.nofs_state.specs.declared.books.Books.{Books}
-use Rattle.nofs_state.proofs.Done.{goes-done}
-use Rattle.nofs_state.proofs.Faults.{goes-fault, stopped_books, stopped_world}
-use Rattle.nofs_state.proofs.TwoWrites.{safe-writes}
 use Rattle.nofs_state.proofs.Keeping.{goes-after, open-back, reads-keep, safe-keeps}
 use Rattle.nofs_state.proofs.Replies.{goes-row, goes-read, open-files}
 use Rattle.nofs_state.proofs.Machine.{agreed-live, are-agreed}
@@ -37,7 +34,8 @@ use Rattle.nofs_names.specs.Refusing.{IsThere, KnownTrue}
 use Rattle.nofs_names.specs.Renames.{FoundIn, HoldFails, HoldsSlot, done_answer}
 use Rattle.nofs_state.specs.Owing.{RowsPass}
 use Rattle.nofs_names.specs.declared.searching.Paired.{Paired}
-use Rattle.nofs_names.proofs.Renaming.{claim, rename-done, rename-proper, rename-numbered}
+use Rattle.nofs_names.proofs.NameSteps.{stores-goes}
+use Rattle.nofs_names.proofs.Renaming.{rename-follows, rename-step}
 
 -- the entry that was found stands in a slot that holds
 pub slot-holds : (F : Files) (X : Image) (d : ℕ) (name : List ℕ) (q : Paired) → FilesMatch F X → agreed (files_in X) d ≡ true → IsFoundEntry F X d name q
@@ -68,7 +66,15 @@ pub renamed-goes : (b new : DiskState) (k l : Books) (d g : ℕ) (name other : L
     → RowsPass b k (step.Rename d g name other) → Stores b k new l ((x.block, c) ∷ []) result
     → Goes b k new l (step.Rename d g name other) no_claims (done_answer reply.Renamed result)
 renamed-goes b new k l d g name other r x c q result is_b is_new safe going directory gen there found-in positive held whole spells payload tag pass stores =
-    go stores
+    stores-goes b new k k l (step.Rename d g name other) no_claims reply.Renamed ((x.block, c) ∷ []) result is_b is_new safe going safe
+    (record { at = refl; history = refl; stopped = refl }) apart refl refl refl
+    (λ tells H p o. record {
+      step = rename-step b k H p d g name other r x c q is_b tells o (directory.known.same tells) directory.kind gen (agrees H p tells o) (pair H p tells o)
+          (held tells) (whole tells) spells (payload tells) (tag tells);
+      follows = rename-follows b k H p d g name other r x c q is_b tells o (directory.known.same tells) directory.kind gen (agrees H p tells o)
+          (pair H p tells o) (held tells) (whole tells) spells (payload tells) (tag tells);
+      answer = refl;
+    }) pass stores
   where
     apart : IsApart ((x.block, c) ∷ []) 0
     apart = ((λ e. omega (arith, e, positive)), tt)
@@ -78,30 +84,6 @@ renamed-goes b new k l d g name other r x c q result is_b is_new safe going dire
 
     pair : (H : List Entry1) (p : Past) → IsTrue b.tells → IsOpen b k H p → IsFoundEntry p.world.files b.now d name q
     pair H p tells o = found-in tells (agrees H p tells o) p.world.files (open-files b k H p o)
-
-    go : Stores b k new l ((x.block, c) ∷ []) result → Goes b k new l (step.Rename d g name other) no_claims (done_answer reply.Renamed result)
-    go (Stored writes same e) = subst₂ (λ (m : Books) (z : Result (Unit {0}) Refusal). Goes b k new m (step.Rename d g name other) no_claims
-        (done_answer reply.Renamed z)) (sym same) (sym e)
-        (goes-done b new k k (step.Rename d g name other) no_claims reply.Renamed ((x.block, c) ∷ []) is_b is_new going refl refl going
-        (safe-writes b new k ((x.block, c) ∷ []) (Ok tt) k.stopped writes apart safe) refl writes.adds.disk writes.adds.past writes.later safe
-        (λ tells H p o. rename-done b new k H p d g name other r x c q is_b tells o (directory.known.same tells) directory.kind gen (agrees H p tells o)
-        (pair H p tells o) (held tells) (whole tells) spells (payload tells) (tag tells) writes (pass tells H p o)))
-    go (NotStored f writes same e) = subst₂ (λ (m : Books) (z : Result (Unit {0}) Refusal). Goes b k new m (step.Rename d g name other) no_claims
-        (done_answer reply.Renamed z)) (sym same) (sym e)
-        (goes-fault b new k (stopped_books k) (step.Rename d g name other)
-        no_claims is_b going refl refl refl writes.adds.disk writes.adds.past writes.cause writes.later safe
-        (safe-writes b new k ((x.block, c) ∷ []) (Err f) true writes apart safe)
-        (λ tells H p o. rename-numbered b new k H p d g name other r x c q is_b tells o (directory.known.same tells) directory.kind gen (agrees H p tells o)
-        (pair H p tells o) (held tells) (whole tells) spells (payload tells) (tag tells) writes.adds)
-        (λ tells caller H p o. (
-          rename-proper b new k H p d g name other r x c q is_b tells o (directory.known.same tells) directory.kind gen (agrees H p tells o)
-              (pair H p tells o) (held tells) (whole tells) spells (payload tells) (tag tells)
-              (entry caller b new (step.Rename d g name other) no_claims (reply.Refused refusal.WriteFault)) refl writes.adds,
-          pass tells H p o (stopped_world p.world),
-          refl,
-          claim b new k H p d g name other r x c q is_b tells o (directory.known.same tells) directory.kind gen (agrees H p tells o) (pair H p tells o)
-              (held tells) (whole tells) spells (payload tells) (tag tells),
-        )))
 
 -- from the state before the slot was found
 

@@ -34,7 +34,7 @@ use Rattle.nofs_names.specs.declared.searching.Paired.{Paired}
 use Rattle.nofs_names.specs.declared.searching.Unfound.{Unfound}
 use Rattle.nofs_names.proofs.Looked.{missing-late}
 use Rattle.nofs_names.proofs.Rowing.{exists-none}
-use Rattle.nofs_names.proofs.Parts.{first-left, first-right, fails-after, fails-given, goes-fails}
+use Rattle.nofs_names.proofs.Parts.{first-left, first-right, goes-fails, opened-fails}
 
 module _ (old : DiskState) (k : Books) (d g : ℕ) (name other : List ℕ) (is : IsDisk old) (safe : IsSafe old k) (going : k.stopped ≡ false) where
   pub rename-bad : is_name name ≡ false → Goes old k old k (step.Rename d g name other) no_claims (reply.Refused refusal.BadName)
@@ -75,9 +75,7 @@ module _ (old : DiskState) (k : Books) (d g : ℕ) (name other : List ℕ) (is :
               → Goes old k new k (step.Rename d g name other) no_claims (reply.Refused why)
           rename-missing res why finds e = goes-fails old new k (step.Rename d g name other) (missing_rows d name) why is safe going
               (StaysButFaults-trans old mid new opens.stays finds.stays)
-              (fails-given old new (IsThere d) (KnownTrue k) (missing_rows d name) why opens.there
-              (fails-after old mid new (IsThere d) (missing_rows d name) why opens.stays
-              (subst (λ (q : Result Paired Refusal). IfErr q (Fails mid new (IsThere d) (missing_rows d name))) e finds.refused)))
+              (opened-fails old mid new k d (missing_rows d name) res why opens.stays opens.there e finds.refused)
               (λ t H p o q. rows-are p.world p.world ∙ first-right (directory_rows d g p.world) (missing_rows d name p.world ++ exists_rows d other p.world)
               (none-before t H p o) ∙ first-left (missing_rows d name p.world) (exists_rows d other p.world) why q) late
 
@@ -105,9 +103,7 @@ module _ (old : DiskState) (k : Books) (d g : ℕ) (name other : List ℕ) (is :
                 → Goes old k end k (step.Rename d g name other) no_claims (reply.Refused why)
             rename-exists res why none e = goes-fails old end k (step.Rename d g name other) (exists_rows d other) why is safe going
                 (StaysButFaults-trans old new end to-new none.stays)
-                (fails-given old end (IsThere d) (KnownTrue k) (exists_rows d other) why opens.there
-                (fails-after old new end (IsThere d) (exists_rows d other) why to-new
-                (subst (λ (z : Result Unfound Refusal). IfErr z (Fails new end (IsThere d) (exists_rows d other))) e none.refused)))
+                (opened-fails old new end k d (exists_rows d other) res why to-new opens.there e none.refused)
                 (λ t H p o z. to-exists t H p o p.world ∙ z) late
 
             pub rename-passes : (u : Unfound) → FindsNone new end d other names2 records2 (Ok u) → RowsPass end k (step.Rename d g name other)

@@ -1,6 +1,5 @@
 -- The rows of refusals of the parts that steps on names share.
-use Rattle.std.proofs.Common.{◌≡◌, ℕ, Bool, true, false, ◌&&◌, eqb, List, [], ◌∷◌, Option, Some, None, option_map, IsTrue, Result, Ok, Err, IfErr, refl, sym}
-use Rattle.std.proofs.Common.{ap, ◌∙◌, subst}
+use Rattle.std.proofs.Common.{◌≡◌, ℕ, true, false, List, [], ◌∷◌, Option, Some, None, option_map, IsTrue, Result, Ok, Err, IfErr, refl, sym, ap, ◌∙◌, subst}
 use Rattle.nofs_dirent.specs.Entries.{entry_limit}
 use Rattle.nofs_disk.specs.Disk.{DiskState}
 use Rattle.nofs_inode.specs.declared.inode.FileKind.TheVariants.{Directory as Folder}
@@ -17,9 +16,10 @@ use Rattle.nofs_law_untouched.proofs.Matching.{matched-agreed}
 use Rattle.nofs_agree.specs.declared.reads.LastRead.{LastRead}
 use Rattle.nofs_agree.proofs.Climbs.{record-of}
 use Rattle.nofs_state.specs.Steps.{is_plain}
-use Rattle.nofs_state.specs.Opening.{Opens, OpenFails, is_current}
+use Rattle.nofs_state.specs.Opening.{Opens, OpenFails}
 use Rattle.nofs_state.specs.declared.books.Books.{Books}
 use Rattle.nofs_state.specs.declared.opening.Opened.{Opened}
+use Rattle.nofs_state.proofs.CurrentFiles.{current-agreed}
 use Rattle.nofs_state.proofs.Machine.{agreed-live, stale-none, stale-some}
 use Rattle.nofs_names.specs.Searching.{Passed, Searches}
 use Rattle.nofs_names.specs.Refusing.{Fails, ByRow, ByRead, KnownTrue, directory_rows, OpensDirectory, FindsPair, IsPairOf, missing_in, unused_in, FindsNone}
@@ -30,13 +30,6 @@ use Rattle.nofs_names.specs.declared.searching.Searched.{Searched}
 use Rattle.nofs_names.specs.declared.searching.Searched.TheVariants as searched
 use Rattle.nofs_names.proofs.PairTests.{kind-of}
 use Rattle.nofs_machine.specs.Steps.{InRange}
-
-pub current-agreed : (X : Image) (i g : ℕ) → is_current X i g ≡ true → agreed (files_in X) i ≡ true
-current-agreed X i g c = go (agreed (files_in X) i) refl c
-  where
-    go : (b : Bool) → agreed (files_in X) i ≡ b → (b && eqb (inode X i).generation g) ≡ true → agreed (files_in X) i ≡ true
-    go true e h = e
-    go false e h = absurd (let z : false ≡ true = h in cc z)
 
 -- whether an agreed inode is a directory
 pub folder-at : (F : Files) (X : Image) (i : ℕ) (r : Record) (kind : FileKind) → FilesMatch F X → agreed (files_in X) i ≡ true → inode X i ≡ r
@@ -50,16 +43,12 @@ folder-at F X i r kind match a er ek =
 -- The directory
 
 module _ (old new : DiskState) (k : Books) (d g : ℕ) (last : LastRead) (res : Result Opened Refusal) (opens : Opens old new k d g last res) where
+  no-directory : (why : Refusal) → Fails old new (KnownTrue k) (directory_rows d g) why → OpensDirectory old new k d g last (Err why)
+  no-directory why fails =
+      record { stays = opens.stays; directory = tt; generation = tt; passes = tt; there = tt; kept = tt; refused = fails }
+
   pub directory-stale : (why : Refusal) → res ≡ Err why → OpensDirectory old new k d g last (Err why)
-  directory-stale why e = record {
-    stays = opens.stays;
-    directory = tt;
-    generation = tt;
-    passes = tt;
-    there = tt;
-    kept = tt;
-    refused = go why (subst (λ (q : Result Opened Refusal). IfErr q (OpenFails old new k d g)) e opens.refused);
-  }
+  directory-stale why e = no-directory why (go why (subst (λ (q : Result Opened Refusal). IfErr q (OpenFails old new k d g)) e opens.refused))
     where
       go : (w : Refusal) → OpenFails old new k d g w → Fails old new (KnownTrue k) (directory_rows d g) w
       go refusal.Stale fails = ByRow refl tt (λ t all W match. rw (stale-some W old.now d g match (fails t all)) refl)
@@ -75,16 +64,9 @@ module _ (old new : DiskState) (k : Books) (d g : ℕ) (last : LastRead) (res : 
         (record-of old new k.at d it.found opens.stays opened.known.known t) opened.known.kind
 
     pub directory-file : is_folder it.kind ≡ false → OpensDirectory old new k d g last (Err refusal.NotDirectory)
-    directory-file no_folder = record {
-      stays = opens.stays;
-      directory = tt;
-      generation = tt;
-      passes = tt;
-      there = tt;
-      kept = tt;
-      refused = ByRow refl tt (λ t all W match. let f = folder-of t all W match
-          ∙ no_folder in rw (stale-none W old.now d g match (opened.current t all), f) refl);
-    }
+    directory-file no_folder = no-directory refusal.NotDirectory
+        (ByRow refl tt (λ t all W match. let f = folder-of t all W match ∙ no_folder in
+        rw (stale-none W old.now d g match (opened.current t all), f) refl))
 
     pub directory-is : is_folder it.kind ≡ true → OpensDirectory old new k d g last (Ok it.found)
     directory-is folder = record {
@@ -108,9 +90,6 @@ unfolding found first_dead first_lost_slot
 missing-is F W d name u e p =
     let q : Passed W.files d name entry_limit 72 u = subst (λ (G : Files). Passed G d name entry_limit 72 u) (sym e) p in
     rw (q.none, q.dead, q.lost) refl
-
-found-none : (W : World) (d : ℕ) (name : List ℕ) (e : ℕ) → found W.files d name ≡ Some e → missing W d name ≡ None
-found-none W d name e h = rw h refl
 
 plain-missing : (u : Unfound) (why : Refusal) → Some why ≡ missing_in u → is_plain why ≡ true
 plain-missing u why e = go u.dead u.lost (e)

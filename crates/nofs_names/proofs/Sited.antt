@@ -1,13 +1,11 @@
 -- What stands in the slot of a new entry, and which blocks it takes.
-use Rattle.std.proofs.Common.{◌≡◌, ℕ, ◌+◌, ◌^◌, ◌<◌, ◌≤◌, inl, inr, Bool, true, false, ltb, Some, IsTrue, Result, Ok, Err, IfOk, IfErr, refl, sym, ap, ◌∙◌}
-use Rattle.std.proofs.Common.{subst, arith, le_refl}
+use Rattle.std.proofs.Common.{◌≡◌, ℕ, ◌+◌, ◌^◌, ◌<◌, ◌≤◌, inl, Bool, true, false, ltb, Some, IsTrue, Result, Ok, Err, refl, sym, ap, ◌∙◌, subst, arith}
 use Rattle.std.proofs.lemmas.Bool.Decides.{nat_tests}
 use Rattle.nofs_bits.specs.Bits.{count_set}
 use Rattle.std.proofs.lemmas.List.Sums.{count_by-le-length}
-use Rattle.nofs_disk.specs.Disk.{DiskState, StaysButFaults}
-use Rattle.nofs_disk.specs.Chains.{StaysButFaults-refl, StaysButFaults-trans, Rose-within}
+use Rattle.nofs_disk.specs.Disk.{DiskState}
 use Rattle.nofs_disk.specs.declared.Failed.{Failed}
-use Rattle.nofs_model.specs.Cells.{Pointer, SuperBlock}
+use Rattle.nofs_model.specs.Cells.{SuperBlock}
 use Rattle.nofs_model.specs.Image.{Image, find, leaf, path_of, Path, Under}
 use Rattle.nofs_model.specs.declared.path.PathAnswer.{PathAnswer}
 use Rattle.nofs_model.specs.declared.path.PathAnswer.TheVariants as answer
@@ -16,13 +14,11 @@ use Rattle.nofs_machine.specs.World.{World, free_blocks, next_block}
 use Rattle.nofs_machine.specs.declared.replies.Refusal.{Refusal}
 use Rattle.nofs_machine.specs.declared.replies.Refusal.TheVariants as refusal
 use Rattle.nofs_agree.specs.Finding.{FindsSlot}
-use Rattle.nofs_agree.specs.Reading.{IsLast}
 use Rattle.nofs_agree.specs.declared.reads.LastRead.{LastRead}
-use Rattle.nofs_agree.proofs.Climbs.{told-on}
 use Rattle.nofs_state.specs.Books.{IsSafe, Says}
 use Rattle.nofs_state.specs.declared.books.Books.{Books}
 use Rattle.nofs_state.proofs.Counting.{free-count, unknown-count}
-use Rattle.nofs_names.specs.Placing.{AreFree, FindsEntrySlot, IsEntrySlot, IsSlotCell, IsUnderLeaf, SlotFails, TakesBlocks}
+use Rattle.nofs_names.specs.Placing.{AreFree, FindsEntrySlot, IsUnderLeaf, TakesBlocks}
 use Rattle.nofs_names.specs.declared.placing.EntryBlocks.{EntryBlocks}
 use Rattle.nofs_names.specs.declared.placing.EntrySlot.{EntrySlot}
 use Rattle.nofs_names.specs.declared.placing.EntrySlot.TheVariants as entry
@@ -33,38 +29,6 @@ use Rattle.nofs_names.specs.declared.placing.EntrySlot.TheVariants as entry
 lost-below : (X : Image) (d n : ℕ) → find X d leaf ≡ answer.Lost → find X d (Under leaf n) ≡ answer.Lost
 lost-below X d n e = rw (e, find)
 
-pub slot-after : (old mid new : DiskState) (at : SuperBlock) (d k : ℕ) (last : LastRead) (res : Result EntrySlot Refusal) → StaysButFaults old mid
-    → FindsEntrySlot mid new at d k last res → FindsEntrySlot old new at d k last res
-slot-after old mid new at d k last res stays s = record {
-  stays = StaysButFaults-trans old mid new stays s.stays;
-  fits = s.fits;
-  found = on-found res s.found;
-  cell = on-cell res s.cell;
-  kept = s.kept;
-  refused = on-err res s.refused;
-}
-  where
-    on-found : (r : Result EntrySlot Refusal) → IfOk r (λ q. IsTrue mid.tells → IsEntrySlot mid.now d k q)
-        → IfOk r (λ q. IsTrue old.tells → IsEntrySlot old.now d k q)
-    on-found (Err e) h = tt
-    on-found (Ok q) h = λ t. subst (λ (X : Image). IsEntrySlot X d k q) stays.cells.now (h (told-on old mid stays t))
-
-    on-cell : (r : Result EntrySlot Refusal) → IfOk r (λ q. IsTrue mid.tells → IsSlotCell mid.now q last.cell)
-        → IfOk r (λ q. IsTrue old.tells → IsSlotCell old.now q last.cell)
-    on-cell (Err e) h = tt
-    on-cell (Ok q) h = λ t. subst (λ (X : Image). IsSlotCell X q last.cell) stays.cells.now (h (told-on old mid stays t))
-
-    on-err : (r : Result EntrySlot Refusal) → IfErr r (SlotFails mid new d k) → IfErr r (SlotFails old new d k)
-    on-err (Ok q) h = tt
-    on-err (Err why) (inl f) = inl (
-      f.0,
-      f.1,
-      λ t. subst
-          (λ (X : Image). ((x : Pointer) → find X d (path_of k) ≡ answer.Holds x → ⊥) × (find X d (path_of k) ≡ answer.Hole → ⊥)) stays.cells.now
-          (f.2 (told-on old mid stays t)),
-    )
-    on-err (Err why) (inr f) = inr (f.0, Rose-within old.faults mid.faults new.faults new.faults stays.disk.faults f.1 (le_refl new.faults))
-
 module _ (old mid : DiskState) (at : SuperBlock) (d k : ℕ) (path : Path) (path-is : path ≡ path_of k) (names : LastRead) (res : Result PathAnswer Failed)
     (finds : FindsSlot old mid at (λ X. find X d path) names res) where
   finds-as : (a b : PathAnswer) → res ≡ Ok a → a ≡ b → FindsSlot old mid at (λ X. find X d path) names (Ok b)
@@ -72,10 +36,6 @@ module _ (old mid : DiskState) (at : SuperBlock) (d k : ℕ) (path : Path) (path
 
   found-as : (b : PathAnswer) → FindsSlot old mid at (λ X. find X d path) names (Ok b) → IsTrue old.tells → find old.now d (path_of k) ≡ b
   found-as b f t = sym (λ j. find old.now d (path-is j)) ∙ sym (f.found t)
-
-  pub slot-held : (a : PathAnswer) (x : Pointer) → res ≡ Ok a → a ≡ answer.Holds x → FindsEntrySlot old mid at d k names (Ok (entry.Held x))
-  slot-held a x e h = let f = finds-as a (answer.Holds x) e h in record
-      { stays = f.stays; fits = f.area; found = found-as (answer.Holds x) f; cell = f.cell; kept = f.kept; refused = tt }
 
   pub slot-lost : (a : PathAnswer) → res ≡ Ok a → a ≡ answer.Lost → FindsEntrySlot old mid at d k names (Err (refusal.LostSlot k))
   slot-lost a e h = let f = finds-as a answer.Lost e h in record {
@@ -91,15 +51,6 @@ module _ (old mid : DiskState) (at : SuperBlock) (d k : ℕ) (path : Path) (path
   slot-hole a e h t =
       let f = finds-as a answer.Hole e h in
       ap (λ (X : Image). find X d (path_of k)) f.stays.cells.now ∙ found-as answer.Hole f (subst (λ (b : Bool). IsTrue b) f.stays.disk.tells t)
-
-  pub slot-unread : (f : Failed) → res ≡ Err f → FindsEntrySlot old mid at d k names (Err refusal.ReadFault)
-  slot-unread f e =
-      let r = subst (λ (r : Result PathAnswer Failed). FindsSlot old mid at (λ X. find X d path) names r) e finds in
-      record { stays = r.stays; fits = tt; found = tt; cell = tt; kept = tt; refused = inr (refl, r.cause) }
-
-pub hole-direct : (old : DiskState) (at : SuperBlock) (d k : ℕ) (names : LastRead) → k < 8 → (IsTrue old.tells → find old.now d (path_of k) ≡ answer.Hole)
-    → IsLast old names → FindsEntrySlot old old at d k names (Ok entry.Direct)
-hole-direct old at d k names low hole kept = record { stays = StaysButFaults-refl old; fits = low; found = hole; cell = λ t. tt; kept = kept; refused = tt }
 
 pub hole-under : (old mid : DiskState) (at : SuperBlock) (d k : ℕ) (names : LastRead) (a : PathAnswer) (res : Result EntrySlot Refusal) → 8 ≤ k → k < 72
     → (IsTrue old.tells → find old.now d (path_of k) ≡ answer.Hole)

@@ -1,12 +1,12 @@
 -- The loops of a search: over the places of a cell, and over the slots of a directory.
-use Rattle.std.proofs.Common.{◌≡◌, ℕ, ◌+◌, ◌*◌, ◌/◌, ◌%◌, ◌<◌, Bool, true, false, List, Option, Some, None, IsTrue, Result, Ok, Err, refl, sym, ap, ◌∙◌}
-use Rattle.std.proofs.Common.{subst, arith, le_refl}
+use Rattle.std.proofs.Common.{◌≡◌, ℕ, ◌+◌, ◌*◌, ◌/◌, ◌%◌, ◌<◌, true, false, List, Option, Some, None, IsTrue, Result, Ok, Err, refl, sym, ap, ◌∙◌, subst, arith}
+use Rattle.std.proofs.Common.{le_refl}
 use Rattle.std.specs.Prelude.{IfOk, OnErr}
 use Rattle.nofs_disk.specs.Disk.{DiskState, StaysButFaults, Rose}
-use Rattle.nofs_disk.specs.Chains.{StaysButFaults-refl, StaysButFaults-trans, Rose-within}
+use Rattle.nofs_disk.specs.Chains.{StaysButFaults-trans, Rose-within}
 use Rattle.nofs_disk.specs.declared.Failed.{Failed}
-use Rattle.nofs_model.specs.Cells.{Cell, Pointer, Record, SuperBlock}
-use Rattle.nofs_model.specs.Image.{Image, files_in, agreed, Files, value, value_in, find, path_of, Path, cell_at}
+use Rattle.nofs_model.specs.Cells.{Record, SuperBlock}
+use Rattle.nofs_model.specs.Image.{Image, files_in, inode, agreed, Files, value, value_in, find, path_of, Path}
 use Rattle.nofs_model.specs.declared.path.PathAnswer.{PathAnswer}
 use Rattle.nofs_model.specs.declared.path.PathAnswer.TheVariants as answer
 use Rattle.nofs_model.specs.declared.value.Value.TheVariants.{Bytes}
@@ -56,15 +56,6 @@ pub record Going (old now : DiskState) (d : ℕ) (name : List ℕ) (n k m l : �
   pub kept : IsLast now last
   pub passed : IsTrue old.tells → (F : Files) → FilesMatch F old.now → agreed (files_in old.now) d ≡ true → Passed F d name n k u → Passed F d name m l v
 
-pub going-begins : (old : DiskState) (d : ℕ) (name : List ℕ) (n k m : ℕ) (u : Unfound) (last : LastRead) → IsLast old last → m ≡ n
-    → Going old old d name n k m k u u last
-going-begins old d name n k m u last kept e = record {
-  stays = StaysButFaults-refl old;
-  kept = kept;
-  passed =
-      λ t F match a p. subst (λ (q : ℕ). Passed F d name q k u) (sym e) p;
-}
-
 module _ (old : DiskState) (at : SuperBlock) (d : ℕ) (dr : Record) (slot : ℕ) (payload name : List ℕ) (known : KnowsDirectory old at d dr.generation dr)
     (low : slot < 72) (cell : IsTrue old.tells → value old.now d slot ≡ Bytes payload) where
   module _ (now new : DiskState) (place m : ℕ) (u v : Unfound) (last next : LastRead) (g : Going old now d name (16 * slot) slot m slot u v last)
@@ -109,16 +100,6 @@ module _ (old : DiskState) (at : SuperBlock) (d : ℕ) (dr : Record) (slot : ℕ
           cause = tt;
         }
 
-    pub going-failed : (e : ℕ) (f : Failed) (k l : ℕ) (w : Unfound) → SeesPlace now new at (link_to d e dr.generation) payload place name next (Err f)
-        → SearchesOn old new at d name (16 * slot) slot k l u w next (Err f)
-    going-failed e f k l w q = record {
-      stays = StaysButFaults-trans old now new g.stays q.stays;
-      known = tt;
-      past = tt;
-      kept = tt;
-      cause = Rose-within old.faults now.faults new.faults new.faults g.stays.disk.faults q.cause (le_refl new.faults);
-    }
-
   pub going-ends : (now : DiskState) (m : ℕ) (u v : Unfound) (last : LastRead) → Going old now d name (16 * slot) slot m slot u v last → m ≡ 16 * (slot + 1)
       → SearchesOn old now at d name (16 * slot) slot (16 * (slot + 1)) (slot + 1) u v last (Ok None)
   going-ends now m u v last g e = record {
@@ -141,38 +122,30 @@ module _ (old mid : DiskState) (at : SuperBlock) (d : ℕ) (dr : Record) (slot :
       → FindsSlot old mid at (λ X. find X d path) names (Ok b)
   finds-as res a b f e h = subst (λ (r : Result PathAnswer Failed). FindsSlot old mid at (λ X. find X d path) names r) (e ∙ ap Ok h) f
 
-  pub slot-hole : (v : Unfound) (res : Result PathAnswer Failed) (b : PathAnswer) → v ≡ record u { hole = first_or u.hole (Some slot) }
-      → FindsSlot old mid at (λ X. find X d path) names res → res ≡ Ok b → b ≡ answer.Hole
+  -- a slot that holds no cell is passed
+  slot-passed : (v : Unfound) (res : Result PathAnswer Failed) (b c : PathAnswer) → FindsSlot old mid at (λ X. find X d path) names res → res ≡ Ok b → b ≡ c
+      → ((F : Files) → FilesMatch F old.now → agreed (files_in old.now) d ≡ true → inode old.now d ≡ dr → value old.now d slot ≡ value_in old.now c
+      → Passed F d name (16 * slot) slot u → Passed F d name (16 * (slot + 1)) (slot + 1) v)
       → SearchesOn old mid at d name (16 * slot) slot (16 * (slot + 1)) (slot + 1) u v last (Ok None)
-  slot-hole v res b ev fs e h = let f = finds-as res b answer.Hole fs e h in record {
+  slot-passed v res b c fs e h past = let f = finds-as res b c fs e h in record {
     stays = f.stays;
     known = tt;
-    past = λ t F match a p. subst (λ (w : Unfound). Passed F d name (16 * (slot + 1)) (slot + 1) w) (sym ev)
-        (ends-hole F old.now d dr match a (known.known.same t) known.kind slot name u low (found-value answer.Hole f t) p);
+    past = λ t F match a p. past F match a (known.known.same t) (found-value c f t) p;
     kept = IsLast-on old mid last f.stays kept;
     cause = tt;
   }
+
+  pub slot-hole : (v : Unfound) (res : Result PathAnswer Failed) (b : PathAnswer) → v ≡ record u { hole = first_or u.hole (Some slot) }
+      → FindsSlot old mid at (λ X. find X d path) names res → res ≡ Ok b → b ≡ answer.Hole
+      → SearchesOn old mid at d name (16 * slot) slot (16 * (slot + 1)) (slot + 1) u v last (Ok None)
+  slot-hole v res b ev fs e h = slot-passed v res b answer.Hole fs e h (λ F match a is was p. subst (Passed F d name (16 * (slot + 1)) (slot + 1)) (sym ev)
+      (ends-hole F old.now d dr match a is known.kind slot name u low was p))
 
   pub slot-lost : (v : Unfound) (res : Result PathAnswer Failed) (b : PathAnswer) → v ≡ record u { lost = first_or u.lost (Some slot) }
       → FindsSlot old mid at (λ X. find X d path) names res → res ≡ Ok b → b ≡ answer.Lost
       → SearchesOn old mid at d name (16 * slot) slot (16 * (slot + 1)) (slot + 1) u v last (Ok None)
-  slot-lost v res b ev fs e h = let f = finds-as res b answer.Lost fs e h in record {
-    stays = f.stays;
-    known = tt;
-    past = λ t F match a p. subst (λ (w : Unfound). Passed F d name (16 * (slot + 1)) (slot + 1) w) (sym ev)
-        (ends-lost F old.now d dr match a (known.known.same t) known.kind slot name u low (found-value answer.Lost f t) p);
-    kept = IsLast-on old mid last f.stays kept;
-    cause = tt;
-  }
-
-  -- the cell of a slot that holds
-  pub slot-cell : (x : Pointer) (res : Result PathAnswer Failed) (b : PathAnswer) → FindsSlot old mid at (λ X. find X d path) names res → res ≡ Ok b
-      → b ≡ answer.Holds x → IsTrue mid.tells → value mid.now d slot ≡ Bytes names.cell.payload
-  slot-cell x res b fs e h t =
-      let f = finds-as res b (answer.Holds x) fs e h in
-      let told : IsTrue old.tells = subst (λ (b : Bool). IsTrue b) f.stays.disk.tells t in
-      let c : names.cell ≡ cell_at old.now x.block = f.cell told in
-      ap (λ (X : Image). value X d slot) f.stays.cells.now ∙ found-value (answer.Holds x) f told ∙ ap (λ (c : Cell). Bytes c.payload) (sym c)
+  slot-lost v res b ev fs e h = slot-passed v res b answer.Lost fs e h (λ F match a is was p. subst (Passed F d name (16 * (slot + 1)) (slot + 1)) (sym ev)
+      (ends-lost F old.now d dr match a is known.kind slot name u low was p))
 
 -- The whole directory
 
@@ -188,15 +161,6 @@ module _ (old now : DiskState) (at : SuperBlock) (d : ℕ) (name : List ℕ) (sl
     on-as it e = searches-after old now new at d name (16 * slot) slot (16 * (slot + 1)) (slot + 1) v w next (Ok it) g.stays
         (subst (λ (r : Result (Option Paired) Failed). SearchesOn now new at d name (16 * slot) slot (16 * (slot + 1)) (slot + 1) v w next r) e s)
 
-    pub search-on : (it : Option Paired) → res ≡ Ok it → it ≡ None
-        → Going old new d name 0 0 (16 * (slot + 1)) (slot + 1) (record { dead = None; empty = None; lost = None; hole = None }) w next
-    search-on it e n = let q = on-as None (e ∙ ap Ok n) in record {
-      stays = q.stays;
-      kept = q.kept;
-      passed =
-          λ t F match a p. q.past t F match a (g.passed t F match a p);
-    }
-
     pub search-found : (it : Option Paired) (p : Paired) → res ≡ Ok it → it ≡ Some p → IsLast new names
         → Searches old new at d name names next (Ok (searched.Found p))
     search-found it p e n kept =
@@ -209,12 +173,6 @@ module _ (old now : DiskState) (at : SuperBlock) (d : ℕ) (name : List ℕ) (sl
           kept = (kept, q.kept);
           cause = tt;
         }
-
-    pub search-failed : (f : Failed) → res ≡ Err f → Searches old new at d name names next (Err f)
-    search-failed f e =
-        let q = searches-after old now new at d name (16 * slot) slot (16 * (slot + 1)) (slot + 1) v w next (Err f) g.stays
-        (subst (λ (r : Result (Option Paired) Failed). SearchesOn now new at d name (16 * slot) slot (16 * (slot + 1)) (slot + 1) v w next r) e s) in
-        record { stays = q.stays; known = tt; answer = tt; kept = tt; cause = q.cause }
 
   pub search-ends : (names : LastRead) → slot ≡ 72 → IsLast now names → Searches old now at d name names last (Ok (searched.Unfound v))
   search-ends names e kept = record {

@@ -12,13 +12,14 @@ use Rattle.nofs_machine.specs.Claims.{no_claims}
 use Rattle.nofs_agree.specs.Reading.{IsLast, KnowsDirectory}
 use Rattle.nofs_agree.specs.declared.reads.LastRead.{LastRead}
 use Rattle.nofs_law_numbers.specs.Cells.{table_tag}
-use Rattle.nofs_state.specs.Books.{claimed_books, claimed_pointer}
+use Rattle.nofs_state.specs.Books.{IsSafe, claimed_books, claimed_pointer}
 use Rattle.nofs_state.specs.Writing.{Stores}
 use Rattle.nofs_state.specs.declared.books.Books.{Books}
 use Rattle.nofs_state.specs.Owing.{RecordIn}
 use Rattle.nofs_names.specs.Placing.{AreFree, FitsSlot, slot_blocks}
 use Rattle.nofs_names.specs.declared.ending.Ended.{Ended}
 use Rattle.nofs_names.specs.declared.entering.EntryPlace.{EntryPlace}
+use Rattle.nofs_names.specs.declared.entering.NewEntry.{NewEntry}
 use Rattle.nofs_names.specs.declared.entering.Tables.{Tables}
 use Rattle.nofs_names.specs.declared.placing.EntryBlocks.{EntryBlocks}
 use Rattle.nofs_names.specs.declared.placing.EntrySlot.{EntrySlot}
@@ -55,6 +56,12 @@ pub record MayEnter (d : DiskState) (k : Books) (i : ℕ) (r : Record) (n : ℕ)
     pub most : named.inode ≤ k.at.inodes
     pub spelling : HasEntrySpelling named
     pub new_spelling : HasRecordSpelling new
+
+-- a new entry that may be written, with room for so many writes
+pub record IsEntering (calls : ℕ) (d : DiskState) (k : Books) (e : NewEntry) : Type 0 where
+  pub safe : IsSafe d k
+  pub spare : calls ≤ d.spare
+  pub may : MayEnter d k e.directory e.it.now e.place.now.entry e.place.now.slot e.place.now.blocks e.named.now e.record.now
 
 -- the payload of a cell with the entry in its place
 abbrev pub entered : List ℕ → ℕ → Entry → List ℕ

@@ -1,7 +1,11 @@
+pub mod Stepping
+pub mod Inodes
 pub mod Searching
 pub mod Refusing
+pub mod Naming
 pub mod Renames
 pub mod Listing
+pub mod Looking
 pub mod Drops
 pub mod Removing
 pub mod Owning
@@ -9,6 +13,7 @@ pub mod Keeping
 pub mod Filled
 pub mod Dropping
 pub mod Placing
+pub mod Renaming
 pub mod Entering
 pub mod Makes
 pub mod Linking

@@ -4,6 +4,7 @@ use Rattle.std.specs.Prelude.{OnErr, slice_set}
 use Rattle.nofs_disk.specs.Disk.{DiskState, StaysButFaults, Rose}
 use Rattle.nofs_disk.specs.declared.Failed.{Failed}
 use Rattle.nofs_inode.specs.declared.inode.FileKind.TheVariants as kind
+use Rattle.nofs_dirent.specs.Entries.{entry_limit}
 use Rattle.nofs_dirent.specs.EntryLaws.{Spells}
 use Rattle.nofs_dirent.specs.Names.{is_name}
 use Rattle.nofs_model.specs.Cells.{BackLink, Entry, FileKind, Record, SuperBlock, spelled_entry}
@@ -19,16 +20,22 @@ use Rattle.nofs_machine.specs.declared.steps.Step.{Step}
 use Rattle.nofs_machine.specs.declared.steps.Step.TheVariants as step
 use Rattle.nofs_machine.specs.declared.replies.Refusal.{Refusal}
 use Rattle.nofs_machine.specs.declared.replies.Refusal.TheVariants as refusal
+use Rattle.nofs_machine.specs.declared.replies.Reply.TheVariants as reply
 use Rattle.nofs_agree.specs.Reading.{IsLast, KnowsDirectory, KnowsInode}
 use Rattle.nofs_agree.specs.Chains.{AreTrue, is_agreed_link}
 use Rattle.nofs_agree.specs.declared.reads.LastRead.{LastRead}
 use Rattle.nofs_state.specs.Standing.{IsOpen, Past}
+use Rattle.nofs_state.specs.Steps.{Goes}
 use Rattle.nofs_state.specs.declared.books.Books.{Books}
 use Rattle.nofs_names.specs.Placing.{IsEntrySlot, IsSlotCell}
 use Rattle.nofs_names.specs.Refusing.{Fails, IsThere, KnownTrue, PartPasses, exists_rows}
 use Rattle.nofs_state.specs.Owing.{RowsPass}
 use Rattle.nofs_names.specs.declared.entering.EntryPlace.{EntryPlace}
+use Rattle.nofs_names.specs.declared.ending.Ended.{Ended}
 use Rattle.nofs_names.specs.declared.links.Both.{Both}
+use Rattle.nofs_names.specs.declared.links.NewName.{NewName}
+use Rattle.nofs_names.specs.declared.opening.NameIn.{NameIn}
+use Rattle.nofs_names.specs.Renames.{done_answer}
 
 -- the rows of a directory and a file, the directory's generation before the file's
 abbrev pub both_rows : ℕ → ℕ → ℕ → ℕ → World → List (Option Refusal)
@@ -125,6 +132,26 @@ PlaceIs d k i name e = IsTrue d.tells → (H : List Entry1) (p : Past) → IsOpe
 
 abbrev pub SpotIs : DiskState → Books → ℕ → ℕ → Type 0
 SpotIs d k j b = IsTrue d.tells → (H : List Entry1) (p : Past) → IsOpen d k H p → link_place p.world.files j ≡ Some b
+
+-- the step, by what it was given and by the entry that it writes, and what it leaves and answers
+abbrev pub link_step : NewName → Step
+link_step new = step.Link new.at.directory new.at.generation new.at.name.now new.inode new.of
+
+abbrev pub entry_step : NameIn → Entry → Step
+entry_step at it = step.Link at.directory at.generation it.name it.inode it.generation
+
+abbrev pub LinkEnds : DiskState → Books → DiskState → Books → Step → Ended → Type 0
+LinkEnds old k new l s ended = Goes old k new l s ended.claims (done_answer reply.Linked ended.result)
+
+abbrev pub LinkGoes : DiskState → Books → DiskState → Books → NewName → Ended → Type 0
+LinkGoes old k new l name ended = LinkEnds old k new l (link_step name) ended
+
+-- both places were found
+pub record HasPlaces (d : DiskState) (k : Books) (new : NewName) (b e : ℕ) : Type 0 where
+  pub place : PlaceIs d k new.at.directory new.at.name.now e
+  pub entry : e < entry_limit
+  pub spot : SpotIs d k new.inode b
+  pub link : b < 4
 
 -- what Link knows before it writes
 pub record MayLink (b : DiskState) (k : Books) (d g : ℕ) (both : Both) (p : EntryPlace) (it : Entry) (spot : ℕ) : Type 0 where

@@ -13,6 +13,7 @@ use Rattle.nofs_machine.specs.World.{World, next_inode}
 use Rattle.nofs_machine.specs.Refusals.{rows, inodes_full, full, serials_spent}
 use Rattle.nofs_machine.specs.declared.history.Claims.{Claims}
 use Rattle.nofs_machine.specs.declared.history.Entry1.{Entry1}
+use Rattle.nofs_machine.specs.declared.steps.Step.{Step}
 use Rattle.nofs_machine.specs.declared.steps.Step.TheVariants as step
 use Rattle.nofs_machine.specs.declared.replies.Refusal.{Refusal}
 use Rattle.nofs_machine.specs.declared.replies.Refusal.TheVariants as refusal
@@ -21,10 +22,13 @@ use Rattle.nofs_machine.specs.declared.replies.Reply.TheVariants as reply
 use Rattle.nofs_agree.specs.Reading.{KnowsDirectory}
 use Rattle.nofs_state.specs.Books.{InodesFit, Says}
 use Rattle.nofs_state.specs.Standing.{IsOpen, Past}
+use Rattle.nofs_state.specs.Steps.{Goes}
 use Rattle.nofs_state.specs.declared.books.Books.{Books}
 use Rattle.nofs_names.specs.Refusing.{IsThere, KnownTrue}
 use Rattle.nofs_names.specs.Placing.{AreFree, FitsSlot, IsEntrySlot, IsSlotCell, slot_blocks}
+use Rattle.nofs_names.specs.declared.ending.Ended.{Ended}
 use Rattle.nofs_names.specs.declared.entering.EntryPlace.{EntryPlace}
+use Rattle.nofs_names.specs.declared.makes.NewFile.{NewFile}
 
 -- the record of a new inode
 abbrev pub made_record : FileKind → ℕ → BackLink → Record
@@ -57,6 +61,19 @@ made_answer c (Err why) = reply.Refused why
 -- this is the place of the entry
 abbrev pub PlaceIs : DiskState → Books → ℕ → List ℕ → ℕ → Type 0
 PlaceIs d k i name e = IsTrue d.tells → (H : List Entry1) (p : Past) → IsOpen d k H p → place_for p.world.files i name ≡ Some e
+
+-- what a Make leaves, and answers
+abbrev pub MakeGoes : DiskState → Books → DiskState → Books → Step → Ended → Type 0
+MakeGoes old k new l s ended = Goes old k new l s ended.claims (made_answer ended.claims ended.result)
+
+-- the directory of a new file is there, and has this place for an entry with this name
+pub record GoesIn (d : DiskState) (k : Books) (to : NewFile) (name : List ℕ) (e : ℕ) : Type 0 where
+  pub directory : KnowsDirectory d k.at to.directory to.it.generation to.it
+  pub generation : to.it.generation ≡ to.generation
+  pub there : IsTrue d.tells → KnownTrue k d.now → IsThere to.directory d.now
+  pub good : NameOk name
+  pub entry : e < entry_limit
+  pub place : PlaceIs d k to.directory name e
 
 -- the rows of room: an inode, blocks, and stamps
 abbrev pub block_rows : ℕ → ℕ → List ℕ → FileKind → World → World → List (Option Refusal)

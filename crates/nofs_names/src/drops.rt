@@ -1,37 +1,49 @@
 //! A name is taken away.
-ghost use Rattle.std.specs.Prelude.{◌≡◌, ◌+◌, ◌-◌, ◌*◌, ◌/◌, ◌%◌, ◌≤◌, ◌<◌, false, length, Some, if◌then◌else◌};
+ghost use Rattle.std.specs.Prelude.{◌≡◌, ◌*◌, ◌≤◌, ◌<◌, false, length, if◌then◌else◌};
 ghost use Rattle.nofs_disk.specs.Number.{put_bytes, zeros};
-ghost use Rattle.nofs_inode.specs.InodeRecords.{HasRecordSpelling};
-ghost use Rattle.nofs_model.specs.Cells.{tag_of};
-ghost use Rattle.nofs_machine.specs.Claims.{no_claims};
 ghost use Rattle.nofs_machine.specs.Machine as machine;
 ghost use Rattle.nofs_machine.specs.declared.steps.Step.TheVariants as step;
 ghost use Rattle.nofs_machine.specs.declared.replies.Reply.TheVariants as reply;
-ghost use Rattle.nofs_agree.specs.Reading.{IsLast};
-ghost use Rattle.nofs_law_numbers.specs.Cells.{table_tag};
-ghost use Rattle.nofs_state.specs.Books.{IsSafe};
-ghost use Rattle.nofs_state.specs.Steps.{Goes};
-ghost use Rattle.nofs_names.specs.Renames.{done_answer};
+ghost use Rattle.nofs_names.specs.Stepping.{Goes, IsLast, IsSafe, no_claims};
 ghost use Rattle.nofs_names.specs.Drops.{KeepsName, relinked};
-ghost use Rattle.nofs_state.specs.Owing.{RecordIn};
-ghost use Rattle.nofs_names.specs.Dropping.{ClearsEntry, MayDrop, drop_answer};
+ghost use Rattle.nofs_names.specs.Dropping.{DropGoes, IsCleared, MayDrop, drop_answer};
 ghost use Rattle.nofs_names.specs.Removing.{LosesName};
+ghost use Rattle.nofs_names.specs.Renames.{done_answer};
 
+use crate::inodes::ReadInode;
 use crate::keeping::keeps_name;
-use crate::opening::{find_pair, open_directory};
+use crate::opening::{NameIn, find_pair, open_named};
 use crate::owning::owned_blocks;
 use crate::pairing::same_link;
 use crate::removing::remove_file;
 use crate::searching::Paired;
+use crate::tables::{table_block, with_record};
 use crate::taking::refuse_filled;
-use crate::writing::hold_slot;
+use crate::writing::hold_entry;
 use nofs_agree::{LastRead, read_block};
-use nofs_dirent::{clear_entry, name_ok};
-use nofs_disk::{Cell, Disk, Kind, Pointer, Tag, write_tag};
-use nofs_inode::{BackLink, Record, write_record};
+use nofs_dirent::clear_entry;
+use nofs_disk::{Cell, Disk, Pointer};
+use nofs_inode::{BackLink, Record};
 use nofs_machine::Refusal;
 use nofs_state::{Core, write_two};
 use std::alloc::Global;
+
+/// A name in a directory, and the entry that it finds there.
+#[derive(Clone, Copy)]
+pub struct NamedPair<'a> {
+    pub at: NameIn<'a>,
+    /// The record of the directory.
+    pub it: Record,
+    pub found: Paired,
+}
+
+/// The cell of a slot without the entry that goes.
+#[derive(Clone, Copy)]
+pub struct Cleared<'a> {
+    pub pointer: Pointer,
+    pub cell: Cell,
+    pub pair: NamedPair<'a>,
+}
 
 /// Takes a name away, and with the last one the inode and its blocks. The answer is whether the
 /// inode was removed.
@@ -50,61 +62,40 @@ pub fn drop_name<D: Disk + Drop>(
     requires { IsSafe (D.state core.old.disk) core.old.books }
     ensures { Goes (D.state core.old.disk) core.old.books (D.state core.new.disk) core.new.books (step.Drop directory generation name.now) no_claims (drop_answer result) }
 {
+    let at = NameIn {
+        directory,
+        generation,
+        name,
+    };
     match core.disk.ready(2) {
-        Ok(()) => drop_with_room(core, alloc, directory, generation, name),
+        Ok(()) => drop_with_room(core, at, alloc),
         Err(_) => Err(Refusal::OutOfMemory),
     }
 }
 
 fn drop_with_room<D: Disk + Drop>(
     core: &mut Core<D>,
+    at: NameIn<'_>,
     alloc: Global,
-    directory: u32,
-    generation: u64,
-    name: &[u8],
 ) -> Result<bool, Refusal>
     requires safe { IsSafe (D.state core.old.disk) core.old.books }
     requires spare { 2 ≤ (D.state core.old.disk).spare }
-    ensures { Goes (D.state core.old.disk) core.old.books (D.state core.new.disk) core.new.books (step.Drop directory generation name.now) no_claims (drop_answer result) }
+    ensures { DropGoes (D.state core.old.disk) core.old.books (D.state core.new.disk) core.new.books at.entry (drop_answer result) }
 {
-    if core.books.stopped {
-        return Err(Refusal::Stopped);
-    }
-    if !name_ok(name) {
-        return Err(Refusal::BadName);
-    }
     let mut names = LastRead::NONE;
-    let it = match open_directory(
-        &mut core.disk,
-        &core.books,
-        directory,
-        generation,
-        &mut names,
-    ) {
+    let it = match open_named(&mut core.disk, &core.books, at, &mut names) {
         Ok(it) => it,
         Err(why) => return Err(why),
     };
     let mut records = LastRead::NONE;
-    let found = match find_pair(
-        &mut core.disk,
-        &core.books.at,
-        directory,
-        &it,
-        name,
-        &mut names,
-        &mut records,
-    ) {
+    let numbers = &core.books.at;
+    let found = match find_pair(&mut core.disk, numbers, &it, at, &mut names, &mut records) {
         Ok(found) => found,
         Err(why) => return Err(why),
     };
-    match refuse_filled(
-        &mut core.disk,
-        &core.books.at,
-        &found,
-        &mut names,
-        &mut records,
-    ) {
-        Ok(()) => drop_found(core, alloc, directory, generation, name, &it, &found),
+    let pair = NamedPair { at, it, found };
+    match refuse_filled(&mut core.disk, numbers, &found, &mut names, &mut records) {
+        Ok(()) => drop_found(core, alloc, pair),
         Err(why) => Err(why),
     }
 }
@@ -113,35 +104,31 @@ fn drop_with_room<D: Disk + Drop>(
 fn drop_found<D: Disk + Drop>(
     core: &mut Core<D>,
     alloc: Global,
-    directory: u32,
-    generation: u64,
-    name: &[u8],
-    it: &Record,
-    found: &Paired,
+    pair: NamedPair<'_>,
 ) -> Result<bool, Refusal>
+    requires finds { MayDrop (D.state core.old.disk) core.old.books pair.at.directory pair.at.generation pair.at.name.now pair.it pair.found }
     requires safe { IsSafe (D.state core.old.disk) core.old.books }
     requires spare { 2 ≤ (D.state core.old.disk).spare }
     requires going { core.old.books.stopped ≡ false }
-    requires finds { MayDrop (D.state core.old.disk) core.old.books directory generation name.now it.now found.now }
-    ensures { Goes (D.state core.old.disk) core.old.books (D.state core.new.disk) core.new.books (step.Drop directory generation name.now) no_claims (drop_answer result) }
+    ensures { DropGoes (D.state core.old.disk) core.old.books (D.state core.new.disk) core.new.books pair.entry.at (drop_answer result) }
 {
-    let slot = found.entry / 16;
+    let directory = ReadInode {
+        at: core.books.at,
+        inode: pair.at.directory,
+        record: pair.it,
+    };
     let mut names = LastRead::NONE;
-    match hold_slot(
-        &mut core.disk,
-        &core.books.at,
-        directory,
-        it,
-        slot,
-        &mut names,
-    ) {
+    match hold_entry(&mut core.disk, directory, &pair.found, &mut names) {
         Err(why) => Err(why),
         Ok(pointer) => {
             let mut cell = names.cell;
-            clear_place(&mut cell.payload, found.entry % 16);
-            drop_cleared(
-                core, alloc, directory, generation, name, it, found, pointer, &cell,
-            )
+            clear_place(&mut cell.payload, pair.found.entry % 16);
+            let cleared = Cleared {
+                pair,
+                pointer,
+                cell,
+            };
+            drop_cleared(core, alloc, cleared)
         }
     }
 }
@@ -155,68 +142,40 @@ fn clear_place(payload: &mut [u8; 1024], place: u32)
     clear_entry(payload, place);
 }
 
+// The record of what was found, without its back link.
+fn without_name(it: NamedPair<'_>) -> Record
+    ensures { result ≡ relinked it.entry.found.record (machine.link_to it.entry.at.directory it.entry.found.entry it.entry.at.generation) }
+{
+    let gone = BackLink {
+        directory: it.at.directory,
+        entry: it.found.entry,
+        generation: it.at.generation,
+    };
+    relinked(&it.found.record, &gone)
+}
+
 // Writes the cell without the entry, and the inode without the name.
 fn drop_cleared<D: Disk + Drop>(
     core: &mut Core<D>,
     alloc: Global,
-    directory: u32,
-    generation: u64,
-    name: &[u8],
-    it: &Record,
-    found: &Paired,
-    pointer: Pointer,
-    cell: &Cell,
+    it: Cleared<'_>,
 ) -> Result<bool, Refusal>
-    requires safe { IsSafe (D.state core.old.disk) core.old.books }
-    requires spare { 2 ≤ (D.state core.old.disk).spare }
-    requires going { core.old.books.stopped ≡ false }
-    requires finds { MayDrop (D.state core.old.disk) core.old.books directory generation name.now it.now found.now }
-    requires clears { ClearsEntry (D.state core.old.disk) core.old.books directory found.now pointer cell.now }
-    ensures { Goes (D.state core.old.disk) core.old.books (D.state core.new.disk) core.new.books (step.Drop directory generation name.now) no_claims (drop_answer result) }
+    requires { IsCleared (D.state core.old.disk) core.old.books it }
+    ensures { DropGoes (D.state core.old.disk) core.old.books (D.state core.new.disk) core.new.books it.entry.pair.at (drop_answer result) }
 {
-    let gone = BackLink {
-        directory,
-        entry: found.entry,
-        generation,
+    let found = it.pair.found;
+    let rest = without_name(it.pair);
+    let read = ReadInode {
+        at: core.books.at,
+        inode: found.inode,
+        record: found.record,
     };
+    let known = &core.books.agreement;
     let mut records = LastRead::NONE;
-    let rest = relinked(&found.record, &gone);
-    match keeps_name(
-        &mut core.disk,
-        &core.books.at,
-        &core.books.agreement,
-        found.inode,
-        &found.record,
-        &rest.links,
-        &mut records,
-    ) {
+    match keeps_name(&mut core.disk, read, known, &rest.links, &mut records) {
         Err(_) => Err(Refusal::ReadFault),
-        Ok(true) => dropped(
-            drop_link(
-                core,
-                directory,
-                generation,
-                name,
-                it,
-                found,
-                pointer,
-                cell,
-                &mut records,
-            ),
-            false,
-        ),
-        Ok(false) => drop_file(
-            core,
-            alloc,
-            directory,
-            generation,
-            name,
-            it,
-            found,
-            pointer,
-            cell,
-            &mut records,
-        ),
+        Ok(true) => dropped(drop_link(core, it, &mut records), false),
+        Ok(false) => drop_file(core, alloc, it, &mut records),
     }
 }
 
@@ -224,39 +183,22 @@ fn drop_cleared<D: Disk + Drop>(
 fn drop_file<D: Disk + Drop>(
     core: &mut Core<D>,
     alloc: Global,
-    directory: u32,
-    generation: u64,
-    name: &[u8],
-    it: &Record,
-    found: &Paired,
-    pointer: Pointer,
-    cell: &Cell,
+    it: Cleared<'_>,
     records: &mut LastRead,
 ) -> Result<bool, Refusal>
-    requires safe { IsSafe (D.state core.old.disk) core.old.books }
-    requires spare { 2 ≤ (D.state core.old.disk).spare }
-    requires going { core.old.books.stopped ≡ false }
-    requires finds { MayDrop (D.state core.old.disk) core.old.books directory generation name.now it.now found.now }
-    requires loses { LosesName (D.state core.old.disk) core.old.books directory generation found.now }
-    requires clears { ClearsEntry (D.state core.old.disk) core.old.books directory found.now pointer cell.now }
+    requires cleared { IsCleared (D.state core.old.disk) core.old.books it }
+    requires loses { LosesName (D.state core.old.disk) core.old.books it.pair.at.directory it.pair.at.generation it.pair.found }
     requires last { IsLast (D.state core.old.disk) records.old }
-    ensures { Goes (D.state core.old.disk) core.old.books (D.state core.new.disk) core.new.books (step.Drop directory generation name.now) no_claims (drop_answer result) }
+    ensures { DropGoes (D.state core.old.disk) core.old.books (D.state core.new.disk) core.new.books it.entry.pair.at (drop_answer result) }
 {
-    match owned_blocks(
-        alloc,
-        &mut core.disk,
-        &core.books.at,
-        found.inode,
-        &found.record,
-        records,
-    ) {
+    let read = ReadInode {
+        at: core.books.at,
+        inode: it.pair.found.inode,
+        record: it.pair.found.record,
+    };
+    match owned_blocks(alloc, &mut core.disk, read, records) {
         Err(why) => Err(why),
-        Ok(freed) => dropped(
-            remove_file(
-                core, directory, generation, name, it, found, pointer, cell, &freed, records,
-            ),
-            true,
-        ),
+        Ok(freed) => dropped(remove_file(core, it, &freed, records), true),
     }
 }
 
@@ -293,57 +235,25 @@ fn relinked(it: &Record, gone: &BackLink) -> Record
     Record { links, ..*it }
 }
 
-// Puts a record into the cell of the inode table, with the tag of that cell.
-pub(crate) fn with_record(table: &mut Cell, inode: u32, it: &Record)
-    requires inode { 1 ≤ inode }
-    requires spelling { HasRecordSpelling it.now }
-    ensures tag { tag_of table.new.tag ≡ Some (table_tag (1 + (inode - 1) / 4)) }
-    ensures here { RecordIn table.old inode it.now table.new }
-{
-    let number = inode - 1;
-    let tag = Tag {
-        kind: Kind::Table,
-        inode: 0,
-        generation: 0,
-        slot: 1 + u64::from(number / 4),
-        stamp: 0,
-    };
-    write_tag(&tag, &mut table.tag);
-    write_record(&mut table.payload, number % 4, it);
-}
-
 // Writes the cell without the entry, and the record without the back link.
 fn drop_link<D: Disk + Drop>(
     core: &mut Core<D>,
-    directory: u32,
-    generation: u64,
-    name: &[u8],
-    it: &Record,
-    found: &Paired,
-    pointer: Pointer,
-    cell: &Cell,
+    it: Cleared<'_>,
     records: &mut LastRead,
 ) -> Result<(), Refusal>
-    requires safe { IsSafe (D.state core.old.disk) core.old.books }
-    requires spare { 2 ≤ (D.state core.old.disk).spare }
-    requires going { core.old.books.stopped ≡ false }
-    requires finds { MayDrop (D.state core.old.disk) core.old.books directory generation name.now it.now found.now }
-    requires keeps { KeepsName (D.state core.old.disk) core.old.books directory generation found.now }
-    requires clears { ClearsEntry (D.state core.old.disk) core.old.books directory found.now pointer cell.now }
+    requires cleared { IsCleared (D.state core.old.disk) core.old.books it }
+    requires keeps { KeepsName (D.state core.old.disk) core.old.books it.pair.at.directory it.pair.at.generation it.pair.found }
     requires last { IsLast (D.state core.old.disk) records.old }
-    ensures { Goes (D.state core.old.disk) core.old.books (D.state core.new.disk) core.new.books (step.Drop directory generation name.now) no_claims (done_answer (reply.Dropped false) result) }
+    ensures { DropGoes (D.state core.old.disk) core.old.books (D.state core.new.disk) core.new.books it.entry.pair.at (done_answer (reply.Dropped false) result) }
 {
-    let gone = BackLink {
-        directory,
-        entry: found.entry,
-        generation,
-    };
-    let block = 1 + u64::from((found.inode - 1) / 4);
+    let found = it.pair.found;
+    let rest = without_name(it.pair);
+    let block = table_block(found.inode);
     match read_block(&mut core.disk, block, records) {
         Ok(()) => {
             let mut table = records.cell;
-            with_record(&mut table, found.inode, &relinked(&found.record, &gone));
-            write_two(core, pointer.block, cell, block, &table)
+            with_record(&mut table, found.inode, &rest);
+            write_two(core, it.pointer.block, &it.cell, block, &table)
         }
         Err(_) => Err(Refusal::ReadFault),
     }

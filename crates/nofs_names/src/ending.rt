@@ -5,14 +5,18 @@ ghost use Rattle.nofs_machine.specs.Claims.{no_claims};
 use nofs_disk::Pointer;
 use nofs_machine::{Claims, Refusal};
 
-// Nothing was claimed.
-pub(crate) const NO_CLAIMS: Claims = Claims {
-    inode: 0,
-    generation: 0,
-    cell: Pointer::NULL,
-    leaf: Pointer::NULL,
-    top: Pointer::NULL,
-};
+/// The claims of a step on these blocks for a cell and its leaf, each null where there is none.
+pub(crate) fn claims_of(cell: Pointer, leaf: Pointer) -> Claims
+    ensures { result ≡ record no_claims { cell = cell; leaf = leaf } }
+{
+    Claims {
+        inode: 0,
+        generation: 0,
+        cell,
+        leaf,
+        top: Pointer::NULL,
+    }
+}
 
 /// How a step that may claim has ended. Its claims stand in its entry also where a write failed.
 pub struct Ended {
@@ -25,7 +29,7 @@ pub(crate) fn refused(why: Refusal) -> Ended
     ensures { result ≡ record { claims = no_claims; result = Err why } }
 {
     Ended {
-        claims: NO_CLAIMS,
+        claims: claims_of(Pointer::NULL, Pointer::NULL),
         result: Err(why),
     }
 }

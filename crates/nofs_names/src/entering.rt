@@ -2,22 +2,20 @@
 ghost use Rattle.std.specs.Prelude.{◌≡◌, ◌≢◌, ◌+◌, ◌-◌, ◌*◌, ◌/◌, ◌^◌, ◌≤◌, ◌<◌, ℕ, Some, length, true};
 ghost use Rattle.nofs_disk.specs.Number.{put_bytes, zeros};
 ghost use Rattle.nofs_disk.specs.Pointer.{is_null};
-ghost use Rattle.nofs_dirent.specs.Entries.{HasEntrySpelling, spelled_entry};
+ghost use Rattle.nofs_dirent.specs.Entries.{HasEntrySpelling, entry_limit, spelled_entry};
 ghost use Rattle.nofs_model.specs.Cells.{tag_of};
 ghost use Rattle.nofs_ptrs.specs.Cells.{pointer_at};
-ghost use Rattle.nofs_agree.specs.Reading.{IsLast};
-ghost use Rattle.nofs_state.specs.Books.{IsSafe};
 ghost use Rattle.nofs_inode.specs.InodeRecords.{HasRecordSpelling};
-ghost use Rattle.nofs_names.specs.Entering.{AreTables, Enters, EntersDirect, EntersHeld, EntersUnderLeaf, EntersWithLeaf, MayEnter, ReadsTables, with_direct, with_leaf};
+ghost use Rattle.nofs_names.specs.Stepping.{IsLast};
+ghost use Rattle.nofs_names.specs.Entering.{AreTables, Enters, EntersDirect, EntersHeld, EntersUnderLeaf, EntersWithLeaf, IsEntering, IsNewCell, IsTable, ReadsTables, with_direct, with_leaf};
 
-use crate::drops::with_record;
-use crate::ending::{Ended, NO_CLAIMS};
+use crate::ending::{Ended, claims_of};
 use crate::placing::{EntryBlocks, EntrySlot};
+use crate::tables::{table_block, with_record};
 use nofs_agree::{LastRead, read_block};
 use nofs_dirent::{Entry, write_entry};
 use nofs_disk::{Cell, Disk, Failed, Kind, Pointer, Tag, clear, write_tag};
 use nofs_inode::Record;
-use nofs_machine::Claims;
 use nofs_ptrs::write_pointer;
 use nofs_state::{Core, write_four, write_three, write_two};
 
@@ -38,12 +36,17 @@ pub struct EntryPlace {
     pub cell: Cell,
 }
 
-// The block of the inode table with the record of an inode.
-fn table_block(inode: u32) -> u64
-    requires { 1 ≤ inode }
-    ensures { result ≡ 1 + (inode - 1) / 4 }
-{
-    1 + u64::from((inode - 1) / 4)
+/// A new entry, and what its writes change.
+#[derive(Clone, Copy)]
+pub struct NewEntry<'a> {
+    pub directory: u32,
+    /// The record of the directory.
+    pub it: &'a Record,
+    pub place: &'a EntryPlace,
+    pub named: &'a Entry,
+    /// The record of the inode that it names.
+    pub record: &'a Record,
+    pub tables: &'a Tables,
 }
 
 /// Reads the cells of the table that a new entry needs.
@@ -71,27 +74,26 @@ pub(crate) fn read_tables<D: Disk>(
 
 // The cells of the table with another record of the directory and one of the inode. Where both
 // records lie in one cell, both are that cell.
-fn new_tables(tables: &Tables, directory: u32, it: &Record, inode: u32, new: &Record) -> Tables
-    requires directory { 1 ≤ directory }
-    requires inode { 1 ≤ inode }
+fn new_tables(new: NewEntry<'_>, it: &Record) -> Tables
+    requires directory { 1 ≤ new.directory }
+    requires inode { 1 ≤ new.named.now.inode }
     requires it { HasRecordSpelling it.now }
-    requires new { HasRecordSpelling new.now }
-    ensures { AreTables tables.now directory it.now inode new.now result }
+    requires new { HasRecordSpelling new.record.now }
+    ensures { AreTables new.entry.tables.now new.entry.directory it.now new.entry.named.now.inode new.entry.record.now result }
 {
-    let mut first = tables.directory;
-    with_record(&mut first, directory, it);
-    if (directory - 1) / 4 == (inode - 1) / 4 {
-        with_record(&mut first, inode, new);
+    let inode = new.named.inode;
+    let mut first = new.tables.directory;
+    with_record(&mut first, new.directory, it);
+    if (new.directory - 1) / 4 == (inode - 1) / 4 {
+        with_record(&mut first, inode, new.record);
         return Tables {
             directory: first,
             inode: first,
         };
     }
-    let mut second = tables.inode;
-    with_record(&mut second, inode, new);
     Tables {
         directory: first,
-        inode: second,
+        inode: named_table(new),
     }
 }
 
@@ -129,9 +131,9 @@ fn fill_leaf(cell: &mut Cell, owner: &Tag, place: u32, it: Pointer)
     requires kind { owner.now.kind ≡ Kind.Leaf }
     requires place { place < 64 }
     ensures tag { tag_of cell.new.tag ≡ Some owner.now }
+    ensures long { length cell.new.payload ≡ 1024 }
     ensures pointer { pointer_at cell.new.payload place ≡ it }
     ensures others { (j : ℕ) → j ≢ place → j < 64 → is_null (pointer_at cell.new.payload j) ≡ true }
-    ensures long { length cell.new.payload ≡ 1024 }
 {
     write_tag(owner, &mut cell.tag);
     clear_payload(&mut cell.payload);
@@ -192,197 +194,131 @@ fn leaf_tag(inode: u32, generation: u64, stamp: u64) -> Tag
     }
 }
 
-// Writes an entry into a slot that holds.
-fn enter_held<D: Disk + Drop>(
-    core: &mut Core<D>,
-    directory: u32,
-    it: &Record,
-    place: &EntryPlace,
-    pointer: Pointer,
-    named: &Entry,
-    new: &Record,
-    tables: &Tables,
-) -> Ended
-    requires safe { IsSafe (D.state core.old.disk) core.old.books }
-    requires spare { 2 ≤ (D.state core.old.disk).spare }
-    requires may { MayEnter (D.state core.old.disk) core.old.books directory it.now place.now.entry place.now.slot place.now.blocks named.now new.now }
-    requires slot { place.now.slot ≡ EntrySlot.Held pointer }
-    ensures { EntersHeld (D.state core.old.disk) core.old.books (D.state core.new.disk) core.new.books place.now pointer named.now new.now tables.now result }
+// The cell of a new entry, where the slot is a hole: its directory's, under a pointer with this stamp.
+fn new_cell(new: NewEntry<'_>, stamp: u64) -> Cell
+    requires range { new.place.now.entry < entry_limit }
+    requires spelling { HasEntrySpelling new.named.now }
+    ensures { IsNewCell new.entry.directory new.entry.it.now.generation new.entry.place.now.entry new.entry.named.now stamp result }
 {
-    let mut cell = place.cell;
-    add_entry(&mut cell.payload, place.entry % 16, named);
-    let mut table = tables.inode;
-    with_record(&mut table, named.inode, new);
-    let number = table_block(named.inode);
+    let mut cell = new.place.cell;
+    let slot = new.place.entry / 16;
+    let owner = cell_tag(new.directory, new.it.generation, slot, stamp);
+    fill_entries(&mut cell, &owner, new.place.entry % 16, new.named);
+    cell
+}
+
+// The cell of the table with the record of the inode that a new entry names.
+fn named_table(new: NewEntry<'_>) -> Cell
+    requires inode { 1 ≤ new.named.now.inode }
+    requires spelling { HasRecordSpelling new.record.now }
+    ensures { IsTable new.entry.tables.now.inode new.entry.named.now.inode new.entry.record.now result }
+{
+    let mut table = new.tables.inode;
+    with_record(&mut table, new.named.inode, new.record);
+    table
+}
+
+// Writes an entry into a slot that holds.
+fn enter_held<D: Disk + Drop>(core: &mut Core<D>, new: NewEntry<'_>, pointer: Pointer) -> Ended
+    requires slot { new.place.now.slot ≡ EntrySlot.Held pointer }
+    requires entering { IsEntering 2 (D.state core.old.disk) core.old.books new }
+    ensures { EntersHeld (D.state core.old.disk) core.old.books (D.state core.new.disk) core.new.books new.entry.place.now pointer new.entry.named.now new.entry.record.now new.entry.tables.now result }
+{
+    let mut cell = new.place.cell;
+    add_entry(&mut cell.payload, new.place.entry % 16, new.named);
+    let table = named_table(new);
+    let number = table_block(new.named.inode);
     let result = write_two(core, pointer.block, &cell, number, &table);
-    Ended {
-        claims: NO_CLAIMS,
-        result,
-    }
+    let claims = claims_of(Pointer::NULL, Pointer::NULL);
+    Ended { claims, result }
 }
 
 // Writes an entry into a hole of the record.
-fn enter_direct<D: Disk + Drop>(
-    core: &mut Core<D>,
-    directory: u32,
-    it: &Record,
-    place: &EntryPlace,
-    named: &Entry,
-    new: &Record,
-    tables: &Tables,
-) -> Ended
-    requires safe { IsSafe (D.state core.old.disk) core.old.books }
-    requires spare { 3 ≤ (D.state core.old.disk).spare }
-    requires may { MayEnter (D.state core.old.disk) core.old.books directory it.now place.now.entry place.now.slot place.now.blocks named.now new.now }
-    requires slot { place.now.slot ≡ EntrySlot.Direct }
-    ensures { EntersDirect (D.state core.old.disk) core.old.books (D.state core.new.disk) core.new.books directory it.now place.now named.now new.now tables.now result }
+fn enter_direct<D: Disk + Drop>(core: &mut Core<D>, new: NewEntry<'_>) -> Ended
+    requires slot { new.place.now.slot ≡ EntrySlot.Direct }
+    requires entering { IsEntering 3 (D.state core.old.disk) core.old.books new }
+    ensures { EntersDirect (D.state core.old.disk) core.old.books (D.state core.new.disk) core.new.books new.entry.directory new.entry.it.now new.entry.place.now new.entry.named.now new.entry.record.now new.entry.tables.now result }
 {
-    let slot = place.entry / 16;
-    let pointer = core.books.claim_block(place.blocks.cell);
-    let mut cell = place.cell;
-    let owner = cell_tag(directory, it.generation, slot, pointer.stamp);
-    fill_entries(&mut cell, &owner, place.entry % 16, named);
-    let changed = pointed(it, slot, pointer);
-    let after = new_tables(tables, directory, &changed, named.inode, new);
-    let above = table_block(directory);
-    let number = table_block(named.inode);
+    let block = new.place.blocks.cell;
+    let pointer = core.books.claim_block(block);
+    let cell = new_cell(new, pointer.stamp);
+    let changed = pointed(new.it, new.place.entry / 16, pointer);
+    let after = new_tables(new, &changed);
+    let above = table_block(new.directory);
+    let number = table_block(new.named.inode);
     let result = write_three(
         core,
-        place.blocks.cell,
+        block,
         &cell,
         above,
         &after.directory,
         number,
         &after.inode,
     );
-    Ended {
-        claims: Claims {
-            cell: pointer,
-            ..NO_CLAIMS
-        },
-        result,
-    }
+    let claims = claims_of(pointer, Pointer::NULL);
+    Ended { claims, result }
 }
 
 // Writes an entry into a hole under a leaf that holds.
-fn enter_under_leaf<D: Disk + Drop>(
-    core: &mut Core<D>,
-    directory: u32,
-    it: &Record,
-    place: &EntryPlace,
-    leaf: Pointer,
-    named: &Entry,
-    new: &Record,
-    tables: &Tables,
-) -> Ended
-    requires safe { IsSafe (D.state core.old.disk) core.old.books }
-    requires spare { 3 ≤ (D.state core.old.disk).spare }
-    requires may { MayEnter (D.state core.old.disk) core.old.books directory it.now place.now.entry place.now.slot place.now.blocks named.now new.now }
-    requires slot { place.now.slot ≡ EntrySlot.UnderLeaf leaf }
-    ensures { EntersUnderLeaf (D.state core.old.disk) core.old.books (D.state core.new.disk) core.new.books directory it.now place.now leaf named.now new.now tables.now result }
+fn enter_under_leaf<D: Disk + Drop>(core: &mut Core<D>, new: NewEntry<'_>, leaf: Pointer) -> Ended
+    requires slot { new.place.now.slot ≡ EntrySlot.UnderLeaf leaf }
+    requires entering { IsEntering 3 (D.state core.old.disk) core.old.books new }
+    ensures { EntersUnderLeaf (D.state core.old.disk) core.old.books (D.state core.new.disk) core.new.books new.entry.directory new.entry.it.now new.entry.place.now leaf new.entry.named.now new.entry.record.now new.entry.tables.now result }
 {
-    let slot = place.entry / 16;
-    let pointer = core.books.claim_block(place.blocks.cell);
-    let mut cell = place.cell;
-    let owner = cell_tag(directory, it.generation, slot, pointer.stamp);
-    fill_entries(&mut cell, &owner, place.entry % 16, named);
-    let mut pointers = place.cell;
-    add_pointer(&mut pointers.payload, slot - 8, pointer);
-    let mut table = tables.inode;
-    with_record(&mut table, named.inode, new);
-    let number = table_block(named.inode);
-    let result = write_three(
-        core,
-        place.blocks.cell,
-        &cell,
-        leaf.block,
-        &pointers,
-        number,
-        &table,
-    );
-    Ended {
-        claims: Claims {
-            cell: pointer,
-            ..NO_CLAIMS
-        },
-        result,
-    }
+    let block = new.place.blocks.cell;
+    let pointer = core.books.claim_block(block);
+    let mut pointers = new.place.cell;
+    add_pointer(&mut pointers.payload, new.place.entry / 16 - 8, pointer);
+    let cell = new_cell(new, pointer.stamp);
+    let table = named_table(new);
+    let number = table_block(new.named.inode);
+    let result = write_three(core, block, &cell, leaf.block, &pointers, number, &table);
+    let claims = claims_of(pointer, Pointer::NULL);
+    Ended { claims, result }
 }
 
 // Writes an entry into a hole where there is no leaf.
-fn enter_with_leaf<D: Disk + Drop>(
-    core: &mut Core<D>,
-    directory: u32,
-    it: &Record,
-    place: &EntryPlace,
-    named: &Entry,
-    new: &Record,
-    tables: &Tables,
-) -> Ended
-    requires safe { IsSafe (D.state core.old.disk) core.old.books }
-    requires spare { 4 ≤ (D.state core.old.disk).spare }
-    requires may { MayEnter (D.state core.old.disk) core.old.books directory it.now place.now.entry place.now.slot place.now.blocks named.now new.now }
-    requires slot { place.now.slot ≡ EntrySlot.WithLeaf }
-    ensures { EntersWithLeaf (D.state core.old.disk) core.old.books (D.state core.new.disk) core.new.books directory it.now place.now named.now new.now tables.now result }
+fn enter_with_leaf<D: Disk + Drop>(core: &mut Core<D>, new: NewEntry<'_>) -> Ended
+    requires slot { new.place.now.slot ≡ EntrySlot.WithLeaf }
+    requires entering { IsEntering 4 (D.state core.old.disk) core.old.books new }
+    ensures { EntersWithLeaf (D.state core.old.disk) core.old.books (D.state core.new.disk) core.new.books new.entry.directory new.entry.it.now new.entry.place.now new.entry.named.now new.entry.record.now new.entry.tables.now result }
 {
-    let slot = place.entry / 16;
-    let pointer = core.books.claim_block(place.blocks.cell);
-    let leaf = core.books.claim_block(place.blocks.leaf);
-    let mut cell = place.cell;
-    let owner = cell_tag(directory, it.generation, slot, pointer.stamp);
-    fill_entries(&mut cell, &owner, place.entry % 16, named);
-    let mut pointers = place.cell;
-    let root = leaf_tag(directory, it.generation, leaf.stamp);
-    fill_leaf(&mut pointers, &root, slot - 8, pointer);
-    let changed = rooted(it, leaf);
-    let after = new_tables(tables, directory, &changed, named.inode, new);
-    let above = table_block(directory);
-    let number = table_block(named.inode);
+    let blocks = new.place.blocks;
+    let pointer = core.books.claim_block(blocks.cell);
+    let leaf = core.books.claim_block(blocks.leaf);
+    let mut pointers = new.place.cell;
+    let root = leaf_tag(new.directory, new.it.generation, leaf.stamp);
+    fill_leaf(&mut pointers, &root, new.place.entry / 16 - 8, pointer);
+    let cell = new_cell(new, pointer.stamp);
+    let changed = rooted(new.it, leaf);
+    let after = new_tables(new, &changed);
+    let above = table_block(new.directory);
+    let number = table_block(new.named.inode);
     let result = write_four(
         core,
-        place.blocks.cell,
+        blocks.cell,
         &cell,
-        place.blocks.leaf,
+        blocks.leaf,
         &pointers,
         above,
         &after.directory,
         number,
         &after.inode,
     );
-    Ended {
-        claims: Claims {
-            cell: pointer,
-            leaf,
-            ..NO_CLAIMS
-        },
-        result,
-    }
+    let claims = claims_of(pointer, leaf);
+    Ended { claims, result }
 }
 
 /// Writes a new entry, and the record of the inode that it names: into the slot where it holds,
 /// else into a block that it claims, with a leaf where there is none.
-pub(crate) fn enter<D: Disk + Drop>(
-    core: &mut Core<D>,
-    directory: u32,
-    it: &Record,
-    place: &EntryPlace,
-    named: &Entry,
-    new: &Record,
-    tables: &Tables,
-) -> Ended
-    requires safe { IsSafe (D.state core.old.disk) core.old.books }
-    requires spare { 4 ≤ (D.state core.old.disk).spare }
-    requires may { MayEnter (D.state core.old.disk) core.old.books directory it.now place.now.entry place.now.slot place.now.blocks named.now new.now }
-    ensures { Enters (D.state core.old.disk) core.old.books (D.state core.new.disk) core.new.books directory it.now place.now named.now new.now tables.now place.now.slot result }
+pub(crate) fn enter<D: Disk + Drop>(core: &mut Core<D>, new: NewEntry<'_>) -> Ended
+    requires { IsEntering 4 (D.state core.old.disk) core.old.books new }
+    ensures { Enters (D.state core.old.disk) core.old.books (D.state core.new.disk) core.new.books new.entry.directory new.entry.it.now new.entry.place.now new.entry.named.now new.entry.record.now new.entry.tables.now new.entry.place.now.slot result }
 {
-    match place.slot {
-        EntrySlot::Held(pointer) => {
-            enter_held(core, directory, it, place, pointer, named, new, tables)
-        }
-        EntrySlot::Direct => enter_direct(core, directory, it, place, named, new, tables),
-        EntrySlot::UnderLeaf(leaf) => {
-            enter_under_leaf(core, directory, it, place, leaf, named, new, tables)
-        }
-        EntrySlot::WithLeaf => enter_with_leaf(core, directory, it, place, named, new, tables),
+    match new.place.slot {
+        EntrySlot::Held(pointer) => enter_held(core, new, pointer),
+        EntrySlot::Direct => enter_direct(core, new),
+        EntrySlot::UnderLeaf(leaf) => enter_under_leaf(core, new, leaf),
+        EntrySlot::WithLeaf => enter_with_leaf(core, new),
     }
 }

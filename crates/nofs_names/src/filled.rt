@@ -3,33 +3,33 @@ ghost use Rattle.std.specs.Prelude.{◌≡◌, ◌+◌, ◌*◌, ◌<◌, IsTrue
 ghost use Rattle.nofs_dirent.specs.Entries.{entry_limit};
 ghost use Rattle.nofs_model.specs.Slots.{value};
 ghost use Rattle.nofs_model.specs.declared.value.Value.TheVariants.{Bytes};
-ghost use Rattle.nofs_agree.specs.Reading.{IsAt, IsLast, KnowsDirectory};
+ghost use Rattle.nofs_agree.specs.Reading.{IsAt, IsLast};
+ghost use Rattle.nofs_names.specs.Inodes.{KnowsFolder};
 ghost use Rattle.nofs_names.specs.Filled.{NamesOn, TellsPair};
 
 use crate::entries::named_at;
+use crate::inodes::ReadInode;
 use crate::pairing::paired_kind;
-use nofs_agree::{LastRead, find_slot, read_inode};
+use nofs_agree::{LastRead, read_inode};
 use nofs_disk::{Disk, Failed};
-use nofs_inode::{BackLink, Record};
-use nofs_model::{PathAnswer, place_of};
+use nofs_inode::BackLink;
+use nofs_model::PathAnswer;
 use nofs_super::SuperBlock;
 
 /// Whether some entry of a directory is a pair.
 pub(crate) fn has_names<D: Disk>(
     disk: &mut D,
-    at: &SuperBlock,
-    directory: u32,
-    it: &Record,
+    directory: ReadInode,
     names: &mut LastRead,
     records: &mut LastRead,
 ) -> Result<bool, Failed>
-    requires directory { KnowsDirectory (D.state disk.old) at.now directory it.now.generation it.now }
     requires names { IsLast (D.state disk.old) names.old }
+    requires directory { KnowsFolder (D.state disk.old) directory }
     requires last { IsLast (D.state disk.old) records.old }
-    ensures search { NamesOn (D.state disk.old) (D.state disk.new) directory 0 entry_limit records.new result }
+    ensures search { NamesOn (D.state disk.old) (D.state disk.new) directory.inode 0 entry_limit records.new result }
 {
     for slot in 0..72 {
-        if slot_has_names(disk, at, directory, it, slot, names, records)? {
+        if slot_has_names(disk, directory, slot, names, records)? {
             return Ok(true);
         }
     }
@@ -38,51 +38,45 @@ pub(crate) fn has_names<D: Disk>(
 
 fn slot_has_names<D: Disk>(
     disk: &mut D,
-    at: &SuperBlock,
-    directory: u32,
-    it: &Record,
+    directory: ReadInode,
     slot: u32,
     names: &mut LastRead,
     records: &mut LastRead,
 ) -> Result<bool, Failed>
-    requires directory { KnowsDirectory (D.state disk.old) at.now directory it.now.generation it.now }
+    requires directory { KnowsFolder (D.state disk.old) directory }
     requires slot { slot < 72 }
     requires names { IsLast (D.state disk.old) names.old }
     requires last { IsLast (D.state disk.old) records.old }
-    ensures search { NamesOn (D.state disk.old) (D.state disk.new) directory (16 * slot) (16 * (slot + 1)) records.new result }
+    ensures search { NamesOn (D.state disk.old) (D.state disk.new) directory.inode (16 * slot) (16 * (slot + 1)) records.new result }
     ensures kept { OnOk result (IsLast (D.state disk.new) names.new) }
 {
-    match find_slot(disk, at, directory, it, place_of(u64::from(slot)), names)? {
+    match directory.find(disk, slot, names)? {
         PathAnswer::Hole => Ok(false),
         PathAnswer::Lost => Ok(false),
-        PathAnswer::Holds(_) => {
-            cell_has_names(disk, at, directory, it, &names.cell.payload, slot, records)
-        }
+        PathAnswer::Holds(_) => cell_has_names(disk, directory, &names.cell.payload, slot, records),
     }
 }
 
 fn cell_has_names<D: Disk>(
     disk: &mut D,
-    at: &SuperBlock,
-    directory: u32,
-    it: &Record,
+    directory: ReadInode,
     payload: &[u8; 1024],
     slot: u32,
     records: &mut LastRead,
 ) -> Result<bool, Failed>
-    requires directory { KnowsDirectory (D.state disk.old) at.now directory it.now.generation it.now }
+    requires directory { KnowsFolder (D.state disk.old) directory }
     requires slot { slot < 72 }
-    requires cell { IsTrue (D.state disk.old).tells → value (D.state disk.old).now directory slot ≡ Bytes payload.now }
+    requires cell { IsTrue (D.state disk.old).tells → value (D.state disk.old).now directory.inode slot ≡ Bytes payload.now }
     requires last { IsLast (D.state disk.old) records.old }
-    ensures { NamesOn (D.state disk.old) (D.state disk.new) directory (16 * slot) (16 * (slot + 1)) records.new result }
+    ensures { NamesOn (D.state disk.old) (D.state disk.new) directory.inode (16 * slot) (16 * (slot + 1)) records.new result }
 {
     for place in 0..16 {
         let link = BackLink {
-            directory,
+            directory: directory.inode,
             entry: 16 * slot + place,
-            generation: it.generation,
+            generation: directory.record.generation,
         };
-        if is_paired(disk, at, &link, payload, place, records)? {
+        if is_paired(disk, &directory.at, payload, place, &link, records)? {
             return Ok(true);
         }
     }
@@ -92,9 +86,9 @@ fn cell_has_names<D: Disk>(
 fn is_paired<D: Disk>(
     disk: &mut D,
     at: &SuperBlock,
-    link: &BackLink,
     payload: &[u8; 1024],
     place: u32,
+    link: &BackLink,
     records: &mut LastRead,
 ) -> Result<bool, Failed>
     requires numbers { IsAt (D.state disk.old) at.now }

@@ -8,6 +8,7 @@ mod ending;
 mod entering;
 mod entries;
 mod filled;
+mod inodes;
 mod keeping;
 mod links;
 mod lists;
@@ -20,6 +21,7 @@ mod placing;
 mod removing;
 mod renames;
 mod searching;
+mod tables;
 mod taking;
 mod writing;
 

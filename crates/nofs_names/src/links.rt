@@ -1,22 +1,23 @@
 //! A file gets a further name.
 ghost use Rattle.std.specs.Prelude.{◌≡◌, ◌≤◌, ◌<◌, IfOk, IfSome, false, length};
-ghost use Rattle.nofs_dirent.specs.Entries.{HasEntrySpelling, entry_with, spelled_entry, entry_limit};
+ghost use Rattle.nofs_dirent.specs.Entries.{HasEntrySpelling, entry_with, spelled_entry};
 ghost use Rattle.nofs_dirent.specs.EntryLaws.{Spells};
 ghost use Rattle.nofs_dirent.specs.Names.{NameOk};
 ghost use Rattle.nofs_model.specs.Cells.{is_empty_link};
 ghost use Rattle.nofs_machine.specs.Machine as machine;
 ghost use Rattle.nofs_machine.specs.declared.steps.Step.TheVariants as step;
 ghost use Rattle.nofs_machine.specs.declared.replies.Reply.TheVariants as reply;
-ghost use Rattle.nofs_agree.specs.Reading.{IsAt, IsLast, KnowsInode};
-ghost use Rattle.nofs_state.specs.Books.{IsSafe};
-ghost use Rattle.nofs_state.specs.Steps.{Goes};
+ghost use Rattle.nofs_names.specs.Stepping.{Goes, IsAt, IsLast, IsSafe};
 ghost use Rattle.nofs_names.specs.Entering.{MayEnter};
+ghost use Rattle.nofs_names.specs.Inodes.{Knows};
 ghost use Rattle.nofs_names.specs.Renames.{done_answer};
-ghost use Rattle.nofs_names.specs.Linking.{FindsLinkPlace, Leads, MayLink, OpensBoth, PlaceIs, SpotIs, StandsLink, TellsDeadPlace, block_rows, both_as, with_link, named_rows, place_or_many};
+ghost use Rattle.nofs_names.specs.Linking.{FindsLinkPlace, HasPlaces, Leads, LinkEnds, LinkGoes, MayLink, OpensBoth, StandsLink, TellsDeadPlace};
+ghost use Rattle.nofs_names.specs.Linking.{block_rows, both_as, entry_step, link_step, named_rows, place_or_many, with_link};
 
 use crate::ending::{Ended, refused};
-use crate::entering::{EntryPlace, enter, read_tables};
-use crate::opening::find_unused;
+use crate::entering::{EntryPlace, NewEntry, enter, read_tables};
+use crate::inodes::ReadInode;
+use crate::opening::{NameIn, find_unused};
 use crate::placing::{entry_place, find_entry_slot, take_blocks};
 use nofs_agree::{Known, LastRead, is_agreed_link};
 use nofs_dirent::{Entry, name_ok};
@@ -25,7 +26,6 @@ use nofs_inode::{BackLink, FileKind, Record};
 use nofs_lists::Name;
 use nofs_machine::Refusal;
 use nofs_state::{Books, Core, Opened, open_inode};
-use nofs_super::SuperBlock;
 use std::alloc::{AllocError, Global};
 
 /// A directory, and a file that gets a name in it.
@@ -33,6 +33,15 @@ use std::alloc::{AllocError, Global};
 pub struct Both {
     pub directory: Record,
     pub file: Record,
+}
+
+/// A name in a directory, and the file that it is to name.
+#[derive(Clone, Copy)]
+pub struct NewName<'a> {
+    pub at: NameIn<'a>,
+    pub inode: u32,
+    /// The generation of the file.
+    pub of: u64,
 }
 
 /// Writes a further name of a file.
@@ -54,64 +63,49 @@ pub fn link<D: Disk + Drop>(
     requires { IsSafe (D.state core.old.disk) core.old.books }
     ensures { Goes (D.state core.old.disk) core.old.books (D.state core.new.disk) core.new.books (step.Link directory generation name.now inode of) result.claims (done_answer reply.Linked result.result) }
 {
+    let at = NameIn {
+        directory,
+        generation,
+        name,
+    };
+    let new = NewName { at, inode, of };
     match core.disk.ready(4) {
-        Ok(()) => link_with_room(core, alloc, directory, generation, name, inode, of),
+        Ok(()) => link_with_room(core, alloc, new),
         Err(_) => refused(Refusal::OutOfMemory),
     }
 }
 
-fn link_with_room<D: Disk + Drop>(
-    core: &mut Core<D>,
-    alloc: Global,
-    directory: u32,
-    generation: u64,
-    name: &[u8],
-    inode: u32,
-    of: u64,
-) -> Ended
+fn link_with_room<D: Disk + Drop>(core: &mut Core<D>, alloc: Global, new: NewName<'_>) -> Ended
     requires safe { IsSafe (D.state core.old.disk) core.old.books }
     requires spare { 4 ≤ (D.state core.old.disk).spare }
-    ensures { Goes (D.state core.old.disk) core.old.books (D.state core.new.disk) core.new.books (step.Link directory generation name.now inode of) result.claims (done_answer reply.Linked result.result) }
+    ensures { LinkGoes (D.state core.old.disk) core.old.books (D.state core.new.disk) core.new.books new.entry result }
 {
     if core.books.stopped {
         return refused(Refusal::Stopped);
     }
-    if !name_ok(name) {
+    if !name_ok(new.at.name) {
         return refused(Refusal::BadName);
     }
-    let both = match open_both(
-        &mut core.disk,
-        &core.books,
-        directory,
-        generation,
-        inode,
-        of,
-    ) {
+    let both = match open_both(&mut core.disk, &core.books, new) {
         Ok(both) => both,
         Err(why) => return refused(why),
     };
-    link_opened(core, alloc, directory, generation, name, inode, of, &both)
+    link_opened(core, alloc, new, &both)
 }
 
 // The directory and the file.
-fn open_both<D: Disk>(
-    disk: &mut D,
-    books: &Books,
-    directory: u32,
-    generation: u64,
-    inode: u32,
-    of: u64,
-) -> Result<Both, Refusal>
+fn open_both<D: Disk>(disk: &mut D, books: &Books, new: NewName<'_>) -> Result<Both, Refusal>
     requires numbers { IsAt (D.state disk.old) books.now.at }
     requires agreed { length books.now.agreement ≡ books.now.at.inodes }
-    ensures { OpensBoth (D.state disk.old) (D.state disk.new) books.now directory generation inode of result }
+    ensures { OpensBoth (D.state disk.old) (D.state disk.new) books.now new.entry.at.directory new.entry.at.generation new.entry.inode new.entry.of result }
 {
     let mut last = LastRead::NONE;
-    let above = match open_inode(disk, books, directory, generation, &mut last) {
+    let at = new.at;
+    let above = match open_inode(disk, books, at.directory, at.generation, &mut last) {
         Ok(above) => above,
         Err(why) => return Err(why),
     };
-    let file = match open_inode(disk, books, inode, of, &mut last) {
+    let file = match open_inode(disk, books, new.inode, new.of, &mut last) {
         Ok(file) => file,
         Err(why) => return Err(why),
     };
@@ -137,89 +131,70 @@ fn both_of(above: &Opened, file: &Opened) -> Result<Both, Refusal>
 fn link_opened<D: Disk + Drop>(
     core: &mut Core<D>,
     alloc: Global,
-    directory: u32,
-    generation: u64,
-    name: &[u8],
-    inode: u32,
-    of: u64,
+    new: NewName<'_>,
     both: &Both,
 ) -> Ended
+    requires lead { Leads (D.state core.old.disk) core.old.books (link_step new) (named_rows new.at.directory new.at.name.now new.inode (link_step new)) }
     requires safe { IsSafe (D.state core.old.disk) core.old.books }
     requires spare { 4 ≤ (D.state core.old.disk).spare }
     requires going { core.old.books.stopped ≡ false }
-    requires stands { StandsLink (D.state core.old.disk) core.old.books directory generation name.now inode of both.now }
-    requires lead { Leads (D.state core.old.disk) core.old.books (step.Link directory generation name.now inode of) (named_rows directory name.now inode (step.Link directory generation name.now inode of)) }
-    requires name { NameOk name.now }
-    ensures { Goes (D.state core.old.disk) core.old.books (D.state core.new.disk) core.new.books (step.Link directory generation name.now inode of) result.claims (done_answer reply.Linked result.result) }
+    requires stands { StandsLink (D.state core.old.disk) core.old.books new.at.directory new.at.generation new.at.name.now new.inode new.of both.now }
+    requires name { NameOk new.at.name.now }
+    ensures { LinkGoes (D.state core.old.disk) core.old.books (D.state core.new.disk) core.new.books new.entry result }
 {
     let mut names = LastRead::NONE;
     let mut records = LastRead::NONE;
-    let seen = match find_unused(
-        &mut core.disk,
-        &core.books.at,
-        directory,
-        &both.directory,
-        name,
-        &mut names,
-        &mut records,
-    ) {
+    let numbers = &core.books.at;
+    let directory = ReadInode {
+        at: core.books.at,
+        inode: new.at.directory,
+        record: both.directory,
+    };
+    let name = new.at.name;
+    let seen = match find_unused(&mut core.disk, name, directory, &mut names, &mut records) {
         Ok(seen) => seen,
         Err(why) => return refused(why),
     };
-    let link = match link_place(
-        &mut core.disk,
-        &core.books.at,
-        &core.books.agreement,
-        inode,
-        &both.file,
-        &mut records,
-    ) {
+    let file = ReadInode {
+        at: core.books.at,
+        inode: new.inode,
+        record: both.file,
+    };
+    let link = match link_place(&mut core.disk, file, &core.books.agreement, &mut records) {
         Ok(link) => link,
         Err(why) => return refused(why),
     };
-    let entry = match entry_place(&seen) {
-        Ok(entry) => entry,
-        Err(why) => return refused(why),
-    };
-    link_at(
-        core, alloc, directory, generation, name, inode, of, both, link, entry,
-    )
+    match entry_place(&seen) {
+        Ok(entry) => link_at(core, alloc, new, both, link, entry),
+        Err(why) => refused(why),
+    }
 }
 
 // Takes the blocks of an entry, and writes it with its back link.
 fn link_at<D: Disk + Drop>(
     core: &mut Core<D>,
     alloc: Global,
-    directory: u32,
-    generation: u64,
-    name: &[u8],
-    inode: u32,
-    of: u64,
+    new: NewName<'_>,
     both: &Both,
     link: u32,
     entry: u32,
 ) -> Ended
+    requires places { HasPlaces (D.state core.old.disk) core.old.books new link entry }
+    requires stands { StandsLink (D.state core.old.disk) core.old.books new.at.directory new.at.generation new.at.name.now new.inode new.of both.now }
+    requires name { NameOk new.at.name.now }
+    requires lead { Leads (D.state core.old.disk) core.old.books (link_step new) (block_rows (link_step new)) }
     requires safe { IsSafe (D.state core.old.disk) core.old.books }
     requires spare { 4 ≤ (D.state core.old.disk).spare }
     requires going { core.old.books.stopped ≡ false }
-    requires stands { StandsLink (D.state core.old.disk) core.old.books directory generation name.now inode of both.now }
-    requires place { PlaceIs (D.state core.old.disk) core.old.books directory name.now entry }
-    requires spot { SpotIs (D.state core.old.disk) core.old.books inode link }
-    requires lead { Leads (D.state core.old.disk) core.old.books (step.Link directory generation name.now inode of) (block_rows (step.Link directory generation name.now inode of)) }
-    requires name { NameOk name.now }
-    requires link { link < 4 }
-    requires entry { entry < entry_limit }
-    ensures { Goes (D.state core.old.disk) core.old.books (D.state core.new.disk) core.new.books (step.Link directory generation name.now inode of) result.claims (done_answer reply.Linked result.result) }
+    ensures { LinkGoes (D.state core.old.disk) core.old.books (D.state core.new.disk) core.new.books new.entry result }
 {
     let mut last = LastRead::NONE;
-    let slot = match find_entry_slot(
-        &mut core.disk,
-        &core.books.at,
-        directory,
-        &both.directory,
-        entry / 16,
-        &mut last,
-    ) {
+    let directory = ReadInode {
+        at: core.books.at,
+        inode: new.at.directory,
+        record: both.directory,
+    };
+    let slot = match find_entry_slot(&mut core.disk, directory, entry / 16, &mut last) {
         Ok(slot) => slot,
         Err(why) => return refused(why),
     };
@@ -234,11 +209,11 @@ fn link_at<D: Disk + Drop>(
         blocks,
         cell: last.cell,
     };
-    let named = match named_entry(alloc, inode, of, name) {
+    let named = match named_entry(alloc, new.inode, new.of, new.at.name) {
         Ok(named) => named,
         Err(_) => return refused(Refusal::OutOfMemory),
     };
-    link_named(core, directory, generation, both, link, &place, &named)
+    link_named(core, new.at, both, link, &place, &named)
 }
 
 // The entry of a name.
@@ -257,8 +232,7 @@ fn named_entry(alloc: Global, inode: u32, generation: u64, name: &[u8]) -> Resul
 // Writes an entry and its back link.
 fn link_named<D: Disk + Drop>(
     core: &mut Core<D>,
-    directory: u32,
-    generation: u64,
+    at: NameIn<'_>,
     both: &Both,
     link: u32,
     place: &EntryPlace,
@@ -267,31 +241,31 @@ fn link_named<D: Disk + Drop>(
     requires safe { IsSafe (D.state core.old.disk) core.old.books }
     requires spare { 4 ≤ (D.state core.old.disk).spare }
     requires going { core.old.books.stopped ≡ false }
-    requires may { MayEnter (D.state core.old.disk) core.old.books directory both.now.directory place.now.entry place.now.slot place.now.blocks named.now both.now.file }
-    requires known { MayLink (D.state core.old.disk) core.old.books directory generation both.now place.now named.now link }
+    requires may { MayEnter (D.state core.old.disk) core.old.books at.directory both.now.directory place.now.entry place.now.slot place.now.blocks named.now both.now.file }
+    requires known { MayLink (D.state core.old.disk) core.old.books at.directory at.generation both.now place.now named.now link }
     requires link { link < 4 }
-    ensures { Goes (D.state core.old.disk) core.old.books (D.state core.new.disk) core.new.books (step.Link directory generation named.now.name named.now.inode named.now.generation) result.claims (done_answer reply.Linked result.result) }
+    ensures { LinkEnds (D.state core.old.disk) core.old.books (D.state core.new.disk) core.new.books (entry_step at.entry named.now) result }
 {
     let mut last = LastRead::NONE;
-    let tables = match read_tables(&mut core.disk, directory, named.inode, &mut last) {
+    let tables = match read_tables(&mut core.disk, at.directory, named.inode, &mut last) {
         Ok(tables) => tables,
         Err(_) => return refused(Refusal::ReadFault),
     };
     let back = BackLink {
-        directory,
+        directory: at.directory,
         entry: place.entry,
         generation: both.directory.generation,
     };
-    let new = linked(&both.file, link, back);
-    enter(
-        core,
-        directory,
-        &both.directory,
+    let after = linked(&both.file, link, back);
+    let new = NewEntry {
+        directory: at.directory,
+        it: &both.directory,
         place,
         named,
-        &new,
-        &tables,
-    )
+        record: &after,
+        tables: &tables,
+    };
+    enter(core, new)
 }
 
 // The record with a back link in a place.
@@ -308,23 +282,21 @@ fn linked(it: &Record, place: u32, link: BackLink) -> Record
 // with an agreed directory.
 fn link_place<D: Disk>(
     disk: &mut D,
-    at: &SuperBlock,
+    it: ReadInode,
     known: &Known,
-    inode: u32,
-    it: &Record,
     last: &mut LastRead,
 ) -> Result<u32, Refusal>
-    requires record { KnowsInode (D.state disk.old) at.now inode it.now }
-    requires known { length known.now ≡ at.now.inodes }
+    requires record { Knows (D.state disk.old) it }
+    requires known { length known.now ≡ it.at.inodes }
     requires last { IsLast (D.state disk.old) last.old }
-    ensures { FindsLinkPlace (D.state disk.old) (D.state disk.new) known.now inode last.new result }
+    ensures { FindsLinkPlace (D.state disk.old) (D.state disk.new) known.now it.inode last.new result }
 {
-    if inode == 2 {
+    if it.inode == 2 {
         return Err(Refusal::TooManyLinks);
     }
-    match empty_place(&it.links) {
+    match empty_place(&it.record.links) {
         Some(place) => Ok(place),
-        None => match dead_place(disk, at, known, inode, it, last) {
+        None => match dead_place(disk, it, known, last) {
             Ok(place) => place_or_full(place),
             Err(_) => Err(Refusal::ReadFault),
         },
@@ -367,19 +339,18 @@ fn is_empty(link: &BackLink) -> bool
 
 fn dead_place<D: Disk>(
     disk: &mut D,
-    at: &SuperBlock,
+    it: ReadInode,
     known: &Known,
-    inode: u32,
-    it: &Record,
     last: &mut LastRead,
 ) -> Result<Option<u32>, Failed>
-    requires record { KnowsInode (D.state disk.old) at.now inode it.now }
-    requires known { length known.now ≡ at.now.inodes }
+    requires record { Knows (D.state disk.old) it }
+    requires known { length known.now ≡ it.at.inodes }
     requires last { IsLast (D.state disk.old) last.old }
-    ensures { TellsDeadPlace (D.state disk.old) (D.state disk.new) known.now inode it.now last.new result }
+    ensures { TellsDeadPlace (D.state disk.old) (D.state disk.new) known.now it.inode it.record last.new result }
 {
     for place in 0..4 {
-        if !is_agreed_link(disk, at, known, inode, it, &it.links[place], last)? {
+        let link = it.record.links[place];
+        if !is_agreed_link(disk, &it.at, known, it.inode, &it.record, &link, last)? {
             return Ok(Some(place as u32));
         }
     }

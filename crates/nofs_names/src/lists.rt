@@ -1,23 +1,22 @@
 //! The names of a directory.
 ghost use Rattle.std.specs.Prelude.{◌≡◌, ◌++◌, ◌*◌, ◌<◌, IsTrue, IfOk, OnOk, option_to_list};
-ghost use Rattle.nofs_machine.specs.Claims.{no_claims};
 ghost use Rattle.nofs_machine.specs.declared.replies.Refusal.TheVariants as refusal;
 ghost use Rattle.nofs_machine.specs.declared.replies.Reply.TheVariants as reply;
 ghost use Rattle.nofs_machine.specs.declared.steps.Step.TheVariants as step;
 ghost use Rattle.nofs_model.specs.Slots.{value};
 ghost use Rattle.nofs_model.specs.declared.value.Value.TheVariants.{Bytes};
-ghost use Rattle.nofs_agree.specs.Reading.{IsAt, IsLast, KnowsDirectory, KnowsInode};
-ghost use Rattle.nofs_state.specs.Books.{IsSafe};
-ghost use Rattle.nofs_state.specs.Steps.{Goes};
+ghost use Rattle.nofs_names.specs.Stepping.{Goes, IsAt, IsLast, IsSafe, no_claims};
+ghost use Rattle.nofs_names.specs.Inodes.{Knows, KnowsFolder};
 ghost use Rattle.nofs_names.specs.Listing.{FindsListed, HasListed, IsListedSlot, ReadsLine, ReadsLines, line_with, list_answer};
 
 use crate::entries::Named;
+use crate::inodes::ReadInode;
 use crate::opening::open_directory;
 use crate::pairing::paired_kind;
 use nofs_agree::{LastRead, find_slot, read_inode};
 use nofs_dirent::{Entry, read_entry};
 use nofs_disk::{Disk, Failed};
-use nofs_inode::{BackLink, FileKind, Record};
+use nofs_inode::{BackLink, FileKind};
 use nofs_machine::{NameLine, NameList, Refusal};
 use nofs_model::{PathAnswer, place_of};
 use nofs_state::Core;
@@ -61,24 +60,17 @@ pub fn list<D: Disk + Drop>(
         return Err(Refusal::Stopped);
     }
     let mut names = LastRead::NONE;
-    let it = match open_directory(
-        &mut core.disk,
-        &core.books,
-        directory,
-        generation,
-        &mut names,
-    ) {
+    let books = &core.books;
+    let it = match open_directory(directory, generation, &mut core.disk, books, &mut names) {
         Ok(it) => it,
         Err(why) => return Err(why),
     };
-    let found = match find_listed(
-        &mut core.disk,
-        &core.books.at,
-        directory,
-        &it,
-        slot,
-        &mut names,
-    ) {
+    let read = ReadInode {
+        at: core.books.at,
+        inode: directory,
+        record: it,
+    };
+    let found = match find_listed(&mut core.disk, read, &mut names, slot) {
         Ok(found) => found,
         Err(_) => return Err(Refusal::ReadFault),
     };
@@ -87,15 +79,7 @@ pub fn list<D: Disk + Drop>(
         ListedSlot::Lost(slot) => Ok(Listed::LostNames(u64::from(slot))),
         ListedSlot::Holds(slot) => {
             let payload = &names.cell.payload;
-            match read_lines(
-                alloc,
-                &mut core.disk,
-                &core.books.at,
-                directory,
-                &it,
-                payload,
-                slot,
-            ) {
+            match read_lines(alloc, &mut core.disk, read, payload, slot) {
                 Ok(lines) => Ok(Listed::Names(u64::from(slot), lines)),
                 Err(why) => Err(why),
             }
@@ -107,18 +91,23 @@ pub fn list<D: Disk + Drop>(
 // that was read last.
 fn find_listed<D: Disk>(
     disk: &mut D,
-    at: &SuperBlock,
-    directory: u32,
-    it: &Record,
-    from: u64,
+    directory: ReadInode,
     names: &mut LastRead,
+    from: u64,
 ) -> Result<ListedSlot, Failed>
-    requires known { KnowsInode (D.state disk.old) at.now directory it.now }
+    requires known { Knows (D.state disk.old) directory }
     requires last { IsLast (D.state disk.old) names.old }
-    ensures { FindsListed (D.state disk.old) (D.state disk.new) directory from names.new result }
+    ensures { FindsListed (D.state disk.old) (D.state disk.new) directory.inode from names.new result }
 {
     for slot in from..72 {
-        match find_slot(disk, at, directory, it, place_of(slot), names)? {
+        match find_slot(
+            disk,
+            &directory.at,
+            directory.inode,
+            &directory.record,
+            place_of(slot),
+            names,
+        )? {
             PathAnswer::Hole => {}
             PathAnswer::Lost => return Ok(ListedSlot::Lost(slot as u32)),
             PathAnswer::Holds(_) => return Ok(ListedSlot::Holds(slot as u32)),
@@ -131,26 +120,32 @@ fn find_listed<D: Disk>(
 fn read_lines<D: Disk>(
     alloc: Global,
     disk: &mut D,
-    at: &SuperBlock,
-    directory: u32,
-    it: &Record,
+    directory: ReadInode,
     payload: &[u8; 1024],
     slot: u32,
 ) -> Result<NameList, Refusal>
-    requires directory { KnowsDirectory (D.state disk.old) at.now directory it.now.generation it.now }
+    requires directory { KnowsFolder (D.state disk.old) directory }
     requires slot { slot < 72 }
-    requires cell { IsTrue (D.state disk.old).tells → value (D.state disk.old).now directory slot ≡ Bytes payload.now }
-    ensures { ReadsLines (D.state disk.old) (D.state disk.new) directory slot result }
+    requires cell { IsTrue (D.state disk.old).tells → value (D.state disk.old).now directory.inode slot ≡ Bytes payload.now }
+    ensures { ReadsLines (D.state disk.old) (D.state disk.new) directory.inode slot result }
 {
     let mut lines = NameList::new(alloc);
     let mut records = LastRead::NONE;
     for place in 0..16 {
         let link = BackLink {
-            directory,
+            directory: directory.inode,
             entry: 16 * slot + place,
-            generation: it.generation,
+            generation: directory.record.generation,
         };
-        let line = match read_line(alloc, disk, at, &link, payload, place, &mut records) {
+        let line = match read_line(
+            alloc,
+            disk,
+            &directory.at,
+            &link,
+            payload,
+            place,
+            &mut records,
+        ) {
             Ok(line) => line,
             Err(why) => return Err(why),
         };

@@ -1,14 +1,9 @@
 //! The file of a name.
-ghost use Rattle.std.specs.Prelude.{◌≡◌};
-ghost use Rattle.nofs_machine.specs.Claims.{no_claims};
-ghost use Rattle.nofs_machine.specs.declared.steps.Step.TheVariants as step;
-ghost use Rattle.nofs_state.specs.Books.{IsSafe};
-ghost use Rattle.nofs_state.specs.Steps.{Goes};
-ghost use Rattle.nofs_names.specs.Refusing.{look_answer};
+ghost use Rattle.nofs_names.specs.Looking.{LookGoes};
+ghost use Rattle.nofs_names.specs.Stepping.{IsSafe};
 
-use crate::opening::{find_pair, open_directory};
+use crate::opening::{NameIn, find_pair, open_named};
 use nofs_agree::LastRead;
-use nofs_dirent::name_ok;
 use nofs_disk::Disk;
 use nofs_machine::{Found, Refusal};
 use nofs_state::Core;
@@ -21,22 +16,15 @@ pub fn look<D: Disk + Drop>(
     name: &[u8],
 ) -> Result<Found, Refusal>
     requires { IsSafe (D.state core.old.disk) core.old.books }
-    ensures { Goes (D.state core.old.disk) core.old.books (D.state core.new.disk) core.new.books (step.Look directory generation name.now) no_claims (look_answer result) }
+    ensures { LookGoes (D.state core.old.disk) core.old.books (D.state core.new.disk) core.new.books directory generation name.now result }
 {
-    if core.books.stopped {
-        return Err(Refusal::Stopped);
-    }
-    if !name_ok(name) {
-        return Err(Refusal::BadName);
-    }
-    let mut names = LastRead::NONE;
-    let it = match open_directory(
-        &mut core.disk,
-        &core.books,
+    let at = NameIn {
         directory,
         generation,
-        &mut names,
-    ) {
+        name,
+    };
+    let mut names = LastRead::NONE;
+    let it = match open_named(&mut core.disk, &core.books, at, &mut names) {
         Ok(it) => it,
         Err(why) => return Err(why),
     };
@@ -44,9 +32,8 @@ pub fn look<D: Disk + Drop>(
     match find_pair(
         &mut core.disk,
         &core.books.at,
-        directory,
         &it,
-        name,
+        at,
         &mut names,
         &mut records,
     ) {

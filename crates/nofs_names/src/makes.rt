@@ -1,28 +1,33 @@
 //! A new file or directory.
-ghost use Rattle.std.specs.Prelude.{◌≡◌, ◌≤◌, ◌<◌, IsTrue, false, length};
-ghost use Rattle.nofs_dirent.specs.Entries.{entry_limit};
-ghost use Rattle.nofs_dirent.specs.Names.{NameOk};
+ghost use Rattle.std.specs.Prelude.{◌≡◌, ◌≤◌, false, length};
 ghost use Rattle.nofs_inode.specs.InodeRecords.{HasRecordSpelling};
-ghost use Rattle.nofs_agree.specs.Reading.{IsLast, KnowsDirectory};
-ghost use Rattle.nofs_state.specs.Books.{IsSafe};
-ghost use Rattle.nofs_state.specs.Steps.{Goes};
 ghost use Rattle.nofs_machine.specs.declared.steps.Step.TheVariants as step;
-ghost use Rattle.nofs_names.specs.Makes.{AreInodesFull, FindsInode, MayMake, PlaceIs, RowsLeft, is_raised, made_answer, made_record};
-ghost use Rattle.nofs_names.specs.Refusing.{IsThere, KnownTrue};
-ghost use Rattle.nofs_state.specs.Owing.{RowsPass};
+ghost use Rattle.nofs_names.specs.Stepping.{Goes, IsLast, IsSafe, RowsPass};
+ghost use Rattle.nofs_names.specs.Makes.{AreInodesFull, FindsInode, GoesIn, MakeGoes, MayMake, RowsLeft, is_raised, made_answer, made_record};
 
 use crate::ending::{Ended, refused};
-use crate::entering::{EntryPlace, enter, read_tables};
-use crate::opening::{find_unused, open_directory};
+use crate::entering::{EntryPlace, NewEntry, enter, read_tables};
+use crate::inodes::ReadInode;
+use crate::opening::{NameIn, find_unused, open_named};
 use crate::placing::{entry_place, find_entry_slot, take_blocks};
 use nofs_agree::LastRead;
-use nofs_dirent::{Entry, name_ok};
+use nofs_dirent::Entry;
 use nofs_disk::Disk;
 use nofs_inode::{BackLink, FREE_RECORD, FileKind, Record};
 use nofs_lists::Name;
 use nofs_machine::{Claims, Refusal};
 use nofs_state::{Books, Core, InodeClaim};
 use std::alloc::Global;
+
+/// What is made, and the directory that it goes into.
+#[derive(Clone, Copy)]
+pub struct NewFile {
+    pub kind: FileKind,
+    pub directory: u32,
+    pub generation: u64,
+    /// The record of the directory.
+    pub it: Record,
+}
 
 /// Makes a file or a directory, with a fresh generation, and gives it a name.
 pub fn make<D: Disk + Drop>(
@@ -40,105 +45,79 @@ pub fn make<D: Disk + Drop>(
         Ok(owned) => owned,
         Err(_) => return refused(Refusal::OutOfMemory),
     };
+    let at = NameIn {
+        directory,
+        generation,
+        name,
+    };
     match core.disk.ready(4) {
-        Ok(()) => make_with_room(core, directory, generation, name, owned, kind),
+        Ok(()) => make_with_room(core, at, owned, kind),
         Err(_) => refused(Refusal::OutOfMemory),
     }
 }
 
 fn make_with_room<D: Disk + Drop>(
     core: &mut Core<D>,
-    directory: u32,
-    generation: u64,
-    name: &[u8],
+    at: NameIn<'_>,
     owned: Name,
     kind: FileKind,
 ) -> Ended
+    requires owned { owned ≡ at.name.now }
     requires safe { IsSafe (D.state core.old.disk) core.old.books }
     requires spare { 4 ≤ (D.state core.old.disk).spare }
-    requires owned { owned ≡ name.now }
-    ensures { Goes (D.state core.old.disk) core.old.books (D.state core.new.disk) core.new.books (step.Make directory generation name.now kind) result.claims (made_answer result.claims result.result) }
+    ensures { MakeGoes (D.state core.old.disk) core.old.books (D.state core.new.disk) core.new.books (step.Make at.entry.directory at.entry.generation at.entry.name.now kind) result }
 {
-    if core.books.stopped {
-        return refused(Refusal::Stopped);
-    }
-    if !name_ok(name) {
-        return refused(Refusal::BadName);
-    }
     let mut names = LastRead::NONE;
-    let it = match open_directory(
-        &mut core.disk,
-        &core.books,
-        directory,
-        generation,
-        &mut names,
-    ) {
+    let it = match open_named(&mut core.disk, &core.books, at, &mut names) {
         Ok(it) => it,
         Err(why) => return refused(why),
     };
     let mut records = LastRead::NONE;
-    let seen = match find_unused(
-        &mut core.disk,
-        &core.books.at,
-        directory,
-        &it,
-        name,
-        &mut names,
-        &mut records,
-    ) {
+    let read = ReadInode {
+        at: core.books.at,
+        inode: at.directory,
+        record: it,
+    };
+    let seen = match find_unused(&mut core.disk, at.name, read, &mut names, &mut records) {
         Ok(seen) => seen,
         Err(why) => return refused(why),
     };
+    let to = NewFile {
+        directory: at.directory,
+        generation: at.generation,
+        kind,
+        it,
+    };
     match entry_place(&seen) {
         Err(why) => refused(why),
-        Ok(entry) => make_entry(
-            core,
-            directory,
-            generation,
-            owned,
-            kind,
-            &it,
-            entry,
-            &mut names,
-            &mut records,
-        ),
+        Ok(entry) => make_entry(core, to, owned, entry, &mut names, &mut records),
     }
 }
 
 // Makes it where the name is not used and there is a place for the entry.
 fn make_entry<D: Disk + Drop>(
     core: &mut Core<D>,
-    directory: u32,
-    generation: u64,
+    to: NewFile,
     name: Name,
-    kind: FileKind,
-    it: &Record,
     entry: u32,
     names: &mut LastRead,
     records: &mut LastRead,
 ) -> Ended
+    requires goes_in { GoesIn (D.state core.old.disk) core.old.books to name entry }
     requires safe { IsSafe (D.state core.old.disk) core.old.books }
     requires spare { 4 ≤ (D.state core.old.disk).spare }
     requires going { core.old.books.stopped ≡ false }
-    requires directory { KnowsDirectory (D.state core.old.disk) core.old.books.at directory it.now.generation it.now }
-    requires generation { it.now.generation ≡ generation }
-    requires there { IsTrue (D.state core.old.disk).tells → KnownTrue core.old.books (D.state core.old.disk).now → IsThere directory (D.state core.old.disk).now }
-    requires name { NameOk name }
-    requires entry { entry < entry_limit }
-    requires place { PlaceIs (D.state core.old.disk) core.old.books directory name entry }
-    requires rows { RowsLeft (D.state core.old.disk) core.old.books directory generation name kind }
+    requires rows { RowsLeft (D.state core.old.disk) core.old.books to.directory to.generation name to.kind }
     requires names { IsLast (D.state core.old.disk) names.old }
     requires records { IsLast (D.state core.old.disk) records.old }
-    ensures { Goes (D.state core.old.disk) core.old.books (D.state core.new.disk) core.new.books (step.Make directory generation name kind) result.claims (made_answer result.claims result.result) }
+    ensures { MakeGoes (D.state core.old.disk) core.old.books (D.state core.new.disk) core.new.books (step.Make to.directory to.generation name to.kind) result }
 {
-    let slot = match find_entry_slot(
-        &mut core.disk,
-        &core.books.at,
-        directory,
-        it,
-        entry / 16,
-        names,
-    ) {
+    let read = ReadInode {
+        at: core.books.at,
+        inode: to.directory,
+        record: to.it,
+    };
+    let slot = match find_entry_slot(&mut core.disk, read, entry / 16, names) {
         Ok(slot) => slot,
         Err(why) => return refused(why),
     };
@@ -155,9 +134,7 @@ fn make_entry<D: Disk + Drop>(
                 blocks,
                 cell: names.cell,
             };
-            make_at(
-                core, directory, generation, name, kind, it, &place, inode, records,
-            )
+            make_at(core, to, &place, name, inode, records)
         }
     }
 }
@@ -199,24 +176,21 @@ fn inodes_full(books: &Books) -> Refusal
 // Makes it as this inode, which is free, with its entry in this place.
 fn make_at<D: Disk + Drop>(
     core: &mut Core<D>,
-    directory: u32,
-    generation: u64,
-    name: Name,
-    kind: FileKind,
-    it: &Record,
+    to: NewFile,
     place: &EntryPlace,
+    name: Name,
     inode: u32,
     records: &mut LastRead,
 ) -> Ended
+    requires may { MayMake (D.state core.old.disk) core.old.books to.directory to.generation name to.it place.now inode }
     requires safe { IsSafe (D.state core.old.disk) core.old.books }
     requires spare { 4 ≤ (D.state core.old.disk).spare }
     requires going { core.old.books.stopped ≡ false }
-    requires may { MayMake (D.state core.old.disk) core.old.books directory generation name it.now place.now inode }
-    requires rows { RowsPass (D.state core.old.disk) core.old.books (step.Make directory generation name kind) }
+    requires rows { RowsPass (D.state core.old.disk) core.old.books (step.Make to.directory to.generation name to.kind) }
     requires records { IsLast (D.state core.old.disk) records.old }
-    ensures { Goes (D.state core.old.disk) core.old.books (D.state core.new.disk) core.new.books (step.Make directory generation name kind) result.claims (made_answer result.claims result.result) }
+    ensures { MakeGoes (D.state core.old.disk) core.old.books (D.state core.new.disk) core.new.books (step.Make to.directory to.generation name to.kind) result }
 {
-    let tables = match read_tables(&mut core.disk, directory, inode, records) {
+    let tables = match read_tables(&mut core.disk, to.directory, inode, records) {
         Ok(tables) => tables,
         Err(_) => return refused(Refusal::ReadFault),
     };
@@ -227,12 +201,20 @@ fn make_at<D: Disk + Drop>(
         name,
     };
     let link = BackLink {
-        directory,
+        directory: to.directory,
         entry: place.entry,
-        generation,
+        generation: to.generation,
     };
-    let new = made_record(kind, claim.generation, link);
-    let ended = enter(core, directory, it, place, &named, &new, &tables);
+    let made = made_record(to.kind, claim.generation, link);
+    let new = NewEntry {
+        directory: to.directory,
+        it: &to.it,
+        place,
+        named: &named,
+        record: &made,
+        tables: &tables,
+    };
+    let ended = enter(core, new);
     with_inode(ended, claim)
 }
 

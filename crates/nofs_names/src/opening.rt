@@ -1,19 +1,29 @@
 //! The directory that a step names, and a name in it.
-ghost use Rattle.std.specs.Prelude.{◌≡◌, ◌<◌, IfSome, length, Some};
+ghost use Rattle.std.specs.Prelude.{◌≡◌, ◌<◌, IfSome, Some};
 ghost use Rattle.nofs_dirent.specs.Entries.{entry_limit};
-ghost use Rattle.nofs_model.specs.Files.{is_folder};
-ghost use Rattle.nofs_agree.specs.Reading.{IsAt, IsLast, KnowsDirectory};
+ghost use Rattle.nofs_names.specs.Stepping.{IsLast, IsSafe, KnowsDirectory};
+ghost use Rattle.nofs_names.specs.Inodes.{KnowsFolder};
+ghost use Rattle.nofs_names.specs.Naming.{OpensNamed};
 ghost use Rattle.nofs_names.specs.Placing.{LiesInside};
 ghost use Rattle.nofs_names.specs.Refusing.{FindsNone, FindsPair, IsPairOf, OpensDirectory, hole_place, lost_in, missing_in, place_of_entry, unused_in};
 
+use crate::inodes::ReadInode;
 use crate::searching::{Paired, Searched, Unfound, search};
 use nofs_agree::LastRead;
-use nofs_dirent::ENTRY_LIMIT;
+use nofs_dirent::{ENTRY_LIMIT, name_ok};
 use nofs_disk::Disk;
 use nofs_inode::{FileKind, Record};
 use nofs_machine::Refusal;
 use nofs_state::{Books, open_inode};
 use nofs_super::SuperBlock;
+
+/// A name in a directory, as a step gives them.
+#[derive(Clone, Copy)]
+pub struct NameIn<'a> {
+    pub directory: u32,
+    pub generation: u64,
+    pub name: &'a [u8],
+}
 
 /// The record of the directory of this number and generation.
 ///
@@ -22,38 +32,51 @@ use nofs_super::SuperBlock;
 /// `Stale` where there is none, `NotDirectory` where it is a file, and `ReadFault` where a read
 /// failed.
 pub(crate) fn open_directory<D: Disk>(
-    disk: &mut D,
-    books: &Books,
     directory: u32,
     generation: u64,
+    disk: &mut D,
+    books: &Books,
     last: &mut LastRead,
 ) -> Result<Record, Refusal>
-    requires numbers { IsAt (D.state disk.old) books.now.at }
-    requires agreed { length books.now.agreement ≡ books.now.at.inodes }
     requires last { IsLast (D.state disk.old) last.old }
+    requires safe { IsSafe (D.state disk.old) books.now }
     ensures { OpensDirectory (D.state disk.old) (D.state disk.new) books.now directory generation last.new result }
 {
     let it = match open_inode(disk, books, directory, generation, last) {
         Ok(it) => it,
         Err(why) => return Err(why),
     };
-    if is_folder(it.kind) {
-        Ok(it.found)
-    } else {
-        Err(Refusal::NotDirectory)
+    match it.kind {
+        FileKind::Directory => Ok(it.found),
+        FileKind::File => Err(Refusal::NotDirectory),
     }
 }
 
-fn is_folder(kind: FileKind) -> bool
-    ensures { result ≡ is_folder kind }
+/// The record of the directory of a name, where the mount is not stopped and the name is one.
+///
+/// # Errors
+///
+/// `Stopped`, `BadName`, and those of [`open_directory`].
+pub(crate) fn open_named<D: Disk>(
+    disk: &mut D,
+    books: &Books,
+    at: NameIn<'_>,
+    last: &mut LastRead,
+) -> Result<Record, Refusal>
+    requires safe { IsSafe (D.state disk.old) books.now }
+    requires last { IsLast (D.state disk.old) last.old }
+    ensures { OpensNamed (D.state disk.old) (D.state disk.new) books.now at.entry last.new result }
 {
-    match kind {
-        FileKind::Directory => true,
-        FileKind::File => false,
+    if books.stopped {
+        return Err(Refusal::Stopped);
     }
+    if !name_ok(at.name) {
+        return Err(Refusal::BadName);
+    }
+    open_directory(at.directory, at.generation, disk, books, last)
 }
 
-/// The entry that a name finds.
+/// The entry that a name finds in its directory.
 ///
 /// # Errors
 ///
@@ -61,18 +84,22 @@ fn is_folder(kind: FileKind) -> bool
 pub(crate) fn find_pair<D: Disk>(
     disk: &mut D,
     at: &SuperBlock,
-    directory: u32,
     it: &Record,
-    name: &[u8],
+    wanted: NameIn<'_>,
     names: &mut LastRead,
     records: &mut LastRead,
 ) -> Result<Paired, Refusal>
-    requires directory { KnowsDirectory (D.state disk.old) at.now directory it.now.generation it.now }
+    requires directory { KnowsDirectory (D.state disk.old) at.now wanted.directory it.now.generation it.now }
     requires names { IsLast (D.state disk.old) names.old }
     requires last { IsLast (D.state disk.old) records.old }
-    ensures { FindsPair (D.state disk.old) (D.state disk.new) at.now directory name.now names.new records.new result }
+    ensures { FindsPair (D.state disk.old) (D.state disk.new) at.now wanted.entry.directory wanted.entry.name.now names.new records.new result }
 {
-    match search(disk, at, directory, it, name, names, records) {
+    let directory = ReadInode {
+        at: *at,
+        inode: wanted.directory,
+        record: *it,
+    };
+    match search(disk, directory, wanted.name, names, records) {
         Err(_) => Err(Refusal::ReadFault),
         Ok(searched) => pair_of(searched),
     }
@@ -115,19 +142,17 @@ fn lost(slot: Option<u32>) -> Refusal
 /// `Exists` where the name finds an entry, and `ReadFault` where a read failed.
 pub(crate) fn find_unused<D: Disk>(
     disk: &mut D,
-    at: &SuperBlock,
-    directory: u32,
-    it: &Record,
     name: &[u8],
+    directory: ReadInode,
     names: &mut LastRead,
     records: &mut LastRead,
 ) -> Result<Unfound, Refusal>
-    requires directory { KnowsDirectory (D.state disk.old) at.now directory it.now.generation it.now }
     requires names { IsLast (D.state disk.old) names.old }
     requires last { IsLast (D.state disk.old) records.old }
-    ensures { FindsNone (D.state disk.old) (D.state disk.new) directory name.now names.new records.new result }
+    requires directory { KnowsFolder (D.state disk.old) directory }
+    ensures { FindsNone (D.state disk.old) (D.state disk.new) directory.inode name.now names.new records.new result }
 {
-    match search(disk, at, directory, it, name, names, records) {
+    match search(disk, directory, name, names, records) {
         Err(_) => Err(Refusal::ReadFault),
         Ok(searched) => unused(searched),
     }

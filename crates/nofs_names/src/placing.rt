@@ -4,19 +4,18 @@ ghost use Rattle.nofs_dirent.specs.Entries.{entry_limit};
 ghost use Rattle.nofs_bits.specs.Bits.{count_set};
 ghost use Rattle.nofs_model.specs.Slots as slots;
 ghost use Rattle.nofs_model.specs.declared.path.PathAnswer.TheVariants as answer;
-ghost use Rattle.nofs_agree.specs.Reading.{IsLast, KnowsInode};
-ghost use Rattle.nofs_state.specs.Books.{IsSafe};
+ghost use Rattle.nofs_names.specs.Stepping.{IsLast, IsSafe};
+ghost use Rattle.nofs_names.specs.Inodes.{Knows};
 ghost use Rattle.nofs_names.specs.Placing.{AreFree, FindsEntrySlot, IsPlaceOf, IsUnderLeaf, TakesBlocks, slot_blocks};
 
+use crate::inodes::ReadInode;
 use crate::opening::place_of_new;
 use crate::searching::Unfound;
 use nofs_agree::{LastRead, find_slot};
 use nofs_disk::{Disk, Pointer};
-use nofs_inode::Record;
 use nofs_machine::Refusal;
-use nofs_model::{PathAnswer, Place, place_of};
+use nofs_model::{PathAnswer, Place};
 use nofs_state::{Books, Core};
-use nofs_super::SuperBlock;
 
 /// What stands in the slot of a new entry.
 #[derive(Clone, Copy)]
@@ -77,24 +76,22 @@ pub(crate) fn entry_place(seen: &Unfound) -> Result<u32, Refusal>
 /// does not, it may answer `LostSlot`.
 pub(crate) fn find_entry_slot<D: Disk>(
     disk: &mut D,
-    at: &SuperBlock,
-    directory: u32,
-    it: &Record,
+    directory: ReadInode,
     slot: u32,
     names: &mut LastRead,
 ) -> Result<EntrySlot, Refusal>
-    requires known { KnowsInode (D.state disk.old) at.now directory it.now }
+    requires known { Knows (D.state disk.old) directory }
     requires slot { slot < 72 }
     requires last { IsLast (D.state disk.old) names.old }
-    ensures { FindsEntrySlot (D.state disk.old) (D.state disk.new) at.now directory slot names.new result }
+    ensures { FindsEntrySlot (D.state disk.old) (D.state disk.new) directory.at directory.inode slot names.new result }
 {
-    let found = match find_slot(disk, at, directory, it, place_of(u64::from(slot)), names) {
+    let found = match directory.find(disk, slot, names) {
         Ok(found) => found,
         Err(_) => return Err(Refusal::ReadFault),
     };
     match found {
         PathAnswer::Holds(pointer) => Ok(EntrySlot::Held(pointer)),
-        PathAnswer::Hole => find_hole(disk, at, directory, it, slot, names),
+        PathAnswer::Hole => find_hole(slot, disk, directory, names),
         PathAnswer::Lost => Err(Refusal::LostSlot {
             slot: u64::from(slot),
         }),
@@ -103,23 +100,29 @@ pub(crate) fn find_entry_slot<D: Disk>(
 
 // Whether a hole is one of the record, or what leaf is above it.
 fn find_hole<D: Disk>(
-    disk: &mut D,
-    at: &SuperBlock,
-    directory: u32,
-    it: &Record,
     slot: u32,
+    disk: &mut D,
+    directory: ReadInode,
     names: &mut LastRead,
 ) -> Result<EntrySlot, Refusal>
-    requires known { KnowsInode (D.state disk.old) at.now directory it.now }
+    requires hole { IsTrue (D.state disk.old).tells → slots.find (D.state disk.old).now directory.inode (slots.path_of slot) ≡ answer.Hole }
+    requires known { Knows (D.state disk.old) directory }
     requires slot { slot < 72 }
-    requires hole { IsTrue (D.state disk.old).tells → slots.find (D.state disk.old).now directory (slots.path_of slot) ≡ answer.Hole }
     requires last { IsLast (D.state disk.old) names.old }
-    ensures { FindsEntrySlot (D.state disk.old) (D.state disk.new) at.now directory slot names.new result }
+    ensures { FindsEntrySlot (D.state disk.old) (D.state disk.new) directory.at directory.inode slot names.new result }
 {
     if slot < 8 {
         return Ok(EntrySlot::Direct);
     }
-    match find_slot(disk, at, directory, it, Place::InRecord(8), names) {
+    let leaf = Place::InRecord(8);
+    match find_slot(
+        disk,
+        &directory.at,
+        directory.inode,
+        &directory.record,
+        leaf,
+        names,
+    ) {
         Err(_) => Err(Refusal::ReadFault),
         Ok(leaf) => under_leaf(leaf, slot),
     }
@@ -200,12 +203,11 @@ fn least_two(books: &Books) -> Option<EntryBlocks>
     ensures found { IfSome result (AreFree books.now.free_blocks 2) }
     ensures none { result ≡ None → count_set books.now.free_blocks < 2 }
 {
-    let cell = match books.free_blocks.next_set(0) {
-        None => return None,
-        Some(cell) => cell,
-    };
-    match books.free_blocks.next_set(cell + 1) {
+    match books.free_blocks.next_set(0) {
         None => None,
-        Some(leaf) => Some(EntryBlocks { cell, leaf }),
+        Some(cell) => match books.free_blocks.next_set(cell + 1) {
+            None => None,
+            Some(leaf) => Some(EntryBlocks { cell, leaf }),
+        },
     }
 }

@@ -1,21 +1,16 @@
 //! An inode goes: its record and its blocks are free.
-ghost use Rattle.std.specs.Prelude.{◌≡◌, ◌+◌, ◌-◌, ◌*◌, ◌/◌, ◌%◌, ◌≤◌, ◌<◌, false, true, length, IsTrue};
-ghost use Rattle.nofs_bits.specs.Bits.{is_set};
-ghost use Rattle.nofs_machine.specs.Claims.{no_claims};
-ghost use Rattle.nofs_machine.specs.declared.steps.Step.TheVariants as step;
+ghost use Rattle.std.specs.Prelude.{◌≡◌, ◌≤◌, length, true};
 ghost use Rattle.nofs_machine.specs.declared.replies.Reply.TheVariants as reply;
-ghost use Rattle.nofs_agree.specs.Reading.{IsLast};
-ghost use Rattle.nofs_state.specs.Books.{IsSafe};
-ghost use Rattle.nofs_state.specs.Steps.{Goes};
-ghost use Rattle.nofs_names.specs.Renames.{done_answer};
-ghost use Rattle.nofs_names.specs.Dropping.{ClearsEntry, MayDrop};
+ghost use Rattle.nofs_names.specs.Stepping.{IsLast};
+ghost use Rattle.nofs_names.specs.Dropping.{DropGoes, IsCleared};
 ghost use Rattle.nofs_names.specs.Removing.{BlocksOf, FreedAs, HasSizes, LosesName};
+ghost use Rattle.nofs_names.specs.Renames.{done_answer};
 
-use crate::drops::with_record;
-use crate::searching::Paired;
+use crate::drops::Cleared;
+use crate::tables::{table_block, with_record};
 use nofs_agree::{LastRead, read_block};
-use nofs_disk::{Cell, Disk, Pointer};
-use nofs_inode::{FREE_RECORD, Record};
+use nofs_disk::Disk;
+use nofs_inode::FREE_RECORD;
 use nofs_machine::Refusal;
 use nofs_state::{Books, Core, FreedBlocks, write_two};
 
@@ -37,34 +32,25 @@ fn free_all(books: &mut Books, freed: &FreedBlocks, inode: u32)
 // Writes the cell without the entry, and a free record.
 pub(crate) fn remove_file<D: Disk + Drop>(
     core: &mut Core<D>,
-    directory: u32,
-    generation: u64,
-    name: &[u8],
-    it: &Record,
-    found: &Paired,
-    pointer: Pointer,
-    cell: &Cell,
+    it: Cleared<'_>,
     freed: &FreedBlocks,
     records: &mut LastRead,
 ) -> Result<(), Refusal>
-    requires safe { IsSafe (D.state core.old.disk) core.old.books }
-    requires spare { 2 ≤ (D.state core.old.disk).spare }
-    requires going { core.old.books.stopped ≡ false }
-    requires finds { MayDrop (D.state core.old.disk) core.old.books directory generation name.now it.now found.now }
-    requires loses { LosesName (D.state core.old.disk) core.old.books directory generation found.now }
-    requires clears { ClearsEntry (D.state core.old.disk) core.old.books directory found.now pointer cell.now }
-    requires freed { BlocksOf (D.state core.old.disk) core.old.books.at found.now.inode freed.now }
+    requires cleared { IsCleared (D.state core.old.disk) core.old.books it }
+    requires loses { LosesName (D.state core.old.disk) core.old.books it.pair.at.directory it.pair.at.generation it.pair.found }
+    requires freed { BlocksOf (D.state core.old.disk) core.old.books.at it.pair.found.inode freed.now }
     requires last { IsLast (D.state core.old.disk) records.old }
-    ensures { Goes (D.state core.old.disk) core.old.books (D.state core.new.disk) core.new.books (step.Drop directory generation name.now) no_claims (done_answer (reply.Dropped true) result) }
+    ensures { DropGoes (D.state core.old.disk) core.old.books (D.state core.new.disk) core.new.books it.entry.pair.at (done_answer (reply.Dropped true) result) }
 {
-    let block = 1 + u64::from((found.inode - 1) / 4);
+    let inode = it.pair.found.inode;
+    let block = table_block(inode);
     match read_block(&mut core.disk, block, records) {
         Ok(()) => {
             let mut table = records.cell;
-            with_record(&mut table, found.inode, &FREE_RECORD);
-            match write_two(core, pointer.block, cell, block, &table) {
+            with_record(&mut table, inode, &FREE_RECORD);
+            match write_two(core, it.pointer.block, &it.cell, block, &table) {
                 Ok(()) => {
-                    free_all(&mut core.books, freed, found.inode);
+                    free_all(&mut core.books, freed, inode);
                     Ok(())
                 }
                 Err(why) => Err(why),

@@ -3,16 +3,18 @@ ghost use Rattle.std.specs.Prelude.{◌≡◌, ◌+◌, ◌*◌, ◌<◌, IsTrue
 ghost use Rattle.nofs_dirent.specs.Entries.{entry_limit};
 ghost use Rattle.nofs_model.specs.Slots.{value};
 ghost use Rattle.nofs_model.specs.declared.value.Value.TheVariants.{Bytes};
-ghost use Rattle.nofs_agree.specs.Reading.{IsAt, IsLast, KnowsDirectory};
+ghost use Rattle.nofs_agree.specs.Reading.{IsAt, IsLast};
+ghost use Rattle.nofs_names.specs.Inodes.{KnowsFolder};
 ghost use Rattle.nofs_names.specs.Searching.{IsEntrySpelled, Searches, SearchesOn, SeesNamed, SeesPlace, first_or};
 
 use crate::entries::{Named, named_at};
+use crate::inodes::ReadInode;
 use crate::pairing::paired_kind;
-use nofs_agree::{LastRead, find_slot, read_inode};
+use nofs_agree::{LastRead, read_inode};
 use nofs_dirent::has_name;
 use nofs_disk::{Disk, Failed};
 use nofs_inode::{BackLink, FileKind, Record};
-use nofs_model::{PathAnswer, place_of};
+use nofs_model::PathAnswer;
 use nofs_super::SuperBlock;
 
 /// An entry and the inode that it names, which are a pair.
@@ -84,18 +86,6 @@ impl Unfound {
     {
         self.empty = first(self.empty, entry);
     }
-
-    fn see_lost(&mut self, slot: u32)
-        ensures { self.new ≡ record self.old { lost = first_or self.old.lost (Some slot) } }
-    {
-        self.lost = first(self.lost, slot);
-    }
-
-    fn see_hole(&mut self, slot: u32)
-        ensures { self.new ≡ record self.old { hole = first_or self.old.hole (Some slot) } }
-    {
-        self.hole = first(self.hole, slot);
-    }
 }
 
 // What stands in a place of a directory's cell.
@@ -154,28 +144,26 @@ fn see_named<D: Disk>(
 // Searches a cell of a directory. Where no pair has the name, `unfound` is what was seen up to here.
 fn search_cell<D: Disk>(
     disk: &mut D,
-    at: &SuperBlock,
-    directory: u32,
-    it: &Record,
+    directory: ReadInode,
     payload: &[u8; 1024],
     slot: u32,
     name: &[u8],
     unfound: &mut Unfound,
     records: &mut LastRead,
 ) -> Result<Option<Paired>, Failed>
-    requires directory { KnowsDirectory (D.state disk.old) at.now directory it.now.generation it.now }
+    requires directory { KnowsFolder (D.state disk.old) directory }
     requires slot { slot < 72 }
-    requires cell { IsTrue (D.state disk.old).tells → value (D.state disk.old).now directory slot ≡ Bytes payload.now }
+    requires cell { IsTrue (D.state disk.old).tells → value (D.state disk.old).now directory.inode slot ≡ Bytes payload.now }
     requires last { IsLast (D.state disk.old) records.old }
-    ensures { SearchesOn (D.state disk.old) (D.state disk.new) at.now directory name.now (16 * slot) slot (16 * (slot + 1)) (slot + 1) unfound.old unfound.new records.new result }
+    ensures { SearchesOn (D.state disk.old) (D.state disk.new) directory.at directory.inode name.now (16 * slot) slot (16 * (slot + 1)) (slot + 1) unfound.old unfound.new records.new result }
 {
     for place in 0..16 {
         let link = BackLink {
-            directory,
+            directory: directory.inode,
             entry: 16 * slot + place,
-            generation: it.generation,
+            generation: directory.record.generation,
         };
-        match see_place(disk, at, &link, payload, place, name, records)? {
+        match see_place(disk, &directory.at, &link, payload, place, name, records)? {
             Seen::Empty => unfound.see_empty(link.entry),
             Seen::Other => {}
             Seen::Dead => unfound.see_dead(link.entry),
@@ -188,36 +176,32 @@ fn search_cell<D: Disk>(
 // Searches a slot of a directory.
 fn search_slot<D: Disk>(
     disk: &mut D,
-    at: &SuperBlock,
-    directory: u32,
-    it: &Record,
+    directory: ReadInode,
     slot: u32,
     name: &[u8],
     unfound: &mut Unfound,
     names: &mut LastRead,
     records: &mut LastRead,
 ) -> Result<Option<Paired>, Failed>
-    requires directory { KnowsDirectory (D.state disk.old) at.now directory it.now.generation it.now }
+    requires directory { KnowsFolder (D.state disk.old) directory }
     requires slot { slot < 72 }
     requires names { IsLast (D.state disk.old) names.old }
     requires last { IsLast (D.state disk.old) records.old }
-    ensures search { SearchesOn (D.state disk.old) (D.state disk.new) at.now directory name.now (16 * slot) slot (16 * (slot + 1)) (slot + 1) unfound.old unfound.new records.new result }
+    ensures search { SearchesOn (D.state disk.old) (D.state disk.new) directory.at directory.inode name.now (16 * slot) slot (16 * (slot + 1)) (slot + 1) unfound.old unfound.new records.new result }
     ensures kept { OnOk result (IsLast (D.state disk.new) names.new) }
 {
-    match find_slot(disk, at, directory, it, place_of(u64::from(slot)), names)? {
+    match directory.find(disk, slot, names)? {
         PathAnswer::Hole => {
-            unfound.see_hole(slot);
+            unfound.hole = first(unfound.hole, slot);
             Ok(None)
         }
         PathAnswer::Lost => {
-            unfound.see_lost(slot);
+            unfound.lost = first(unfound.lost, slot);
             Ok(None)
         }
         PathAnswer::Holds(_) => search_cell(
             disk,
-            at,
             directory,
-            it,
             &names.cell.payload,
             slot,
             name,
@@ -230,31 +214,19 @@ fn search_slot<D: Disk>(
 /// Searches a directory for a name.
 pub(crate) fn search<D: Disk>(
     disk: &mut D,
-    at: &SuperBlock,
-    directory: u32,
-    it: &Record,
+    directory: ReadInode,
     name: &[u8],
     names: &mut LastRead,
     records: &mut LastRead,
 ) -> Result<Searched, Failed>
-    requires directory { KnowsDirectory (D.state disk.old) at.now directory it.now.generation it.now }
+    requires directory { KnowsFolder (D.state disk.old) directory }
     requires names { IsLast (D.state disk.old) names.old }
     requires last { IsLast (D.state disk.old) records.old }
-    ensures { Searches (D.state disk.old) (D.state disk.new) at.now directory name.now names.new records.new result }
+    ensures { Searches (D.state disk.old) (D.state disk.new) directory.at directory.inode name.now names.new records.new result }
 {
     let mut unfound = Unfound::NONE;
     for slot in 0..72 {
-        match search_slot(
-            disk,
-            at,
-            directory,
-            it,
-            slot,
-            name,
-            &mut unfound,
-            names,
-            records,
-        )? {
+        match search_slot(disk, directory, slot, name, &mut unfound, names, records)? {
             None => {}
             Some(found) => return Ok(Searched::Found(found)),
         }

@@ -4,6 +4,7 @@ ghost use Rattle.nofs_names.specs.Searching.{KnowsPaired};
 ghost use Rattle.nofs_names.specs.Dropping.{FindsEmpty};
 
 use crate::filled::has_names;
+use crate::inodes::ReadInode;
 use crate::searching::Paired;
 use nofs_agree::LastRead;
 use nofs_disk::Disk;
@@ -31,7 +32,12 @@ pub(crate) fn refuse_filled<D: Disk>(
     match found.kind {
         FileKind::File => Ok(()),
         FileKind::Directory => {
-            match has_names(disk, at, found.inode, &found.record, names, records) {
+            let directory = ReadInode {
+                at: *at,
+                inode: found.inode,
+                record: found.record,
+            };
+            match has_names(disk, directory, names, records) {
                 Ok(true) => Err(Refusal::NotEmpty),
                 Ok(false) => Ok(()),
                 Err(_) => Err(Refusal::ReadFault),

@@ -1,21 +1,22 @@
 //! One write of a step, and an entry in a cell.
-ghost use Rattle.std.specs.Prelude.{◌≡◌, ◌*◌, ◌<◌, ◌≤◌, ◌∷◌, [], length, OnOk};
+ghost use Rattle.std.specs.Prelude.{◌≡◌, ◌*◌, ◌/◌, ◌<◌, ◌≤◌, ◌∷◌, [], length, OnOk};
 ghost use Rattle.nofs_disk.specs.Number.{put_bytes};
-ghost use Rattle.nofs_dirent.specs.Entries.{HasEntrySpelling, entry_with, spelled_entry};
+ghost use Rattle.nofs_dirent.specs.Entries.{HasEntrySpelling, entry_limit, entry_with, spelled_entry};
 ghost use Rattle.nofs_dirent.specs.EntryLaws.{Spells};
-ghost use Rattle.nofs_agree.specs.Reading.{IsLast, KnowsInode};
+ghost use Rattle.nofs_agree.specs.Reading.{IsLast};
+ghost use Rattle.nofs_names.specs.Inodes.{Knows};
 ghost use Rattle.nofs_names.specs.Renames.{HoldsSlot, IsSlotHeld};
 ghost use Rattle.nofs_state.specs.Writing.{Stores};
 
-use nofs_agree::{LastRead, find_slot};
+use crate::inodes::ReadInode;
+use crate::searching::Paired;
+use nofs_agree::LastRead;
 use nofs_dirent::{Entry, write_entry};
 use nofs_disk::{Cell, Disk, Pointer};
-use nofs_inode::Record;
 use nofs_lists::Name;
 use nofs_machine::Refusal;
-use nofs_model::{PathAnswer, place_of};
+use nofs_model::PathAnswer;
 use nofs_state::Core;
-use nofs_super::SuperBlock;
 use std::alloc::{AllocError, Global};
 
 /// Writes a cell. Where the write fails the mount is stopped.
@@ -65,26 +66,25 @@ pub(crate) fn put_entry(
     Ok(())
 }
 
-/// The block of a slot that holds. It is the one that was read last.
+/// The block of the slot of an entry, which holds. It is the one that was read last.
 ///
 /// # Errors
 ///
 /// `ReadFault` where a read failed. Where the disk tells, the slot must hold; where it does not, it
 /// may answer `LostSlot`.
-pub(crate) fn hold_slot<D: Disk>(
+pub(crate) fn hold_entry<D: Disk>(
     disk: &mut D,
-    at: &SuperBlock,
-    directory: u32,
-    it: &Record,
-    slot: u32,
+    directory: ReadInode,
+    found: &Paired,
     names: &mut LastRead,
 ) -> Result<Pointer, Refusal>
-    requires known { KnowsInode (D.state disk.old) at.now directory it.now }
-    requires slot { slot < 72 }
+    requires range { found.now.entry < entry_limit }
+    requires known { Knows (D.state disk.old) directory }
     requires last { IsLast (D.state disk.old) names.old }
-    ensures { HoldsSlot (D.state disk.old) (D.state disk.new) at.now directory slot names.new result }
+    ensures { HoldsSlot (D.state disk.old) (D.state disk.new) directory.at directory.inode (found.now.entry / 16) names.new result }
 {
-    match find_slot(disk, at, directory, it, place_of(u64::from(slot)), names) {
+    let slot = found.entry / 16;
+    match directory.find(disk, slot, names) {
         Err(_) => Err(Refusal::ReadFault),
         Ok(answer) => held(answer, slot),
     }

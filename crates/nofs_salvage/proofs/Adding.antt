@@ -1,6 +1,7 @@
 -- What is found adds up, line by line.
-use Rattle.std.proofs.Common.{◌≡◌, ℕ, Bool, true, false, ◌&&◌, ◌||◌, not, ◌++◌, List, [], ◌∷◌, refl, sym, ap, ◌∙◌, subst, append_assoc, bytes_eq}
-use Rattle.std.proofs.lemmas.List.{append-nil}
+use Rattle.std.proofs.Common.{◌≡◌, ℕ, ◌+◌, ◌<◌, Bool, true, false, ◌&&◌, ◌||◌, not, ◌++◌, List, [], ◌∷◌, length, take, get_or, refl, sym, ap, ◌∙◌, subst}
+use Rattle.std.proofs.Common.{append_assoc, bytes_eq}
+use Rattle.std.proofs.lemmas.List.{append-nil, take_more}
 use Rattle.std.proofs.lemmas.List.Folds.{list_any-append}
 use Rattle.nofs_inode.specs.declared.inode.FileKind.TheVariants as kind
 use Rattle.nofs_model.specs.Image.{Files}
@@ -31,11 +32,9 @@ adds-on l m f h old mid new a b = record {
 
 -- What a pair leads to
 
--- a file by the name that finds it
-pub named-losses : (W : World) (d i : ℕ) (found name : List ℕ) (old new : List Loss) → inode_found W.files d found ≡ i → found ≡ name
-    → new ≡ old ++ file_losses W i
+pub found-losses : (W : World) (d i : ℕ) (name : List ℕ) (old new : List Loss) → inode_found W.files d name ≡ i → new ≡ old ++ file_losses W i
     → new ≡ old ++ file_losses W (inode_found W.files d name)
-named-losses W d i found name old new e same h = h ∙ ap (λ j. old ++ file_losses W j) (sym e ∙ ap (inode_found W.files d) same)
+found-losses W d i name old new e h = h ∙ ap (λ j. old ++ file_losses W j) (sym e)
 
 pub pair-directory : (W : World) (wanted : Bool) (d : ℕ) (line : NameLine) (old new : Findings) → line.kind ≡ kind.Directory
     → Adds [] (inode_found W.files d line.name ∷ []) old new
@@ -105,6 +104,16 @@ pub line-pair : (W : World) (picks : List ℕ → Bool) (d : ℕ) (earlier : Lis
 line-pair W picks d earlier line old new live fresh h = rw (live, fresh) h
 
 -- Several lines
+
+-- the line at place i
+pub record IsAt (lines : List NameLine) (i : ℕ) (line : NameLine) : Type 0 where
+  pub below : i < length lines
+  pub is : line ≡ get_or lines i line
+  pub front : take (i + 1) lines ≡ take i lines ++ line ∷ []
+
+pub is-at : (lines : List NameLine) (i : ℕ) (line : NameLine) → i < length lines → line ≡ get_or lines i line → IsAt lines i line
+is-at lines i line below is =
+    record { below = below; is = is; front = take_more lines i line below ∙ ap (λ l. take i lines ++ l ∷ []) (sym is) }
 
 losses-more : (W : World) (picks : List ℕ → Bool) (d : ℕ) (earlier lines : List NameLine) (line : NameLine)
     → lines_losses W picks d earlier (lines ++ line ∷ []) ≡ lines_losses W picks d earlier lines ++ line_losses W picks d (earlier ++ lines) line

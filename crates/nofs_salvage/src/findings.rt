@@ -3,7 +3,6 @@
 //! Promise: losses are noted at the end, and directories once.
 ghost use Rattle.std.specs.Prelude.{◌≡◌, ◌++◌, [], ◌∷◌, IfOk, OnOk};
 ghost use Rattle.nofs_salvage.specs.Report.{if_so, name_loss};
-ghost use Rattle.nofs_salvage.specs.Trees.{inodes_in};
 ghost use Rattle.nofs_salvage.specs.Handles.{root_handle};
 ghost use Rattle.nofs_salvage.specs.Told.{handles_in};
 
@@ -23,7 +22,7 @@ pub struct Findings {
 impl Findings {
     /// No losses, and the root.
     pub fn new(alloc: Global) -> Result<Self, AllocError>
-        ensures begins { IfOk result (λ findings. (findings.report ≡ []) × (inodes_in findings.tree ≡ 1 ∷ [])) }
+        ensures begins { IfOk result (λ findings. findings.report ≡ []) }
         ensures root { IfOk result (λ findings. handles_in findings.tree ≡ root_handle ∷ []) }
     {
         let mut tree = Tree::new(alloc);

@@ -59,8 +59,8 @@ fn note_slot<S: Steps>(
 fn note_slots<S: Steps>(
     steps: &mut S,
     at: Handle,
-    size: u64,
     report: &mut Report,
+    size: u64,
 ) -> Result<(), SalvageFault>
     ensures reads { Reads (S.made steps.old) (S.made steps.new) (refusal_by result) }
     ensures noted { OnOk result ((W : World) → AreAnswered W (S.made steps.old) (S.made steps.new)
@@ -94,5 +94,5 @@ pub fn note_file<S: Steps>(
     ensures goes { S.goes steps.old steps.new }
 {
     let size = size_of(steps, at)?;
-    note_slots(steps, at, size, report)
+    note_slots(steps, at, report, size)
 }

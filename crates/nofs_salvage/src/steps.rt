@@ -16,6 +16,7 @@ ghost use Rattle.nofs_salvage.specs.Asks.{Asks, HasReached, HasGiven, HasTold, L
 use crate::fault::{SalvageFault, fault_of};
 use nofs_lists::Name;
 use nofs_machine::{NameList, Refusal, Reply, Step, Steps};
+use std::alloc::Global;
 
 /// A file or a directory: its inode, with the generation that tells it from an earlier one.
 #[derive(Clone, Copy, Debug, PartialEq, Eq)]
@@ -71,25 +72,46 @@ fn found_in(reply: Reply) -> Result<Handle, SalvageFault>
     }
 }
 
-/// The file or directory that a name finds.
-pub fn look<S: Steps>(steps: &mut S, at: Handle, name: Name) -> Result<Handle, SalvageFault>
+// The file or directory that a name finds.
+fn look<S: Steps>(steps: &mut S, at: Handle, name: Name) -> Result<Handle, SalvageFault>
     ensures reads { Reads (S.made steps.old) (S.made steps.new) (refusal_by result) }
-    ensures found { IfOk result (λ found. (W : World) → AreAnswered W (S.made steps.old) (S.made steps.new) → inode_found W.files at.inode name ≡ found.inode) }
-    ensures there { IfOk result (λ found. (W : World) → AreAnswered W (S.made steps.old) (S.made steps.new)
-        → is_there W.files found.inode found.generation ≡ true) }
+    ensures goes { S.goes steps.old steps.new }
     ensures right { (W : World) (folder : Bool) → AreAnswered W (S.made steps.old) (S.made steps.new) → MayAsk W.files true at
         → LeadsTo W.files at.inode name folder → AreFair W.files (S.made steps.old) (S.made steps.new) }
     ensures asks { (first : List Made) → Asks first (S.made steps.old) → HasGiven first (S.made steps.old) at name → Asks first (S.made steps.new) }
+    ensures found { IfOk result (λ found. (W : World) → AreAnswered W (S.made steps.old) (S.made steps.new) → inode_found W.files at.inode name ≡ found.inode) }
+    ensures there { IfOk result (λ found. (W : World) → AreAnswered W (S.made steps.old) (S.made steps.new)
+        → is_there W.files found.inode found.generation ≡ true) }
     ensures met { IfOk result (λ found. (first : List Made) → Asks first (S.made steps.old) → HasReached first (S.made steps.new) found) }
-    ensures goes { S.goes steps.old steps.new }
 {
     let step = Step::Look {
         directory: at.inode,
         generation: at.generation,
         name,
     };
-    let reply = ask(steps, step)?;
-    found_in(reply)
+    found_in(ask(steps, step)?)
+}
+
+/// The file or directory that a name finds, which is copied for the step.
+pub fn find<S: Steps>(
+    alloc: Global,
+    steps: &mut S,
+    at: Handle,
+    name: &Name,
+) -> Result<Handle, SalvageFault>
+    ensures reads { Reads (S.made steps.old) (S.made steps.new) (refusal_by result) }
+    ensures goes { S.goes steps.old steps.new }
+    ensures right { (W : World) (folder : Bool) → AreAnswered W (S.made steps.old) (S.made steps.new) → MayAsk W.files true at
+        → LeadsTo W.files at.inode name.now folder → AreFair W.files (S.made steps.old) (S.made steps.new) }
+    ensures asks { (first : List Made) → Asks first (S.made steps.old) → HasGiven first (S.made steps.old) at name.now → Asks first (S.made steps.new) }
+    ensures found { IfOk result (λ found. (W : World) → AreAnswered W (S.made steps.old) (S.made steps.new)
+        → inode_found W.files at.inode name.now ≡ found.inode) }
+    ensures there { IfOk result (λ found. (W : World) → AreAnswered W (S.made steps.old) (S.made steps.new)
+        → is_there W.files found.inode found.generation ≡ true) }
+    ensures met { IfOk result (λ found. (first : List Made) → Asks first (S.made steps.old) → HasReached first (S.made steps.new) found) }
+{
+    let name = name.copy(alloc)?;
+    look(steps, at, name)
 }
 
 // What the reply to a stat says.
@@ -106,20 +128,19 @@ fn size_in(reply: Reply) -> Result<u64, SalvageFault>
 /// The size of a file in bytes.
 pub fn size_of<S: Steps>(steps: &mut S, at: Handle) -> Result<u64, SalvageFault>
     ensures reads { Reads (S.made steps.old) (S.made steps.new) (refusal_by result) }
-    ensures size { IfOk result (λ size. (W : World) → AreAnswered W (S.made steps.old) (S.made steps.new) → size_of_file W.files at.inode ≡ size) }
-    ensures there { IfOk result (λ size. (W : World) → AreAnswered W (S.made steps.old) (S.made steps.new) → is_there W.files at.inode at.generation ≡ true) }
+    ensures goes { S.goes steps.old steps.new }
     ensures right { (W : World) (folder : Bool) → AreAnswered W (S.made steps.old) (S.made steps.new) → MayAsk W.files folder at
         → AreFair W.files (S.made steps.old) (S.made steps.new) }
     ensures asks { (first : List Made) → Asks first (S.made steps.old) → HasReached first (S.made steps.old) at → Asks first (S.made steps.new) }
+    ensures size { IfOk result (λ size. (W : World) → AreAnswered W (S.made steps.old) (S.made steps.new) → size_of_file W.files at.inode ≡ size) }
+    ensures there { IfOk result (λ size. (W : World) → AreAnswered W (S.made steps.old) (S.made steps.new) → is_there W.files at.inode at.generation ≡ true) }
     ensures told { IfOk result (λ size. (first : List Made) → Asks first (S.made steps.old) → HasTold first (S.made steps.new) at size) }
-    ensures goes { S.goes steps.old steps.new }
 {
     let step = Step::Stat {
         inode: at.inode,
         generation: at.generation,
     };
-    let reply = ask(steps, step)?;
-    size_in(reply)
+    size_in(ask(steps, step)?)
 }
 
 // What the reply to a list says.
@@ -138,23 +159,22 @@ fn listed_in(reply: Reply) -> Result<Listed, SalvageFault>
 /// The first slot of a directory, from the given one on, that isn't a hole.
 pub fn list<S: Steps>(steps: &mut S, at: Handle, slot: u64) -> Result<Listed, SalvageFault>
     ensures reads { Reads (S.made steps.old) (S.made steps.new) (refusal_by result) }
+    ensures goes { S.goes steps.old steps.new }
+    ensures right { (W : World) → AreAnswered W (S.made steps.old) (S.made steps.new) → MayAsk W.files true at
+        → AreFair W.files (S.made steps.old) (S.made steps.new) }
+    ensures asks { (first : List Made) → Asks first (S.made steps.old) → HasReached first (S.made steps.old) at → Asks first (S.made steps.new) }
     ensures below { IfOk result IsInFolder }
     ensures names { IfOk result AreNames }
     ensures listed { IfOk result (λ listed. (W : World) → AreAnswered W (S.made steps.old) (S.made steps.new) → IsListedFrom W.files at.inode slot listed) }
     ensures there { IfOk result (λ listed. (W : World) → AreAnswered W (S.made steps.old) (S.made steps.new) → is_there W.files at.inode at.generation ≡ true) }
-    ensures right { (W : World) → AreAnswered W (S.made steps.old) (S.made steps.new) → MayAsk W.files true at
-        → AreFair W.files (S.made steps.old) (S.made steps.new) }
-    ensures asks { (first : List Made) → Asks first (S.made steps.old) → HasReached first (S.made steps.old) at → Asks first (S.made steps.new) }
     ensures gives { IfOk result (λ listed. (first : List Made) → Asks first (S.made steps.old) → ListGives first (S.made steps.new) at listed) }
-    ensures goes { S.goes steps.old steps.new }
 {
     let step = Step::List {
         directory: at.inode,
         generation: at.generation,
         slot,
     };
-    let reply = ask(steps, step)?;
-    listed_in(reply)
+    listed_in(ask(steps, step)?)
 }
 
 fn is_too_large(why: Refusal) -> bool
@@ -183,14 +203,14 @@ fn told(reply: Reply) -> Result<Got, SalvageFault>
 /// What a slot of a file has.
 pub fn get<S: Steps>(steps: &mut S, at: Handle, slot: u64) -> Result<Got, SalvageFault>
     ensures reads { Reads (S.made steps.old) (S.made steps.new) (refusal_by result) }
-    ensures got { IfOk result (λ got. (W : World) → AreAnswered W (S.made steps.old) (S.made steps.new) → IsGot W at.inode slot got) }
-    ensures right { (W : World) → AreAnswered W (S.made steps.old) (S.made steps.new) → MayAsk W.files false at
-        → AreFair W.files (S.made steps.old) (S.made steps.new) }
+    ensures goes { S.goes steps.old steps.new }
     ensures asks { (first : List Made) (size : ℕ) → slot < slots_of_size size → Asks first (S.made steps.old) → HasReached first (S.made steps.old) at
         → HasTold first (S.made steps.old) at size → Asks first (S.made steps.new) }
+    ensures right { (W : World) → AreAnswered W (S.made steps.old) (S.made steps.new) → MayAsk W.files false at
+        → AreFair W.files (S.made steps.old) (S.made steps.new) }
+    ensures got { IfOk result (λ got. (W : World) → AreAnswered W (S.made steps.old) (S.made steps.new) → IsGot W at.inode slot got) }
     ensures told { IfOk result (λ got. (first : List Made) (size : ℕ) → has_slot got ≡ true → HasTold first (S.made steps.old) at size
         → HasTold first (S.made steps.new) at size) }
-    ensures goes { S.goes steps.old steps.new }
 {
     let step = Step::Get {
         inode: at.inode,

@@ -22,8 +22,9 @@ fn stand_in(alloc: Global, answers: &[Answer<'_>]) -> Result<StandIn, AllocError
     for answer in answers.iter().rev() {
         replies.push(reply(alloc, *answer)?)?;
     }
-    let pad = Notepad::new(alloc);
-    let asked = AskedSteps { pad };
+    let asked = AskedSteps {
+        pad: Notepad::new(alloc),
+    };
     Ok(Told::new(InTurn { replies, asked }))
 }
 
@@ -100,19 +101,15 @@ fn a_dead_name_that_is_not_picked_is_left_out(rt: HostRuntime) -> Result<(), Fai
 #[test]
 fn the_second_pair_of_a_name_is_reported(rt: HostRuntime) -> Result<(), Fail> {
     let pair = ("a", FileKind::File, false);
-    check(
-        &rt,
-        rt.alloc(),
-        &[
-            Answer::Sized(0),
-            Answer::Names(0, &[pair, pair]),
-            Answer::Found(3, FileKind::File),
-            Answer::Sized(0),
-            Answer::NoMore,
-        ],
-        &[Lost::Twice(1, "a")],
-        "stat 2 0; list 1 0; look 1 0; stat 3 0; list 1 1; ",
-    )
+    let answers = [
+        Answer::Sized(0),
+        Answer::Names(0, &[pair, pair]),
+        Answer::Found(3, FileKind::File),
+        Answer::Sized(0),
+        Answer::NoMore,
+    ];
+    let steps = "stat 2 0; list 1 0; look 1 0; stat 3 0; list 1 1; ";
+    check(&rt, rt.alloc(), &answers, &[Lost::Twice(1, "a")], steps)
 }
 
 #[test]

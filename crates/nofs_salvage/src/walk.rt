@@ -9,7 +9,6 @@ ghost use Rattle.nofs_machine.specs.Steps.{Made};
 ghost use Rattle.nofs_salvage.specs.Reads.{Reads, refusal_by};
 ghost use Rattle.nofs_salvage.specs.Report.{tree_losses, tree_of, report_of};
 ghost use Rattle.nofs_salvage.specs.Answered.{AreAnswered};
-ghost use Rattle.nofs_salvage.specs.Trees.{inodes_in};
 ghost use Rattle.nofs_salvage.specs.Refusing.{is_there, HasRoots, MayRefuse, AreFair};
 ghost use Rattle.nofs_salvage.specs.Handles.{root_handle};
 ghost use Rattle.nofs_salvage.specs.Told.{handles_in};
@@ -34,8 +33,7 @@ fn note_tree<S: Steps, P: Fn(&[u8]) -> bool, R: NameRule>(
 ) -> Result<(), SalvageFault>
     requires may { P.IsAlwaysCallable filter.now.keep }
     requires decides { (name : List ℕ) (yes : Bool) → FnReturnsAt P.Fn filter.now.keep name yes → yes ≡ R.picks filter.now.rule name }
-    requires root { inodes_in findings.old.tree ≡ 1 ∷ [] }
-    requires handle { handles_in findings.old.tree ≡ root_handle ∷ [] }
+    requires root { handles_in findings.old.tree ≡ root_handle ∷ [] }
     ensures reads { Reads (S.made steps.old) (S.made steps.new) (refusal_by result) }
     ensures noted { OnOk result ((W : World) → AreAnswered W (S.made steps.old) (S.made steps.new)
         → findings.new.report ≡ findings.old.report ++ tree_losses W (R.picks filter.now.rule) (tree_of W.files)) }

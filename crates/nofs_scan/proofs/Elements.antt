@@ -25,7 +25,7 @@ use Rattle.nofs_state.proofs.Machine.{are-agreed}
 use Rattle.nofs_state.proofs.Seeing.{block-learned, block-row, block-stands, block-stood, machine-block, machine-inode, safe-block, seen-causes}
 use Rattle.nofs_state.proofs.SeeingInodes.{inode-learned, inode-row, inode-stands, inode-stood, safe-inode}
 
-pub in-table : (n i : ℕ) → (eqb i 0 || ltb n i) ≡ false → (1 ≤ i) × (i ≤ n)
+in-table : (n i : ℕ) → (eqb i 0 || ltb n i) ≡ false → (1 ≤ i) × (i ≤ n)
 in-table n i e = (low n i e, high n i e)
   where
     low : (n i : ℕ) → (eqb i 0 || ltb n i) ≡ false → 1 ≤ i
@@ -132,3 +132,30 @@ module _ (old : DiskState) (k : Books) (s : Step) (stood : Option Bool) (learned
   element-unread new l result x (Unread y judged same e) is-err =
       subst (λ (m : Books). Goes old k new m s no_claims (reply.Refused refusal.ReadFault)) (sym same)
       (goes-read old new k s is safe judged.stays going judged.cause (λ tells H p o why row. absurd (let none = element.no_row H p o in cc (none, row))))
+
+-- what a verified element leaves, as it was read or not
+pub record IsSeenStep (old : DiskState) (k : Books) (new : DiskState) (l : Books) (s : Step) (result : Result Bool Failed) : Type 0 where
+  pub read : (used : Bool) → result ≡ Ok used → Goes old k new l s no_claims (reply.Seen used)
+  pub unread : (x : Failed) → result ≡ Err x → Goes old k new l s no_claims (reply.Refused refusal.ReadFault)
+
+module _ (old : DiskState) (k : Books) (is : IsDisk old) (safe : IsSafe old k) (going : k.stopped ≡ false) (new : DiskState) (l : Books)
+    (result : Result Bool Failed) where
+  verified : (s : Step) (stood : Option Bool) (learned : Bool → Books) (answer : Image → Bool) (Fits : Bool → Type 0)
+      → IsElement old k s stood learned answer Fits → Verifies old k new l stood learned answer Fits result → IsSeenStep old k new l s result
+  verified s stood learned answer Fits element v = record {
+    read = λ used e. element-seen old k s stood learned answer Fits is safe going element new l result used v e;
+    unread = λ x e. element-unread old k s stood learned answer Fits is safe going element new l result x v e;
+  }
+
+  pub block-verified : (b : ℕ) → b < k.at.blocks
+      → Verifies old k new l (verdict_of_block k b) (learned_block k b) (λ X. is_used_block X b) (InData k b) result
+      → IsSeenStep old k new l (step.SeeBlock b) result
+  block-verified b low = verified (step.SeeBlock b) (verdict_of_block k b) (learned_block k b) (λ X. is_used_block X b) (InData k b)
+      (block-element old k is safe going b low)
+
+  pub inode-verified : (i : ℕ) → (eqb i 0 || ltb k.at.inodes i) ≡ false
+      → Verifies old k new l (verdict_of_inode k i) (learned_inode k i) (λ X. is_used_inode X i) (λ used. Unit {0}) result
+      → IsSeenStep old k new l (step.SeeInode i) result
+  inode-verified i e = let range = in-table k.at.inodes i e in
+      verified (step.SeeInode i) (verdict_of_inode k i) (learned_inode k i) (λ X. is_used_inode X i) (λ used. Unit {0})
+      (inode-element old k is safe going (λ used. Unit {0}) i range.0 range.1)

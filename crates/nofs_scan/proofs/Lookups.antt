@@ -12,13 +12,14 @@ use Rattle.nofs_model.specs.Cells.{SuperBlock}
 use Rattle.nofs_model.specs.Image.{Image, is_fixed_block}
 use Rattle.nofs_machine.specs.declared.steps.ElementKind.{ElementKind}
 use Rattle.nofs_machine.specs.declared.steps.ElementKind.TheVariants as element
+use Rattle.nofs_machine.specs.declared.replies.Refusal.{Refusal}
 use Rattle.nofs_machine.specs.declared.replies.Refusal.TheVariants as refusal
 use Rattle.nofs_agree.specs.Chains.{AreTrue, Learns}
 use Rattle.nofs_agree.specs.Reading.{IsAt}
 use Rattle.nofs_agree.proofs.Climbs.{told-on}
 use Rattle.nofs_agree.proofs.Learning.{learns-more, learns-none}
 use Rattle.nofs_scan.specs.Elements.{HasElement, IsSeen, is_used, items_of, least_free}
-use Rattle.nofs_scan.specs.Looking.{LooksAll, LooksAt}
+use Rattle.nofs_scan.specs.Looking.{LooksAll, LooksAt, LooksFail}
 use Rattle.nofs_scan.specs.Seeing.{Sees}
 use Rattle.nofs_scan.specs.Sights.{block_sight, inode_sight, item_of, sight_verdict, sight_in, verdict_by}
 use Rattle.nofs_scan.specs.declared.evidence.Verdict.{Verdict}
@@ -168,29 +169,32 @@ looked-ends old now at known more kind items place ss l all =
       refused = tt;
     }
 
--- a read failed on the way, or memory was wanting
+looked-refused : (old now new : DiskState) (at : SuperBlock) (known more most : List (Option Bool)) (kind : ElementKind) (items : List ℕ) (place item : ℕ)
+    (ss : List Sight) (r : Result Sight Failed) (why : Refusal)
+    → Looked old at known more now kind items place ss → LooksAt now at more most new kind item r → LooksFail old new why
+    → LooksAll old at known most new kind items (Err why)
+looked-refused old now new at known more most kind items place item ss r why l looks fails = record {
+  stays = StaysButFaults-trans old now new l.stays looks.sees.stays;
+  learns = learns-more old now known more most l.stays l.learns looks.sees.learns;
+  sees = tt;
+  items = tt;
+  right = tt;
+  refused = fails;
+}
+
+-- a read failed on the way
 pub looked-unread : (old now new : DiskState) (at : SuperBlock) (known more most : List (Option Bool)) (kind : ElementKind) (items : List ℕ) (place item : ℕ)
     (ss : List Sight) (x : Failed)
     → Looked old at known more now kind items place ss → LooksAt now at more most new kind item (Err x)
     → LooksAll old at known most new kind items (Err refusal.ReadFault)
-looked-unread old now new at known more most kind items place item ss x l looks = record {
-  stays = StaysButFaults-trans old now new l.stays looks.sees.stays;
-  learns = learns-more old now known more most l.stays l.learns looks.sees.learns;
-  sees = tt;
-  items = tt;
-  right = tt;
-  refused = Rose-within old.faults now.faults new.faults new.faults l.stays.disk.faults looks.sees.cause (le_refl new.faults);
-}
+looked-unread old now new at known more most kind items place item ss x l looks =
+    looked-refused old now new at known more most kind items place item ss (Err x) refusal.ReadFault l looks
+    (Rose-within old.faults now.faults new.faults new.faults l.stays.disk.faults looks.sees.cause (le_refl new.faults))
 
+-- memory was wanting
 pub looked-full : (old now new : DiskState) (at : SuperBlock) (known more most : List (Option Bool)) (kind : ElementKind) (items : List ℕ) (place item : ℕ)
     (ss : List Sight) (r : Result Sight Failed)
     → Looked old at known more now kind items place ss → LooksAt now at more most new kind item r
     → LooksAll old at known most new kind items (Err refusal.OutOfMemory)
-looked-full old now new at known more most kind items place item ss r l looks = record {
-  stays = StaysButFaults-trans old now new l.stays looks.sees.stays;
-  learns = learns-more old now known more most l.stays l.learns looks.sees.learns;
-  sees = tt;
-  items = tt;
-  right = tt;
-  refused = tt;
-}
+looked-full old now new at known more most kind items place item ss r l looks =
+    looked-refused old now new at known more most kind items place item ss r refusal.OutOfMemory l looks tt

@@ -1,10 +1,11 @@
 -- One read after another.
-use Rattle.std.proofs.Common.{◌≡◌, Bool, List, Option, Result, Ok, Err, sym, ap, ◌∙◌, subst, le_refl}
+use Rattle.std.proofs.Common.{◌≡◌, ℕ, Bool, List, Option, Result, Ok, Err, IsTrue, sym, ap, ◌∙◌, subst, le_refl}
 use Rattle.nofs_disk.specs.Disk.{DiskState, StaysButFaults, Rose}
 use Rattle.nofs_disk.specs.Chains.{Rose-within, StaysButFaults-trans}
 use Rattle.nofs_disk.specs.declared.Failed.{Failed}
 use Rattle.nofs_model.specs.Image.{Image}
-use Rattle.nofs_agree.specs.Chains.{AreTrue}
+use Rattle.nofs_model.specs.Files.{agreed, files_in}
+use Rattle.nofs_agree.specs.Chains.{AreTrue, Learns}
 use Rattle.nofs_agree.proofs.Climbs.{told-on}
 use Rattle.nofs_agree.proofs.Learning.{learns-more, learns-none}
 use Rattle.nofs_scan.specs.Seeing.{ReadsAnswer, Sees}
@@ -20,6 +21,15 @@ pub reads-sees : {T : Type 0} (old new : DiskState) (known : List (Option Bool))
     → Sees old new known known f result
 reads-sees old new known f (Ok a) r = record { stays = r.stays; learns = learns-none old known; found = λ tells agreed. r.found tells; cause = r.cause }
 reads-sees old new known f (Err e) r = record { stays = r.stays; learns = learns-none old known; found = tt; cause = r.cause }
+
+-- whether an inode is agreed, as the check of its chain learns it
+pub agreed-sees : (old new : DiskState) (known more : List (Option Bool)) (i : ℕ) (a : Bool) → StaysButFaults old new → Learns old known more
+    → (IsTrue old.tells → AreTrue old.now known → a ≡ agreed (files_in old.now) i) → Sees old new known more (λ X. agreed (files_in X) i) (Ok a)
+agreed-sees old new known more i a stays learns found = record { stays = stays; learns = learns; found = found; cause = tt }
+
+pub agreed-fails : (old new : DiskState) (known more : List (Option Bool)) (i : ℕ) (e : Failed) → StaysButFaults old new → Learns old known more
+    → Rose old.faults new.faults → Sees old new known more (λ X. agreed (files_in X) i) (Err e)
+agreed-fails old new known more i e stays learns rose = record { stays = stays; learns = learns; found = tt; cause = rose }
 
 -- the first read failed
 pub reads-none : {A C : Type 0} (old mid : DiskState) (f : Image → A) (whole : Image → C) (e : Failed) → ReadsAnswer old mid f (Err e)

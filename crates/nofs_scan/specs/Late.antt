@@ -1,5 +1,5 @@
 -- A verdict of an earlier state of the mount, committed later.
-use Rattle.std.specs.Prelude.{◌≡◌, ℕ, List, ◌++◌, Bool, false, IsTrue}
+use Rattle.std.specs.Prelude.{◌≡◌, ◌<◌, ℕ, List, ◌++◌, length, Bool, false, IsTrue}
 use Rattle.nofs_disk.specs.Disk.{DiskState}
 use Rattle.nofs_model.specs.Image.{Image}
 use Rattle.nofs_machine.specs.Claims.{no_claims}
@@ -11,7 +11,8 @@ use Rattle.nofs_state.specs.Standing.{IsOpen, Past, Stands}
 use Rattle.nofs_state.specs.Steps.{Causes, Follows, SameMount, entry}
 use Rattle.nofs_state.specs.Verdicts.{Settles}
 use Rattle.nofs_state.specs.declared.books.Books.{Books}
-use Rattle.nofs_scan.specs.Elements.{is_used, learned, see_step, verdict_of}
+use Rattle.nofs_scan.specs.Elements.{is_used, learned, see_step, verdict_at, verdict_of}
+use Rattle.nofs_scan.specs.declared.evidence.Verdict.{Verdict}
 
 -- the mount stood open in this state before, after a part of its history
 pub record WasOpen (old : DiskState) (k : Books) (now : Books) (H : List Entry1) (p : Past) : Type 0 where
@@ -23,6 +24,14 @@ pub record WasOpen (old : DiskState) (k : Books) (now : Books) (H : List Entry1)
   pub past : Past
   pub mount : SameMount past p
   pub stood : IsOpen old k before past
+
+-- the verdict at a place of an evidence may be committed to these books: they go on, and have the numbers of its own
+pub record MayCommit (d : DiskState) (k before : Books) (vs : List Verdict) (place : ℕ) (used : Bool) : Type 0 where
+  pub safe : IsSafe d k
+  pub going : k.stopped ≡ false
+  pub within : place < length vs
+  pub verdict : used ≡ (verdict_at vs place).used
+  pub numbers : before.at ≡ k.at
 
 -- A verdict that was right in an earlier state is committed now. The disk `d` stays: a commit makes no call
 pub record Commits (early : DiskState) (before : Books) (d : DiskState) (k l : Books) (kind : ElementKind) (item : ℕ) (used result : Bool) : Type 0 where

@@ -1,14 +1,15 @@
 -- What a look at elements finds.
-use Rattle.std.specs.Prelude.{◌≡◌, ℕ, Bool, true, List, Option, All, IsTrue, map, Result, IfOk, IfErr}
+use Rattle.std.specs.Prelude.{◌≡◌, ◌≤◌, ℕ, Bool, true, List, length, Option, All, IsTrue, map, Result, IfOk, IfErr}
 use Rattle.nofs_disk.specs.declared.Failed.{Failed}
 use Rattle.nofs_disk.specs.Disk.{DiskState, StaysButFaults, Rose}
 use Rattle.nofs_model.specs.Cells.{SuperBlock}
 use Rattle.nofs_machine.specs.declared.steps.ElementKind.{ElementKind}
 use Rattle.nofs_machine.specs.declared.replies.Refusal.{Refusal}
 use Rattle.nofs_machine.specs.declared.replies.Refusal.TheVariants as refusal
+use Rattle.nofs_state.specs.Knowing.{with_agreement}
 use Rattle.nofs_state.specs.declared.books.Books.{Books}
 use Rattle.nofs_agree.specs.Chains.{AreTrue, Learns}
-use Rattle.nofs_scan.specs.Elements.{IsSeen, items_of}
+use Rattle.nofs_scan.specs.Elements.{HasElement, IsSeen, items_of}
 use Rattle.nofs_scan.specs.Seeing.{Sees}
 use Rattle.nofs_scan.specs.Sights.{item_of, sight_in, verdict_by}
 use Rattle.nofs_scan.specs.declared.sights.Sight.{Sight}
@@ -19,6 +20,18 @@ pub record LooksAt (old : DiskState) (at : SuperBlock) (known more : List (Optio
   pub sees : Sees old new known more (λ X. sight_in kind X item) result
   pub number : IfOk result (λ s. item_of s ≡ item)
   pub right : IfOk result (λ s. IsSeen old at known kind (verdict_by s))
+
+-- 1 to 64 elements of the disk
+pub record IsBatch (kind : ElementKind) (at : SuperBlock) (items : List ℕ) : Type 0 where
+  pub some : 1 ≤ length items
+  pub most : length items ≤ 64
+  pub range : All (HasElement kind at) items
+
+-- a look changes nothing but the device's count of faults, and what is known of inodes
+pub record OnlyLearns (old : DiskState) (k : Books) (new : DiskState) (l : Books) : Type 0 where
+  pub books : l ≡ with_agreement k l.agreement
+  pub learns : Learns old k.agreement l.agreement
+  pub stays : StaysButFaults old new
 
 -- why a look is refused
 abbrev pub LookFails : DiskState → Books → DiskState → Refusal → Type 0

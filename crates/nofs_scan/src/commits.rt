@@ -1,9 +1,8 @@
 //! A verdict that was found before is committed.
-ghost use Rattle.std.specs.Prelude.{◌≡◌, ◌<◌, ◌^◌, length, false};
-ghost use Rattle.nofs_state.specs.Books.{IsSafe};
+ghost use Rattle.std.specs.Prelude.{◌≡◌, ◌<◌, ◌^◌, length};
 ghost use Rattle.nofs_state.specs.Verdicts.{Settles};
 ghost use Rattle.nofs_scan.specs.Elements.{HasElement, learned, verdict_at, verdict_of};
-ghost use Rattle.nofs_scan.specs.Late.{Commits};
+ghost use Rattle.nofs_scan.specs.Late.{Commits, MayCommit};
 
 use crate::evidence::Evidence;
 use nofs_disk::Disk;
@@ -19,11 +18,7 @@ pub fn commit<D: Disk + Drop>(
     at: u32,
     used: bool,
 ) -> bool
-    requires safe { IsSafe (D.state core.old.disk) core.old.books }
-    requires going { core.old.books.stopped ≡ false }
-    requires within { at < length evidence.now.verdicts }
-    requires used { used ≡ (verdict_at evidence.now.verdicts at).used }
-    requires numbers { evidence.now.core.value.books.at ≡ core.old.books.at }
+    requires { MayCommit (D.state core.old.disk) core.old.books evidence.now.core.value.books evidence.now.verdicts at used }
     ensures disk { core.new.disk ≡ core.old.disk }
     ensures commits { Commits (D.state evidence.now.core.value.disk) evidence.now.core.value.books (D.state core.old.disk) core.old.books core.new.books evidence.now.kind (verdict_at evidence.now.verdicts at).item used result }
 {

@@ -1,25 +1,16 @@
 //! A commit as a mount takes it: with its entry.
-ghost use Rattle.std.specs.Prelude.{◌≡◌, ℕ, ◌<◌, ◌^◌, length, false, IsTrue};
+ghost use Rattle.std.specs.Prelude.{◌≡◌, ℕ, ◌<◌, ◌^◌, IsTrue};
 ghost use Rattle.nofs_model.specs.Image.{Image};
 ghost use Rattle.nofs_state.specs.Books.{IsSafe};
 ghost use Rattle.nofs_state.specs.Standing.{Stands};
-ghost use Rattle.nofs_scan.specs.Elements.{see_step, verdict_at};
-ghost use Rattle.nofs_scan.specs.Late.{IsOfMount};
+ghost use Rattle.nofs_scan.specs.Elements.{see_step};
+ghost use Rattle.nofs_scan.specs.Late.{IsOfMount, MayCommit};
 
 use crate::commits::commit;
 use crate::evidence::Evidence;
-use nofs_disk::{Disk, Pointer};
-use nofs_machine::{Claims, ElementKind, Reply, Step};
+use nofs_disk::Disk;
+use nofs_machine::{ElementKind, NO_CLAIMS, Reply, Step};
 use nofs_state::Core;
-
-// Nothing was claimed.
-const NO_CLAIMS: Claims = Claims {
-    inode: 0,
-    generation: 0,
-    cell: Pointer::NULL,
-    leaf: Pointer::NULL,
-    top: Pointer::NULL,
-};
 
 /// Commits a verdict as one See step of the history. It takes no memory.
 pub fn commit_step<D: Disk + Drop>(
@@ -29,12 +20,8 @@ pub fn commit_step<D: Disk + Drop>(
     at: u32,
     used: bool,
 ) -> bool
-    requires safe { IsSafe (D.state core.old.disk) core.old.books }
-    requires going { core.old.books.stopped ≡ false }
+    requires may { MayCommit (D.state core.old.disk) core.old.books evidence.now.core.value.books evidence.now.verdicts at used }
     requires room { 0 < core.old.books.history.spare }
-    requires within { at < length evidence.now.verdicts }
-    requires used { used ≡ (verdict_at evidence.now.verdicts at).used }
-    requires numbers { evidence.now.core.value.books.at ≡ core.old.books.at }
     ensures safe { IsSafe (D.state core.new.disk) core.new.books }
     ensures stands { IsTrue (D.state core.old.disk).tells → (base : Image) → (first : ℕ) → IsOfMount (D.state evidence.now.core.value.disk) evidence.now.core.value.books core.old.books base first → Stands (D.state core.old.disk) core.old.books base first → Stands (D.state core.new.disk) core.new.books base first }
 {
@@ -45,8 +32,8 @@ pub fn commit_step<D: Disk + Drop>(
     stands
 }
 
-// The step that examines an element.
-fn step_of(kind: ElementKind, item: u64) -> Step
+/// The step that examines an element.
+pub fn step_of(kind: ElementKind, item: u64) -> Step
     requires { item < 2 ^ 32 }
     ensures { result ≡ see_step kind item }
 {

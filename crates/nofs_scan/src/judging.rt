@@ -4,7 +4,6 @@
 ghost use Rattle.std.specs.Prelude.{◌≡◌, ◌<◌, ℕ, Some};
 ghost use Rattle.nofs_model.specs.Files as files;
 ghost use Rattle.nofs_model.specs.Geometry.{Image, super_at};
-ghost use Rattle.nofs_model.specs.Cells as cells;
 ghost use Rattle.nofs_model.specs.Places.{IsPlace, place_path};
 ghost use Rattle.nofs_model.specs.Slots as slots;
 ghost use Rattle.nofs_machine.specs.declared.steps.ElementKind.{ElementKind};
@@ -12,7 +11,7 @@ ghost use Rattle.nofs_scan.specs.Elements.{HasElement, is_used};
 ghost use Rattle.nofs_scan.specs.Sights as sights;
 
 use crate::sights::{BlockSight, InodeSight, LinkSight, Named, Sight, TagSight};
-use nofs_disk::{Kind, Pointer, Tag};
+use nofs_disk::{Pointer, Tag};
 use nofs_inode::{BackLink, FileKind, Record};
 use nofs_model::{Place, kind_in, place_of, record_pointer, slot_number};
 
@@ -193,22 +192,6 @@ fn is_tag(tag: Option<Tag>, wanted: &Tag) -> bool
 {
     match tag {
         None => false,
-        Some(tag) => same_tag(&tag, wanted),
+        Some(tag) => tag == *wanted,
     }
-}
-
-fn same_tag(a: &Tag, b: &Tag) -> bool
-    ensures { result ≡ cells.same_tag a.now b.now }
-{
-    same_kind(a.kind, b.kind)
-        && a.inode == b.inode
-        && a.generation == b.generation
-        && a.slot == b.slot
-        && a.stamp == b.stamp
-}
-
-fn same_kind(a: Kind, b: Kind) -> bool
-    ensures { result ≡ cells.same_kind a b }
-{
-    a == b
 }

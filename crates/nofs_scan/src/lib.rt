@@ -14,7 +14,7 @@ mod sees;
 mod sights;
 
 pub use commits::commit;
-pub use entries::commit_step;
+pub use entries::{commit_step, step_of};
 pub use evidence::{Evidence, Verdict, Verdicts, judge};
 pub use laws::law_scanned;
 pub use looks::look_batch;

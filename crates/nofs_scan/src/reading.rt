@@ -2,50 +2,75 @@
 //!
 //! Promise: each sight is that of the disk's image, whatever the bytes are. A read changes no disk, takes no memory, and fails only
 //! where the disk's count of faults rose. What it finds of inodes on the ways up is known from then on.
-ghost use Rattle.std.specs.Prelude.{◌≡◌, ◌<◌, IfOk, IsTrue, length};
+ghost use Rattle.std.specs.Prelude.{◌≡◌, ◌<◌, ◌^◌, IsTrue, length};
 ghost use Rattle.nofs_inode.specs.declared.inode.FileKind.TheVariants as kind;
-ghost use Rattle.nofs_dirent.specs.Entries.{entry_bytes, entry_in};
+ghost use Rattle.nofs_dirent.specs.Entries.{entry_in};
 ghost use Rattle.nofs_model.specs.Files as files;
 ghost use Rattle.nofs_model.specs.Geometry as image;
 ghost use Rattle.nofs_model.specs.Places.{IsPlace, place_path};
 ghost use Rattle.nofs_model.specs.Slots as slots;
 ghost use Rattle.nofs_model.specs.Cells as cells;
 ghost use Rattle.nofs_agree.specs.Reading.{IsAt, IsLast, KnowsDirectory};
+ghost use Rattle.nofs_scan.specs.Elements.{HasElement};
+ghost use Rattle.nofs_scan.specs.Looking.{LooksAt};
 ghost use Rattle.nofs_scan.specs.Seeing.{ReadsAnswer, Sees};
 ghost use Rattle.nofs_scan.specs.Sights as sights;
 
 use crate::judging::is_slot;
-use crate::sights::{Above, BlockSight, BlocksAbove, InodeSight, LinkSight, Named, TagSight};
+use crate::sights::{
+    Above, BlockSight, BlocksAbove, InodeSight, LinkSight, Named, Sight, TagSight,
+};
 use nofs_agree::{Known, LastRead, PathAnswer, find_slot, learn_chain, read_block, read_inode};
+use nofs_dirent::bytes_of;
 use nofs_disk::{Disk, Failed, Tag, read_tag, read_u32_at, read_u64_at};
 use nofs_inode::{BackLink, FileKind, Record};
+use nofs_machine::ElementKind;
 use nofs_model::{Place, names_inode, place_of, record_pointer};
 use nofs_ptrs::read_pointer;
 use nofs_super::SuperBlock;
 
-/// Reads an inode's record, and what each of its back links leads to.
+/// Reads what the disk has of an element: an inode's record and what each of its back links leads to; or a block's tag and what
+/// stands in the slot that the tag names. Of a block of the superblock or the inode table nothing is read.
 ///
 /// # Errors
 ///
 /// `Failed` where a read failed.
-pub fn read_inode_sight<D: Disk>(
+pub fn read_sight<D: Disk>(
     disk: &mut D,
     at: &SuperBlock,
     known: &mut Known,
-    inode: u32,
-) -> Result<InodeSight, Failed>
+    kind: ElementKind,
+    item: u64,
+) -> Result<Sight, Failed>
     requires numbers { IsAt (D.state disk.old) at.now }
     requires known { length known.old ≡ at.now.inodes }
-    ensures sees { Sees (D.state disk.old) (D.state disk.new) known.old known.new (λ X. sights.inode_sight X inode) result }
-    ensures inode { IfOk result (λ sight. sight.inode ≡ inode) }
+    requires range { HasElement kind at.now item }
+    requires small { at.now.inodes < 2 ^ 32 }
+    ensures { LooksAt (D.state disk.old) at.now known.old known.new (D.state disk.new) kind item result }
 {
-    let in_table = read_record(disk, at, inode)?;
-    let links = read_links(disk, at, known, &in_table.links)?;
-    Ok(InodeSight {
-        inode,
-        in_table,
-        links,
-    })
+    match kind {
+        ElementKind::Inode => {
+            let inode = item as u32;
+            let in_table = read_record(disk, at, inode)?;
+            let links = read_links(disk, at, known, &in_table.links)?;
+            Ok(Sight::Inode(InodeSight {
+                inode,
+                in_table,
+                links,
+            }))
+        }
+        ElementKind::Block => {
+            if item <= at.inodes / 4 {
+                return Ok(Sight::Fixed(item));
+            }
+            let tag = read_own_tag(disk, at, item)?;
+            let tagged = read_tagged(disk, at, known, tag)?;
+            Ok(Sight::Block(BlockSight {
+                block: item,
+                tagged,
+            }))
+        }
+    }
 }
 
 fn read_record<D: Disk>(disk: &mut D, at: &SuperBlock, inode: u32) -> Result<Record, Failed>
@@ -100,22 +125,8 @@ fn read_link<D: Disk>(
     ensures { Sees (D.state disk.old) (D.state disk.new) known.old known.new (λ X. sights.link_sight X link.now) result }
 {
     let entry = read_link_entry(disk, at, link)?;
-    let agreed = read_agreed(disk, at, known, link.directory)?;
+    let agreed = learn_chain(disk, at, known, link.directory)?;
     Ok(LinkSight { entry, agreed })
-}
-
-// Whether an inode is agreed.
-fn read_agreed<D: Disk>(
-    disk: &mut D,
-    at: &SuperBlock,
-    known: &mut Known,
-    inode: u32,
-) -> Result<bool, Failed>
-    requires numbers { IsAt (D.state disk.old) at.now }
-    requires known { length known.old ≡ at.now.inodes }
-    ensures { Sees (D.state disk.old) (D.state disk.new) known.old known.new (λ X. files.agreed (files.files_in X) inode) result }
-{
-    learn_chain(disk, at, known, inode)
 }
 
 // The entry that a back link names, in a directory of its generation.
@@ -180,38 +191,6 @@ fn named_at(payload: &[u8; 1024], at: u32) -> Option<Named>
     }
 }
 
-// The 64 bytes at a place.
-fn bytes_of(payload: &[u8; 1024], at: u32) -> &[u8]
-    requires { at < 16 }
-    ensures bytes { result.now ≡ entry_bytes payload.now at }
-    ensures len { length result.now ≡ 64 }
-{
-    let at = 64 * at as usize;
-    &payload[at..at + 64]
-}
-
-/// Reads what a block of the data area has: its tag, and what stands in the slot that the tag names.
-///
-/// # Errors
-///
-/// `Failed` where a read failed.
-pub fn read_block_sight<D: Disk>(
-    disk: &mut D,
-    at: &SuperBlock,
-    known: &mut Known,
-    block: u64,
-) -> Result<BlockSight, Failed>
-    requires numbers { IsAt (D.state disk.old) at.now }
-    requires known { length known.old ≡ at.now.inodes }
-    requires block { block < at.now.blocks }
-    ensures sees { Sees (D.state disk.old) (D.state disk.new) known.old known.new (λ X. sights.block_sight X block) result }
-    ensures block { IfOk result (λ sight. sight.block ≡ block) }
-{
-    let tag = read_own_tag(disk, at, block)?;
-    let tagged = read_tagged(disk, at, known, tag)?;
-    Ok(BlockSight { block, tagged })
-}
-
 // The tag of a block.
 fn read_own_tag<D: Disk>(disk: &mut D, at: &SuperBlock, block: u64) -> Result<Option<Tag>, Failed>
     requires numbers { IsAt (D.state disk.old) at.now }
@@ -252,13 +231,13 @@ fn read_slot<D: Disk>(
     known: &mut Known,
     tag: Tag,
 ) -> Result<TagSight, Failed>
+    requires slot { IsTrue (slots.is_slot tag.slot) }
     requires numbers { IsAt (D.state disk.old) at.now }
     requires known { length known.old ≡ at.now.inodes }
-    requires slot { IsTrue (slots.is_slot tag.slot) }
     ensures { Sees (D.state disk.old) (D.state disk.new) known.old known.new (λ X. sights.tag_sight X tag) result }
 {
     let found = read_slot_way(disk, at, tag.inode, place_of(tag.slot))?;
-    let agreed = read_agreed(disk, at, known, tag.inode)?;
+    let agreed = learn_chain(disk, at, known, tag.inode)?;
     Ok(TagSight {
         tag,
         in_table: found.0,
@@ -279,7 +258,7 @@ fn read_slot_way<D: Disk>(
     ensures { ReadsAnswer (D.state disk.old) (D.state disk.new) (λ X. (image.inode X inode, sights.way_in X (image.inode X inode) (place_path place))) result }
 {
     let it = read_record(disk, at, inode)?;
-    let way = read_way(disk, at, &it, place)?;
+    let way = read_way(disk, at, place, &it)?;
     Ok((it, way))
 }
 
@@ -287,40 +266,23 @@ fn read_slot_way<D: Disk>(
 fn read_way<D: Disk>(
     disk: &mut D,
     at: &SuperBlock,
-    it: &Record,
     place: Place,
+    it: &Record,
 ) -> Result<BlocksAbove, Failed>
-    requires numbers { IsAt (D.state disk.old) at.now }
     requires place { IsPlace place }
+    requires numbers { IsAt (D.state disk.old) at.now }
     ensures { ReadsAnswer (D.state disk.old) (D.state disk.new) (λ X. sights.way_in X it.now (place_path place)) result }
 {
     match place {
         Place::InRecord(_) => Ok(BlocksAbove::NONE),
-        Place::UnderRecord { at: above, place } => {
-            read_under_record(disk, at, record_pointer(it, above).block, place)
-        }
+        Place::UnderRecord { at: above, place } => Ok(BlocksAbove {
+            upper: read_above(disk, at, record_pointer(it, above).block, place)?,
+            lower: Above::NONE,
+        }),
         Place::UnderChild { child, place } => {
             read_under_top(disk, at, it.top.block, child, place)
         }
     }
-}
-
-// The leaf or the top alone.
-fn read_under_record<D: Disk>(
-    disk: &mut D,
-    at: &SuperBlock,
-    block: u64,
-    place: u64,
-) -> Result<BlocksAbove, Failed>
-    requires numbers { IsAt (D.state disk.old) at.now }
-    requires place { place < 64 }
-    ensures { ReadsAnswer (D.state disk.old) (D.state disk.new) (λ X. sights.under_record X block place) result }
-{
-    let upper = read_above(disk, at, block, place)?;
-    Ok(BlocksAbove {
-        upper,
-        lower: Above::NONE,
-    })
 }
 
 // The top, and a child of it.
@@ -348,8 +310,8 @@ fn read_above<D: Disk>(
     block: u64,
     place: u64,
 ) -> Result<Above, Failed>
-    requires numbers { IsAt (D.state disk.old) at.now }
     requires place { place < 64 }
+    requires numbers { IsAt (D.state disk.old) at.now }
     ensures { ReadsAnswer (D.state disk.old) (D.state disk.new) (λ X. sights.above_in X block place) result }
 {
     if block <= at.inodes / 4 || block >= at.blocks {

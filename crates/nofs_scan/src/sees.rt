@@ -1,11 +1,8 @@
 //! One element is examined in one step.
-ghost use Rattle.std.specs.Prelude.{◌≡◌, ◌||◌, ◌==◌, false, nat_lt};
-ghost use Rattle.nofs_machine.specs.Claims.{no_claims};
-ghost use Rattle.nofs_machine.specs.Steps.{is_out_of_memory};
+ghost use Rattle.std.specs.Prelude.{◌≡◌, ◌||◌, ◌==◌, nat_lt};
 ghost use Rattle.nofs_machine.specs.declared.steps.Step.TheVariants as step;
 ghost use Rattle.nofs_state.specs.Books.{IsSafe};
-ghost use Rattle.nofs_state.specs.Steps.{Goes};
-ghost use Rattle.nofs_scan.specs.Seen.{seen_answer};
+ghost use Rattle.nofs_scan.specs.Seen.{Examines};
 
 use nofs_disk::Disk;
 use nofs_machine::Refusal;
@@ -18,8 +15,7 @@ use nofs_state::Core;
 /// `Stopped`; `BadRange` where there is no such block; `ReadFault` where a read failed.
 pub fn see_block<D: Disk + Drop>(core: &mut Core<D>, block: u64) -> Result<bool, Refusal>
     requires { IsSafe (D.state core.old.disk) core.old.books }
-    ensures goes { Goes (D.state core.old.disk) core.old.books (D.state core.new.disk) core.new.books (step.SeeBlock block) no_claims (seen_answer result) }
-    ensures memory { is_out_of_memory (seen_answer result) ≡ false }
+    ensures { Examines (D.state core.old.disk) core.old.books (D.state core.new.disk) core.new.books (step.SeeBlock block) result }
 {
     if core.books.stopped {
         return Err(Refusal::Stopped);
@@ -40,8 +36,7 @@ pub fn see_block<D: Disk + Drop>(core: &mut Core<D>, block: u64) -> Result<bool,
 /// `Stopped`; `BadRange` where there is no such inode; `ReadFault` where a read failed.
 pub fn see_inode<D: Disk + Drop>(core: &mut Core<D>, inode: u32) -> Result<bool, Refusal>
     requires { IsSafe (D.state core.old.disk) core.old.books }
-    ensures goes { Goes (D.state core.old.disk) core.old.books (D.state core.new.disk) core.new.books (step.SeeInode inode) no_claims (seen_answer result) }
-    ensures memory { is_out_of_memory (seen_answer result) ≡ false }
+    ensures { Examines (D.state core.old.disk) core.old.books (D.state core.new.disk) core.new.books (step.SeeInode inode) result }
 {
     if core.books.stopped {
         return Err(Refusal::Stopped);

@@ -38,14 +38,6 @@ pub struct Above {
     pub pointer: Pointer,
 }
 
-impl Above {
-    /// Nothing: there is no such block above the slot, or none in the data area.
-    pub const NONE: Above = Above {
-        tag: None,
-        pointer: Pointer::NULL,
-    };
-}
-
 /// The blocks above a slot.
 #[derive(Clone, Copy)]
 pub struct BlocksAbove {
@@ -53,6 +45,14 @@ pub struct BlocksAbove {
     pub upper: Above,
     /// The child of the top, where the slot is under it.
     pub lower: Above,
+}
+
+impl Above {
+    /// Nothing: there is no such block above the slot, or none in the data area.
+    pub const NONE: Above = Above {
+        tag: None,
+        pointer: Pointer::NULL,
+    };
 }
 
 impl BlocksAbove {

@@ -1,14 +1,14 @@
 -- What is read is a session: its commands are well formed, and its scripts are 1 to 8.
 use Rattle.std.proofs.Common.{◌≡◌, ℕ, zero, suc, ◌+◌, ◌<◌, ◌≤◌, ◌==◌, not, nat_lt, Bool, true, false, if◌then◌else◌, List, [], ◌∷◌, ◌++◌, length}
-use Rattle.std.proofs.Common.{length-append, Option, None, Some, Result, Ok, Err, IfOk, arith, refl, sym, ap, ◌∙◌, subst}
+use Rattle.std.proofs.Common.{length-append, Option, None, Some, Result, Ok, Err, IfOk, arith, codes, refl, sym, ap, ◌∙◌, subst}
 use Rattle.std.specs.List.{AllByRecursion}
+use Rattle.std.specs.Str.{bytes_eq}
 use Rattle.std.proofs.lemmas.Bool.{ltb-true, eqb-false}
 use Rattle.hex.specs.Hex.{decode_of}
 use Rattle.hex.proofs.HexLemmas.{decode_of-ok}
 use Rattle.nofs_client.specs.declared.commands.Path.{Path}
 use Rattle.nofs_client.specs.declared.commands.Path.TheVariants.{Label, Names}
 use Rattle.nofs_client.specs.declared.commands.Command.{Command}
-use Rattle.nofs_client.specs.declared.commands.Command.TheVariants as command
 use Rattle.nofs_client.specs.Commands.{HasName, IsWellFormed}
 use Rattle.nofs_script.specs.declared.commands.Verb.{Verb}
 use Rattle.nofs_script.specs.declared.commands.Verb.TheVariants as verb
@@ -16,8 +16,8 @@ use Rattle.nofs_script.specs.declared.faults.ScriptKind.{ScriptKind}
 use Rattle.nofs_script.specs.declared.faults.ScriptKind.TheVariants.{BadPath, BadHex, TooManyUsers, TooMuchAsked, TooManyCommands}
 use Rattle.nofs_script.specs.declared.faults.ScriptFault.{ScriptFault}
 use Rattle.nofs_script.specs.declared.session.Reading.{Reading}
-use Rattle.nofs_script.specs.Grammar.{◌>>=◌, has_last_name, path_word, new_path_word, number_word, hex_word, hex_digits, one_path, one_new_path, put_by}
-use Rattle.nofs_script.specs.Grammar.{put_command, get_by, get_command, size_command, link_command, rename_command, move_command, command_of, verb_in}
+use Rattle.nofs_script.specs.Grammar.{◌>>=◌, has_last_name, path_word, new_path_word, number_word, hex_word, hex_digits, one_word, two_words, three_words}
+use Rattle.nofs_script.specs.Grammar.{command_of, verb_in}
 use Rattle.nofs_script.specs.Sessions.{with_command, asked_by, user_of, read_verb, read_words, read_line, line_to_break, at_line, read_from, empty_reading}
 use Rattle.nofs_script.specs.Sessions.{is_skipped, IsSession}
 use Rattle.nofs_script.specs.Words.{words_of, text_lines}
@@ -44,11 +44,6 @@ new_path word = bind (λ _. Unit {0}) HasName (path_word word) _ (any (path_word
   go path true e = named path e
   go path false e = tt
 
-one_new : (args : List (List ℕ)) → IfOk (one_new_path args) HasName
-one_new [] = tt
-one_new (a ∷ []) = new_path a
-one_new (a ∷ b ∷ rest) = tt
-
 -- what is not zero is above it
 positive : (n : ℕ) → (n ≡ 0 → ⊥) → 0 < n
 positive zero ne = absurd (ne refl)
@@ -68,81 +63,47 @@ some_hex word = go (length word == 0) refl where
   go true e = tt
   go false e = some_bytes word (positive (length word) (eqb-false (length word) 0 e))
 
--- a path, and a command that asks nothing of it
-free : (r : Result Path ScriptKind) (make : Path → Command) → ((path : Path) → IsWellFormed (make path)) → IfOk (r >>= λ path. Ok (make path)) IsWellFormed
-free r make formed = bind (λ _. Unit {0}) IsWellFormed r _ (any r) (λ path _. formed path)
+-- a command that asks nothing of its words
+module _ {A : Type 0} (r : Result A ScriptKind) (f : A → Result Command ScriptKind) where
+  free : ((x : A) → IfOk (f x) IsWellFormed) → IfOk (r >>= f) IsWellFormed
+  free formed = bind (λ _. Unit {0}) IsWellFormed r f (any r) (λ x _. formed x)
 
-put : (args : List (List ℕ)) → IfOk (put_command args) IsWellFormed
-unfolding put_by
-put (a ∷ b ∷ c ∷ []) =
-    bind (λ _. Unit {0}) IsWellFormed (path_word a) _ (any (path_word a)) (λ path _.
-    bind (λ _. Unit {0}) IsWellFormed (number_word b) _ (any (number_word b)) (λ offset _.
+-- a command on a path that has a name
+on_new : (word : List ℕ) (f : Path → Result Command ScriptKind) → ((path : Path) → HasName path → IfOk (f path) IsWellFormed)
+    → IfOk (new_path_word word >>= f) IsWellFormed
+on_new word f formed = bind HasName IsWellFormed (new_path_word word) f (new_path word) formed
+
+one : (v : Verb) (a : List ℕ) → IfOk (one_word v a) IsWellFormed
+unfolding one_word
+one verb.Make a = on_new a _ (λ path has. has)
+one verb.MakeDirectory a = on_new a _ (λ path has. has)
+one verb.Drop a = on_new a _ (λ path has. has)
+one verb.Stat a = free (path_word a) _ (λ path. tt)
+one verb.List a = free (path_word a) _ (λ path. tt)
+one verb.Fsync a = free (path_word a) _ (λ path. tt)
+one _ a = tt
+
+two : (v : Verb) (a b : List ℕ) → IfOk (two_words v a b) IsWellFormed
+unfolding two_words
+two verb.Size a b = free (path_word a) _ (λ path. free (number_word b) _ (λ size. tt))
+two verb.Link a b = free (path_word a) _ (λ path. on_new b _ (λ to has. has))
+two verb.Rename a b = on_new a _ (λ path has. has)
+two verb.Move a b = on_new a _ (λ from has. on_new b _ (λ to has_too. (has, has_too)))
+two _ a b = tt
+
+three : (v : Verb) (a b c : List ℕ) → IfOk (three_words v a b c) IsWellFormed
+unfolding three_words
+three verb.Put a b c = free (path_word a) _ (λ path. free (number_word b) _ (λ offset.
     bind (λ bytes. 0 < length bytes) IsWellFormed (hex_word c) _ (some_hex c) (λ bytes some. some)))
-put [] = tt
-put (a ∷ []) = tt
-put (a ∷ b ∷ []) = tt
-put (a ∷ b ∷ c ∷ d ∷ rest) = tt
-
-get : (args : List (List ℕ)) → IfOk (get_command args) IsWellFormed
-unfolding get_by
-get (a ∷ b ∷ c ∷ []) =
-    bind (λ _. Unit {0}) IsWellFormed (path_word a) _ (any (path_word a)) (λ path _.
-    bind (λ _. Unit {0}) IsWellFormed (number_word b) _ (any (number_word b)) (λ offset _.
-    bind (λ _. Unit {0}) IsWellFormed (number_word c) _ (any (number_word c)) (λ len _. tt)))
-get [] = tt
-get (a ∷ []) = tt
-get (a ∷ b ∷ []) = tt
-get (a ∷ b ∷ c ∷ d ∷ rest) = tt
-
-size : (args : List (List ℕ)) → IfOk (size_command args) IsWellFormed
-unfolding size_command
-size (a ∷ b ∷ []) =
-    bind (λ _. Unit {0}) IsWellFormed (path_word a) _ (any (path_word a)) (λ path _.
-    bind (λ _. Unit {0}) IsWellFormed (number_word b) _ (any (number_word b)) (λ n _. tt))
-size [] = tt
-size (a ∷ []) = tt
-size (a ∷ b ∷ c ∷ rest) = tt
-
-link : (args : List (List ℕ)) → IfOk (link_command args) IsWellFormed
-unfolding link_command
-link (a ∷ b ∷ []) =
-    bind (λ _. Unit {0}) IsWellFormed (path_word a) _ (any (path_word a)) (λ path _.
-    bind HasName IsWellFormed (new_path_word b) _ (new_path b) (λ to has. has))
-link [] = tt
-link (a ∷ []) = tt
-link (a ∷ b ∷ c ∷ rest) = tt
-
-rename : (args : List (List ℕ)) → IfOk (rename_command args) IsWellFormed
-unfolding rename_command
-rename (a ∷ b ∷ []) = bind HasName IsWellFormed (new_path_word a) _ (new_path a) (λ path has. has)
-rename [] = tt
-rename (a ∷ []) = tt
-rename (a ∷ b ∷ c ∷ rest) = tt
-
-move : (args : List (List ℕ)) → IfOk (move_command args) IsWellFormed
-unfolding move_command
-move (a ∷ b ∷ []) =
-    bind HasName IsWellFormed (new_path_word a) _ (new_path a) (λ from has.
-    bind HasName IsWellFormed (new_path_word b) _ (new_path b) (λ to has_too. (has, has_too)))
-move [] = tt
-move (a ∷ []) = tt
-move (a ∷ b ∷ c ∷ rest) = tt
+three verb.Get a b c = free (path_word a) _ (λ path. free (number_word b) _ (λ offset. free (number_word c) _ (λ len. tt)))
+three _ a b c = tt
 
 formed : (v : Verb) (args : List (List ℕ)) → IfOk (command_of v args) IsWellFormed
-unfolding command_of
-formed verb.Make args = bind HasName IsWellFormed (one_new_path args) _ (one_new args) (λ path has. has)
-formed verb.MakeDirectory args = bind HasName IsWellFormed (one_new_path args) _ (one_new args) (λ path has. has)
-formed verb.Put args = put args
-formed verb.Get args = get args
-formed verb.Size args = size args
-formed verb.Stat args = free (one_path args) command.Stat (λ path. tt)
-formed verb.List args = free (one_path args) command.List (λ path. tt)
-formed verb.Link args = link args
-formed verb.Drop args = bind HasName IsWellFormed (one_new_path args) _ (one_new args) (λ path has. has)
-formed verb.Rename args = rename args
-formed verb.Fsync args = free (one_path args) command.Fsync (λ path. tt)
-formed verb.Move args = move args
-formed verb.User args = tt
+formed v [] = tt
+formed v (a ∷ []) = one v a
+formed v (a ∷ b ∷ []) = two v a b
+formed v (a ∷ b ∷ c ∷ []) = three v a b c
+formed v (a ∷ b ∷ c ∷ d ∷ rest) = tt
 
 -- one more at the end
 more : {A : Type 0} (P : A → Type 0) (xs : List A) (x : A) → AllByRecursion P xs → P x → AllByRecursion P (xs ++ x ∷ [])
@@ -177,24 +138,14 @@ next_script r (a ∷ args) reads = tt
 
 one_verb : (r : Reading) (v : Option Verb) (args : List (List ℕ)) → Reads r → IfOk (read_verb r v args) Reads
 one_verb r None args reads = tt
-one_verb r (Some verb.User) args reads = next_script r args reads
-one_verb r (Some verb.Make) args reads = bind IsWellFormed Reads (command_of verb.Make args) _ (formed verb.Make args) (λ c well. with_one r c reads well)
-one_verb r (Some verb.MakeDirectory) args reads = bind IsWellFormed Reads (command_of verb.MakeDirectory args) _ (formed verb.MakeDirectory args)
-    (λ c well. with_one r c reads well)
-one_verb r (Some verb.Put) args reads = bind IsWellFormed Reads (command_of verb.Put args) _ (formed verb.Put args) (λ c well. with_one r c reads well)
-one_verb r (Some verb.Get) args reads = bind IsWellFormed Reads (command_of verb.Get args) _ (formed verb.Get args) (λ c well. with_one r c reads well)
-one_verb r (Some verb.Size) args reads = bind IsWellFormed Reads (command_of verb.Size args) _ (formed verb.Size args) (λ c well. with_one r c reads well)
-one_verb r (Some verb.Stat) args reads = bind IsWellFormed Reads (command_of verb.Stat args) _ (formed verb.Stat args) (λ c well. with_one r c reads well)
-one_verb r (Some verb.List) args reads = bind IsWellFormed Reads (command_of verb.List args) _ (formed verb.List args) (λ c well. with_one r c reads well)
-one_verb r (Some verb.Link) args reads = bind IsWellFormed Reads (command_of verb.Link args) _ (formed verb.Link args) (λ c well. with_one r c reads well)
-one_verb r (Some verb.Drop) args reads = bind IsWellFormed Reads (command_of verb.Drop args) _ (formed verb.Drop args) (λ c well. with_one r c reads well)
-one_verb r (Some verb.Rename) args reads = bind IsWellFormed Reads (command_of verb.Rename args) _ (formed verb.Rename args) (λ c well. with_one r c reads well)
-one_verb r (Some verb.Fsync) args reads = bind IsWellFormed Reads (command_of verb.Fsync args) _ (formed verb.Fsync args) (λ c well. with_one r c reads well)
-one_verb r (Some verb.Move) args reads = bind IsWellFormed Reads (command_of verb.Move args) _ (formed verb.Move args) (λ c well. with_one r c reads well)
+one_verb r (Some v) args reads = bind IsWellFormed Reads (command_of v args) _ (formed v args) (λ c well. with_one r c reads well)
 
 some_words : (r : Reading) (words : List (List ℕ)) → Reads r → IfOk (read_words r words) Reads
 some_words r [] reads = reads
-some_words r (word ∷ args) reads = one_verb r (verb_in word) args reads
+some_words r (word ∷ args) reads = go (bytes_eq word (codes "user")) where
+  go : (b : Bool) → IfOk (if b then user_of r args else read_verb r (verb_in word) args) Reads
+  go true = next_script r args reads
+  go false = one_verb r (verb_in word) args reads
 
 one_line : (r : Reading) (line : List ℕ) → Reads r → IfOk (read_line r line) Reads
 unfolding read_line

@@ -5,12 +5,12 @@ use Rattle.std.specs.Str.Lines.{strip_carriage_return}
 use Rattle.std.proofs.lemmas.List.Splits.{length-slice_split}
 use Rattle.nofs_script.specs.declared.session.Reading.{Reading}
 use Rattle.nofs_script.specs.declared.faults.ScriptFault.{ScriptFault}
-use Rattle.nofs_script.specs.declared.faults.ParseFault.{ParseFault}
-use Rattle.nofs_script.specs.declared.faults.ParseFault.TheVariants as parse
+use Rattle.nofs_script.specs.declared.faults.TextFault.{TextFault}
+use Rattle.nofs_script.specs.declared.faults.TextFault.TheVariants.{Wrong, OutOfMemory}
 use Rattle.nofs_script.specs.Words.{text_lines}
-use Rattle.nofs_script.specs.Grammar.{◌>>=◌}
+use Rattle.nofs_script.specs.Grammar.{◌>>=◌, Fails, Gives}
 use Rattle.nofs_script.proofs.Cuts.{Lacks, after, one_part, first_part}
-use Rattle.nofs_script.specs.Sessions.{FailsText, GivesText, at_line, line_to_break, read_line, read_from}
+use Rattle.nofs_script.specs.Sessions.{at_line, line_to_break, read_line, read_from}
 
 -- a line with lines after it may end in a carriage return
 ended : (line : List ℕ) (rest : List (List ℕ)) → 0 < length rest → line_to_break line rest ≡ strip_carriage_return line
@@ -41,9 +41,9 @@ module _ (n : ℕ) (r : Reading) (text line rest : List ℕ) (end : ℕ) (total 
       ∙ sym (step n r text end feed none ∙ ap (λ x. x >>= λ next. read_from (n + 1) next (text_lines (after end text))) (read ∙ good)) ∙ so_far
 
   -- where it is bad, so is the text
-  pub ends : (e : ParseFault) → FailsText e (at_line n (read_line r line)) → FailsText e total
-  ends parse.OutOfMemory bad = tt
-  ends (parse.Script fault) bad =
+  pub ends : (e : TextFault ScriptFault) → Fails e (at_line n (read_line r line)) → Fails e total
+  ends OutOfMemory bad = tt
+  ends (Wrong fault) bad =
       sym so_far ∙ step n r text end feed none ∙ ap (λ x. x >>= λ next. read_from (n + 1) next (text_lines (after end text))) (read ∙ bad)
 
 -- the last line is all that is left
@@ -56,7 +56,7 @@ all_read : (n : ℕ) (r : Reading) (text : List ℕ) → Lacks 10 text → read_
 unfolding read_from
 all_read n r text none = ap (read_from n r) (one_part 10 text none) ∙ last (at_line n (read_line r text)) (n + 1)
 
-pub gives_last : (result : Result Reading ParseFault) (n : ℕ) (r : Reading) (text : List ℕ) (total : Result Reading ScriptFault) → Lacks 10 text
-    → GivesText (λ r. r) result (at_line n (read_line r text)) → read_from n r (text_lines text) ≡ total → GivesText (λ r. r) result total
+pub gives_last : (result : Result Reading (TextFault ScriptFault)) (n : ℕ) (r : Reading) (text : List ℕ) (total : Result Reading ScriptFault) → Lacks 10 text
+    → Gives (λ r. r) result (at_line n (read_line r text)) → read_from n r (text_lines text) ≡ total → Gives (λ r. r) result total
 gives_last result n r text total none gives so_far =
-    subst (GivesText (λ r. r) result) (sym (all_read n r text none) ∙ so_far) gives
+    subst (Gives (λ r. r) result) (sym (all_read n r text none) ∙ so_far) gives

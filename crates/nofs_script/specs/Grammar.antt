@@ -11,9 +11,9 @@ use Rattle.nofs_client.specs.declared.commands.Command.TheVariants as command
 use Rattle.nofs_script.specs.declared.commands.Verb.{Verb}
 use Rattle.nofs_script.specs.declared.commands.Verb.TheVariants as verb
 use Rattle.nofs_script.specs.declared.faults.ScriptKind.{ScriptKind}
-use Rattle.nofs_script.specs.declared.faults.ScriptKind.TheVariants.{UnknownCommand, WordCount, BadPath, BadNumber, BadHex}
-use Rattle.nofs_script.specs.declared.faults.LineFault.{LineFault}
-use Rattle.nofs_script.specs.declared.faults.LineFault.TheVariants as lines
+use Rattle.nofs_script.specs.declared.faults.ScriptKind.TheVariants.{WordCount, BadPath, BadNumber, BadHex}
+use Rattle.nofs_script.specs.declared.faults.TextFault.{TextFault}
+use Rattle.nofs_script.specs.declared.faults.TextFault.TheVariants.{Wrong, OutOfMemory}
 use Rattle.nofs_script.specs.Words.{number_of, is_word}
 
 -- the next reading, unless this one found a fault
@@ -22,15 +22,15 @@ abbrev pub ◌>>=◌ : {A B E : Type 0} → Result A E → (A → Result B E) �
 (Ok x) >>= f = f x
 (Err e) >>= f = Err e
 
--- a fault of a line is the one that its reading has, unless memory ran out
-abbrev pub FailsLine : {Y : Type 0} → LineFault → Result Y ScriptKind → Type 0
-FailsLine lines.NoMemory read = Unit {0}
-FailsLine (lines.Kind kind) read = read ≡ Err kind
+-- the fault of a text, or of a line of it, is the one that its reading has, unless memory ran out
+abbrev pub Fails : {W Y : Type 0} → TextFault W → Result Y W → Type 0
+Fails OutOfMemory read = Unit {0}
+Fails (Wrong what) read = read ≡ Err what
 
 -- a result is what a reading has, unless memory ran out
-abbrev pub GivesLine : {X Y : Type 0} → (X → Y) → Result X LineFault → Result Y ScriptKind → Type 0
-GivesLine view (Ok x) read = read ≡ Ok (view x)
-GivesLine view (Err e) read = FailsLine e read
+abbrev pub Gives : {W X Y : Type 0} → (X → Y) → Result X (TextFault W) → Result Y W → Type 0
+Gives view (Ok x) read = read ≡ Ok (view x)
+Gives view (Err e) read = Fails e read
 
 -- what is there, or a fault
 abbrev pub or_fault : {A E : Type 0} → E → Option A → Result A E
@@ -74,101 +74,58 @@ hex_digits (Err e) = Err BadHex
 unfoldable pub hex_word : List ℕ → Result (List ℕ) ScriptKind
 hex_word word = if length word == 0 then Err BadHex else hex_digits (decode_of word)
 
+-- the verb of the first of these words that a word equals
+abbrev pub verb_among : List ℕ → List (List ℕ × Verb) → Option Verb
+verb_among word [] = None
+verb_among word ((spelled, v) ∷ rest) = if bytes_eq word spelled then Some v else verb_among word rest
+
 -- the verb that a word names
 unfoldable pub verb_in : List ℕ → Option Verb
-verb_in word =
-    if bytes_eq word (codes "make") then Some verb.Make
-    else if bytes_eq word (codes "mkdir") then Some verb.MakeDirectory
-    else if bytes_eq word (codes "put") then Some verb.Put
-    else if bytes_eq word (codes "get") then Some verb.Get
-    else if bytes_eq word (codes "size") then Some verb.Size
-    else if bytes_eq word (codes "stat") then Some verb.Stat
-    else if bytes_eq word (codes "list") then Some verb.List
-    else if bytes_eq word (codes "link") then Some verb.Link
-    else if bytes_eq word (codes "drop") then Some verb.Drop
-    else if bytes_eq word (codes "rename") then Some verb.Rename
-    else if bytes_eq word (codes "fsync") then Some verb.Fsync
-    else if bytes_eq word (codes "move") then Some verb.Move
-    else if bytes_eq word (codes "user") then Some verb.User
-    else None
+verb_in word = verb_among word (
+    (codes "make", verb.Make) ∷ (codes "mkdir", verb.MakeDirectory) ∷ (codes "put", verb.Put) ∷ (codes "get", verb.Get) ∷ (codes "size", verb.Size)
+    ∷ (codes "stat", verb.Stat) ∷ (codes "list", verb.List) ∷ (codes "link", verb.Link) ∷ (codes "drop", verb.Drop) ∷ (codes "rename", verb.Rename)
+    ∷ (codes "fsync", verb.Fsync) ∷ (codes "move", verb.Move) ∷ [])
 
--- PATH
-abbrev pub one_path : List (List ℕ) → Result Path ScriptKind
-one_path (a ∷ []) = path_word a
-one_path _ = Err WordCount
+-- PATH, or NEWPATH where a name is made or dropped
+abbrev pub one_path : Verb → List ℕ → Result Path ScriptKind
+one_path verb.Make a = new_path_word a
+one_path verb.MakeDirectory a = new_path_word a
+one_path verb.Drop a = new_path_word a
+one_path verb.Stat a = path_word a
+one_path verb.List a = path_word a
+one_path verb.Fsync a = path_word a
+one_path _ a = Err WordCount
 
--- NEWPATH
-abbrev pub one_new_path : List (List ℕ) → Result Path ScriptKind
-one_new_path (a ∷ []) = new_path_word a
-one_new_path _ = Err WordCount
+-- the command of a verb that takes just a path
+abbrev pub on_path : Verb → Path → Result Command ScriptKind
+on_path verb.Make path = Ok (command.Make path)
+on_path verb.MakeDirectory path = Ok (command.MakeDirectory path)
+on_path verb.Drop path = Ok (command.Drop path)
+on_path verb.Stat path = Ok (command.Stat path)
+on_path verb.List path = Ok (command.List path)
+on_path verb.Fsync path = Ok (command.Fsync path)
+on_path _ path = Err WordCount
 
-unfoldable pub put_by : List ℕ → List ℕ → List ℕ → Result Command ScriptKind
-put_by a b c = do
-  path ← path_word a
-  offset ← number_word b
-  bytes ← hex_word c
-  Ok (command.Put path offset bytes)
+unfoldable pub one_word : Verb → List ℕ → Result Command ScriptKind
+one_word v a = one_path v a >>= on_path v
 
--- PATH OFFSET HEX
-abbrev pub put_command : List (List ℕ) → Result Command ScriptKind
-put_command (a ∷ b ∷ c ∷ []) = put_by a b c
-put_command _ = Err WordCount
+-- PATH SIZE, PATH NEWPATH, NEWPATH NAME, and NEWPATH NEWPATH
+unfoldable pub two_words : Verb → List ℕ → List ℕ → Result Command ScriptKind
+two_words verb.Size a b = path_word a >>= λ path. number_word b >>= λ size. Ok (command.Size path size)
+two_words verb.Link a b = path_word a >>= λ path. new_path_word b >>= λ to. Ok (command.Link path to)
+two_words verb.Rename a b = new_path_word a >>= λ path. Ok (command.Rename path b)
+two_words verb.Move a b = new_path_word a >>= λ from. new_path_word b >>= λ to. Ok (command.Move from to)
+two_words _ a b = Err WordCount
 
-unfoldable pub get_by : List ℕ → List ℕ → List ℕ → Result Command ScriptKind
-get_by a b c = do
-  path ← path_word a
-  offset ← number_word b
-  len ← number_word c
-  Ok (command.Get path offset len)
-
--- PATH OFFSET LENGTH
-abbrev pub get_command : List (List ℕ) → Result Command ScriptKind
-get_command (a ∷ b ∷ c ∷ []) = get_by a b c
-get_command _ = Err WordCount
-
--- PATH SIZE
-unfoldable pub size_command : List (List ℕ) → Result Command ScriptKind
-size_command (a ∷ b ∷ []) = do
-  path ← path_word a
-  size ← number_word b
-  Ok (command.Size path size)
-size_command _ = Err WordCount
-
--- PATH NEWPATH
-unfoldable pub link_command : List (List ℕ) → Result Command ScriptKind
-link_command (a ∷ b ∷ []) = do
-  path ← path_word a
-  new_path ← new_path_word b
-  Ok (command.Link path new_path)
-link_command _ = Err WordCount
-
--- NEWPATH NAME
-unfoldable pub rename_command : List (List ℕ) → Result Command ScriptKind
-rename_command (a ∷ b ∷ []) = do
-  path ← new_path_word a
-  Ok (command.Rename path b)
-rename_command _ = Err WordCount
-
--- NEWPATH NEWPATH
-unfoldable pub move_command : List (List ℕ) → Result Command ScriptKind
-move_command (a ∷ b ∷ []) = do
-  from ← new_path_word a
-  to ← new_path_word b
-  Ok (command.Move from to)
-move_command _ = Err WordCount
+-- PATH OFFSET HEX, and PATH OFFSET LENGTH
+unfoldable pub three_words : Verb → List ℕ → List ℕ → List ℕ → Result Command ScriptKind
+three_words verb.Put a b c = path_word a >>= λ path. number_word b >>= λ offset. hex_word c >>= λ bytes. Ok (command.Put path offset bytes)
+three_words verb.Get a b c = path_word a >>= λ path. number_word b >>= λ offset. number_word c >>= λ len. Ok (command.Get path offset len)
+three_words _ a b c = Err WordCount
 
 -- the command of a verb with the words after it
-unfoldable pub command_of : Verb → List (List ℕ) → Result Command ScriptKind
-command_of verb.Make args = one_new_path args >>= λ path. Ok (command.Make path)
-command_of verb.MakeDirectory args = one_new_path args >>= λ path. Ok (command.MakeDirectory path)
-command_of verb.Put args = put_command args
-command_of verb.Get args = get_command args
-command_of verb.Size args = size_command args
-command_of verb.Stat args = one_path args >>= λ path. Ok (command.Stat path)
-command_of verb.List args = one_path args >>= λ path. Ok (command.List path)
-command_of verb.Link args = link_command args
-command_of verb.Drop args = one_new_path args >>= λ path. Ok (command.Drop path)
-command_of verb.Rename args = rename_command args
-command_of verb.Fsync args = one_path args >>= λ path. Ok (command.Fsync path)
-command_of verb.Move args = move_command args
-command_of verb.User args = Err UnknownCommand
+abbrev pub command_of : Verb → List (List ℕ) → Result Command ScriptKind
+command_of v (a ∷ []) = one_word v a
+command_of v (a ∷ b ∷ []) = two_words v a b
+command_of v (a ∷ b ∷ c ∷ []) = three_words v a b c
+command_of v _ = Err WordCount

@@ -1,31 +1,19 @@
 -- What a text means: its scripts, or the first bad line.
-use Rattle.std.specs.Prelude.{◌≡◌, ℕ, ◌+◌, ◌<◌, ◌≤◌, ◌++◌, List, [], ◌∷◌, length, nat_lt, ◌==◌, Bool, if◌then◌else◌, None, Some, Result, Ok, Err, slice_index}
+use Rattle.std.specs.Prelude.{◌≡◌, ℕ, ◌+◌, ◌<◌, ◌≤◌, ◌++◌, List, [], ◌∷◌, length, nat_lt, ◌==◌, Bool, if◌then◌else◌, None, Some, Result, Ok, Err, slice_index, codes}
 use Rattle.std.specs.List.{AllByRecursion}
+use Rattle.std.specs.Str.{bytes_eq}
 use Rattle.std.specs.Str.Lines.{strip_carriage_return}
 use Rattle.std.specs.declared.option.Option.{Option}
 use Rattle.nofs_client.specs.declared.commands.Command.{Command}
 use Rattle.nofs_client.specs.declared.commands.Command.TheVariants as command
 use Rattle.nofs_client.specs.Commands.{IsWellFormed}
 use Rattle.nofs_script.specs.declared.commands.Verb.{Verb}
-use Rattle.nofs_script.specs.declared.commands.Verb.TheVariants as verb
 use Rattle.nofs_script.specs.declared.faults.ScriptKind.{ScriptKind}
 use Rattle.nofs_script.specs.declared.faults.ScriptKind.TheVariants.{UnknownCommand, WordCount, TooManyUsers, TooMuchAsked, TooManyCommands}
 use Rattle.nofs_script.specs.declared.faults.ScriptFault.{ScriptFault}
-use Rattle.nofs_script.specs.declared.faults.ParseFault.{ParseFault}
-use Rattle.nofs_script.specs.declared.faults.ParseFault.TheVariants as parse
 use Rattle.nofs_script.specs.declared.session.Reading.{Reading}
 use Rattle.nofs_script.specs.Words.{words_of, text_lines}
 use Rattle.nofs_script.specs.Grammar.{◌>>=◌, command_of, verb_in}
-
--- a fault of a text is the one that its reading has, unless memory ran out
-abbrev pub FailsText : {Y : Type 0} → ParseFault → Result Y ScriptFault → Type 0
-FailsText parse.OutOfMemory read = Unit {0}
-FailsText (parse.Script fault) read = read ≡ Err fault
-
--- a result is what a reading has, unless memory ran out
-abbrev pub GivesText : {X Y : Type 0} → (X → Y) → Result X ParseFault → Result Y ScriptFault → Type 0
-GivesText view (Ok x) read = read ≡ Ok (view x)
-GivesText view (Err e) read = FailsText e read
 
 -- a line whose first byte is the number sign
 abbrev pub is_skipped : List ℕ → Bool
@@ -50,16 +38,15 @@ user_of r [] =
     else Err TooManyUsers
 user_of r (_ ∷ _) = Err WordCount
 
--- a line by its verb and the words after it
+-- a line with a command, by its verb and the words after it
 abbrev pub read_verb : Reading → Option Verb → List (List ℕ) → Result Reading ScriptKind
 read_verb r None args = Err UnknownCommand
-read_verb r (Some verb.User) args = user_of r args
 read_verb r (Some v) args = command_of v args >>= with_command r
 
 -- a line by its words
 abbrev pub read_words : Reading → List (List ℕ) → Result Reading ScriptKind
 read_words r [] = Ok r
-read_words r (word ∷ args) = read_verb r (verb_in word) args
+read_words r (word ∷ args) = if bytes_eq word (codes "user") then user_of r args else read_verb r (verb_in word) args
 
 unfoldable pub read_line : Reading → List ℕ → Result Reading ScriptKind
 read_line r line = if is_skipped line then Ok r else read_words r (words_of line)

@@ -3,7 +3,7 @@
 ghost use Rattle.std.specs.Prelude.{◌≡◌, ◌∷◌, ◌==◌, map, IfOk};
 ghost use Rattle.std.specs.List.{list_all, slice_split};
 ghost use Rattle.nofs_script.specs.Words.{piece_of, is_word};
-ghost use Rattle.nofs_script.specs.Grammar.{GivesLine, path_word, new_path_word, number_word, hex_word, verb_in, one_path as one_path_in, one_new_path as one_new_path_in, put_by as put_by_words, put_command, get_by as get_by_words, get_command, size_command, link_command, rename_command, move_command, command_of, spelled_path, path_of_parts, has_last_name as has_name_in};
+ghost use Rattle.nofs_script.specs.Grammar.{Gives, path_word, new_path_word, number_word, hex_word, verb_in, one_path as one_path_in, on_path as on_path_in, one_word as one_word_in, two_words as two_words_in, three_words as three_words_in, command_of, spelled_path, path_of_parts, has_last_name as has_name_in};
 
 use crate::faults::{LineFault, ScriptKind};
 use crate::words::number_of;
@@ -26,7 +26,6 @@ pub enum Verb {
     Rename,
     Fsync,
     Move,
-    User,
 }
 
 /// The verb of a word.
@@ -58,8 +57,6 @@ pub fn verb_of(word: &[u8]) -> Option<Verb>
         Some(Verb::Fsync)
     } else if word == b"move".as_slice() {
         Some(Verb::Move)
-    } else if word == b"user".as_slice() {
-        Some(Verb::User)
     } else {
         None
     }
@@ -123,11 +120,11 @@ fn path_of(alloc: Global, word: &[u8]) -> Result<Option<Path>, AllocError>
 
 #[tactic(auto, unfolding(crate::specs::Grammar::path_word))]
 fn path(alloc: Global, word: &[u8]) -> Result<Path, LineFault>
-    ensures { GivesLine (λ path. path) result (path_word word.now) }
+    ensures { Gives (λ path. path) result (path_word word.now) }
 {
     match path_of(alloc, word)? {
         Some(path) => Ok(path),
-        None => Err(LineFault::Kind(ScriptKind::BadPath)),
+        None => Err(LineFault::Wrong(ScriptKind::BadPath)),
     }
 }
 
@@ -142,190 +139,131 @@ fn has_name(path: &Path) -> bool
 
 #[tactic(auto, unfolding(crate::specs::Grammar::new_path_word))]
 fn new_path(alloc: Global, word: &[u8]) -> Result<Path, LineFault>
-    ensures { GivesLine (λ path. path) result (new_path_word word.now) }
+    ensures { Gives (λ path. path) result (new_path_word word.now) }
 {
     let path = path(alloc, word)?;
     if has_name(&path) {
         Ok(path)
     } else {
-        Err(LineFault::Kind(ScriptKind::BadPath))
+        Err(LineFault::Wrong(ScriptKind::BadPath))
     }
 }
 
 #[tactic(auto, unfolding(crate::specs::Grammar::number_word))]
 fn number(word: &[u8]) -> Result<u64, LineFault>
-    ensures { GivesLine (λ n. n) result (number_word word.now) }
+    ensures { Gives (λ n. n) result (number_word word.now) }
 {
     match number_of(word) {
         Some(number) => Ok(number),
-        None => Err(LineFault::Kind(ScriptKind::BadNumber)),
+        None => Err(LineFault::Wrong(ScriptKind::BadNumber)),
     }
 }
 
 #[tactic(auto, unfolding(crate::specs::Grammar::hex_word))]
 fn hex_bytes(alloc: Global, word: &[u8]) -> Result<Content, LineFault>
-    ensures { GivesLine (λ bytes. bytes) result (hex_word word.now) }
+    ensures { Gives (λ bytes. bytes) result (hex_word word.now) }
 {
     if word.is_empty() {
-        return Err(LineFault::Kind(ScriptKind::BadHex));
+        return Err(LineFault::Wrong(ScriptKind::BadHex));
     }
     match hex::decode(alloc, word) {
         Ok(bytes) => Ok(Content::from_vec(bytes)),
-        Err(hex::FromHexError::OutOfMemory) => Err(LineFault::NoMemory),
-        Err(_) => Err(LineFault::Kind(ScriptKind::BadHex)),
+        Err(hex::FromHexError::OutOfMemory) => Err(LineFault::OutOfMemory),
+        Err(_) => Err(LineFault::Wrong(ScriptKind::BadHex)),
     }
 }
 
-fn one_path(alloc: Global, args: &[&[u8]]) -> Result<Path, LineFault>
-    ensures { GivesLine (λ path. path) result (one_path_in (map piece_of args.now)) }
-{
-    match args {
-        [a] => path(alloc, a),
-        _ => Err(LineFault::Kind(ScriptKind::WordCount)),
-    }
-}
-
-fn one_new_path(alloc: Global, args: &[&[u8]]) -> Result<Path, LineFault>
-    ensures { GivesLine (λ path. path) result (one_new_path_in (map piece_of args.now)) }
-{
-    match args {
-        [a] => new_path(alloc, a),
-        _ => Err(LineFault::Kind(ScriptKind::WordCount)),
-    }
-}
-
-#[tactic(auto, unfolding(crate::specs::Grammar::put_by))]
-fn put_by(alloc: Global, a: &[u8], b: &[u8], c: &[u8]) -> Result<Command, LineFault>
-    ensures { GivesLine (λ command. command) result (put_by_words a.now b.now c.now) }
-{
-    let path = path(alloc, a)?;
-    let offset = number(b)?;
-    let bytes = hex_bytes(alloc, c)?;
-    Ok(Command::Put {
-        path,
-        offset,
-        bytes,
-    })
-}
-
-fn put(alloc: Global, args: &[&[u8]]) -> Result<Command, LineFault>
-    ensures { GivesLine (λ command. command) result (put_command (map piece_of args.now)) }
-{
-    match args {
-        [a, b, c] => put_by(alloc, a, b, c),
-        _ => Err(LineFault::Kind(ScriptKind::WordCount)),
-    }
-}
-
-#[tactic(auto, unfolding(crate::specs::Grammar::get_by))]
-fn get_by(alloc: Global, a: &[u8], b: &[u8], c: &[u8]) -> Result<Command, LineFault>
-    ensures { GivesLine (λ command. command) result (get_by_words a.now b.now c.now) }
-{
-    let path = path(alloc, a)?;
-    let offset = number(b)?;
-    let length = number(c)?;
-    Ok(Command::Get {
-        path,
-        offset,
-        length,
-    })
-}
-
-fn get(alloc: Global, args: &[&[u8]]) -> Result<Command, LineFault>
-    ensures { GivesLine (λ command. command) result (get_command (map piece_of args.now)) }
-{
-    match args {
-        [a, b, c] => get_by(alloc, a, b, c),
-        _ => Err(LineFault::Kind(ScriptKind::WordCount)),
-    }
-}
-
-#[tactic(auto, unfolding(crate::specs::Grammar::size_command))]
-fn size(alloc: Global, args: &[&[u8]]) -> Result<Command, LineFault>
-    ensures { GivesLine (λ command. command) result (size_command (map piece_of args.now)) }
-{
-    match args {
-        [a, b] => {
-            let path = path(alloc, a)?;
-            let size = number(b)?;
-            Ok(Command::Size { path, size })
-        }
-        _ => Err(LineFault::Kind(ScriptKind::WordCount)),
-    }
-}
-
-#[tactic(auto, unfolding(crate::specs::Grammar::link_command))]
-fn link(alloc: Global, args: &[&[u8]]) -> Result<Command, LineFault>
-    ensures { GivesLine (λ command. command) result (link_command (map piece_of args.now)) }
-{
-    match args {
-        [a, b] => {
-            let path = path(alloc, a)?;
-            let new_path = new_path(alloc, b)?;
-            Ok(Command::Link { path, new_path })
-        }
-        _ => Err(LineFault::Kind(ScriptKind::WordCount)),
-    }
-}
-
-#[tactic(auto, unfolding(crate::specs::Grammar::rename_command))]
-fn rename(alloc: Global, args: &[&[u8]]) -> Result<Command, LineFault>
-    ensures { GivesLine (λ command. command) result (rename_command (map piece_of args.now)) }
-{
-    match args {
-        [a, b] => {
-            let path = new_path(alloc, a)?;
-            let name = Name::from_slice(alloc, b)?;
-            Ok(Command::Rename { path, name })
-        }
-        _ => Err(LineFault::Kind(ScriptKind::WordCount)),
-    }
-}
-
-#[tactic(auto, unfolding(crate::specs::Grammar::move_command))]
-fn moved(alloc: Global, args: &[&[u8]]) -> Result<Command, LineFault>
-    ensures { GivesLine (λ command. command) result (move_command (map piece_of args.now)) }
-{
-    match args {
-        [a, b] => {
-            let from = new_path(alloc, a)?;
-            let to = new_path(alloc, b)?;
-            Ok(Command::Move { from, to })
-        }
-        _ => Err(LineFault::Kind(ScriptKind::WordCount)),
-    }
-}
-
-/// The command of a verb with the words after it. `user` is none.
-#[tactic(auto, unfolding(crate::specs::Grammar::command_of))]
-pub fn command(alloc: Global, verb: Verb, args: &[&[u8]]) -> Result<Command, LineFault>
-    ensures { GivesLine (λ command. command) result (command_of verb (map piece_of args.now)) }
+// PATH, or NEWPATH where a name is made or dropped.
+fn one_path(alloc: Global, verb: Verb, a: &[u8]) -> Result<Path, LineFault>
+    ensures { Gives (λ path. path) result (one_path_in verb a.now) }
 {
     match verb {
-        Verb::Make => Ok(Command::Make {
-            path: one_new_path(alloc, args)?,
+        Verb::Make | Verb::MakeDirectory | Verb::Drop => new_path(alloc, a),
+        Verb::Stat | Verb::List | Verb::Fsync => path(alloc, a),
+        _ => Err(LineFault::Wrong(ScriptKind::WordCount)),
+    }
+}
+
+fn on_path(verb: Verb, path: Path) -> Result<Command, LineFault>
+    ensures { Gives (λ command. command) result (on_path_in verb path) }
+{
+    match verb {
+        Verb::Make => Ok(Command::Make { path }),
+        Verb::MakeDirectory => Ok(Command::MakeDirectory { path }),
+        Verb::Drop => Ok(Command::Drop { path }),
+        Verb::Stat => Ok(Command::Stat { path }),
+        Verb::List => Ok(Command::List { path }),
+        Verb::Fsync => Ok(Command::Fsync { path }),
+        _ => Err(LineFault::Wrong(ScriptKind::WordCount)),
+    }
+}
+
+#[tactic(auto, unfolding(crate::specs::Grammar::one_word))]
+fn one_word(alloc: Global, verb: Verb, a: &[u8]) -> Result<Command, LineFault>
+    ensures { Gives (λ command. command) result (one_word_in verb a.now) }
+{
+    let path = one_path(alloc, verb, a)?;
+    on_path(verb, path)
+}
+
+#[tactic(auto, unfolding(crate::specs::Grammar::two_words))]
+fn two_words(alloc: Global, verb: Verb, a: &[u8], b: &[u8]) -> Result<Command, LineFault>
+    ensures { Gives (λ command. command) result (two_words_in verb a.now b.now) }
+{
+    match verb {
+        Verb::Size => Ok(Command::Size {
+            path: path(alloc, a)?,
+            size: number(b)?,
         }),
-        Verb::MakeDirectory => Ok(Command::MakeDirectory {
-            path: one_new_path(alloc, args)?,
+        Verb::Link => Ok(Command::Link {
+            path: path(alloc, a)?,
+            new_path: new_path(alloc, b)?,
         }),
-        Verb::Put => put(alloc, args),
-        Verb::Get => get(alloc, args),
-        Verb::Size => size(alloc, args),
-        Verb::Stat => Ok(Command::Stat {
-            path: one_path(alloc, args)?,
+        Verb::Rename => Ok(Command::Rename {
+            path: new_path(alloc, a)?,
+            name: Name::from_slice(alloc, b)?,
         }),
-        Verb::List => Ok(Command::List {
-            path: one_path(alloc, args)?,
+        Verb::Move => Ok(Command::Move {
+            from: new_path(alloc, a)?,
+            to: new_path(alloc, b)?,
         }),
-        Verb::Link => link(alloc, args),
-        Verb::Drop => Ok(Command::Drop {
-            path: one_new_path(alloc, args)?,
+        _ => Err(LineFault::Wrong(ScriptKind::WordCount)),
+    }
+}
+
+#[tactic(auto, unfolding(crate::specs::Grammar::three_words))]
+fn three_words(
+    alloc: Global,
+    verb: Verb,
+    a: &[u8],
+    b: &[u8],
+    c: &[u8],
+) -> Result<Command, LineFault>
+    ensures { Gives (λ command. command) result (three_words_in verb a.now b.now c.now) }
+{
+    match verb {
+        Verb::Put => Ok(Command::Put {
+            path: path(alloc, a)?,
+            offset: number(b)?,
+            bytes: hex_bytes(alloc, c)?,
         }),
-        Verb::Rename => rename(alloc, args),
-        Verb::Fsync => Ok(Command::Fsync {
-            path: one_path(alloc, args)?,
+        Verb::Get => Ok(Command::Get {
+            path: path(alloc, a)?,
+            offset: number(b)?,
+            length: number(c)?,
         }),
-        Verb::Move => moved(alloc, args),
-        Verb::User => Err(LineFault::Kind(ScriptKind::UnknownCommand)),
+        _ => Err(LineFault::Wrong(ScriptKind::WordCount)),
+    }
+}
+
+/// The command of a verb with the words after it.
+pub fn command(alloc: Global, verb: Verb, args: &[&[u8]]) -> Result<Command, LineFault>
+    ensures { Gives (λ command. command) result (command_of verb (map piece_of args.now)) }
+{
+    match args {
+        [a] => one_word(alloc, verb, a),
+        [a, b] => two_words(alloc, verb, a, b),
+        [a, b, c] => three_words(alloc, verb, a, b, c),
+        _ => Err(LineFault::Wrong(ScriptKind::WordCount)),
     }
 }

@@ -1,8 +1,7 @@
 //! What can be wrong with a text.
 
 ghost use Rattle.std.specs.Prelude.{◌≡◌};
-ghost use Rattle.nofs_script.specs.declared.faults.LineFault.TheVariants.{NoMemory};
-ghost use Rattle.nofs_script.specs.declared.faults.ParseFault.TheVariants.{OutOfMemory};
+ghost use Rattle.nofs_script.specs.declared.faults.TextFault.TheVariants.{OutOfMemory};
 
 use std::alloc::AllocError;
 
@@ -34,34 +33,25 @@ pub struct ScriptFault {
     pub kind: ScriptKind,
 }
 
-/// What stopped the reading of one line.
+/// Why a text, or a line of it, gave nothing.
 #[derive(Clone, Copy, Debug, PartialEq, Eq)]
-pub enum LineFault {
-    Kind(ScriptKind),
-    NoMemory,
-}
-
-impl From<AllocError> for LineFault {
-    ghost from_gives = { λ _ e. e ≡ NoMemory };
-
-    fn from(_: AllocError) -> Self {
-        LineFault::NoMemory
-    }
-}
-
-/// Why a text gave no session.
-#[derive(Clone, Copy, Debug, PartialEq, Eq)]
-pub enum ParseFault {
-    /// It is none: its first bad line.
-    Script(ScriptFault),
+pub enum TextFault<W> {
+    /// What is wrong in it.
+    Wrong(W),
     /// Memory was wanting.
     OutOfMemory,
 }
 
-impl From<AllocError> for ParseFault {
+impl<W> From<AllocError> for TextFault<W> {
     ghost from_gives = { λ _ e. e ≡ OutOfMemory };
 
     fn from(_: AllocError) -> Self {
-        ParseFault::OutOfMemory
+        TextFault::OutOfMemory
     }
 }
+
+/// What stopped the reading of one line.
+pub type LineFault = TextFault<ScriptKind>;
+
+/// Why a text gave no session: by its first bad line, it is none, or memory was wanting.
+pub type ParseFault = TextFault<ScriptFault>;

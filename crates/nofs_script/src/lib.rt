@@ -12,7 +12,7 @@ mod tests;
 mod text;
 mod words;
 
-pub use faults::{ParseFault, ScriptFault, ScriptKind};
+pub use faults::{ParseFault, ScriptFault, ScriptKind, TextFault};
 pub use session::{Session, parse};
-pub use text::line_text;
+pub use text::{line_text, push_number, push_words};
 pub use words::number_of;

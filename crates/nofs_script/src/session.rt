@@ -1,10 +1,10 @@
 //! Sessions: the scripts of a text, read line by line.
 
-ghost use Rattle.std.specs.Prelude.{◌≡◌, ◌≢◌, ◌<◌, All, Some, [], map, length, MatchOption, IfOk, IfSome, slice_get, take};
+ghost use Rattle.std.specs.Prelude.{◌≡◌, ◌≢◌, ◌<◌, All, Some, [], map, length, ◌∷◌, MatchOption, IfOk, IfSome, slice_get, take};
 ghost use Rattle.std.specs.Str.Lines.{strip_carriage_return};
 ghost use Rattle.nofs_script.specs.Words.{piece_of, text_lines};
-ghost use Rattle.nofs_script.specs.Grammar.{GivesLine};
-ghost use Rattle.nofs_script.specs.Sessions.{GivesText, IsSession, asked_by as asked_in, with_command as command_added, user_of, read_verb as verb_read, read_words as words_read, read_line as line_read, at_line, is_skipped as is_skipped_in, read_from, empty_reading, session_of};
+ghost use Rattle.nofs_script.specs.Grammar.{Gives};
+ghost use Rattle.nofs_script.specs.Sessions.{IsSession, asked_by as asked_in, with_command as command_added, user_of, read_verb as verb_read, read_words as words_read, read_line as line_read, at_line, is_skipped as is_skipped_in, read_from, empty_reading, session_of};
 
 use crate::commands::{Verb, command, verb_of};
 use crate::faults::{LineFault, ParseFault, ScriptFault, ScriptKind};
@@ -46,7 +46,7 @@ fn asked_by(command: &Command) -> u64
 }
 
 fn with_command(reading: Reading, command: Command) -> Result<Reading, LineFault>
-    ensures { GivesLine (λ r. r) result (command_added reading command) }
+    ensures { Gives (λ r. r) result (command_added reading command) }
 {
     let Reading {
         done,
@@ -56,10 +56,10 @@ fn with_command(reading: Reading, command: Command) -> Result<Reading, LineFault
     } = reading;
     let asked = asked.saturating_add(asked_by(&command));
     if asked > MOST_ASKED {
-        return Err(LineFault::Kind(ScriptKind::TooMuchAsked));
+        return Err(LineFault::Wrong(ScriptKind::TooMuchAsked));
     }
     if count >= MOST_COMMANDS {
-        return Err(LineFault::Kind(ScriptKind::TooManyCommands));
+        return Err(LineFault::Wrong(ScriptKind::TooManyCommands));
     }
     current.push(command)?;
     Ok(Reading {
@@ -71,7 +71,7 @@ fn with_command(reading: Reading, command: Command) -> Result<Reading, LineFault
 }
 
 fn next_user(alloc: Global, reading: Reading) -> Result<Reading, LineFault>
-    ensures { GivesLine (λ r. r) result (user_of reading []) }
+    ensures { Gives (λ r. r) result (user_of reading []) }
 {
     let Reading {
         mut done,
@@ -80,7 +80,7 @@ fn next_user(alloc: Global, reading: Reading) -> Result<Reading, LineFault>
         asked,
     } = reading;
     if done.len() + 1 >= MOST_USERS {
-        return Err(LineFault::Kind(ScriptKind::TooManyUsers));
+        return Err(LineFault::Wrong(ScriptKind::TooManyUsers));
     }
     done.push(current)?;
     Ok(Reading {
@@ -92,11 +92,11 @@ fn next_user(alloc: Global, reading: Reading) -> Result<Reading, LineFault>
 }
 
 fn user(alloc: Global, reading: Reading, args: &[&[u8]]) -> Result<Reading, LineFault>
-    ensures { GivesLine (λ r. r) result (user_of reading (map piece_of args.now)) }
+    ensures { Gives (λ r. r) result (user_of reading (map piece_of args.now)) }
 {
     match args {
         [] => next_user(alloc, reading),
-        [_, ..] => Err(LineFault::Kind(ScriptKind::WordCount)),
+        [_, ..] => Err(LineFault::Wrong(ScriptKind::WordCount)),
     }
 }
 
@@ -106,11 +106,10 @@ fn read_verb(
     verb: Option<Verb>,
     args: &[&[u8]],
 ) -> Result<Reading, LineFault>
-    ensures { GivesLine (λ r. r) result (verb_read reading verb (map piece_of args.now)) }
+    ensures { Gives (λ r. r) result (verb_read reading verb (map piece_of args.now)) }
 {
     match verb {
-        None => Err(LineFault::Kind(ScriptKind::UnknownCommand)),
-        Some(Verb::User) => user(alloc, reading, args),
+        None => Err(LineFault::Wrong(ScriptKind::UnknownCommand)),
         Some(verb) => {
             let command = command(alloc, verb, args)?;
             with_command(reading, command)
@@ -118,12 +117,27 @@ fn read_verb(
     }
 }
 
+fn read_named(
+    alloc: Global,
+    reading: Reading,
+    word: &[u8],
+    args: &[&[u8]],
+) -> Result<Reading, LineFault>
+    ensures { Gives (λ r. r) result (words_read reading (word.now ∷ map piece_of args.now)) }
+{
+    if word == b"user".as_slice() {
+        user(alloc, reading, args)
+    } else {
+        read_verb(alloc, reading, verb_of(word), args)
+    }
+}
+
 fn read_words(alloc: Global, reading: Reading, words: &[&[u8]]) -> Result<Reading, LineFault>
-    ensures { GivesLine (λ r. r) result (words_read reading (map piece_of words.now)) }
+    ensures { Gives (λ r. r) result (words_read reading (map piece_of words.now)) }
 {
     match words {
         [] => Ok(reading),
-        [word, args @ ..] => read_verb(alloc, reading, verb_of(word), args),
+        [word, args @ ..] => read_named(alloc, reading, word, args),
     }
 }
 
@@ -135,7 +149,7 @@ fn is_skipped(line: &[u8]) -> bool
 
 #[tactic(auto, unfolding(crate::specs::Sessions::read_line), using(crate::proofs::Five::read_five))]
 fn read_line(alloc: Global, reading: Reading, line: &[u8]) -> Result<Reading, LineFault>
-    ensures { GivesLine (λ r. r) result (line_read reading line.now) }
+    ensures { Gives (λ r. r) result (line_read reading line.now) }
 {
     if is_skipped(line) {
         return Ok(reading);
@@ -173,18 +187,18 @@ fn line_before(text: &[u8], end: usize) -> &[u8]
 }
 
 fn read_at(alloc: Global, number: u64, reading: Reading, line: &[u8]) -> Result<Reading, ParseFault>
-    ensures { GivesText (λ r. r) result (at_line number (line_read reading line.now)) }
+    ensures { Gives (λ r. r) result (at_line number (line_read reading line.now)) }
 {
     match read_line(alloc, reading, line) {
         Ok(reading) => Ok(reading),
-        Err(LineFault::NoMemory) => Err(ParseFault::OutOfMemory),
-        Err(LineFault::Kind(kind)) => Err(ParseFault::Script(ScriptFault { line: number, kind })),
+        Err(LineFault::OutOfMemory) => Err(ParseFault::OutOfMemory),
+        Err(LineFault::Wrong(kind)) => Err(ParseFault::Wrong(ScriptFault { line: number, kind })),
     }
 }
 
 // Reads line after line, each in its turn: nothing is kept of a text but its commands.
 fn read_lines(alloc: Global, text: &[u8]) -> Result<Reading, ParseFault>
-    ensures { GivesText (λ r. r) result (read_from 1 empty_reading (text_lines text.now)) }
+    ensures { Gives (λ r. r) result (read_from 1 empty_reading (text_lines text.now)) }
 {
     let mut reading = Reading {
         done: Session::new(alloc),
@@ -209,7 +223,7 @@ fn read_lines(alloc: Global, text: &[u8]) -> Result<Reading, ParseFault>
 /// it otherwise. A session has 1 to 8 scripts, and each of its commands is well formed.
 #[tactic(auto, unfolding(crate::specs::Sessions::session_of))]
 pub fn parse(alloc: Global, text: &[u8]) -> Result<Session, ParseFault>
-    ensures exact { GivesText (λ session. session) result (session_of text.now) }
+    ensures exact { Gives (λ session. session) result (session_of text.now) }
     ensures session { IfOk result IsSession }
 {
     let Reading {

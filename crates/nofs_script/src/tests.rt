@@ -14,7 +14,7 @@ fn reading_of(alloc: Global, text: &[u8]) -> Result<String, AllocError> {
             let scripts = session.len();
             format!(in alloc; "{scripts} scripts")
         }
-        Err(ParseFault::Script(fault)) => {
+        Err(ParseFault::Wrong(fault)) => {
             let line = fault.line;
             let kind = fault.kind;
             format!(in alloc; "{line} {kind:?}")
@@ -27,12 +27,12 @@ fn reading_of(alloc: Global, text: &[u8]) -> Result<String, AllocError> {
 fn a_text_is_a_session_or_its_first_bad_line_is_named(rt: HostRuntime) -> Result<(), Fail> {
     let alloc = rt.alloc();
     for (text, want) in [
-        ("", "1 scripts"),
-        ("put @ 0 616263\nget @ 0 3\nfsync @", "1 scripts"),
         (
             "make /a\nmkdir /d\nsize /a 5\nstat /a\nlist /\nlink /a /b\n",
             "1 scripts",
         ),
+        ("", "1 scripts"),
+        ("put @ 0 616263\nget @ 0 3\nfsync @", "1 scripts"),
         ("drop /a\nrename /a b\nfsync /\nmove /a /d/b\n", "1 scripts"),
         ("user\n\n  # no command, but this is\n", "3 UnknownCommand"),
         ("# x\r\n\n   \nuser\n  stat   @  \r\n", "2 scripts"),
@@ -155,14 +155,14 @@ fn text_of(alloc: Global, said: Said) -> Result<Vec<u8>, AllocError> {
 fn each_line_has_its_text(rt: HostRuntime) -> Result<(), Fail> {
     for (said, want) in [
         (Said::Made, "made\n"),
+        (Said::Linked, "linked\n"),
+        (Said::Dropped, "dropped\n"),
         (Said::Put(4), "put 4\n"),
         (Said::Got, "got bytes:aa0b hole:1024 lost:3\n"),
         (Said::Sized(73_728), "sized 73728\n"),
         (Said::Stat(FileKind::File, 1026, 0), "stat file 1026 0\n"),
         (Said::Stat(FileKind::Directory, 0, 1), "stat dir 0 1\n"),
         (Said::Names, "names x x/ /dead:x /lost:7\n"),
-        (Said::Linked, "linked\n"),
-        (Said::Dropped, "dropped\n"),
         (Said::Renamed, "renamed\n"),
         (Said::Synced, "synced\n"),
         (Said::Moved, "moved\n"),

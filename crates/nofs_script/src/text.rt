@@ -8,13 +8,15 @@ use nofs_client::{GotPart, GotParts, Line, ListPart, ListParts};
 use nofs_machine::{FileKind, NameLine, Refusal, Stat};
 use std::alloc::{AllocError, Global};
 
-fn push_words(text: &mut Vec<u8>, words: &str) -> Result<(), AllocError>
+/// Adds words to a text.
+pub fn push_words(text: &mut Vec<u8>, words: &str) -> Result<(), AllocError>
     ensures { OnOk result (text.new.items ≡ text.old.items ++ words.now) }
 {
     text.extend_from_slice(words.as_bytes())
 }
 
-fn push_number(
+/// Adds words and a number to a text.
+pub fn push_number(
     alloc: Global,
     text: &mut Vec<u8>,
     words: &str,
@@ -74,8 +76,8 @@ fn push_listed(alloc: Global, text: &mut Vec<u8>, part: &ListPart) -> Result<(),
     ensures { OnOk result (text.new.items ≡ text.old.items ++ listed_text part.now) }
 {
     match part {
-        ListPart::Name(entry) => push_name(text, entry),
         ListPart::Lost(slot) => push_number(alloc, text, " /lost:", *slot),
+        ListPart::Name(entry) => push_name(text, entry),
     }
 }
 
@@ -185,18 +187,6 @@ fn push_names_line(alloc: Global, text: &mut Vec<u8>, parts: &ListParts) -> Resu
     push_all_listed(alloc, text, parts)
 }
 
-fn push_refused_put(
-    alloc: Global,
-    text: &mut Vec<u8>,
-    refusal: &Refusal,
-    stored: u64,
-) -> Result<(), AllocError>
-    ensures { OnOk result (text.new.items ≡ text.old.items ++ (refused_text refusal.now ++ codes ", stored " ++ decimal stored)) }
-{
-    push_refused(alloc, text, refusal)?;
-    push_number(alloc, text, ", stored ", stored)
-}
-
 fn push_line(alloc: Global, text: &mut Vec<u8>, line: &Line) -> Result<(), AllocError>
     ensures { OnOk result (text.new.items ≡ text.old.items ++ words_text line.now) }
 {
@@ -213,7 +203,10 @@ fn push_line(alloc: Global, text: &mut Vec<u8>, line: &Line) -> Result<(), Alloc
         Line::Synced => push_words(text, "synced"),
         Line::Moved => push_words(text, "moved"),
         Line::Refused(refusal) => push_refused(alloc, text, refusal),
-        Line::RefusedPut { refusal, stored } => push_refused_put(alloc, text, refusal, *stored),
+        Line::RefusedPut { refusal, stored } => {
+            push_refused(alloc, text, refusal)?;
+            push_number(alloc, text, ", stored ", *stored)
+        }
     }
 }
 

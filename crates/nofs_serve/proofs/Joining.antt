@@ -1,46 +1,20 @@
 -- Passes that are joined: what each caller made.
-use Rattle.std.proofs.Common.{◌≡◌, ◌≢◌, ℕ, ◌+◌, ◌<◌, eqb, ne_eqb, eqb-true, Bool, true, false, cond, ◌&&◌, List, [], ◌∷◌, length, map, ltb, refl, sym, ap}
-use Rattle.std.proofs.Common.{◌∙◌, subst, arith}
-use Rattle.std.specs.Prelude.{filter}
+use Rattle.std.proofs.Common.{◌≡◌, ◌≢◌, ℕ, ◌+◌, Bool, true, false, cond, List, [], ◌∷◌, length, ltb, refl, sym, ap, ◌∙◌, subst, arith}
 use mathlib.Core.List.{IsPrefix}
 use Rattle.nofs_turn.specs.declared.view.View.{View}
-use Rattle.nofs_turn.specs.Lists.{merge, numbered, entries_of, chosen}
+use Rattle.nofs_turn.specs.Lists.{chosen}
 use Rattle.nofs_turn.specs.Views.{joined}
-use Rattle.nofs_turn.proofs.Callers.{entries_of-numbered, filter-entries_of, joined_own, joined_other}
+use Rattle.nofs_turn.proofs.Callers.{joined_own, joined_other}
 use Rattle.nofs_turn.proofs.Words.{prefix_self}
 use Rattle.nofs_machine.specs.declared.history.Entry1.{Entry1}
-use Rattle.nofs_shared.specs.Owned.{done_of, is_by, all_by, own_steps, steps_by}
+use Rattle.nofs_shared.specs.Owned.{is_by, all_by, own_steps}
 use Rattle.nofs_shared.specs.Seats.{SameSeat}
+use Rattle.nofs_shared.proofs.Collecting.{chosen_by, chosen_not}
 use Rattle.nofs_serve.specs.Joins.{JoinsOwn, Gathers, made_by}
-
-chosen_by : (c : ℕ) (m : List (ℕ × Entry1)) → all_by c m ≡ true → chosen (is_by c) m ≡ m
-chosen_by c [] e = refl
-chosen_by c (x ∷ m) e = both (is_by c x.1) e (λ h. chosen_by c m h)
-  where
-    both : (b : Bool) → b && all_by c m ≡ true → (all_by c m ≡ true → chosen (is_by c) m ≡ m) → cond b (x ∷ chosen (is_by c) m) (chosen (is_by c) m) ≡ x ∷ m
-    both true h more = λ i. x ∷ more h i
-    both false h more = absurd (cc)
-
-chosen_not : (c d : ℕ) (m : List (ℕ × Entry1)) → all_by d m ≡ true → c ≢ d → chosen (is_by c) m ≡ []
-chosen_not c d [] e apart = refl
-chosen_not c d (x ∷ m) e apart = both (is_by d x.1) refl e (λ h. chosen_not c d m h apart)
-  where
-    both : (b : Bool) → is_by d x.1 ≡ b → b && all_by d m ≡ true → (all_by d m ≡ true → chosen (is_by c) m ≡ [])
-        → cond (is_by c x.1) (x ∷ chosen (is_by c) m) (chosen (is_by c) m) ≡ []
-    both true is h more =
-        let d_is : x.1.caller ≡ d = eqb-true x.1.caller d is in
-        let not_c : is_by c x.1 ≡ false = ne_eqb x.1.caller c (λ e. apart (sym e ∙ d_is)) in
-        rw not_c (more h)
-    both false is h more = absurd (cc)
 
 none_chosen : (m : List (ℕ × Entry1)) → own_steps m ≡ [] → m ≡ []
 none_chosen [] e = refl
 none_chosen (x ∷ m) e = absurd (cc)
-
--- what the numbered history has of a caller
-pub steps_of : (c n : ℕ) (log : List Entry1) → steps_by c log ≡ own_steps (chosen (is_by c) (numbered n log))
-steps_of c n log = ap (λ es. map done_of (filter (is_by c) es)) (sym (entries_of-numbered n log))
-    ∙ ap (map done_of) (filter-entries_of (is_by c) (numbered n log))
 
 longer-begins : (H xs ys : List Entry1) → IsPrefix H xs → IsPrefix H ys → (b : Bool) → IsPrefix H (cond b ys xs)
 longer-begins H xs ys p q true = q

@@ -14,11 +14,12 @@ use Rattle.nofs_client.specs.declared.lines.Line.{Line}
 use Rattle.nofs_client.specs.Runs.{IsBegun}
 use Rattle.nofs_shared.specs.Owned.{all_by, is_by, own_steps, steps_by}
 use Rattle.nofs_shared.specs.Seats.{SameSeat}
+use Rattle.nofs_shared.proofs.Collecting.{steps_of}
 use Rattle.nofs_workers.specs.Sweeps.{Sweeps}
 use Rattle.nofs_serve.specs.Joins.{JoinsOwn, Gathers, made_by}
 use Rattle.nofs_serve.specs.Teams.{UsersBegun}
 use Rattle.nofs_serve.specs.Served.{IsNobody, TeamMade, TeamGathered, TeamServed, UsersGathered}
-use Rattle.nofs_serve.proofs.Joining.{steps_of, made_by-own, made_by-other, joins-own, joins-other, gathers-one, gathers-more}
+use Rattle.nofs_serve.proofs.Joining.{made_by-own, made_by-other, joins-own, joins-other, gathers-one, gathers-more}
 use Rattle.nofs_serve.proofs.Gathering.{neither}
 
 -- a sweep that is told of only where more was done

@@ -10,11 +10,12 @@ use Rattle.nofs_machine.specs.declared.steps.ElementKind.TheVariants.{Inode, Blo
 use Rattle.nofs_client.specs.declared.lines.Line.{Line}
 use Rattle.nofs_shared.specs.Owned.{is_by, own_steps, steps_by}
 use Rattle.nofs_shared.specs.Seats.{SameSeat}
+use Rattle.nofs_shared.proofs.Collecting.{steps_of}
 use Rattle.nofs_workers.specs.Sweeps.{Sweeps}
 use Rattle.nofs_serve.specs.Joins.{JoinsOwn, Gathers, made_by}
 use Rattle.nofs_serve.specs.Served.{TeamGathered}
 use Rattle.nofs_serve.specs.Visits.{VisitMade, VisitGathered, VisitServed}
-use Rattle.nofs_serve.proofs.Joining.{steps_of, joins-own, joins-other, gathers-more}
+use Rattle.nofs_serve.proofs.Joining.{joins-own, joins-other, gathers-more}
 
 module _ {F : Type 0} (Visits : List Made → Type 0) (inodes blocks : ℕ) (short : Bool) where
   -- a visitor's pass is joined to those of a team without users

@@ -22,19 +22,23 @@ module _ {W V : Type 0} (R : W → V → Type 0) where
   zip-nil [] z = refl
   zip-nil (v ∷ vs) z = absurd z
 
+-- what holds of the steps and lines that were added holds of all, where there were none before
+from-none : (P : List Command → List Made → List Line → Type 0) (commands script : List Command) (old new made : List Made) (old_lines lines said : List Line)
+    → commands ≡ script → old ≡ [] → old_lines ≡ [] → new ≡ old ++ made → lines ≡ old_lines ++ said → P commands made said → P script new lines
+from-none P commands script old new made old_lines lines said is none no_lines more more_lines driven =
+    let m : made ≡ new = sym (more ∙ ap (λ l. l ++ made) none) in
+    let s : said ≡ lines = sym (more_lines ∙ ap (λ l. l ++ said) no_lines) in
+    subst (λ (q : List Command × List Made × List Line). P q.0 q.1 q.2) (λ i. (is i, m i, s i)) driven
+
 pub runs-some : (commands script : List Command) (old new : List Made) (old_lines lines : List Line) → commands ≡ script → old ≡ [] → old_lines ≡ []
     → RunsSome commands old new old_lines lines → IsPartlyDriven script new lines
 runs-some commands script old new old_lines lines is none no_lines r =
-    let m : r.made ≡ new = sym (r.more ∙ ap (λ l. l ++ r.made) none) in
-    let s : r.said ≡ lines = sym (r.more_lines ∙ ap (λ l. l ++ r.said) no_lines) in
-    subst (λ (q : List Command × List Made × List Line). IsPartlyDriven q.0 q.1 q.2) (λ i. (is i, m i, s i)) r.driven
+    from-none IsPartlyDriven commands script old new r.made old_lines lines r.said is none no_lines r.more r.more_lines r.driven
 
 pub runs-all : (commands script : List Command) (old new : List Made) (old_lines lines : List Line) → commands ≡ script → old ≡ [] → old_lines ≡ []
     → RunsAll commands old new old_lines lines → IsDriven script new lines
 runs-all commands script old new old_lines lines is none no_lines r =
-    let m : r.made ≡ new = sym (r.more ∙ ap (λ l. l ++ r.made) none) in
-    let s : r.said ≡ lines = sym (r.more_lines ∙ ap (λ l. l ++ r.said) no_lines) in
-    subst (λ (q : List Command × List Made × List Line). IsDriven q.0 q.1 q.2) (λ i. (is i, m i, s i)) r.driven
+    from-none IsDriven commands script old new r.made old_lines lines r.said is none no_lines r.more r.more_lines r.driven
 
 module _ {S T : Type 0} {made : S → List Made} {goes : S → S → Type 0} where
   zips : (xs ys : List (UserWorker S T)) → length ys ≡ length xs

@@ -47,9 +47,9 @@ pub fn serve<R: Threads + Wait + Sync, V: Serves + Send, T: Gate + Send + Drop>(
 ) -> Served<V>
 where
     V::Evidence: Send,
+    requires small { sweeps.inodes < 2 ^ 32 }
     requires few { vec_len plans ≤ 8 }
     requires formed { All (λ p. AreWellFormed p.commands) plans.items }
-    requires small { sweeps.inodes < 2 ^ 32 }
     ensures fixed { V.fixed result.mount ≡ V.fixed mount }
     ensures served { TeamServed (map (λ p. p.commands) plans.items) sweeps.inodes sweeps.blocks result.out_of_memory result.lines.items (V.entries mount) (V.entries result.mount) }
 {

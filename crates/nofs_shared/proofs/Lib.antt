@@ -7,6 +7,7 @@ pub mod Ending
 pub mod Claiming
 pub mod Committing
 pub mod Rooming
+pub mod Roomed
 pub mod Walking
 pub mod Collecting
 pub mod Two

@@ -3,15 +3,13 @@ use Rattle.std.proofs.Common.{◌≡◌, ℕ, ◌+◌, ◌-◌, ◌^◌, ◌<◌
 use Rattle.std.proofs.Common.{◌∙◌, subst, subst₂, arith, le_refl}
 use Rattle.std.proofs.lemmas.Bool.{cases_lt}
 use Rattle.nofs_disk.specs.Disk.{DiskState, IsSameDisk, KeepsCells, Picks, Rose}
-use Rattle.nofs_disk.specs.Chains.{IsSameDisk-trans}
+use Rattle.nofs_disk.specs.Chains.{IsSameDisk-refl, IsSameDisk-trans}
 use Rattle.nofs_model.specs.Cells.{Cell, SuperBlock}
 use Rattle.nofs_model.specs.Image.{Image}
 use Rattle.nofs_machine.specs.Allowed.{IsAllowed}
 use Rattle.nofs_machine.specs.History.{is_flushed}
 use Rattle.nofs_machine.specs.Machine.{is_write_fault, is_refused}
-use Rattle.nofs_machine.specs.World.{World, world_of}
-use Rattle.nofs_machine.specs.Claims.{next_stamp}
-use Rattle.nofs_machine.specs.Next.{Run, takes_time}
+use Rattle.nofs_machine.specs.Next.{takes_time}
 use Rattle.nofs_machine.specs.Steps.{is_out_of_memory}
 use Rattle.nofs_machine.specs.HistoryState.{HistoryState}
 use Rattle.nofs_machine.specs.declared.history.Claims.{Claims}
@@ -20,82 +18,23 @@ use Rattle.nofs_machine.specs.declared.steps.Step.{Step}
 use Rattle.nofs_machine.specs.declared.replies.Reply.{Reply}
 use Rattle.nofs_machine.specs.declared.replies.Reply.TheVariants as reply
 use Rattle.nofs_machine.specs.declared.replies.Refusal.TheVariants as refusal
-use Rattle.nofs_crashlaw.specs.Stage.{AllBy, Lasts, Stage}
+use Rattle.nofs_crashlaw.specs.Stage.{AllBy}
 use Rattle.nofs_crashlaw.proofs.Later.{law-later}
-use Rattle.nofs_state.specs.Books.{IsSafe, Says}
-use Rattle.nofs_state.specs.Standing.{IsOpen, IsRun, IsStopped, Past, Sounds, ends_at}
+use Rattle.nofs_state.specs.Books.{IsSafe, with_history}
+use Rattle.nofs_state.specs.Standing.{IsOpen, IsStopped, Past, Sounds}
 use Rattle.nofs_state.specs.Steps.{Follows, Goes, IsSafeStep, Moves, entry, goes-safely}
 use Rattle.nofs_state.specs.declared.books.Books.{Books}
 use Rattle.nofs_state.proofs.Keeping.{Keeping, open-keeps, stopped-keeps}
+use Rattle.nofs_state.proofs.SafeBooks.{safe-over}
+use Rattle.nofs_state.proofs.Sessions.{open-with, stopped-with}
 use Rattle.nofs_state.proofs.Sounding.{sounds-keep}
 use Rattle.nofs_shared.proofs.RestingImages.{rests-later}
 use Rattle.nofs_shared.specs.Forms.{Forms, IsNextEntry, is_fault, faults_in}
 use Rattle.nofs_shared.specs.Mounts.{IsMount, IsMounted, IsSoundDisk, MountStands}
 
--- Only the start of the history is spoken of
-
-module _ (k : Books) (h : HistoryState) where
-  abbrev with : Books
-  with = record k { history = h }
-
-  says-history : (W : World) → Says k W → Says with W
-  says-history W s = record {
-    version = s.version;
-    blocks = s.blocks;
-    inodes = s.inodes;
-    mount = s.mount;
-    serial = s.serial;
-    stopped = s.stopped;
-    known_inodes = s.known_inodes;
-    known_blocks = s.known_blocks;
-    free_inodes = s.free_inodes;
-    free_blocks = s.free_blocks;
-    agreement = s.agreement;
-  }
-
-  pub safe-history : (d : DiskState) → IsSafe d k → IsSafe d with
-  safe-history d s = record {
-    at = s.at;
-    mount = s.mount;
-    serial = s.serial;
-    unknown_inodes = s.unknown_inodes;
-    free_inodes = s.free_inodes;
-    agreement = s.agreement;
-    unknown_blocks = s.unknown_blocks;
-    free_blocks = s.free_blocks;
-    in_area = s.in_area;
-  }
-
-  module _ (d : DiskState) (H : List Entry1) (p : Past) (same : h.start ≡ k.history.start) where
-    run-history : IsRun d k H p → IsRun d with H p
-    run-history r = record {
-      run = subst (λ (n : ℕ). Run n (world_of p.base p.first) H p.world) (sym same) r.run;
-      ends = subst (λ (n : ℕ). ends_at n H ≡ d.moment) (sym same) r.ends;
-    }
-
-    pub open-history : IsOpen d k H p → IsOpen d with H p
-    open-history o = record {
-      run = run-history o.run;
-      going = o.going;
-      says = says-history p.world o.says;
-      at = o.at;
-      mountable = o.mountable;
-      files = o.files;
-      homes = o.homes;
-      homes_past = o.homes_past;
-      stage = subst (λ (n : ℕ). Stage p.base H p.mark p.stamps n (next_stamp p.world) d) (sym same) o.stage;
-      older = o.older;
-      rest = o.rest;
-      no_fault = o.no_fault;
-    }
-
-    pub stopped-history : IsStopped d k H p → IsStopped d with H p
-    stopped-history o = record {
-      run = run-history o.run;
-      stopped = o.stopped;
-      world_stopped = o.world_stopped;
-      lasts = subst (λ (n : ℕ). Lasts p.base H p.mark p.stamps n d) (sym same) o.lasts;
-    }
+-- The same books with another history
+pub safe-history : (k : Books) (h : HistoryState) (d : DiskState) → IsSafe d k → IsSafe d (with_history k h)
+safe-history k h d = safe-over d d k k.stopped h (IsSameDisk-refl d) refl
 
 -- the same mount with other room in its history
 pub mount-history : (found d : DiskState) (first : ℕ) (k : Books) (h : HistoryState) → h.start ≡ k.history.start → h.entries ≡ k.history.entries
@@ -120,8 +59,8 @@ mount-history found d first k h start entries m = record {
   where
     go : (p : Past) → IsOpen d k k.history.entries p ⊎ IsStopped d k k.history.entries p
         → IsOpen d (record k { history = h }) k.history.entries p ⊎ IsStopped d (record k { history = h }) k.history.entries p
-    go p (inl o) = inl (open-history k h d k.history.entries p start o)
-    go p (inr o) = inr (stopped-history k h d k.history.entries p start o)
+    go p (inl o) = inl (open-with d k h start k.history.entries p o)
+    go p (inr o) = inr (stopped-with d k h start k.history.entries p o)
 
 -- The form of a history
 
@@ -343,8 +282,8 @@ module _ (found old new : DiskState) (first : ℕ) (k l : Books) (m : IsMount fo
 
         go : (p : Past) → IsOpen new l (k.history.entries ++ e ∷ []) p ⊎ IsStopped new l (k.history.entries ++ e ∷ []) p
             → IsOpen new (record l { history = h }) (k.history.entries ++ e ∷ []) p ⊎ IsStopped new (record l { history = h }) (k.history.entries ++ e ∷ []) p
-        go p (inl o) = inl (open-history l h new (k.history.entries ++ e ∷ []) p start o)
-        go p (inr o) = inr (stopped-history l h new (k.history.entries ++ e ∷ []) p start o)
+        go p (inl o) = inl (open-with new l h start (k.history.entries ++ e ∷ []) p o)
+        go p (inr o) = inr (stopped-with new l h start (k.history.entries ++ e ∷ []) p o)
 
   -- so after a step of the mount
   pub mount-goes : (s : Step) (c : Claims) (r : Reply) (caller : ℕ) (g : Goes old k new l s c r) (mem : is_out_of_memory r ≡ false)

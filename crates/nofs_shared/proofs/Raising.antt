@@ -1,20 +1,19 @@
 -- A mount begins: the superblock is raised, and all images stay sound.
-use Rattle.std.proofs.Common.{◌≡◌, ◌≢◌, ℕ, ◌+◌, ◌-◌, ◌*◌, ◌^◌, ◌<◌, ◌≤◌, min, Bool, true, false, cond, ◌||◌, eqb, eqb-true, eq-eqb, List, [], length, set}
-use Rattle.std.proofs.Common.{IsTrue, Some, None, ◌⊎◌, inl, inr, refl, sym, ap, ◌∙◌, subst, subst₂, arith, Contains}
+use Rattle.std.proofs.Common.{◌≡◌, ◌≢◌, ℕ, ◌+◌, ◌-◌, ◌*◌, ◌^◌, ◌<◌, ◌≤◌, min, Bool, true, false, eqb, eqb-true, eq-eqb, List, [], length, set}
+use Rattle.std.proofs.Common.{IsTrue, Some, ◌⊎◌, inl, inr, refl, sym, ap, ◌∙◌, subst, subst₂, arith, Contains}
 use Rattle.std.proofs.lemmas.Bool.{cases_lt}
 use Rattle.std.proofs.lemmas.List.{get_or-set_same, get_or-set_other, length-set}
 use Rattle.nofs_disk.specs.Disk.{DiskState, IsDisk, IsSameDisk, KeepsPast, KeepsCells, Picks, no_cell, IsSettled}
 use Rattle.nofs_disk.specs.Chains.{IsSameDisk-trans}
 use Rattle.nofs_disk.specs.Adds.{Adds, WasOr}
-use Rattle.nofs_disk.specs.OneSpelling.{SpellsTag-tag_bytes, tag_of-spells}
-use Rattle.nofs_disk.specs.Tag.{tag_bytes}
 use Rattle.nofs_super.specs.Format.{super_cell, super_payload}
 use Rattle.nofs_super.specs.Geometry.{IsGeometry}
 use Rattle.nofs_super.specs.Raise.{IsRaised, IsSuperCell, raised}
 use Rattle.nofs_super.specs.Spelling.{super_of-payload}
-use Rattle.nofs_super.specs.Super.{CanMount, is_version, super_of}
-use Rattle.nofs_model.specs.Cells.{Cell, Super, SuperBlock, Tag, tag_of}
+use Rattle.nofs_super.specs.Super.{CanMount, super_of}
+use Rattle.nofs_model.specs.Cells.{Cell, SuperBlock, tag_of}
 use Rattle.nofs_model.specs.Image.{Image, cell_at, super_at, super_in, is_super, is_mountable, IsSound, IsBelow}
+use Rattle.nofs_model.proofs.Spells.{Spells, spells, super-tag, version-small}
 use Rattle.nofs_machine.specs.Allowed.{IsAllowed}
 use Rattle.nofs_machine.specs.World.{world_of}
 use Rattle.nofs_law_lives.specs.Lives as lives
@@ -30,40 +29,6 @@ use Rattle.nofs_shared.specs.Forms.{Forms, faults_in}
 use Rattle.nofs_shared.specs.Mounts.{IsFound, IsMount, IsMounted, IsSoundDisk}
 
 -- What a superblock's cell spells
-
-record Spells (payload : List ℕ) (it : SuperBlock) : Type 0 where
-  spelled : is_super payload ≡ true
-  numbers : super_in payload ≡ it
-
-spells : (payload : List ℕ) (it : SuperBlock) → super_of payload ≡ Some it → Spells payload it
-unfolding super_of
-spells payload it e = go (is_super payload) refl e
-  where
-    some-super : (a b : SuperBlock) → Some a ≡ Some b → a ≡ b
-    some-super a b h = cc h
-
-    go : (b : Bool) → is_super payload ≡ b → cond b (Some (super_in payload)) None ≡ Some it → Spells payload it
-    go true eb h = record { spelled = eb; numbers = some-super (super_in payload) it h }
-    go false eb h = cc h
-
-version-small : (v : ℕ) → is_version v ≡ true → v < 2 ^ 32
-version-small v e = go (eqb v 1) refl (eqb v 2) refl e
-  where
-    go : (a : Bool) → eqb v 1 ≡ a → (b : Bool) → eqb v 2 ≡ b → (a || b) ≡ true → v < 2 ^ 32
-    go true ea b eb h = let q = eqb-true v 1 ea in omega (arith, q)
-    go false ea true eb h = let q = eqb-true v 2 eb in omega (arith, q)
-    go false ea false eb h = cc
-
-abbrev super_tag : Tag
-super_tag = record { kind = Super; inode = 0; generation = 0; slot = 0; stamp = 0 }
-
-tag-spelled : tag_of (tag_bytes super_tag) ≡ Some super_tag
-tag-spelled = tag_of-spells (tag_bytes super_tag) super_tag
-    (SpellsTag-tag_bytes super_tag (record { inode = omega arith; generation = omega arith; slot = omega arith; stamp = omega arith }) tt)
-
-super-tag : (it : SuperBlock) → tag_of (super_cell it).tag ≡ Some super_tag
-unfolding super_cell
-super-tag it = tag-spelled
 
 module _ (blocks : ℕ) (it : SuperBlock) (can : CanMount blocks it) where
   raised-spells : Spells (super_cell (raised it)).payload (raised it)

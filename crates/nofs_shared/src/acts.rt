@@ -11,18 +11,10 @@ ghost use Rattle.nofs_shared.specs.Settling.{Settles};
 use crate::file_acts::{act_flush, act_get, act_put, act_resize, act_stat};
 use crate::name_acts::{act_drop, act_link, act_list, act_look, act_make, act_rename};
 use crate::see_acts::{act_see_block, act_see_inode};
-use nofs_disk::{Disk, Pointer};
-use nofs_machine::{Claims, Refusal, Reply, Step};
+use nofs_disk::Disk;
+use nofs_machine::{Claims, NO_CLAIMS, Refusal, Reply, Step};
 use nofs_state::Core;
 use std::alloc::Global;
-
-pub(crate) const NO_CLAIMS: Claims = Claims {
-    inode: 0,
-    generation: 0,
-    cell: Pointer::NULL,
-    leaf: Pointer::NULL,
-    top: Pointer::NULL,
-};
 
 // What a step came to: the caller's reply, the one that the history keeps, and what was claimed.
 #[derive(Drop)]
@@ -78,14 +70,12 @@ pub(crate) fn act<D: Disk + Drop>(core: &mut Core<D>, alloc: Global, step: &Step
         Step::Put {
             inode,
             generation,
+            bytes,
             slot,
             at,
-            bytes,
         } => act_put(core, *inode, *generation, *slot, *at, bytes),
         Step::Stat { inode, generation } => act_stat(core, *inode, *generation),
         Step::Flush { inode, generation } => act_flush(core, *inode, *generation),
-        Step::SeeInode { inode } => act_see_inode(core, *inode),
-        Step::SeeBlock { block } => act_see_block(core, *block),
         Step::Resize {
             inode,
             generation,
@@ -101,13 +91,15 @@ pub(crate) fn act<D: Disk + Drop>(core: &mut Core<D>, alloc: Global, step: &Step
             directory,
             generation,
             name,
-            inode,
             of,
+            inode,
         } => act_link(core, alloc, *directory, *generation, name, *inode, *of),
         Step::Drop {
             directory,
             generation,
             name,
         } => act_drop(core, alloc, *directory, *generation, name),
+        Step::SeeInode { inode } => act_see_inode(core, *inode),
+        Step::SeeBlock { block } => act_see_block(core, *block),
     }
 }

@@ -1,24 +1,23 @@
 //! Several elements of a mount are looked at together, and their verdicts committed one by one.
-ghost use Rattle.std.specs.Prelude.{◌≡◌, ◌+◌, ◌-◌, ◌<◌, ◌≤◌, ◌^◌, ℕ, true, false, All, IfOk, IfErr, length};
+ghost use Rattle.std.specs.Prelude.{◌≡◌, ◌+◌, ◌-◌, ◌<◌, ◌≤◌, ℕ, true, false, All, IfOk, IfErr, length};
+ghost use Rattle.nofs_disk.specs.Disk.{StaysButFaults};
 ghost use Rattle.nofs_machine.specs.Steps.{Fits, is_out_of_memory};
 ghost use Rattle.nofs_state.specs.Books.{IsSafe};
 ghost use Rattle.nofs_state.specs.Knowing.{with_agreement};
-ghost use Rattle.nofs_disk.specs.Disk.{StaysButFaults};
 ghost use Rattle.nofs_scan.specs.Elements.{HasElement, items_of, see_step, verdict_at};
-ghost use Rattle.nofs_shared.specs.Sees.{is_of_sweep};
 ghost use Rattle.nofs_shared.specs.Added.{AddsStep};
-ghost use Rattle.nofs_shared.specs.Batches.{BatchFails};
+ghost use Rattle.nofs_shared.specs.Batches as batches;
 ghost use Rattle.nofs_shared.specs.Commits.{IsCommit};
 ghost use Rattle.nofs_shared.specs.Earlier.{IsEarlier, IsOfBooks};
 ghost use Rattle.nofs_shared.specs.Mounts.{IsMount};
+ghost use Rattle.nofs_shared.specs.Sees.{is_of_sweep};
 
-use crate::acts::NO_CLAIMS;
 use crate::mount::Mount;
 use crate::room::take_room;
 use crate::steps::step_in;
 use nofs_disk::Disk;
-use nofs_machine::{ElementKind, Refusal, Reply, Step};
-use nofs_scan::{Evidence, commit, look_batch};
+use nofs_machine::{ElementKind, NO_CLAIMS, Refusal, Reply};
+use nofs_scan::{Evidence, commit, look_batch, step_of};
 use nofs_state::Core;
 use nofs_super::SuperBlock;
 use std::alloc::Global;
@@ -47,22 +46,11 @@ fn are_elements(kind: ElementKind, at: &SuperBlock, items: &[u64]) -> bool
     true
 }
 
-// The step that examines an element.
-fn step_of(kind: ElementKind, item: u64) -> Step
-    requires { item < 2 ^ 32 }
-    ensures { result ≡ see_step kind item }
-{
-    match kind {
-        ElementKind::Inode => Step::SeeInode { inode: item as u32 },
-        ElementKind::Block => Step::SeeBlock { block: item },
-    }
-}
-
 // Commits a verdict of an earlier state of the mount, with its entry. It takes no memory.
 fn commit_in<D: Disk + Drop>(
     core: &mut Core<D>,
-    alloc: Global,
     caller: u32,
+    alloc: Global,
     evidence: &Evidence<D>,
     at: u32,
     used: bool,
@@ -109,7 +97,7 @@ impl<D: Disk + Drop> Mount<D> {
         requires count { (1 ≤ length items.now) × (length items.now ≤ 64) }
         ensures same { (self.new.core.books ≡ with_agreement self.old.core.books self.new.core.books.agreement) × (self.new.found ≡ self.old.found) × (self.new.first ≡ self.old.first) × (self.new.kept ≡ self.old.kept) }
         ensures stays { StaysButFaults (D.state self.old.core.disk) (D.state self.new.core.disk) }
-        ensures refused { IfErr result (BatchFails (D.state self.old.core.disk) self.old.core.books (D.state self.new.core.disk) kind items.now) }
+        ensures refused { IfErr result (batches.BatchFails (D.state self.old.core.disk) self.old.core.books (D.state self.new.core.disk) kind items.now) }
         ensures asked { IfOk result (λ evidence. (evidence.kind ≡ kind) × (items_of evidence.verdicts ≡ items.now)) }
         ensures own { IfOk result (λ evidence. IsEarlier (D.state self.new.found.value) (D.state evidence.core.value.disk) evidence.core.value.books self.new.first self.new.core.books.history.start self.new.core.books.at self.new.core.books.history.entries) }
     {
@@ -148,7 +136,7 @@ impl<D: Disk + Drop> Mount<D> {
             None => Reply::Refused(Refusal::OutOfMemory),
             Some(left) => {
                 self.kept = left;
-                commit_in(&mut self.core, alloc, caller, evidence, at, used)
+                commit_in(&mut self.core, caller, alloc, evidence, at, used)
             }
         }
     }

@@ -6,11 +6,11 @@ ghost use Rattle.nofs_machine.specs.declared.steps.Step.TheVariants as step;
 ghost use Rattle.nofs_state.specs.Books.{IsSafe};
 ghost use Rattle.nofs_state.specs.Steps.{Goes};
 
-use crate::acts::{Acted, NO_CLAIMS, refused};
+use crate::acts::{Acted, refused};
 use nofs_disk::Disk;
 use nofs_files::{Ended, Got, flush, get, put, resize, stat};
 use nofs_lists::Content;
-use nofs_machine::{Refusal, Reply};
+use nofs_machine::{NO_CLAIMS, Refusal, Reply};
 use nofs_state::Core;
 use std::alloc::{AllocError, Global};
 

@@ -1,9 +1,9 @@
 //! Batches of verdicts behind a turn: a look is one section, and each commit another.
 ghost use Rattle.std.specs.Prelude.{◌≡◌, ◌<◌, ◌≤◌, IfOk, get_or, length};
-ghost use Rattle.nofs_turn.specs.Turns.{view_of};
 ghost use Rattle.nofs_turn.specs.Passes.{MayRun};
+ghost use Rattle.nofs_turn.specs.Turns.{view_of};
 ghost use Rattle.nofs_machine.specs.Steps.{Fits, with_made};
-ghost use Rattle.nofs_scan.specs.Elements.{see_step};
+ghost use Rattle.nofs_scan.specs.Elements as elements;
 ghost use Rattle.nofs_shared.specs.Commits.{CommitRan};
 ghost use Rattle.nofs_shared.specs.Owned.{own_steps};
 ghost use Rattle.nofs_shared.specs.Seats.{SameSeat};
@@ -91,8 +91,8 @@ impl<R: Wait, V: Serves> SharedPass<'_, R, V> {
         requires within { at < length (V.items_in evidence.now) }
         requires used { used ≡ V.verdict_in evidence.now at }
         ensures same { (self.new.turn.now ≡ self.old.turn.now) × (self.new.caller ≡ self.old.caller) × SameSeat (view_of self.old.pass) (view_of self.new.pass) }
-        ensures made { own_steps (view_of self.new.pass).mine ≡ with_made (own_steps (view_of self.old.pass).mine) (see_step (V.kind_of evidence.now) (get_or (V.items_in evidence.now) at 0)) result }
-        ensures fits { Fits (see_step (V.kind_of evidence.now) (get_or (V.items_in evidence.now) at 0)) result }
+        ensures made { own_steps (view_of self.new.pass).mine ≡ with_made (own_steps (view_of self.old.pass).mine) (elements.see_step (V.kind_of evidence.now) (get_or (V.items_in evidence.now) at 0)) result }
+        ensures fits { Fits (elements.see_step (V.kind_of evidence.now) (get_or (V.items_in evidence.now) at 0)) result }
         ensures own { MayRun (V.is_of evidence.now) (view_of self.new.pass) }
         ensures right { CommitRan (V.commits evidence.now at) (view_of self.old.pass) (view_of self.new.pass) result }
     {

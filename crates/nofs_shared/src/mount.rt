@@ -20,16 +20,16 @@ ghost use Rattle.std.specs.Prelude.{◌≡◌, ◌+◌, ◌-◌, ◌^◌, ◌<�
 ghost use Rattle.nofs_machine.specs.Steps.{Fits, is_out_of_memory};
 ghost use Rattle.nofs_machine.specs.World.{World};
 ghost use Rattle.nofs_state.specs.Books.{IsSafe, Says};
-ghost use Rattle.nofs_state.specs.Counted.{CountsBlocks, CountsInodes};
-ghost use Rattle.nofs_scan.specs.Scanned.{AreExamined, IsFullScan};
+ghost use Rattle.nofs_state.specs.Counted as counted;
 ghost use Rattle.nofs_state.specs.WritingOut.{WroteOne};
+ghost use Rattle.nofs_scan.specs.Scanned.{AreExamined, IsFullScan};
+ghost use Rattle.nofs_shared.specs.Added.{AddsStep, Unowned};
+ghost use Rattle.nofs_shared.specs.Begins as begins;
+ghost use Rattle.nofs_shared.specs.Ends.{Ends};
+ghost use Rattle.nofs_shared.specs.Mounts.{IsMount, IsSoundDisk};
 ghost use Rattle.nofs_shared.specs.Sees.{is_of_sweep};
 ghost use Rattle.nofs_shared.specs.Settling.{Settles};
-ghost use Rattle.nofs_shared.specs.Mounts.{IsMount, IsSoundDisk};
-ghost use Rattle.nofs_shared.specs.Added.{AddsStep, Unowned};
-ghost use Rattle.nofs_shared.specs.Begins.{BeginFails};
 ghost use Rattle.nofs_shared.specs.StepCauses.{StepCauses};
-ghost use Rattle.nofs_shared.specs.Ends.{Ends};
 
 use crate::begin::{Prepared, prepare};
 use crate::room::take_room;
@@ -67,7 +67,7 @@ impl<D: Disk + Drop> Mount<D> {
     pub fn begin(alloc: Global, disk: D, first: u64) -> Result<Mount<D>, BeginFault<D>>
         requires { first ≤ 2 ^ 40 }
         ensures mount { IfOk result (λ m. (m.found.value ≡ disk) × (m.first ≡ first) × (m.core.books.history.entries ≡ []) × (m.kept ≡ m.core.books.at.inodes + m.core.books.at.blocks)) }
-        ensures fault { IfErr result (λ e. BeginFails (D.state disk) (D.state e.disk) e.cause) }
+        ensures fault { IfErr result (λ e. begins.BeginFails (D.state disk) (D.state e.disk) e.cause) }
     {
         let found = Snapshot::of(&disk);
         let mut disk = disk;
@@ -129,7 +129,7 @@ impl<D: Disk + Drop> Mount<D> {
     pub fn counts(&self) -> Counts
         ensures inodes { result.inodes_used + result.inodes_free + result.inodes_unchecked ≡ self.now.core.books.at.inodes }
         ensures blocks { result.blocks_used + result.blocks_free + result.blocks_unchecked ≡ self.now.core.books.at.blocks }
-        ensures machine { (W : World) → Says self.now.core.books W → CountsInodes W result × CountsBlocks W result }
+        ensures machine { (W : World) → Says self.now.core.books W → counted.CountsInodes W result × counted.CountsBlocks W result }
         ensures scan { IsSoundDisk (D.state self.now.found.value) → self.now.core.books.stopped ≡ false → AreExamined self.now.core.books.history.entries self.now.core.books.at → ∥ IsFullScan (D.state self.now.core.disk).now self.now.core.books ∥₁ }
     {
         self.core.books.counts()

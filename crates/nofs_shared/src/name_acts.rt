@@ -5,11 +5,11 @@ ghost use Rattle.nofs_machine.specs.declared.steps.Step.TheVariants as step;
 ghost use Rattle.nofs_state.specs.Books.{IsSafe};
 ghost use Rattle.nofs_state.specs.Steps.{Goes};
 
-use crate::acts::{Acted, NO_CLAIMS, refused};
+use crate::acts::{Acted, refused};
 use nofs_disk::Disk;
 use nofs_inode::FileKind;
 use nofs_lists::Name;
-use nofs_machine::{NameLine, NameList, Refusal, Reply};
+use nofs_machine::{NO_CLAIMS, NameLine, NameList, Refusal, Reply};
 use nofs_names::{Ended, Listed, drop_name, link, list, look, make, rename};
 use nofs_state::Core;
 use std::alloc::{AllocError, Global};
@@ -69,11 +69,9 @@ pub(crate) fn act_rename<D: Disk + Drop>(
 fn copy_line(alloc: Global, line: &NameLine) -> Result<NameLine, AllocError>
     ensures { IfOk result (λ copy. copy ≡ line.now) }
 {
-    Ok(NameLine {
-        name: line.name.copy(alloc)?,
-        kind: line.kind,
-        dead: line.dead,
-    })
+    let name = line.name.copy(alloc)?;
+    let NameLine { kind, dead, .. } = *line;
+    Ok(NameLine { name, kind, dead })
 }
 
 // A second list of the same lines.

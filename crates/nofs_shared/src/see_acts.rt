@@ -6,9 +6,9 @@ ghost use Rattle.nofs_machine.specs.declared.steps.Step.TheVariants as step;
 ghost use Rattle.nofs_state.specs.Books.{IsSafe};
 ghost use Rattle.nofs_state.specs.Steps.{Goes};
 
-use crate::acts::{Acted, NO_CLAIMS, refused};
+use crate::acts::{Acted, refused};
 use nofs_disk::Disk;
-use nofs_machine::Reply;
+use nofs_machine::{NO_CLAIMS, Reply};
 use nofs_scan::{see_block, see_inode};
 use nofs_state::Core;
 
@@ -37,10 +37,10 @@ pub(crate) fn act_see_inode<D: Disk + Drop>(core: &mut Core<D>, inode: u32) -> A
 
 pub(crate) fn act_see_block<D: Disk + Drop>(core: &mut Core<D>, block: u64) -> Acted
     requires { IsSafe (D.state core.old.disk) core.old.books }
+    ensures memory { is_out_of_memory result.reply ≡ false }
     ensures goes { Goes (D.state core.old.disk) core.old.books (D.state core.new.disk) core.new.books (step.SeeBlock block) result.claims result.reply }
     ensures same { result.kept ≡ result.reply }
     ensures fits { Fits (step.SeeBlock block) result.reply }
-    ensures memory { is_out_of_memory result.reply ≡ false }
 {
     match see_block(core, block) {
         Ok(used) => seen(used),

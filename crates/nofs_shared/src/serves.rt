@@ -147,11 +147,11 @@ impl<D: Disk + Drop> Serves for Mount<D> {
         &mut self,
         alloc: Global,
         caller: u32,
-        evidence: &Evidence<D>,
+        found: &Evidence<D>,
         at: u32,
         used: bool,
     ) -> Reply {
-        self.commit(alloc, caller, evidence, at, used)
+        self.commit(alloc, caller, found, at, used)
     }
 
     fn write_out(&mut self) -> Result<Option<u64>, OutFault> {

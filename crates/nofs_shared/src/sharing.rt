@@ -10,18 +10,18 @@ use nofs_turn::{Pass, PassesOut, Turn, TurnFault};
 use std::alloc::Global;
 use std::sync::atomic::AtomicBool;
 
+/// There was no memory to share a mount. It comes back unchanged.
+#[derive(Drop)]
+pub struct ShareFault<V> {
+    pub mount: V,
+}
+
 /// A mount behind a turn.
 #[derive(Drop)]
 pub struct SharedMount<V: Serves> {
     turn: Turn<V>,
     // Whether a write-out found no block kept back, and no step has begun since.
     clean: AtomicBool,
-}
-
-/// There was no memory to share a mount. It comes back unchanged.
-#[derive(Drop)]
-pub struct ShareFault<V> {
-    pub mount: V,
 }
 
 /// A shared mount was not closed, since passes of it are out. All comes back unchanged.

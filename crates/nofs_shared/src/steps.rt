@@ -2,10 +2,10 @@
 ghost use Rattle.std.specs.Prelude.{◌≡◌, ◌+◌, ◌<◌, ◌≤◌, ℕ, true, false};
 ghost use Rattle.nofs_machine.specs.Steps.{Fits, is_out_of_memory};
 ghost use Rattle.nofs_state.specs.Books.{IsSafe};
-ghost use Rattle.nofs_shared.specs.Sees.{is_see};
-ghost use Rattle.nofs_shared.specs.Settling.{Settles};
 ghost use Rattle.nofs_shared.specs.Added.{AddsStep, Unowned};
 ghost use Rattle.nofs_shared.specs.Mounts.{IsMount, IsSoundDisk};
+ghost use Rattle.nofs_shared.specs.Sees.{is_see};
+ghost use Rattle.nofs_shared.specs.Settling.{Settles};
 ghost use Rattle.nofs_shared.specs.StepCauses.{StepCauses};
 
 use crate::acts::{Acted, act};

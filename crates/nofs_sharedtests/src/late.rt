@@ -1,4 +1,5 @@
 //! A verdict that a mount commits late: a block that was found free was claimed since, or was not.
+ghost use Rattle.std.specs.Prelude.{IfOk};
 ghost use Rattle.nofs_memdisk.specs.Parts.{memory_state};
 ghost use Rattle.nofs_shared.specs.Earlier.{IsEarlier};
 
@@ -9,6 +10,16 @@ use nofs_scan::{Evidence, judge};
 use nofs_shared::Mount;
 use std::alloc::{AllocError, Global};
 use std::test::Fail;
+
+// Looks at block 24.
+fn look(alloc: Global, mount: &mut Mount<MemDisk>) -> Result<Evidence<MemDisk>, Fail>
+    ensures { IfOk result (λ evidence. IsEarlier (memory_state mount.new.found.value) (memory_state evidence.core.value.disk) evidence.core.value.books mount.new.first mount.new.core.books.history.start mount.new.core.books.at mount.new.core.books.history.entries) }
+{
+    match mount.look_batch(alloc, ElementKind::Block, &[24]) {
+        Ok(evidence) => Ok(evidence),
+        Err(_) => Err("no evidence".into()),
+    }
+}
 
 // A step that comes after a look.
 fn step_after(
@@ -53,30 +64,26 @@ fn settle(alloc: Global, mount: &mut Mount<MemDisk>, evidence: &Evidence<MemDisk
 }
 
 #[test]
-fn a_verdict_of_a_mount_does_not_undo_a_claim(rt: HostRuntime) -> Result<(), Fail> {
-    let alloc = rt.alloc();
-    let mut mount = full_below_24(alloc)?;
-    let Ok(evidence) = mount.look_batch(alloc, ElementKind::Block, &[24]) else {
-        panic!(rt; "no evidence")
-    };
-    assert!(rt; claim(alloc, &mut mount, &evidence)?);
-    assert_eq!(rt; settle(alloc, &mut mount, &evidence), Some(true));
-    assert_eq!(rt; is_used(alloc, &mut mount, 24), Some(true));
-    assert_eq!(rt; mount.history().len(), 42);
-    Ok(())
-}
-
-#[test]
 fn a_block_that_a_mount_found_free_is_claimed(rt: HostRuntime) -> Result<(), Fail> {
     let alloc = rt.alloc();
     let mut mount = full_below_24(alloc)?;
-    let Ok(evidence) = mount.look_batch(alloc, ElementKind::Block, &[24]) else {
-        panic!(rt; "no evidence")
-    };
+    let evidence = look(alloc, &mut mount)?;
     assert_eq!(rt; settle(alloc, &mut mount, &evidence), Some(false));
     assert_eq!(rt; mount.counts().blocks_free, 1);
     assert!(rt; is_stored(&put(alloc, &mut mount, 18)?));
     assert_eq!(rt; mount.counts().blocks_free, 0);
     assert_eq!(rt; is_used(alloc, &mut mount, 24), Some(true));
+    Ok(())
+}
+
+#[test]
+fn a_verdict_of_a_mount_does_not_undo_a_claim(rt: HostRuntime) -> Result<(), Fail> {
+    let alloc = rt.alloc();
+    let mut mount = full_below_24(alloc)?;
+    let evidence = look(alloc, &mut mount)?;
+    assert!(rt; claim(alloc, &mut mount, &evidence)?);
+    assert_eq!(rt; settle(alloc, &mut mount, &evidence), Some(true));
+    assert_eq!(rt; is_used(alloc, &mut mount, 24), Some(true));
+    assert_eq!(rt; mount.history().len(), 42);
     Ok(())
 }

@@ -15,5 +15,3 @@ mod passes;
 mod rows;
 #[cfg(test)]
 mod tests;
-#[cfg(test)]
-mod wanting;

@@ -1,29 +1,17 @@
 //! Steps at a mount on a formatted disk in memory.
+use crate::rows::{formatted, mounted};
 use nofs_inode::FileKind;
 use nofs_lists::{Content, Name};
 use nofs_machine::{ElementKind, Refusal, Reply, Step};
 use nofs_memdisk::MemDisk;
 use nofs_scan::judge;
-use nofs_shared::{BeginFault, Mount};
-use nofs_super::format;
+use nofs_shared::Mount;
 use std::alloc::Global;
 use std::test::Fail;
 
 // A mount of a new disk with 16 blocks and 4 inodes.
-fn mounted(alloc: Global) -> Option<Mount<MemDisk>> {
-    let Ok(mut disk) = MemDisk::new(alloc, 16) else {
-        return None;
-    };
-    if nofs_disk::Disk::ready(&mut disk, 40).is_err() {
-        return None;
-    }
-    if format(&mut disk, 16, 4).is_err() {
-        return None;
-    }
-    match Mount::begin(alloc, disk, 0) {
-        Ok(mount) => Some(mount),
-        Err(BeginFault { disk: _, cause: _ }) => None,
-    }
+fn begun(alloc: Global) -> Result<Mount<MemDisk>, Fail> {
+    mounted(alloc, formatted(alloc, 16, 4)?, 0)
 }
 
 fn put_at(slot: u64, bytes: Content) -> Step {
@@ -38,9 +26,7 @@ fn put_at(slot: u64, bytes: Content) -> Step {
 
 #[test]
 fn a_put_needs_a_block_that_was_examined(rt: HostRuntime) -> Result<(), Fail> {
-    let Some(mut mount) = mounted(rt.alloc()) else {
-        panic!(rt; "not mounted")
-    };
+    let mut mount = begun(rt.alloc())?;
     let bytes = Content::from_slice(rt.alloc(), b"ab")?;
     let full = mount.step(rt.alloc(), 1, put_at(0, bytes));
     assert!(rt; matches!(full, Reply::Refused(Refusal::Full { free: 0, .. })));
@@ -55,9 +41,7 @@ fn a_put_needs_a_block_that_was_examined(rt: HostRuntime) -> Result<(), Fail> {
 
 #[test]
 fn a_verdict_of_a_batch_is_committed_later(rt: HostRuntime) -> Result<(), Fail> {
-    let Some(mut mount) = mounted(rt.alloc()) else {
-        panic!(rt; "not mounted")
-    };
+    let mut mount = begun(rt.alloc())?;
     let Ok(evidence) = mount.look_batch(rt.alloc(), ElementKind::Block, &[1, 15]) else {
         panic!(rt; "no evidence")
     };
@@ -75,9 +59,7 @@ fn a_verdict_of_a_batch_is_committed_later(rt: HostRuntime) -> Result<(), Fail> 
 
 #[test]
 fn the_root_is_listed_twice_from_one_read(rt: HostRuntime) -> Result<(), Fail> {
-    let Some(mut mount) = mounted(rt.alloc()) else {
-        panic!(rt; "not mounted")
-    };
+    let mut mount = begun(rt.alloc())?;
     let listed = mount.step(
         rt.alloc(),
         1,
@@ -124,9 +106,7 @@ fn made(alloc: Global, mount: &mut Mount<MemDisk>) -> Option<(u32, u64)> {
 #[test]
 fn a_file_that_is_made_is_listed_cut_and_dropped(rt: HostRuntime) -> Result<(), Fail> {
     let alloc = rt.alloc();
-    let Some(mut mount) = mounted(alloc) else {
-        panic!(rt; "not mounted")
-    };
+    let mut mount = begun(alloc)?;
     let Some((inode, generation)) = made(alloc, &mut mount) else {
         panic!(rt; "not made")
     };

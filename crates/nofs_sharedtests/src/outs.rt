@@ -2,11 +2,10 @@
 //! back none.
 use crate::passes::two_passes;
 use crate::rows::{formatted, is_stored, is_used, mounted, put, put_step, seen};
-use crate::wanting::Wanting;
 use nofs_cache::Cached;
 use nofs_disk::{Disk, OutFault};
 use nofs_machine::{ElementKind, Step, Steps};
-use nofs_memdisk::MemDisk;
+use nofs_memdisk::{MemDisk, Unready};
 use nofs_scan::judge;
 use nofs_shared::{Mount, Serves, SharedPass};
 use std::alloc::Global;
@@ -90,7 +89,7 @@ fn write_all_out<R: Wait, V: Serves>(pass: &mut SharedPass<'_, R, V>) -> u64 {
 #[test]
 fn a_write_out_asks_the_mount_only_after_a_step(rt: HostRuntime) -> Result<(), Fail> {
     let alloc = rt.alloc();
-    let disk = Wanting {
+    let disk = Unready {
         under: cache(alloc)?,
         rooms: 9,
     };

@@ -44,10 +44,10 @@ new_books at first room start = record {
   unknown_inodes = room.unknown_inodes;
   free_inodes = room.free_inodes;
   agreement = room.agreement;
-  unknown_blocks = room.unknown_blocks;
-  free_blocks = room.free_blocks;
   serial = first;
   stopped = false;
+  unknown_blocks = room.unknown_blocks;
+  free_blocks = room.free_blocks;
   history = record { start = start; entries = []; spare = room.history.spare };
 }
 

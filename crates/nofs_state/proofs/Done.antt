@@ -11,7 +11,7 @@ use Rattle.nofs_model.proofs.Find.{and-both, find-held}
 use Rattle.nofs_law_images.specs.Proper.{Proper}
 use Rattle.nofs_law_images.specs.Moments.{during}
 use Rattle.nofs_machine.specs.Search.{first_of}
-use Rattle.nofs_machine.specs.Machine.{gives, given_by, files_by, files_after, is_refused, is_write_fault}
+use Rattle.nofs_machine.specs.Machine.{gives, given_by, files_by, files_after, is_refused}
 use Rattle.nofs_machine.specs.World.{World, inodes_needed, blocks_needed}
 use Rattle.nofs_machine.specs.Claims.{IsClaim, claimed_home, homes_after, next_stamp}
 use Rattle.nofs_machine.specs.Refusals.{rows}
@@ -20,12 +20,10 @@ use Rattle.nofs_machine.specs.Good.{IsFresh}
 use Rattle.nofs_machine.specs.History.{FilesMatch, agreed_files, files_along, is_flushed, mark_at}
 use Rattle.nofs_machine.specs.Steady.{SteadyRest}
 use Rattle.nofs_machine.specs.Next.{Next, Done, Learns}
-use Rattle.nofs_machine.specs.Steps.{is_out_of_memory}
 use Rattle.nofs_machine.specs.declared.history.Claims.{Claims}
 use Rattle.nofs_machine.specs.declared.history.Entry1.{Entry1}
 use Rattle.nofs_machine.specs.declared.steps.Step.{Step}
 use Rattle.nofs_machine.specs.declared.replies.Reply.{Reply}
-use Rattle.nofs_machine.specs.declared.replies.Reply.TheVariants as reply
 use Rattle.nofs_machine.proofs.Lives.{along-append}
 use Rattle.nofs_law_maps.specs.Fresh.{Numbered, CellNumbers}
 use Rattle.nofs_law_maps.specs.Homes.{HomesMove, HomesMatch}
@@ -35,12 +33,13 @@ use Rattle.nofs_crashlaw.specs.Stage.{AddsProper, Stage}
 use Rattle.nofs_crashlaw.proofs.Staging.{law-stage}
 use Rattle.nofs_state.specs.Books.{IsSafe, Says, knows_inode, knows_block}
 use Rattle.nofs_state.specs.Standing.{IsOpen, IsStopped, Past, Sounds}
-use Rattle.nofs_state.specs.Steps.{Goes, HasRange, entry}
+use Rattle.nofs_state.specs.Steps.{Goes, entry}
 use Rattle.nofs_state.specs.Writing.{OneOf}
 use Rattle.nofs_state.specs.declared.books.Books.{Books}
 use Rattle.nofs_state.proofs.Idle.{run-more, takes-none}
 use Rattle.nofs_state.proofs.Replies.{open-files}
 use Rattle.nofs_state.proofs.Runs.{faults-append}
+use Rattle.nofs_state.proofs.SafeSteps.{accepted-fault, accepted-memory, safely-done, safely-goes}
 use Rattle.nofs_state.proofs.Sounded.{sounds-adds}
 
 -- weaker cells
@@ -95,10 +94,6 @@ pub record IsDone (old new : DiskState) (k l : Books) (H : List Entry1) (p : Pas
   pub history : l.history ≡ k.history
   pub going : l.stopped ≡ false
 
-pub no-fault : (r : Reply) → is_refused r ≡ false → is_write_fault r ≡ false
-no-fault (reply.Refused w) e = cc
-no-fault _ e = refl
-
 module _ (old new : DiskState) (k l : Books) (H : List Entry1) (p : Past) (caller : ℕ) (s : Step) (c : Claims) (r : Reply) (ws : List (ℕ × Cell))
     (is_old : IsDisk old) (is_new : IsDisk new) (tells : IsTrue old.tells)
     (o : IsOpen old k H p) (d : IsDone old new k l H p s c r ws) where
@@ -142,7 +137,7 @@ module _ (old new : DiskState) (k l : Books) (H : List Entry1) (p : Past) (calle
 
   new-fresh : IsFresh V new.now new.may
   new-fresh = (law-fresh W V e old.now new.now old.may new.may next quarters d.super old-fresh
-      (λ b lt cell has. elim (d.adds.cells b cell has) [ inl was ↦ inl was | inr one ↦ inr (d.numbers b cell one) ])).0 (no-fault r d.accepted)
+      (λ b lt cell has. elim (d.adds.cells b cell has) [ inl was ↦ inl was | inr one ↦ inr (d.numbers b cell one) ])).0 (accepted-fault r d.accepted)
 
   homes : HomesMatch V new.now
   homes = law-homes W V s c old.now new.now o.homes (open-files old k H p o) d.move refl refl d.files
@@ -192,7 +187,7 @@ module _ (old new : DiskState) (k l : Books) (H : List Entry1) (p : Past) (calle
   pub open-done : IsOpen new l (H ++ e ∷ []) (record p { world = V })
   open-done = record {
     run = run-more old new k l H p e V o.run (ap (λ h. h.start) d.history) refl refl (let q = d.later in omega (arith, q))
-        (λ t. absurd (let z = takes-none r d.no_flush (no-fault r d.accepted) in cc (t, z))) next;
+        (λ t. absurd (let z = takes-none r d.no_flush (accepted-fault r d.accepted) in cc (t, z))) next;
     going = d.going;
     says = d.says;
     at = same-super ∙ o.at ∙ sym d.books_at;
@@ -203,7 +198,7 @@ module _ (old new : DiskState) (k l : Books) (H : List Entry1) (p : Past) (calle
     stage = subst (λ (n : ℕ). Stage p.base (H ++ e ∷ []) p.mark p.stamps n (next_stamp V) new) (sym (ap (λ h. h.start) d.history)) stage;
     older = (let a = o.older in omega (arith, a));
     rest = d.rest e refl refl given;
-    no_fault = faults-append H e o.no_fault (no-fault r d.accepted);
+    no_fault = faults-append H e o.no_fault (accepted-fault r d.accepted);
   }
 
   -- all that it may leave stays sound
@@ -217,48 +212,19 @@ pub goes-done : (old new : DiskState) (k l : Books) (s : Step) (c : Claims) (r :
     → l.at ≡ k.at → l.history ≡ k.history → l.stopped ≡ false → IsSafe new l → is_refused r ≡ false
     → IsSameDisk old new → KeepsPast old new → old.moment < new.moment → IsSafe old k
     → (IsTrue old.tells → (H : List Entry1) (p : Past) → IsOpen old k H p → IsDone old new k l H p s c r ws) → Goes old k new l s c r
-goes-done old new k l s c r ws is_old is_new going at history runs safe accepted disk past later safe_old done = record {
-  disk = disk;
-  past = past;
-  later = omega (arith, later);
-  cause = record {
-    stopped = λ t n. absurd (cc (t, going));
-    not_stopped = λ e. absurd (let z = ap is_refused e in cc (z, accepted));
-    read = λ e. absurd (let z = ap is_refused e in cc (z, accepted));
-    write = λ e. absurd (let z = ap is_refused e in cc (z, accepted));
-    stops = λ a t. absurd (cc (t, runs));
-    fault = λ e. absurd (let z = ap is_refused e in cc (z, accepted));
-    keeps = λ t. absurd (cc (t, going));
-    flush = λ e. later;
-    refused = λ t n. absurd (cc (t, accepted));
-    memory = λ t. absurd (let z = no-memory r accepted in cc (t, z));
-    range = has-range r accepted;
-    still = λ e. absurd (omega (arith, later, e));
-  };
-  safe = safe;
-  at = at;
-  history = history;
-  sound = λ tells H p o from q. sounds tells H p o from q;
-  from_open = λ tells caller H p o. record {
-    none = λ t. absurd (let z = no-memory r accepted in cc (t, z));
-    done = λ n f. (
-      record p { world = after_world p.world s c l },
-      record { base = refl; first = refl; next = next old new k l H p caller s c r ws is_old is_new tells o (done tells H p o) },
-      open-done old new k l H p caller s c r ws is_old is_new tells o (done tells H p o),
-    );
-    fault = λ t. absurd (let z = no-fault r accepted in cc (t, z));
-  };
-  from_stopped = λ tells caller H p o. absurd (let t = o.stopped in cc (t, going));
-}
+goes-done old new k l s c r ws is_old is_new going at history runs safe accepted disk past later safe_old done =
+    safely-goes old new k l s c r (safely-done old new k l r going at history runs safe accepted disk past later) sounds
+    (λ tells caller H p o. record {
+      none = λ t. absurd (let z = accepted-memory r accepted in cc (t, z));
+      done = λ n f. (
+        record p { world = after_world p.world s c l },
+        record { base = refl; first = refl; next = next old new k l H p caller s c r ws is_old is_new tells o (done tells H p o) },
+        open-done old new k l H p caller s c r ws is_old is_new tells o (done tells H p o),
+      );
+      fault = λ t. absurd (let z = accepted-fault r accepted in cc (t, z));
+    })
+    (λ tells caller H p o. absurd (let t = o.stopped in cc (t, going)))
   where
-    no-memory : (r : Reply) → is_refused r ≡ false → is_out_of_memory r ≡ false
-    no-memory (reply.Refused w) e = cc
-    no-memory _ e = refl
-
-    has-range : (r : Reply) → is_refused r ≡ false → HasRange r
-    has-range (reply.Refused w) e = cc
-    has-range _ e = tt
-
     sounds : IsTrue old.tells → (H : List Entry1) (p : Past) → IsOpen old k H p ⊎ IsStopped old k H p → (from : ℕ) → Sounds from old → Sounds from new
     sounds tells H p (inl o) from q = done-sounds old new k l H p 0 s c r ws is_old is_new tells o (done tells H p o) safe_old from q
     sounds tells H p (inr o) from q = absurd (let t = o.stopped in cc (t, going))

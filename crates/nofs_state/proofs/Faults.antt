@@ -5,7 +5,7 @@ use Rattle.nofs_machine.specs.Search.{first_of}
 use Rattle.nofs_machine.specs.World.{World}
 use Rattle.nofs_machine.specs.Claims.{next_stamp, IsClaim}
 use Rattle.nofs_machine.specs.Refusals.{rows, may_write}
-use Rattle.nofs_machine.specs.Next.{Next, ByWrite, Learns}
+use Rattle.nofs_machine.specs.Next.{Next, ByWrite}
 use Rattle.nofs_machine.specs.declared.history.Claims.{Claims}
 use Rattle.nofs_machine.specs.declared.history.Entry1.{Entry1}
 use Rattle.nofs_machine.specs.declared.steps.Step.{Step}
@@ -18,6 +18,8 @@ use Rattle.nofs_state.specs.Standing.{IsOpen, IsStopped, Past, Sounds}
 use Rattle.nofs_state.specs.Steps.{Goes, entry}
 use Rattle.nofs_state.specs.declared.books.Books.{Books}
 use Rattle.nofs_state.proofs.Idle.{run-more}
+use Rattle.nofs_state.proofs.Replies.{nothing-learned}
+use Rattle.nofs_state.proofs.SafeSteps.{safely-fault, safely-goes}
 use Rattle.nofs_state.proofs.Sounded.{AddsNumbered, sounds-adds}
 
 -- a world that is stopped
@@ -27,23 +29,11 @@ stopped_world W = record W { stopped = true }
 abbrev pub stopped_books : Books → Books
 stopped_books k = record k { stopped = true }
 
-stopped-learns : (W : World) (s : Step) → Learns W s false (stopped_world W)
-stopped-learns W s = record {
-  inodes_stay = λ i k. k;
-  blocks_stay = λ p k. k;
-  inodes_change = λ i ne. absurd (ne refl);
-  blocks_change = λ p ne. absurd (ne refl);
-  inode_seen = λ t. cc t;
-  block_seen = λ t. cc t;
-  inodes_why = λ i k. inl k;
-  blocks_why = λ p k. inl k;
-}
-
 -- the machine's next world
 fault-next : (W : World) (e : Entry1) → e.reply ≡ reply.Refused refusal.WriteFault → W.stopped ≡ false → first_of (rows W (stopped_world W) e.step) ≡ None
     → may_write e.step ≡ true → IsClaim W e.step e.claims → Next W e (stopped_world W)
 fault-next W e is going none may claim = ByWrite going none may is claim
-    (record { version = refl; blocks = refl; inodes = refl; mount = refl; serial = refl; files = refl; homes = refl }) refl (stopped-learns W e.step)
+    (record { version = refl; blocks = refl; inodes = refl; mount = refl; serial = refl; files = refl; homes = refl }) refl (nothing-learned W e.step true)
 
 module _ (old new : DiskState) (k l : Books) (at : l.at ≡ k.at) (history : l.history ≡ k.history) (stops : l.stopped ≡ true) (H : List Entry1) (p : Past)
     (caller : ℕ) (s : Step) (c : Claims) (is : IsDisk old) (tells : IsTrue old.tells) (o : IsOpen old k H p) where
@@ -73,46 +63,25 @@ pub goes-fault : (old new : DiskState) (k l : Books) (s : Step) (c : Claims) →
     → AddsProper p.base H (entry caller old new s c (reply.Refused refusal.WriteFault)) p.mark p.stamps old new ×
     (first_of (rows p.world (stopped_world p.world) s) ≡ None) × (may_write s ≡ true) × IsClaim p.world s c)
     → Goes old k new l s c (reply.Refused refusal.WriteFault)
-goes-fault old new k l s c is going at history stopped disk past rose later safe_old safe numbered proper = record {
-  disk = disk;
-  past = past;
-  later = omega (arith, later);
-  cause = record {
-    stopped = λ t n. absurd (cc (t, going));
-    not_stopped = λ e. absurd (cc);
-    read = λ e. absurd (cc);
-    write = λ e. (rose, later);
-    stops = λ a b. refl;
-    fault = λ e. stopped;
-    keeps = λ t. stopped;
-    flush = λ e. absurd (cc);
-    refused = λ t n. absurd (cc);
-    memory = λ t. absurd (cc);
-    range = tt;
-    still = λ e. absurd (omega (arith, later, e));
-  };
-  safe = safe;
-  at = at;
-  history = history;
-  sound = λ tells H p o from q. sounds tells H p o from q;
-  from_open = λ tells caller H p o.
-      let q = proper tells caller H p o in
-      record {
-        none = λ t. absurd (cc);
-        done = λ n f. absurd (cc);
-        fault = λ t. (
-          record p { world = stopped_world p.world },
-          record {
-            base = refl;
-            first = refl;
-            next = fault-next p.world (entry caller old new s c (reply.Refused refusal.WriteFault)) refl
-                (o.says.stopped ∙ o.going) q.1 q.2 q.3;
-          },
-          open-fault old new k l at history stopped H p caller s c is tells o q.0 later q.1 q.2 q.3,
-        );
-      };
-  from_stopped = λ tells caller H p o. absurd (let t = o.stopped in cc (t, going));
-}
+goes-fault old new k l s c is going at history stopped disk past rose later safe_old safe numbered proper =
+    safely-goes old new k l s c (reply.Refused refusal.WriteFault) (safely-fault old new k l going at history stopped safe disk past rose later) sounds
+    (λ tells caller H p o.
+    let q = proper tells caller H p o in
+    record {
+      none = λ t. absurd (cc);
+      done = λ n f. absurd (cc);
+      fault = λ t. (
+        record p { world = stopped_world p.world },
+        record {
+          base = refl;
+          first = refl;
+          next = fault-next p.world (entry caller old new s c (reply.Refused refusal.WriteFault)) refl
+              (o.says.stopped ∙ o.going) q.1 q.2 q.3;
+        },
+        open-fault old new k l at history stopped H p caller s c is tells o q.0 later q.1 q.2 q.3,
+      );
+    })
+    (λ tells caller H p o. absurd (let t = o.stopped in cc (t, going)))
   where
     sounds : IsTrue old.tells → (H : List Entry1) (p : Past) → IsOpen old k H p ⊎ IsStopped old k H p → (from : ℕ) → Sounds from old → Sounds from new
     sounds tells H p (inl o) from q =

@@ -1,9 +1,8 @@
 -- A flush: where it succeeds, what was written is the new mark.
-use Rattle.std.proofs.Common.{◌≡◌, ℕ, ◌+◌, Bool, true, false, List, [], ◌∷◌, ◌++◌, None, IsTrue, Result, Ok, Err, refl, sym, ap, ◌∙◌, subst, arith, le_refl}
+use Rattle.std.proofs.Common.{◌≡◌, ℕ, ◌+◌, ◌<◌, Bool, true, false, List, [], ◌∷◌, ◌++◌, None, IsTrue, Result, Ok, Err, refl, sym, ap, ◌∙◌, subst, arith, le_refl}
 use Rattle.nofs_disk.specs.Disk.{DiskState, IsDisk, Flushes}
 use Rattle.nofs_disk.specs.Adds.{Adds-flushes}
 use Rattle.nofs_disk.specs.declared.Failed.{Failed}
-use Rattle.nofs_super.specs.Geometry.{IsGeometry}
 use Rattle.nofs_model.specs.Image.{Image, super_at, is_mountable, Files, owner}
 use Rattle.nofs_law_images.specs.Proper.{Proper}
 use Rattle.nofs_law_images.specs.Moments.{during}
@@ -26,6 +25,8 @@ use Rattle.nofs_state.specs.Books.{IsSafe}
 use Rattle.nofs_state.specs.Standing.{IsOpen, IsRun, Past}
 use Rattle.nofs_state.specs.Steps.{Goes, IsReading, entry}
 use Rattle.nofs_state.specs.declared.books.Books.{Books}
+use Rattle.nofs_state.proofs.SafeBooks.{safe-over}
+use Rattle.nofs_state.proofs.SafeSteps.{safely-done, safely-goes}
 use Rattle.nofs_state.proofs.Sounding.{sounds-flush}
 use Rattle.nofs_state.proofs.Faults.{goes-fault, stopped_books, stopped_world}
 use Rattle.nofs_state.proofs.Idle.{run-more}
@@ -46,20 +47,7 @@ flush-given F caller i g old new = refl
 
 safe-flushed : (old new : DiskState) (k : Books) {result : Result (Unit {0}) Failed} (stop : Bool) → Flushes old new result → IsSafe old k
     → IsSafe new (record k { stopped = stop })
-safe-flushed old new k stop f s = record {
-  at = record {
-    geometry = subst (λ (n : ℕ). IsGeometry n k.at.blocks k.at.inodes) (sym f.disk.blocks) s.at.geometry;
-    same = λ t. ap super_at f.now ∙ s.at.same (subst (λ (b : Bool). IsTrue b) f.disk.tells t);
-  };
-  mount = s.mount;
-  serial = s.serial;
-  unknown_inodes = s.unknown_inodes;
-  free_inodes = s.free_inodes;
-  agreement = s.agreement;
-  unknown_blocks = s.unknown_blocks;
-  free_blocks = s.free_blocks;
-  in_area = s.in_area;
-}
+safe-flushed old new k stop f = safe-over old new k stop k.history f.disk (ap super_at f.now)
 
 module _ (old new : DiskState) (k : Books) (i g : ℕ) (is_old : IsDisk old) (is_new : IsDisk new) (safe : IsSafe old k) (going : k.stopped ≡ false)
     (comes : IsTrue old.tells → (H : List Entry1) (p : Past) → IsOpen old k H p → (V : World) → first_of (rows p.world V (step.Flush i g)) ≡ None) where
@@ -97,44 +85,26 @@ module _ (old new : DiskState) (k : Books) (i g : ℕ) (is_old : IsDisk old) (is
       }
 
   pub goes-flushed : Flushes old new (Ok tt) → Goes old k new k (step.Flush i g) no_claims reply.Flushed
-  goes-flushed f = record {
-    disk = f.disk;
-    past = f.past;
-    later = (let m = f.moment in omega (arith, m));
-    cause = record {
-      stopped = λ t n. absurd (cc (t, going));
-      not_stopped = λ e. absurd (cc);
-      read = λ e. absurd (cc);
-      write = λ e. absurd (cc);
-      stops = λ a t. absurd (cc (t, going));
-      fault = λ e. absurd (cc);
-      keeps = λ t. t;
-      flush = λ e. let m = f.moment in omega (arith, m);
-      refused = λ t. absurd (cc);
-      memory = λ t. absurd (cc);
-      range = tt;
-      still = λ e. absurd (let m = f.moment in omega (arith, m, e));
-    };
-    safe = safe-flushed old new k k.stopped f safe;
-    at = refl;
-    history = refl;
-    sound = λ tells H p o from q. sounds-flush from old new is_new f q;
-    from_open = λ tells caller H p o. record {
-      none = λ t. absurd (cc);
-      done = λ n t. (
-        record p { mark = old.now; stamps = next_stamp p.world },
-        record {
-          base = refl;
-          first = refl;
-          next = by-answer p.world old.now (flush_entry caller old new i g) (o.says.stopped ∙ going)
-              (open-files old k H p o) o.homes o.homes_past (flush-reads i g) (comes tells H p o p.world) refl refl;
-        },
-        open-flushed caller H p tells o f,
-      );
-      fault = λ t. absurd (cc);
-    };
-    from_stopped = λ tells caller H p o. absurd (let t = o.stopped in cc (t, going));
-  }
+  goes-flushed f =
+      let later : old.moment < new.moment = (let m = f.moment in omega (arith, m)) in
+      safely-goes old new k k (step.Flush i g) no_claims reply.Flushed
+      (safely-done old new k k reply.Flushed going refl refl going (safe-flushed old new k k.stopped f safe) refl f.disk f.past later)
+      (λ tells H p o from q. sounds-flush from old new is_new f q)
+      (λ tells caller H p o. record {
+        none = λ t. absurd (cc);
+        done = λ n t. (
+          record p { mark = old.now; stamps = next_stamp p.world },
+          record {
+            base = refl;
+            first = refl;
+            next = by-answer p.world old.now (flush_entry caller old new i g) (o.says.stopped ∙ going)
+                (open-files old k H p o) o.homes o.homes_past (flush-reads i g) (comes tells H p o p.world) refl refl;
+          },
+          open-flushed caller H p tells o f,
+        );
+        fault = λ t. absurd (cc);
+      })
+      (λ tells caller H p o. absurd (let t = o.stopped in cc (t, going)))
 
   pub goes-unflushed : (x : Failed) → Flushes old new (Err x) → Goes old k new (stopped_books k) (step.Flush i g) no_claims (reply.Refused refusal.WriteFault)
   goes-unflushed x f = goes-fault old new k (stopped_books k) (step.Flush i g) no_claims is_old going refl refl refl f.disk f.past f.cause (let m =

@@ -8,6 +8,7 @@ use Rattle.nofs_machine.specs.Claims.{next_stamp}
 use Rattle.nofs_machine.specs.History.{agreed_files, files_along, is_flushed}
 use Rattle.nofs_machine.specs.Steady.{SteadyRest}
 use Rattle.nofs_machine.specs.Next.{Keeps, Next, Run, takes_time}
+use Rattle.nofs_machine.specs.Steps.{is_out_of_memory}
 use Rattle.nofs_machine.specs.HistoryState.{HistoryState}
 use Rattle.nofs_machine.specs.declared.history.Entry1.{Entry1}
 use Rattle.nofs_machine.specs.declared.replies.Reply.{Reply}
@@ -18,6 +19,7 @@ use Rattle.nofs_crashlaw.specs.Stage.{Stage, Lasts}
 use Rattle.nofs_crashlaw.proofs.Staging.{law-idle-stage}
 use Rattle.nofs_state.specs.Books.{Says}
 use Rattle.nofs_state.specs.Standing.{IsOpen, IsRun, IsStopped, Past}
+use Rattle.nofs_state.specs.Steps.{Follows}
 use Rattle.nofs_state.specs.declared.books.Books.{Books}
 use Rattle.nofs_state.proofs.Runs.{run-append, ends-append, faults-append, rest-idle, lasts-idle}
 
@@ -82,6 +84,15 @@ module _ (old new : DiskState) (k l : Books) (H : List Entry1) (p : Past) (e : E
         rest = subst (λ (X : Image). SteadyRest p.base (H ++ e ∷ []) X) (sym now) (rest-idle p.base H e old.now i.given o.rest);
         no_fault = faults-append H e o.no_fault i.no_fault;
       }
+
+  -- so it is what follows in the machine's next world
+  pub follows-idle : (V : World) → IsDisk old → IsTrue old.tells → IsOpen old k H p → IsIdle p.world.files e → Next p.world e V → Keeps p.world V → Says l V
+      → l.at ≡ k.at → l.stopped ≡ false → is_out_of_memory e.reply ≡ false → Follows old new l H p e
+  follows-idle V is tells o idle next keeps says at going memory = record {
+    none = λ t. absurd (cc (t, memory));
+    done = λ n f. (record p { world = V }, record { base = refl; first = refl; next = next }, open-idle V is tells o idle next keeps says at going);
+    fault = λ t. absurd (let f = idle.no_fault in cc (t, f));
+  }
 
   -- the same where a write has failed before
   pub stopped-idle : IsStopped old k H p → is_flushed e.reply ≡ false → is_write_fault e.reply ≡ false

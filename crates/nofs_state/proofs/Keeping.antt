@@ -1,9 +1,7 @@
 -- What stands goes on where cells and moment stay: over reads, and over `ready`.
-use Rattle.std.proofs.Common.{◌≡◌, ℕ, ◌+◌, ◌<◌, ◌⊎◌, inl, inr, Bool, true, List, IsTrue, Result, refl, sym, ap, ◌∙◌, subst, arith, Contains}
-use Rattle.nofs_disk.specs.Disk.{DiskState, IsSameDisk, KeepsCells, KeepsPast, MakesReady, StaysButFaults}
-use Rattle.nofs_disk.specs.Chains.{IsSameDisk-trans, KeepsPast-trans, KeepsCells-trans}
+use Rattle.std.proofs.Common.{◌≡◌, ℕ, ◌+◌, ◌<◌, ◌⊎◌, inl, inr, Bool, true, List, IsTrue, sym, ap, ◌∙◌, subst, arith, Contains}
+use Rattle.nofs_disk.specs.Disk.{DiskState, KeepsCells, KeepsPast}
 use Rattle.nofs_disk.specs.Moments.{AtEach-stays}
-use Rattle.nofs_super.specs.Geometry.{IsGeometry}
 use Rattle.nofs_model.specs.Cells.{Cell}
 use Rattle.nofs_model.specs.Image.{Image, super_at, is_mountable, owner, CellBelow}
 use Rattle.nofs_law_images.specs.Moments.{AllExplained}
@@ -19,21 +17,11 @@ use Rattle.nofs_machine.specs.declared.replies.Refusal.TheVariants as refusal
 use Rattle.nofs_crashlaw.specs.Stage.{AllBy, Lasts, Stage, CellsSurvive}
 use Rattle.nofs_state.specs.Books.{IsSafe}
 use Rattle.nofs_state.specs.Standing.{IsOpen, IsRun, IsStopped, Past}
-use Rattle.nofs_state.specs.Steps.{Follows, Goes, StaysStopped, entry}
+use Rattle.nofs_state.specs.Steps.{Follows, Goes, StaysStopped, entry, goes-safely}
 use Rattle.nofs_state.specs.declared.books.Books.{Books}
+pub use Rattle.nofs_state.proofs.SafeBooks.{Keeping, reads-keep, ready-keeps, safe-keeps}
+use Rattle.nofs_state.proofs.SafeSteps.{safely-after, safely-goes, safely-memory}
 use Rattle.nofs_state.proofs.Sounding.{sounds-keep}
-
--- cells, past and moment stay
-pub record Keeping (old new : DiskState) : Type 0 where
-  pub disk : IsSameDisk old new
-  pub past : KeepsPast old new
-  pub cells : KeepsCells old new
-
-pub reads-keep : (old new : DiskState) → StaysButFaults old new → Keeping old new
-reads-keep old new s = record { disk = s.disk; past = s.past; cells = s.cells }
-
-pub ready-keeps : {E : Type 0} (old new : DiskState) (calls : ℕ) (result : Result (Unit {0}) E) → MakesReady old new calls result → Keeping old new
-ready-keeps old new calls result m = record { disk = m.disk; past = m.past; cells = m.cells }
 
 -- the same without the faults: so it also leads back
 pub record Level (old new : DiskState) : Type 0 where
@@ -117,9 +105,6 @@ module _ (old new : DiskState) (keep : Level old new) where
   }
 
 module _ (old new : DiskState) (keep : Keeping old new) where
-  now' : new.now ≡ old.now
-  now' = keep.cells.now
-
   moment' : new.moment ≡ old.moment
   moment' = keep.cells.moment
 
@@ -132,56 +117,16 @@ module _ (old new : DiskState) (keep : Keeping old new) where
   pub stopped-keeps : (k : Books) (H : List Entry1) (p : Past) → IsStopped old k H p → IsStopped new k H p
   stopped-keeps = stopped-level old new (level old new keep)
 
-  pub safe-keeps : (k : Books) → IsSafe old k → IsSafe new k
-  safe-keeps k s = record {
-    at = record {
-      geometry = subst (λ (n : ℕ). IsGeometry n k.at.blocks k.at.inodes) (sym keep.disk.blocks) s.at.geometry;
-      same = λ t. ap super_at now' ∙ s.at.same (subst (λ (b : Bool). IsTrue b) keep.disk.tells t);
-    };
-    mount = s.mount;
-    serial = s.serial;
-    unknown_inodes = s.unknown_inodes;
-    free_inodes = s.free_inodes;
-    agreement = s.agreement;
-    unknown_blocks = s.unknown_blocks;
-    free_blocks = s.free_blocks;
-    in_area = s.in_area;
-  }
-
   -- a step from there on is one from here on
   pub goes-after : (end : DiskState) (k l : Books) (s : Step) (c : Claims) (r : Reply) → Goes new k end l s c r → Goes old k end l s c r
-  goes-after end k l s c r g = record {
-    disk = IsSameDisk-trans old new end keep.disk g.disk;
-    past = KeepsPast-trans old new end (let m = moment' in omega (arith, m)) keep.past g.past;
-    later = (let m = moment' in let q = g.later in omega (arith, m, q));
-    cause = record {
-      stopped = g.cause.stopped;
-      not_stopped = g.cause.not_stopped;
-      read = λ e. let f = keep.disk.faults in let h = g.cause.read e in omega (arith, f, h);
-      write = λ e. let h = g.cause.write e in (
-        (let f = keep.disk.faults in let q = h.0 in omega (arith, f, q)),
-        (let m = moment' in let q = h.1 in omega (arith, m, q)),
-      );
-      stops = g.cause.stops;
-      fault = g.cause.fault;
-      keeps = g.cause.keeps;
-      flush = λ e. let m = moment' in let q = g.cause.flush e in omega (arith, m, q);
-      refused = λ t n. KeepsCells-trans old new end keep.cells (g.cause.refused t n);
-      memory = g.cause.memory;
-      range = g.cause.range;
-      still = λ e. KeepsCells-trans old new end keep.cells (g.cause.still (e ∙ sym keep.cells.moment));
-    };
-    safe = g.safe;
-    at = g.at;
-    history = g.history;
-    sound = λ tells H p o from q. g.sound (told tells) H p (either H p o) from (sounds-keep from old new keep.disk keep.past keep.cells q);
-    from_open = λ tells caller H p o. subst (λ (n : ℕ). Follows old end l H p
-        (record { caller = caller; from = n; to = end.moment; step = s; reply = r; claims = c })) moment'
-        (again H p caller (g.from_open (told tells) caller H p (open-keeps k H p o)));
-    from_stopped = λ tells caller H p o. subst (λ (n : ℕ). StaysStopped old end l H p
-        (record { caller = caller; from = n; to = end.moment; step = s; reply = r; claims = c })) moment'
-        (still H p caller (g.from_stopped (told tells) caller H p (stopped-keeps k H p o)));
-  }
+  goes-after end k l s c r g = safely-goes old end k l s c r (safely-after old new keep end k l r (goes-safely g))
+      (λ tells H p o from q. g.sound (told tells) H p (either H p o) from (sounds-keep from old new keep.disk keep.past keep.cells q))
+      (λ tells caller H p o. subst (λ (n : ℕ). Follows old end l H p
+      (record { caller = caller; from = n; to = end.moment; step = s; reply = r; claims = c })) moment'
+      (again H p caller (g.from_open (told tells) caller H p (open-keeps k H p o))))
+      (λ tells caller H p o. subst (λ (n : ℕ). StaysStopped old end l H p
+      (record { caller = caller; from = n; to = end.moment; step = s; reply = r; claims = c })) moment'
+      (still H p caller (g.from_stopped (told tells) caller H p (stopped-keeps k H p o))))
     where
       told : IsTrue old.tells → IsTrue new.tells
       told t = subst (λ (b : Bool). IsTrue b) (sym keep.disk.tells) t
@@ -200,28 +145,7 @@ module _ (old new : DiskState) (keep : Keeping old new) where
 
   -- no memory
   pub goes-memory : (k : Books) (s : Step) (c : Claims) → IsSafe old k → Goes old k new k s c (reply.Refused refusal.OutOfMemory)
-  goes-memory k s c safe = record {
-    disk = keep.disk;
-    past = keep.past;
-    later = (let m = moment' in omega (arith, m));
-    cause = record {
-      stopped = λ t n. absurd (cc);
-      not_stopped = λ e. absurd (cc);
-      read = λ e. absurd (cc);
-      write = λ e. absurd (cc);
-      stops = λ going t. absurd (cc (going, t));
-      fault = λ e. absurd (cc);
-      keeps = λ t. t;
-      flush = λ e. absurd (cc);
-      refused = λ t n. keep.cells;
-      memory = λ t. refl;
-      range = tt;
-      still = λ e. keep.cells;
-    };
-    safe = safe-keeps k safe;
-    at = refl;
-    history = refl;
-    sound = λ tells H p o from q. sounds-keep from old new keep.disk keep.past keep.cells q;
-    from_open = λ tells caller H p o. record { none = λ t. open-keeps k H p o; done = λ n f. absurd (cc); fault = λ t. absurd (cc) };
-    from_stopped = λ tells caller H p o. record { none = λ t. stopped-keeps k H p o; done = λ n. absurd (cc); next = λ n. absurd (cc) };
-  }
+  goes-memory k s c safe = safely-goes old new k k s c (reply.Refused refusal.OutOfMemory) (safely-memory old new keep k safe)
+      (λ tells H p o from q. sounds-keep from old new keep.disk keep.past keep.cells q)
+      (λ tells caller H p o. record { none = λ t. open-keeps k H p o; done = λ n f. absurd (cc); fault = λ t. absurd (cc) })
+      (λ tells caller H p o. record { none = λ t. stopped-keeps k H p o; done = λ n. absurd (cc); next = λ n. absurd (cc) })

@@ -1,5 +1,5 @@
 -- More is known of inodes: which are agreed, and which not. The books say the same of the machine's world as before.
-use Rattle.std.proofs.Common.{Bool, List, Option, IsTrue, ◌∙◌}
+use Rattle.std.proofs.Common.{Bool, List, Option, IsTrue, refl, ◌∙◌}
 use Rattle.nofs_disk.specs.Disk.{DiskState}
 use Rattle.nofs_machine.specs.declared.history.Entry1.{Entry1}
 use Rattle.nofs_law_maps.proofs.Homes.{uses-inode}
@@ -11,19 +11,12 @@ use Rattle.nofs_state.specs.Standing.{IsOpen, IsStopped, Past}
 use Rattle.nofs_state.specs.declared.books.Books.{Books}
 use Rattle.nofs_state.proofs.Machine.{are-agreed}
 use Rattle.nofs_state.proofs.Replies.{open-files}
+use Rattle.nofs_state.proofs.SafeBooks.{safe-sizes}
+use Rattle.nofs_state.proofs.Saying.{says-maps}
 
 pub safe-knows : (d : DiskState) (k : Books) (known : List (Option Bool)) → Learns d k.agreement known → IsSafe d k → IsSafe d (with_agreement k known)
-safe-knows d k known learns s = record {
-  at = s.at;
-  mount = s.mount;
-  serial = s.serial;
-  unknown_inodes = s.unknown_inodes;
-  free_inodes = s.free_inodes;
-  agreement = learns.len ∙ s.agreement;
-  unknown_blocks = s.unknown_blocks;
-  free_blocks = s.free_blocks;
-  in_area = s.in_area;
-}
+safe-knows d k known learns s = safe-sizes d d k (with_agreement k known) s s.at
+    (record { at = refl; serial = refl; unknown_inodes = refl; free_inodes = refl; agreement = learns.len; unknown_blocks = refl; free_blocks = refl }) s.in_area
 
 pub open-knows : (d : DiskState) (k : Books) (known : List (Option Bool)) (H : List Entry1) (p : Past) → IsTrue d.tells → Learns d k.agreement known
     → IsSafe d k → IsOpen d k H p
@@ -31,19 +24,9 @@ pub open-knows : (d : DiskState) (k : Books) (known : List (Option Bool)) (H : L
 open-knows d k known H p tells learns safe o = record {
   run = record { run = o.run.run; ends = o.run.ends };
   going = o.going;
-  says = record {
-    version = o.says.version;
-    blocks = o.says.blocks;
-    inodes = o.says.inodes;
-    mount = o.says.mount;
-    serial = o.says.serial;
-    stopped = o.says.stopped;
-    known_inodes = o.says.known_inodes;
-    known_blocks = o.says.known_blocks;
-    free_inodes = o.says.free_inodes;
-    free_blocks = o.says.free_blocks;
-    agreement = λ i a t. uses-inode p.world.files d.now (open-files d k H p o) i ∙ is-told d.now known i a (learns.still tells (are-agreed d k H p safe o)) t;
-  };
+  says = says-maps k (with_agreement k known) p.world p.world.known_inodes p.world.known_blocks o.says (record { at = refl; serial = refl; stopped = refl })
+      o.says.known_inodes o.says.known_blocks o.says.free_inodes o.says.free_blocks
+      (λ i a t. uses-inode p.world.files d.now (open-files d k H p o) i ∙ is-told d.now known i a (learns.still tells (are-agreed d k H p safe o)) t);
   at = o.at;
   mountable = o.mountable;
   files = o.files;

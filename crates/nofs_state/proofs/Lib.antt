@@ -2,6 +2,8 @@ pub mod Maps
 pub mod Runs
 pub mod Sounding
 pub mod Beginning
+pub mod SafeBooks
+pub mod Saying
 pub mod Idle
 pub mod Replies
 pub mod Machine
@@ -18,6 +20,7 @@ pub mod Counting
 pub mod Sessions
 pub mod Sounds
 pub mod Owned
+pub mod Examined
 pub mod Seeing
 pub mod SeeingInodes
 pub mod MarkedSlots
@@ -26,3 +29,8 @@ pub mod SafeSteps
 pub mod Tallying
 pub mod WritingOut
 pub mod Knowing
+pub mod FreeCounts
+pub mod ZeroPointers
+pub mod ClaimedBooks
+pub mod ClaimedBlocks
+pub mod CurrentFiles

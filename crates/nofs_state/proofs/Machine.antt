@@ -34,11 +34,11 @@ world-numbers d k H p o = record {
   mount = o.says.mount ∙ ap (λ (q : SuperBlock). q.mount) (sym o.at);
 }
 
-and-true : (b : Bool) → b ≡ (b && true)
+pub and-true : (b : Bool) → b ≡ (b && true)
 and-true true = refl
 and-true false = refl
 
-and-false : (b : Bool) → false ≡ (b && false)
+pub and-false : (b : Bool) → false ≡ (b && false)
 and-false true = refl
 and-false false = refl
 

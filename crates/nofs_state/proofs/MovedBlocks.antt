@@ -11,6 +11,7 @@ use Rattle.nofs_bits.specs.Bits.{is_set}
 use Rattle.nofs_state.specs.Owning.{AreFreed, BlocksFreed, with_all}
 use Rattle.nofs_state.specs.Verdicts.{learned_block}
 use Rattle.nofs_state.specs.declared.books.Books.{Books}
+use Rattle.nofs_state.proofs.Machine.{and-false, and-true}
 use Rattle.nofs_state.proofs.Maps.{set-here, set-none, set-other, set-length}
 
 -- a block at the end is set last
@@ -30,13 +31,9 @@ or-true : (b : Bool) → true ≡ (b || true)
 or-true true = refl
 or-true false = refl
 
-and-true : (b : Bool) → b ≡ (b && true)
-and-true true = refl
-and-true false = refl
-
-and-false : (b : Bool) → false ≡ (b && false)
-and-false true = refl
-and-false false = refl
+-- a place below this bound is one of a map that kept its size
+pub in-map : {n a b c d : ℕ} → n < a → a ≡ b → c ≡ d → d ≡ b → n < c
+in-map low size now old = omega (arith, low, size, now, old)
 
 -- nothing is freed
 pub freed-begins : (k : Books) (n : ℕ) → BlocksFreed k k (replicate n false)

@@ -1,5 +1,5 @@
 -- The exits of a step that writes nothing: each makes its contract.
-use Rattle.std.proofs.Common.{◌≡◌, ℕ, ◌+◌, ◌≤◌, inl, inr, true, false, cond, ltb, List, Option, Some, None, IsTrue, refl, sym, ap, ◌∙◌, subst, arith}
+use Rattle.std.proofs.Common.{◌≡◌, ℕ, ◌+◌, ◌≤◌, ◌⊎◌, inl, inr, Bool, true, false, cond, ltb, List, Option, Some, None, IsTrue, refl, sym, ap, ◌∙◌, subst, arith}
 use Rattle.std.proofs.lemmas.Bool.{cases_lt}
 use Rattle.nofs_disk.specs.Disk.{DiskState, IsDisk, StaysButFaults, Rose}
 use Rattle.nofs_model.specs.Cells.{null}
@@ -14,7 +14,7 @@ use Rattle.nofs_machine.specs.Claims.{NoInode}
 use Rattle.nofs_machine.specs.Refusals.{rows, reads_nothing}
 use Rattle.nofs_machine.specs.Answers.{reply_of}
 use Rattle.nofs_machine.specs.History.{is_flushed, FilesMatch}
-use Rattle.nofs_machine.specs.Next.{Keeps, Learns, Next, AfterFault, ByRow, Done, ByRead}
+use Rattle.nofs_machine.specs.Next.{Keeps, Learns, Next, AfterFault, ByRow, Done, ByRead, sees_inode, sees_block}
 use Rattle.nofs_machine.specs.Steps.{is_out_of_memory, InRange}
 use Rattle.nofs_machine.specs.declared.history.Claims.{Claims}
 use Rattle.nofs_machine.specs.declared.history.Entry1.{Entry1}
@@ -26,28 +26,35 @@ use Rattle.nofs_machine.specs.declared.replies.Refusal.TheVariants as refusal
 use Rattle.nofs_law_maps.specs.Homes.{HomesMatch}
 use Rattle.nofs_law_maps.proofs.Homes.{holds-has}
 use Rattle.nofs_crashlaw.proofs.FlushStage.{files-stay}
-use Rattle.nofs_agree.proofs.Climbs.{IsAt-on}
 use Rattle.nofs_state.specs.Books.{IsSafe}
-use Rattle.nofs_state.specs.Standing.{IsOpen, Past}
-use Rattle.nofs_state.specs.Steps.{Goes, HasRange, IsReading, entry, is_plain}
+use Rattle.nofs_state.specs.Standing.{IsOpen, IsStopped, Past, Sounds}
+use Rattle.nofs_state.specs.Steps.{Goes, IsReading, IsSafeStep, entry, is_plain}
 use Rattle.nofs_state.specs.declared.books.Books.{Books}
-use Rattle.nofs_state.proofs.Idle.{IsIdle, open-idle, stopped-idle}
+use Rattle.nofs_state.proofs.Idle.{IsIdle, follows-idle, stopped-idle}
+use Rattle.nofs_state.proofs.SafeBooks.{reads-keep, safe-keeps}
+use Rattle.nofs_state.proofs.SafeSteps.{accepted-fault, accepted-memory, plain-fault, plain-memory}
+use Rattle.nofs_state.proofs.SafeSteps.{safely-answer, safely-goes, safely-read, safely-row, safely-stopped}
 use Rattle.nofs_state.proofs.Sounding.{sounds-keep}
 
 pub keeps-all : (W : World) → Keeps W W
 keeps-all W = record { version = refl; blocks = refl; inodes = refl; mount = refl; serial = refl; files = refl; homes = refl }
 
-pub nothing-learned : (W : World) (s : Step) → Learns W s false W
-nothing-learned W s = record {
+-- Nothing more becomes known, whether the machine stops or not: what a See step that was done examines is known before
+pub learns-known : (W : World) (s : Step) (done stop : Bool) → (done ≡ true → (i : ℕ) → sees_inode s i ≡ true → W.known_inodes i ≡ true)
+    → (done ≡ true → (p : ℕ) → sees_block s p ≡ true → W.known_blocks p ≡ true) → Learns W s done (record W { stopped = stop })
+learns-known W s done stop inodes blocks = record {
   inodes_stay = λ i k. k;
   blocks_stay = λ p k. k;
   inodes_change = λ i ne. absurd (ne refl);
   blocks_change = λ p ne. absurd (ne refl);
-  inode_seen = λ t. cc t;
-  block_seen = λ t. cc t;
+  inode_seen = inodes;
+  block_seen = blocks;
   inodes_why = λ i k. inl k;
   blocks_why = λ p k. inl k;
 }
+
+pub nothing-learned : (W : World) (s : Step) (stop : Bool) → Learns W s false (record W { stopped = stop })
+nothing-learned W s stop = learns-known W s false stop (λ t. cc t) (λ t. cc t)
 
 -- the machine's files are those of the disk
 pub open-files : (d : DiskState) (k : Books) (H : List Entry1) (p : Past) → IsOpen d k H p → FilesMatch p.world.files d.now
@@ -101,8 +108,18 @@ pub by-read : (W : World) (e : Entry1) → W.stopped ≡ false → ((why : Refus
 by-read W e going late is none = go (first_of (rows W W e.step)) refl
   where
     go : (o : Option Refusal) → first_of (rows W W e.step) ≡ o → Next W e W
-    go None eo = ByRead going eo is none (keeps-all W) going (nothing-learned W e.step)
-    go (Some why) eo = ByRow why going eo (inr (is, late why eo)) none (keeps-all W) going (nothing-learned W e.step)
+    go None eo = ByRead going eo is none (keeps-all W) going (nothing-learned W e.step W.stopped)
+    go (Some why) eo = ByRow why going eo (inr (is, late why eo)) none (keeps-all W) going (nothing-learned W e.step W.stopped)
+
+-- the claim of a step that needs nothing
+pub no-claim : (W : World) (s : Step) → inodes_needed s ≡ 0 → ((F : Files) → blocks_needed F s ≡ 0) → IsClaim W s no_claims
+no-claim W s no_inode no_block = record {
+  inode = subst (λ (n : ℕ). IsInodeClaim W (next_stamp W) no_claims (ltb 0 n)) (sym no_inode) (NoInode refl refl);
+  cell = subst (λ (n : ℕ). IsBlockClaim W (next_stamp W + inodes_needed s) null (ltb 0 n)) (sym (no_block W.files)) (Unclaimed refl);
+  leaf = subst (λ (n : ℕ). IsBlockClaim W (next_stamp W + inodes_needed s + 1) null (ltb 1 n)) (sym (no_block W.files)) (Unclaimed refl);
+  top = subst (λ (n : ℕ). IsBlockClaim W (next_stamp W + inodes_needed s + 2) null (ltb 2 n)) (sym (no_block W.files)) (Unclaimed refl);
+  apart = tt;
+}
 
 -- an answer of a step that reads alone
 pub by-answer : (W : World) (X : Image) (e : Entry1) → W.stopped ≡ false → FilesMatch W.files X → HomesMatch W X → ((b : ℕ) → W.blocks ≤ b → W.homes b ≡ None)
@@ -111,13 +128,7 @@ pub by-answer : (W : World) (X : Image) (e : Entry1) → W.stopped ≡ false →
 by-answer W X e going match homes past reads none is claims = Done going none is claim files homes-are serial (refl, refl, refl, refl, going) learned
   where
     claim : IsClaim W e.step e.claims
-    claim = subst (λ (c : Claims). IsClaim W e.step c) (sym claims) (record {
-      inode = subst (λ (n : ℕ). IsInodeClaim W (next_stamp W) no_claims (ltb 0 n)) (sym reads.no_inode) (NoInode refl refl);
-      cell = subst (λ (n : ℕ). IsBlockClaim W (next_stamp W + inodes_needed e.step) null (ltb 0 n)) (sym (reads.no_block W.files)) (Unclaimed refl);
-      leaf = subst (λ (n : ℕ). IsBlockClaim W (next_stamp W + inodes_needed e.step + 1) null (ltb 1 n)) (sym (reads.no_block W.files)) (Unclaimed refl);
-      top = subst (λ (n : ℕ). IsBlockClaim W (next_stamp W + inodes_needed e.step + 2) null (ltb 2 n)) (sym (reads.no_block W.files)) (Unclaimed refl);
-      apart = tt;
-    })
+    claim = subst (λ (c : Claims). IsClaim W e.step c) (sym claims) (no-claim W e.step reads.no_inode reads.no_block)
 
     files : W.files ≡ files_after W.files (gives W.files e.step e.claims)
     files = sym (ap (λ (c : Claims). files_after W.files (gives W.files e.step c)) claims ∙ ap (λ g. files_after W.files g) (reads.gives W.files)
@@ -130,229 +141,75 @@ by-answer W X e going match homes past reads none is claims = Done going none is
     serial = let a = reads.no_inode in let b = reads.no_block W.files in omega (arith, a, b)
 
     learned : Learns W e.step true W
-    learned = record {
-      inodes_stay = λ i k. k;
-      blocks_stay = λ p k. k;
-      inodes_change = λ i ne. absurd (ne refl);
-      blocks_change = λ p ne. absurd (ne refl);
-      inode_seen = λ t i q. absurd (let z = reads.sees_no_inode i in cc (q, z));
-      block_seen = λ t p q. absurd (let z = reads.sees_no_block p in cc (q, z));
-      inodes_why = λ i k. inl k;
-      blocks_why = λ p k. inl k;
-    }
+    learned = learns-known W e.step true W.stopped (λ t i q. absurd (let z = reads.sees_no_inode i in cc (q, z)))
+        (λ t p q. absurd (let z = reads.sees_no_block p in cc (q, z)))
 
 -- The contracts, exit by exit
 
 pub safe-on : (old new : DiskState) (k : Books) → StaysButFaults old new → IsSafe old k → IsSafe new k
-safe-on old new k stays s = record {
-  at = IsAt-on old new k.at stays s.at;
-  mount = s.mount;
-  serial = s.serial;
-  unknown_inodes = s.unknown_inodes;
-  free_inodes = s.free_inodes;
-  agreement = s.agreement;
-  unknown_blocks = s.unknown_blocks;
-  free_blocks = s.free_blocks;
-  in_area = s.in_area;
-}
-
-plain-fault : (why : Refusal) → is_plain why ≡ true → is_write_fault (reply.Refused why) ≡ false
-plain-fault refusal.WriteFault e = cc
-plain-fault _ e = refl
-
-plain-memory : (why : Refusal) → is_plain why ≡ true → is_out_of_memory (reply.Refused why) ≡ false
-plain-memory refusal.OutOfMemory e = cc
-plain-memory _ e = refl
+safe-on old new k stays = safe-keeps old new (reads-keep old new stays) k
 
 module _ (old new : DiskState) (k : Books) (s : Step) (is : IsDisk old) (safe : IsSafe old k) (stays : StaysButFaults old new) where
+  -- what is sound stays so over the reads
+  sound : IsTrue old.tells → (H : List Entry1) (p : Past) → IsOpen old k H p ⊎ IsStopped old k H p → (from : ℕ) → Sounds from old → Sounds from new
+  sound tells H p o from q = sounds-keep from old new stays.disk stays.past stays.cells q
+
   -- the mount is stopped
   pub goes-stopped : k.stopped ≡ true → Goes old k new k s no_claims (reply.Refused refusal.Stopped)
-  goes-stopped stopped = record {
-    disk = stays.disk;
-    past = stays.past;
-    later = (let m = stays.cells.moment in omega (arith, m));
-    cause = record {
-      stopped = λ t n. refl;
-      not_stopped = λ e. stopped;
-      read = λ e. absurd (let f : refusal.Stopped ≡ refusal.ReadFault = cc in cc);
-      write = λ e. absurd (cc);
-      stops = λ going t. absurd (cc (going, stopped));
-      fault = λ e. absurd (cc);
-      keeps = λ t. stopped;
-      flush = λ e. absurd (cc);
-      refused = λ t n. stays.cells;
-      memory = λ t. absurd (cc);
-      range = tt;
-      still = λ e. stays.cells;
-    };
-    safe = safe-on old new k stays safe;
-    at = refl;
-    history = refl;
-    sound = λ tells H p o from q. sounds-keep from old new stays.disk stays.past stays.cells q;
-    from_open = λ tells caller H p o. absurd (let g = o.going in cc (g, stopped));
-    from_stopped = λ tells caller H p o. record {
-      none = λ t. absurd (cc);
-      done = λ n. stopped-idle old new k k H p (entry caller old new s no_claims (reply.Refused refusal.Stopped)) stays refl refl refl o refl refl refl
-          (AfterFault o.world_stopped refl refl refl) stopped;
-      next = λ n. AfterFault o.world_stopped refl refl refl;
-    };
-  }
+  goes-stopped stopped = safely-goes old new k k s no_claims (reply.Refused refusal.Stopped) (safely-stopped old new k safe stays stopped) sound
+      (λ tells caller H p o. absurd (let g = o.going in cc (g, stopped)))
+      (λ tells caller H p o. record {
+        none = λ t. absurd (cc);
+        done = λ n. stopped-idle old new k k H p (entry caller old new s no_claims (reply.Refused refusal.Stopped)) stays refl refl refl o refl refl refl
+            (AfterFault o.world_stopped refl refl refl) stopped;
+        next = λ n. AfterFault o.world_stopped refl refl refl;
+      })
+
+  -- the mount goes on, with an entry that changes nothing
+  goes-idle : (r : Reply) → is_out_of_memory r ≡ false → k.stopped ≡ false → IsSafeStep old k new k r
+      → (IsTrue old.tells → (H : List Entry1) (p : Past) → IsOpen old k H p → p.world.stopped ≡ false → (caller : ℕ)
+      → IsIdle p.world.files (entry caller old new s no_claims r) × Next p.world (entry caller old new s no_claims r) p.world)
+      → Goes old k new k s no_claims r
+  goes-idle r memory going safely idle = safely-goes old new k k s no_claims r safely sound
+      (λ tells caller H p o.
+      let e : Entry1 = entry caller old new s no_claims r in
+      let i = idle tells H p o (o.says.stopped ∙ going) caller in
+      follows-idle old new k k H p e stays refl refl refl p.world is tells o i.0 i.1 (keeps-all p.world) o.says refl going memory)
+      (λ tells caller H p o. absurd (let t = o.stopped in cc (t, going)))
 
   -- a refusal by a row of the machine
   pub goes-row : (why : Refusal) → is_plain why ≡ true → InRange why → k.stopped ≡ false
       → (IsTrue old.tells → (H : List Entry1) (p : Past) → IsOpen old k H p → first_of (rows p.world p.world s) ≡ Some why)
       → Goes old k new k s no_claims (reply.Refused why)
-  goes-row why plain range going comes = record {
-    disk = stays.disk;
-    past = stays.past;
-    later = (let m = stays.cells.moment in omega (arith, m));
-    cause = record {
-      stopped = λ t n. absurd (cc (t, going));
-      not_stopped = λ e. absurd (let f : why ≡ refusal.Stopped = cc in let z : is_plain why ≡ false = ap is_plain f in cc (z, plain));
-      read = λ e. absurd (let f : why ≡ refusal.ReadFault = cc in let z : is_plain why ≡ false = ap is_plain f in cc (z, plain));
-      write = λ e. absurd (let f : why ≡ refusal.WriteFault = cc in let z : is_plain why ≡ false = ap is_plain f in cc (z, plain));
-      stops = λ run t. absurd (cc (t, going));
-      fault = λ e. absurd (let f : why ≡ refusal.WriteFault = cc in let z : is_plain why ≡ false = ap is_plain f in cc (z, plain));
-      keeps = λ t. t;
-      flush = λ e. absurd (cc);
-      refused = λ t n. stays.cells;
-      memory = λ t. absurd (let z = plain-memory why plain in cc (t, z));
-      range = range;
-      still = λ e. stays.cells;
-    };
-    safe = safe-on old new k stays safe;
-    at = refl;
-    history = refl;
-    sound = λ tells H p o from q. sounds-keep from old new stays.disk stays.past stays.cells q;
-    from_open = λ tells caller H p o.
-        let e : Entry1 = entry caller old new s no_claims (reply.Refused why) in
-        let open_world : p.world.stopped ≡ false = o.says.stopped ∙ going in
-        record {
-          none = λ t. absurd (let z = plain-memory why plain in cc (t, z));
-          done = λ n f. (
-            p,
-            record {
-              base = refl;
-              first = refl;
-              next = ByRow why open_world (comes tells H p o) (inl refl) refl (keeps-all p.world) open_world
-                  (nothing-learned p.world s);
-            },
-            open-idle old new k k H p e stays refl refl refl p.world is tells o (refused-idle p.world.files e why refl (plain-fault why plain))
-                (ByRow why open_world (comes tells H p o) (inl refl) refl (keeps-all p.world) open_world (nothing-learned p.world s)) (keeps-all p.world)
-                o.says refl going,
-          );
-          fault = λ t. absurd (let z = plain-fault why plain in cc (t, z));
-        };
-    from_stopped = λ tells caller H p o. absurd (let t = o.stopped in cc (t, going));
-  }
+  goes-row why plain range going comes = goes-idle (reply.Refused why) (plain-memory why plain) going (safely-row old new k safe stays why plain range going)
+      (λ tells H p o runs caller. (
+        refused-idle p.world.files (entry caller old new s no_claims (reply.Refused why)) why refl (plain-fault why plain),
+        ByRow why runs (comes tells H p o) (inl refl) refl (keeps-all p.world) runs (nothing-learned p.world s p.world.stopped),
+      ))
 
   -- a read failed
   pub goes-read : k.stopped ≡ false → Rose old.faults new.faults
       → (IsTrue old.tells → (H : List Entry1) (p : Past) → IsOpen old k H p → (why : Refusal) → first_of (rows p.world p.world s) ≡ Some why
       → reads_nothing why ≡ false)
       → Goes old k new k s no_claims (reply.Refused refusal.ReadFault)
-  goes-read going rose late = record {
-    disk = stays.disk;
-    past = stays.past;
-    later = (let m = stays.cells.moment in omega (arith, m));
-    cause = record {
-      stopped = λ t n. absurd (cc (t, going));
-      not_stopped = λ e. absurd (cc);
-      read = λ e. rose;
-      write = λ e. absurd (cc);
-      stops = λ run t. absurd (cc (t, going));
-      fault = λ e. absurd (cc);
-      keeps = λ t. t;
-      flush = λ e. absurd (cc);
-      refused = λ t n. stays.cells;
-      memory = λ t. absurd (cc);
-      range = tt;
-      still = λ e. stays.cells;
-    };
-    safe = safe-on old new k stays safe;
-    at = refl;
-    history = refl;
-    sound = λ tells H p o from q. sounds-keep from old new stays.disk stays.past stays.cells q;
-    from_open = λ tells caller H p o.
-        let e : Entry1 = entry caller old new s no_claims (reply.Refused refusal.ReadFault) in
-        let open_world : p.world.stopped ≡ false = o.says.stopped ∙ going in
-        record {
-          none = λ t. absurd (cc);
-          done = λ n f. (
-            p,
-            record { base = refl; first = refl; next = by-read p.world e open_world (late tells H p o) refl refl },
-            open-idle old new k k H p e stays refl refl refl p.world is tells o (refused-idle p.world.files e refusal.ReadFault refl refl)
-                (by-read p.world e open_world (late tells H p o) refl refl) (keeps-all p.world) o.says refl going,
-          );
-          fault = λ t. absurd (cc);
-        };
-    from_stopped = λ tells caller H p o. absurd (let t = o.stopped in cc (t, going));
-  }
+  goes-read going rose late = goes-idle (reply.Refused refusal.ReadFault) refl going (safely-read old new k safe stays going rose)
+      (λ tells H p o runs caller.
+      let e : Entry1 = entry caller old new s no_claims (reply.Refused refusal.ReadFault) in
+      (refused-idle p.world.files e refusal.ReadFault refl refl, by-read p.world e runs (late tells H p o) refl refl))
 
   -- an answer
   pub goes-answer : (r : Reply) → is_refused r ≡ false → is_flushed r ≡ false → IsReading s → k.stopped ≡ false
       → (IsTrue old.tells → (H : List Entry1) (p : Past) → IsOpen old k H p → (first_of (rows p.world p.world s) ≡ None) × (r ≡ reply_of p.world s no_claims))
       → Goes old k new k s no_claims r
-  goes-answer r accepted plain reads going comes = record {
-    disk = stays.disk;
-    past = stays.past;
-    later = (let m = stays.cells.moment in omega (arith, m));
-    cause = record {
-      stopped = λ t n. absurd (cc (t, going));
-      not_stopped = λ e. absurd (let z = ap is_refused e in cc (z, accepted));
-      read = λ e. absurd (let z = ap is_refused e in cc (z, accepted));
-      write = λ e. absurd (let z = ap is_refused e in cc (z, accepted));
-      stops = λ run t. absurd (cc (t, going));
-      fault = λ e. absurd (let z = ap is_refused e in cc (z, accepted));
-      keeps = λ t. t;
-      flush = λ e. absurd (let z = ap is_flushed e in cc (z, plain));
-      refused = λ t n. absurd (cc (t, accepted));
-      memory = λ t. absurd (let z = no-memory r accepted in cc (t, z));
-      range = has-range r accepted;
-      still = λ e. stays.cells;
-    };
-    safe = safe-on old new k stays safe;
-    at = refl;
-    history = refl;
-    sound = λ tells H p o from q. sounds-keep from old new stays.disk stays.past stays.cells q;
-    from_open = λ tells caller H p o.
-        let e : Entry1 = entry caller old new s no_claims r in
-        let open_world : p.world.stopped ≡ false = o.says.stopped ∙ going in
-        let c = comes tells H p o in
+  goes-answer r accepted plain reads going comes = goes-idle r (accepted-memory r accepted) going (safely-answer old new k safe stays r accepted plain going)
+      (λ tells H p o runs caller.
+      let e : Entry1 = entry caller old new s no_claims r in
+      let c = comes tells H p o in (
         record {
-          none = λ t. absurd (let z = no-memory r accepted in cc (t, z));
-          done = λ n f. (
-            p,
-            record {
-              base = refl;
-              first = refl;
-              next = by-answer p.world old.now e open_world (open-files old k H p o)
-                  o.homes o.homes_past reads c.0 c.1 refl;
-            },
-            open-idle old new k k H p e stays refl refl refl p.world is tells o
-                (record {
-                  given = rw accepted (reads.gives p.world.files);
-                  files =
-                      rw accepted (ap (λ g. files_after p.world.files g) (reads.gives p.world.files) ∙ files-stay p.world.files);
-                  no_flush = plain;
-                  no_fault =
-                      no-fault r accepted;
-                })
-                (by-answer p.world old.now e open_world (open-files old k H p o) o.homes o.homes_past reads c.0 c.1 refl) (keeps-all p.world) o.says refl going,
-          );
-          fault = λ t. absurd (let z = no-fault r accepted in cc (t, z));
-        };
-    from_stopped = λ tells caller H p o. absurd (let t = o.stopped in cc (t, going));
-  }
-    where
-      no-fault : (r : Reply) → is_refused r ≡ false → is_write_fault r ≡ false
-      no-fault (reply.Refused w) e = cc
-      no-fault _ e = refl
-
-      has-range : (r : Reply) → is_refused r ≡ false → HasRange r
-      has-range (reply.Refused w) e = cc
-      has-range _ e = tt
-
-      no-memory : (r : Reply) → is_refused r ≡ false → is_out_of_memory r ≡ false
-      no-memory (reply.Refused w) e = cc
-      no-memory _ e = refl
+          given = rw accepted (reads.gives p.world.files);
+          files = rw accepted (ap (λ g. files_after p.world.files g) (reads.gives p.world.files) ∙ files-stay p.world.files);
+          no_flush = plain;
+          no_fault = accepted-fault r accepted;
+        },
+        by-answer p.world old.now e runs (open-files old k H p o) o.homes o.homes_past reads c.0 c.1 refl,
+      ))

@@ -1,5 +1,5 @@
 -- A See step: one more element is known, with the verdict of the disk.
-use Rattle.std.proofs.Common.{◌≡◌, ◌≢◌, ℕ, ◌+◌, ◌/◌, ◌<◌, ◌≤◌, ◌⊎◌, inl, inr, Bool, true, false, cond, ◌&&◌, ◌||◌, not, eqb, ltb, leb, List, length, Some}
+use Rattle.std.proofs.Common.{◌≡◌, ℕ, ◌+◌, ◌/◌, ◌<◌, ◌≤◌, ◌⊎◌, inl, inr, Bool, true, false, cond, ◌&&◌, ◌||◌, not, eqb, ltb, leb, List, length, Some}
 use Rattle.std.proofs.Common.{None, is_some, IsTrue, refl, sym, ap, ◌∙◌, subst, eq-eqb, eqb-true, arith}
 use Rattle.std.specs.Prelude.{slice_set}
 use Rattle.std.proofs.lemmas.Bool.{cases_eq, cases_lt, ne_eqb}
@@ -7,15 +7,14 @@ use Rattle.std.proofs.lemmas.List.{get_or_past}
 use Rattle.std.proofs.lemmas.Bool.Decides.{nat_tests}
 use Rattle.nofs_bits.specs.Bits.{is_set}
 use Rattle.nofs_disk.specs.Disk.{DiskState, IsDisk, KeepsCells, StaysButFaults}
-use Rattle.nofs_model.specs.Cells.{null}
 use Rattle.nofs_model.specs.Image.{super_at, Files, is_special, is_used_inode, is_used_block}
 use Rattle.nofs_machine.specs.Search.{first_of}
 use Rattle.nofs_machine.specs.Machine.{gives, files_after, nothing}
 use Rattle.nofs_machine.specs.World.{World, uses_inode, uses_block, inodes_needed, blocks_needed}
-use Rattle.nofs_machine.specs.Claims.{no_claims, next_stamp, cell_slot, homes_after, IsClaim, IsBlockClaim, IsInodeClaim, Unclaimed, NoInode}
+use Rattle.nofs_machine.specs.Claims.{no_claims, cell_slot, homes_after}
 use Rattle.nofs_machine.specs.Refusals.{rows}
 use Rattle.nofs_machine.specs.Answers.{reply_of}
-use Rattle.nofs_machine.specs.Next.{Keeps, Learns, Next, Done}
+use Rattle.nofs_machine.specs.Next.{Keeps, Learns, Next, Done, names_inode, sees_inode, sees_block}
 use Rattle.nofs_machine.specs.declared.history.Entry1.{Entry1}
 use Rattle.nofs_machine.specs.declared.steps.Step.{Step}
 use Rattle.nofs_machine.specs.declared.steps.Step.TheVariants as step
@@ -27,9 +26,12 @@ use Rattle.nofs_state.specs.Standing.{IsOpen, Past}
 use Rattle.nofs_state.specs.Steps.{Causes, Follows, entry}
 use Rattle.nofs_state.specs.Verdicts.{InData, learned_block, verdict_of_block}
 use Rattle.nofs_state.specs.declared.books.Books.{Books}
-use Rattle.nofs_state.proofs.Idle.{open-idle}
+use Rattle.nofs_state.proofs.Idle.{follows-idle}
 use Rattle.nofs_state.proofs.Maps.{set-here, set-other, set-length}
-use Rattle.nofs_state.proofs.Replies.{homes-stay, keeps-all, open-files}
+use Rattle.nofs_state.proofs.Replies.{homes-stay, learns-known, no-claim, open-files}
+use Rattle.nofs_state.proofs.SafeBooks.{safe-sizes}
+use Rattle.nofs_state.proofs.SafeSteps.{quiet-answer, quiet-causes}
+use Rattle.nofs_state.proofs.Saying.{says-maps, world_with}
 
 -- The machine's verdicts are those of the scan
 
@@ -59,79 +61,76 @@ pub sees-block : (p : ℕ) → IsSeeing (step.SeeBlock p)
 unfolding gives
 sees-block p = record { no_inode = refl; no_block = λ F. refl; gives = λ F. refl; no_slot = λ F. refl }
 
--- an element is seen: no row comes, the answer is the machine's, and it is known from then on
+-- an element is seen: no row comes, and the answer is the machine's
 pub record Sees (W V : World) (s : Step) (used : Bool) : Type 0 where
   pub rows : first_of (rows W V s) ≡ None
   pub reply : reply.Seen used ≡ reply_of W s no_claims
-  pub keeps : Keeps W V
-  pub going : V.stopped ≡ false
   pub learns : Learns W s true V
 
 module _ (old new : DiskState) (k l : Books) (s : Step) (used : Bool) (is : IsDisk old) (stays : StaysButFaults old new) (at : l.at ≡ k.at)
     (history : l.history ≡ k.history) (going : k.stopped ≡ false) (still : l.stopped ≡ false) where
-  next-seen : (caller : ℕ) (H : List Entry1) (p : Past) (V : World) → IsOpen old k H p → IsSeeing s → Sees p.world V s used
-      → Next p.world (entry caller old new s no_claims (reply.Seen used)) V
-  next-seen caller H p V o seeing sees = Done (o.says.stopped ∙ going) sees.rows sees.reply claim files homes-are serial
-      (sees.keeps.version, sees.keeps.blocks, sees.keeps.inodes, sees.keeps.mount, sees.going) sees.learns
-    where
-      W : World
-      W = p.world
+  module _ (caller : ℕ) (H : List Entry1) (p : Past) (inodes blocks : ℕ → Bool) (o : IsOpen old k H p) (seeing : IsSeeing s) where
+    abbrev W : World
+    W = p.world
 
-      claim : IsClaim W s no_claims
-      claim = record {
-        inode = subst (λ (n : ℕ). IsInodeClaim W (next_stamp W) no_claims (ltb 0 n)) (sym seeing.no_inode) (NoInode refl refl);
-        cell = subst (λ (n : ℕ). IsBlockClaim W (next_stamp W + inodes_needed s) null (ltb 0 n)) (sym (seeing.no_block W.files)) (Unclaimed refl);
-        leaf = subst (λ (n : ℕ). IsBlockClaim W (next_stamp W + inodes_needed s + 1) null (ltb 1 n)) (sym (seeing.no_block W.files)) (Unclaimed refl);
-        top = subst (λ (n : ℕ). IsBlockClaim W (next_stamp W + inodes_needed s + 2) null (ltb 2 n)) (sym (seeing.no_block W.files)) (Unclaimed refl);
-        apart = tt;
-      }
+    abbrev V : World
+    V = world_with p.world inodes blocks
 
-      files : V.files ≡ files_after W.files (gives W.files s no_claims)
-      files = sees.keeps.files ∙ sym (ap (λ g. files_after W.files g) (seeing.gives W.files) ∙ files-stay W.files)
+    abbrev e : Entry1
+    e = entry caller old new s no_claims (reply.Seen used)
 
-      homes-are : V.homes ≡ homes_after W s no_claims V.files
-      homes-are = sees.keeps.homes ∙ sym (ap (λ (F : Files). homes_after W s no_claims F) sees.keeps.files
-          ∙ homes-stay W old.now s (open-files old k H p o) o.homes o.homes_past (seeing.no_slot W.files))
+    keeps : Keeps W V
+    keeps = record { version = refl; blocks = refl; inodes = refl; mount = refl; serial = refl; files = refl; homes = refl }
 
-      serial : V.serial ≡ W.serial + inodes_needed s + blocks_needed W.files s
-      serial = let a = seeing.no_inode in let b = seeing.no_block W.files in let e = sees.keeps.serial in omega (arith, a, b, e)
+    files-stay-so : files_after W.files (gives W.files s no_claims) ≡ W.files
+    files-stay-so = ap (λ g. files_after W.files g) (seeing.gives W.files) ∙ files-stay W.files
 
-  pub follows-seen : (caller : ℕ) (H : List Entry1) (p : Past) (V : World) → IsTrue old.tells → IsOpen old k H p → IsSeeing s → Sees p.world V s used
-      → Says l V → Follows old new l H p (entry caller old new s no_claims (reply.Seen used))
-  follows-seen caller H p V tells o seeing sees says = record {
-    none = λ t. cc;
-    done = λ n f. (
-      record p { world = V },
-      record { base = refl; first = refl; next = next-seen caller H p V o seeing sees },
-      open-idle old new k l H p (entry caller old new s no_claims (reply.Seen used)) stays refl refl history V is tells o
-          (record {
-            given = seeing.gives p.world.files;
-            files =
-                ap (λ g. files_after p.world.files g) (seeing.gives p.world.files) ∙ files-stay p.world.files;
-            no_flush = refl;
-            no_fault = refl;
-          })
-          (next-seen caller H p V o seeing sees) sees.keeps says at still,
-    );
-    fault = λ t. cc;
-  }
+    next-seen : Sees W V s used → Next W e V
+    next-seen sees = Done open_world sees.rows sees.reply (no-claim W s seeing.no_inode seeing.no_block) (sym files-stay-so) homes-are serial (refl, refl, refl, refl, open_world) sees.learns
+      where
+        open_world : W.stopped ≡ false
+        open_world = o.says.stopped ∙ going
+
+        homes-are : V.homes ≡ homes_after W s no_claims V.files
+        homes-are = sym (homes-stay W old.now s (open-files old k H p o) o.homes o.homes_past (seeing.no_slot W.files))
+
+        serial : V.serial ≡ W.serial + inodes_needed s + blocks_needed W.files s
+        serial = let a = seeing.no_inode in let b = seeing.no_block W.files in omega (arith, a, b)
+
+    pub follows-seen : IsTrue old.tells → Sees W V s used → Says l V → Follows old new l H p e
+    follows-seen tells sees says = follows-idle old new k l H p e stays refl refl history V is tells o
+        (record { given = seeing.gives W.files; files = files-stay-so; no_flush = refl; no_fault = refl }) (next-seen sees) keeps says at still refl
 
 pub seen-causes : (old new : DiskState) (k l : Books) (used : Bool) → KeepsCells old new → k.stopped ≡ false → l.stopped ≡ false
     → Causes old new k l (reply.Seen used)
-seen-causes old new k l used cells going still = record {
-  stopped = λ t n. absurd (cc (t, going));
-  not_stopped = λ e. cc;
-  read = λ e. cc;
-  write = λ e. cc;
-  stops = λ g t. absurd (cc (t, still));
-  fault = λ e. cc;
-  keeps = λ t. absurd (cc (t, going));
-  flush = λ e. cc;
-  refused = λ t n. cc;
-  memory = λ t. cc;
-  range = tt;
-  still = λ e. cells;
+seen-causes old new k l used cells going still =
+    quiet-causes old new k l (reply.Seen used) cells (quiet-answer old new k (reply.Seen used) refl refl going) (still ∙ sym going) (λ t. absurd (cc t))
+
+-- what a See step examines becomes known
+pub learns-seen : (W : World) (s : Step)
+    → Learns W s true (world_with W (λ i. sees_inode s i || W.known_inodes i) (λ p. sees_block s p || W.known_blocks p))
+learns-seen W s = record {
+  inodes_stay = λ i k. rw k (or-true (sees_inode s i));
+  blocks_stay = λ p k. rw k (or-true (sees_block s p));
+  inodes_change = λ i ne. absurd (ne refl);
+  blocks_change = λ p ne. absurd (ne refl);
+  inode_seen = λ t i e. rw e refl;
+  block_seen = λ t p e. rw e refl;
+  inodes_why = λ i k. elim (either (sees_inode s i) (W.known_inodes i) k) [ inl e ↦ inr (inr (inr (named s i e))) | inr was ↦ inl was ];
+  blocks_why = λ p k. elim (either (sees_block s p) (W.known_blocks p) k) [ inl e ↦ inr (inr (inr (refl, e))) | inr was ↦ inl was ];
 }
+  where
+    or-true : (b : Bool) → (b || true) ≡ true
+    or-true true = refl
+    or-true false = refl
+
+    either : (a b : Bool) → (a || b) ≡ true → (a ≡ true) ⊎ (b ≡ true)
+    either true b e = inl refl
+    either false b e = inr e
+
+    named : (s : Step) (i : ℕ) → sees_inode s i ≡ true → names_inode s i ≡ true
+    named (step.SeeInode j) i e = e
+    named _ i e = cc
 
 -- a place that is set is one of the map
 pub set-within : (bits : List Bool) (k : ℕ) (v : Bool) → is_set (slice_set bits k v) k ≡ true → k < length bits
@@ -145,43 +144,10 @@ set-within bits k v e = elim (cases_lt k (length bits)) [
 abbrev with_block : World → ℕ → World
 with_block W p = record W { known_blocks = λ q. eqb q p || W.known_blocks q }
 
--- a block is known, or becomes it
-learns-block : (W : World) (p : ℕ) → Learns W (step.SeeBlock p) true (with_block W p)
-learns-block W p = record {
-  inodes_stay = λ i k. k;
-  blocks_stay = λ q k. rw k (or-true (eqb q p));
-  inodes_change = λ i ne. absurd (ne refl);
-  blocks_change = λ q ne. absurd (ne refl);
-  inode_seen = λ t i e. absurd (cc e);
-  block_seen = λ t q e. rw e refl;
-  inodes_why = λ i k. inl k;
-  blocks_why = λ q k. why q (eqb q p) refl k;
-}
-  where
-    or-true : (b : Bool) → (b || true) ≡ true
-    or-true true = refl
-    or-true false = refl
-
-    why : (q : ℕ) (b : Bool) → eqb q p ≡ b → (b || W.known_blocks q) ≡ true
-        → (W.known_blocks q ≡ true) ⊎ ((uses_block W q ≡ true) ⊎ ((uses_block W q ≢ uses_block W q) ⊎ ((true ≡ true) × (eqb q p ≡ true))))
-    why q true e k = inr (inr (inr (refl, e)))
-    why q false e k = inl k
-
 -- what is known already stays so
 learns-again : (W : World) (p : ℕ) → W.known_blocks p ≡ true → Learns W (step.SeeBlock p) true W
-learns-again W p is = record {
-  inodes_stay = λ i k. k;
-  blocks_stay = λ q k. k;
-  inodes_change = λ i ne. absurd (ne refl);
-  blocks_change = λ q ne. absurd (ne refl);
-  inode_seen = λ t i e. absurd (cc e);
-  block_seen = λ t q e. subst (λ (n : ℕ). W.known_blocks n ≡ true) (sym (eqb-true q p e)) is;
-  inodes_why = λ i k. inl k;
-  blocks_why = λ q k. inl k;
-}
-
-keeps-block : (W : World) (p : ℕ) → Keeps W (with_block W p)
-keeps-block W p = record { version = refl; blocks = refl; inodes = refl; mount = refl; serial = refl; files = refl; homes = refl }
+learns-again W p is = learns-known W (step.SeeBlock p) true W.stopped (λ t i e. absurd (cc e))
+    (λ t q e. subst (λ (n : ℕ). W.known_blocks n ≡ true) (sym (eqb-true q p e)) is)
 
 pub block-row : (W V : World) (p n : ℕ) → W.blocks ≡ n → p < n → first_of (rows W V (step.SeeBlock p)) ≡ None
 block-row W V p n e low = let t : leb W.blocks p ≡ false = not-le W.blocks p (omega (arith, e, low)) in rw t refl
@@ -195,19 +161,9 @@ in-range a b h = grind (arith, nat_tests)
 -- the maps with one more block
 says-block : (k : Books) (W : World) (p : ℕ) (used : Bool) → Says k W → p < k.at.blocks → length k.unknown_blocks ≡ k.at.blocks
     → length k.free_blocks ≡ k.at.blocks → used ≡ uses_block W p → Says (learned_block k p used) (with_block W p)
-says-block k W p used s low unknown free right = record {
-  version = s.version;
-  blocks = s.blocks;
-  inodes = s.inodes;
-  mount = s.mount;
-  serial = s.serial;
-  stopped = s.stopped;
-  known_inodes = s.known_inodes;
-  known_blocks = known;
-  free_inodes = s.free_inodes;
-  free_blocks = free-is;
-  agreement = s.agreement;
-}
+says-block k W p used s low unknown free right =
+    says-maps k (learned_block k p used) W W.known_inodes (λ q. eqb q p || W.known_blocks q) s (record { at = refl; serial = refl; stopped = refl })
+    s.known_inodes known s.free_inodes free-is s.agreement
   where
     known : (q : ℕ) → (eqb q p || W.known_blocks q) ≡ (ltb q k.at.blocks && not (is_set (slice_set k.unknown_blocks p false) q))
     known q = elim (cases_eq q p) [
@@ -240,17 +196,11 @@ stands false uses f used k e s = cc
 
 -- what holds over any disk, with one more block
 pub safe-block : (d : DiskState) (k : Books) (p : ℕ) (used : Bool) → IsSafe d k → InData k p used → IsSafe d (learned_block k p used)
-safe-block d k p used s lies = record {
-  at = s.at;
-  mount = s.mount;
-  serial = s.serial;
-  unknown_inodes = s.unknown_inodes;
-  free_inodes = s.free_inodes;
-  agreement = s.agreement;
-  unknown_blocks = set-length k.unknown_blocks p false ∙ s.unknown_blocks;
-  free_blocks = set-length k.free_blocks p (not used) ∙ s.free_blocks;
-  in_area = area;
-}
+safe-block d k p used s lies =
+    let unknown = set-length k.unknown_blocks p false in
+    let free = set-length k.free_blocks p (not used) in
+    safe-sizes d d k (learned_block k p used) s s.at
+    (record { at = refl; serial = refl; unknown_inodes = refl; free_inodes = refl; agreement = refl; unknown_blocks = unknown; free_blocks = free }) area
   where
     freed : (b : Bool) → not b ≡ true → b ≡ false
     freed true e = cc
@@ -283,28 +233,19 @@ module _ (old new : DiskState) (k : Books) (b : ℕ) (used : Bool) (is : IsDisk 
   -- the verdict stood
   pub block-stood : (caller : ℕ) (H : List Entry1) (p : Past) → IsTrue old.tells → IsOpen old k H p → verdict_of_block k b ≡ Some used
       → Follows old new k H p (entry caller old new (step.SeeBlock b) no_claims (reply.Seen used))
-  block-stood caller H p tells o stood = follows-seen old new k k (step.SeeBlock b) used is stays refl refl going going caller H p p.world tells o
-      (sees-block b)
-      (record {
-        rows = block-row p.world p.world b k.at.blocks o.says.blocks low;
-        reply = ap reply.Seen (block-stands H p o stood);
-        keeps =
-            keeps-all p.world;
-        going = o.says.stopped ∙ going;
-        learns = learns-again p.world b (block-known H p o stood);
-      }) o.says
+  block-stood caller H p tells o stood =
+      let again = learns-again p.world b (block-known H p o stood) in
+      follows-seen old new k k (step.SeeBlock b) used is stays refl refl going going caller H p p.world.known_inodes p.world.known_blocks o (sees-block b) tells
+      (record { rows = block-row p.world p.world b k.at.blocks o.says.blocks low; reply = ap reply.Seen (block-stands H p o stood); learns = again }) o.says
 
   -- it was learned
   pub block-learned : (caller : ℕ) (H : List Entry1) (p : Past) → IsTrue old.tells → IsOpen old k H p → used ≡ uses_block p.world b
       → Follows old new (learned_block k b used) H p (entry caller old new (step.SeeBlock b) no_claims (reply.Seen used))
   block-learned caller H p tells o right = follows-seen old new k (learned_block k b used) (step.SeeBlock b) used is stays refl refl going going caller H p
-      (with_block p.world b) tells o (sees-block b)
+      p.world.known_inodes (λ q. eqb q b || p.world.known_blocks q) o (sees-block b) tells
       (record {
         rows = block-row p.world (with_block p.world b) b k.at.blocks o.says.blocks low;
         reply = ap reply.Seen right;
-        keeps =
-            keeps-block p.world b;
-        going = o.says.stopped ∙ going;
-        learns = learns-block p.world b;
+        learns = learns-seen p.world (step.SeeBlock b);
       })
       (says-block k p.world b used o.says low safe.unknown_blocks safe.free_blocks right)

@@ -1,5 +1,5 @@
 -- One more inode is known, with the verdict of the disk.
-use Rattle.std.proofs.Common.{◌≡◌, ◌≢◌, if◌then◌else◌, ℕ, zero, suc, ◌-◌, ◌≤◌, ◌⊎◌, inl, inr, Bool, true, false, ◌&&◌, ◌||◌, not, eqb, ltb, leb, List, length}
+use Rattle.std.proofs.Common.{◌≡◌, if◌then◌else◌, ℕ, zero, suc, ◌-◌, ◌≤◌, inl, inr, Bool, true, false, ◌&&◌, ◌||◌, not, eqb, ltb, leb, List, length}
 use Rattle.std.proofs.Common.{Some, None, is_some, IsTrue, refl, sym, ap, ◌∙◌, subst, eq-eqb, eqb-true, arith}
 use Rattle.std.specs.Prelude.{slice_set}
 use Rattle.std.proofs.lemmas.Bool.{cases_eq, ne_eqb}
@@ -12,7 +12,7 @@ use Rattle.nofs_machine.specs.Search.{first_of}
 use Rattle.nofs_machine.specs.World.{World, uses_inode}
 use Rattle.nofs_machine.specs.Claims.{no_claims}
 use Rattle.nofs_machine.specs.Refusals.{rows}
-use Rattle.nofs_machine.specs.Next.{Keeps, Learns}
+use Rattle.nofs_machine.specs.Next.{Learns}
 use Rattle.nofs_machine.specs.declared.history.Entry1.{Entry1}
 use Rattle.nofs_machine.specs.declared.steps.Step.TheVariants as step
 use Rattle.nofs_machine.specs.declared.replies.Reply.TheVariants as reply
@@ -24,48 +24,18 @@ use Rattle.nofs_state.specs.Steps.{Follows, entry}
 use Rattle.nofs_state.specs.Verdicts.{learned_inode, verdict_of_inode}
 use Rattle.nofs_state.specs.declared.books.Books.{Books}
 use Rattle.nofs_state.proofs.Maps.{set-here, set-other, set-length}
-use Rattle.nofs_state.proofs.Replies.{keeps-all}
-use Rattle.nofs_state.proofs.Seeing.{follows-seen, sees-inode, stands, verdict-is}
+use Rattle.nofs_state.proofs.Replies.{learns-known}
+use Rattle.nofs_state.proofs.SafeBooks.{safe-sizes}
+use Rattle.nofs_state.proofs.Saying.{says-maps}
+use Rattle.nofs_state.proofs.Seeing.{follows-seen, learns-seen, sees-inode, stands, verdict-is}
 
 abbrev with_inode : World → ℕ → World
 with_inode W i = record W { known_inodes = λ j. eqb j i || W.known_inodes j }
 
--- an inode is known, or becomes it
-learns-inode : (W : World) (i : ℕ) → Learns W (step.SeeInode i) true (with_inode W i)
-learns-inode W i = record {
-  inodes_stay = λ j k. rw k (or-true (eqb j i));
-  blocks_stay = λ p k. k;
-  inodes_change = λ j ne. absurd (ne refl);
-  blocks_change = λ p ne. absurd (ne refl);
-  inode_seen = λ t j e. rw e refl;
-  block_seen = λ t p e. absurd (cc e);
-  inodes_why = λ j k. why j (eqb j i) refl k;
-  blocks_why = λ p k. inl k;
-}
-  where
-    or-true : (b : Bool) → (b || true) ≡ true
-    or-true true = refl
-    or-true false = refl
-
-    why : (j : ℕ) (b : Bool) → eqb j i ≡ b → (b || W.known_inodes j) ≡ true
-        → (W.known_inodes j ≡ true) ⊎ ((uses_inode W j ≡ true) ⊎ ((uses_inode W j ≢ uses_inode W j) ⊎ (eqb j i ≡ true)))
-    why j true e k = inr (inr (inr e))
-    why j false e k = inl k
-
+-- what is known already stays so
 learns-again : (W : World) (i : ℕ) → W.known_inodes i ≡ true → Learns W (step.SeeInode i) true W
-learns-again W i is = record {
-  inodes_stay = λ j k. k;
-  blocks_stay = λ p k. k;
-  inodes_change = λ j ne. absurd (ne refl);
-  blocks_change = λ p ne. absurd (ne refl);
-  inode_seen = λ t j e. subst (λ (n : ℕ). W.known_inodes n ≡ true) (sym (eqb-true j i e)) is;
-  block_seen = λ t p e. absurd (cc e);
-  inodes_why = λ j k. inl k;
-  blocks_why = λ p k. inl k;
-}
-
-keeps-inode : (W : World) (i : ℕ) → Keeps W (with_inode W i)
-keeps-inode W i = record { version = refl; blocks = refl; inodes = refl; mount = refl; serial = refl; files = refl; homes = refl }
+learns-again W i is = learns-known W (step.SeeInode i) true W.stopped
+    (λ t j e. subst (λ (n : ℕ). W.known_inodes n ≡ true) (sym (eqb-true j i e)) is) (λ t p e. absurd (cc e))
 
 le-is : (a b : ℕ) → a ≤ b → leb a b ≡ true
 le-is a b h = grind (arith, nat_tests)
@@ -126,37 +96,26 @@ module _ (k : Books) (W : World) (i : ℕ) (used : Bool) (s : Says k W) (low : 1
 
   says-inode : length k.unknown_inodes ≡ k.at.inodes → length k.free_inodes ≡ k.at.inodes → length k.agreement ≡ k.at.inodes
       → Says (learned_inode k i used) (with_inode W i)
-  says-inode unknown free agreed = record {
-    version = s.version;
-    blocks = s.blocks;
-    inodes = s.inodes;
-    mount = s.mount;
-    serial = s.serial;
-    stopped = s.stopped;
-    known_inodes = known-is unknown;
-    known_blocks = s.known_blocks;
-    free_inodes = free-is free;
-    free_blocks = s.free_blocks;
-    agreement = agreed-is agreed;
-  }
+  says-inode unknown free agreed =
+      says-maps k (learned_inode k i used) W (λ j. eqb j i || W.known_inodes j) W.known_blocks s (record { at = refl; serial = refl; stopped = refl })
+      (known-is unknown) s.known_blocks (free-is free) s.free_blocks (agreed-is agreed)
 
 -- what holds over any disk, with one more inode
 pub safe-inode : (d : DiskState) (k : Books) (i : ℕ) (used : Bool) → IsSafe d k → IsSafe d (learned_inode k i used)
-safe-inode d k i used s = record {
-  at = s.at;
-  mount = s.mount;
-  serial = s.serial;
-  unknown_inodes = set-length k.unknown_inodes (i - 1) false ∙ s.unknown_inodes;
-  free_inodes = set-length k.free_inodes (i - 1) (not used) ∙ s.free_inodes;
-  agreement = known-length (ltb 2 i);
-  unknown_blocks = s.unknown_blocks;
-  free_blocks = s.free_blocks;
-  in_area = s.in_area;
-}
+safe-inode d k i used s = safe-sizes d d k (learned_inode k i used) s s.at
+    (record {
+      at = refl;
+      serial = refl;
+      unknown_inodes = set-length k.unknown_inodes (i - 1) false;
+      free_inodes = set-length k.free_inodes (i - 1) (not used);
+      agreement = known-length (ltb 2 i);
+      unknown_blocks = refl;
+      free_blocks = refl;
+    }) s.in_area
   where
-    known-length : (b : Bool) → length (if b then slice_set k.agreement (i - 1) (Some used) else k.agreement) ≡ k.at.inodes
-    known-length true = length-set k.agreement (i - 1) (Some used) ∙ s.agreement
-    known-length false = s.agreement
+    known-length : (b : Bool) → length (if b then slice_set k.agreement (i - 1) (Some used) else k.agreement) ≡ length k.agreement
+    known-length true = length-set k.agreement (i - 1) (Some used)
+    known-length false = refl
 
 module _ (old new : DiskState) (k : Books) (i : ℕ) (used : Bool) (is : IsDisk old) (safe : IsSafe old k) (stays : StaysButFaults old new)
     (going : k.stopped ≡ false) (low : 1 ≤ i) (high : i ≤ k.at.inodes) where
@@ -174,14 +133,11 @@ module _ (old new : DiskState) (k : Books) (i : ℕ) (used : Bool) (is : IsDisk 
   -- the verdict stood
   pub inode-stood : (caller : ℕ) (H : List Entry1) (p : Past) → IsTrue old.tells → IsOpen old k H p → verdict_of_inode k i ≡ Some used
       → Follows old new k H p (entry caller old new (step.SeeInode i) no_claims (reply.Seen used))
-  inode-stood caller H p tells o stood = follows-seen old new k k (step.SeeInode i) used is stays refl refl going going caller H p p.world tells o
-      (sees-inode i)
+  inode-stood caller H p tells o stood = follows-seen old new k k (step.SeeInode i) used is stays refl refl going going caller H p
+      p.world.known_inodes p.world.known_blocks o (sees-inode i) tells
       (record {
         rows = inode-row p.world p.world i k.at.inodes o.says.inodes low high;
         reply = ap reply.Seen (inode-stands H p o stood);
-        keeps =
-            keeps-all p.world;
-        going = o.says.stopped ∙ going;
         learns = learns-again p.world i (inode-known H p o stood);
       }) o.says
 
@@ -189,13 +145,10 @@ module _ (old new : DiskState) (k : Books) (i : ℕ) (used : Bool) (is : IsDisk 
   pub inode-learned : (caller : ℕ) (H : List Entry1) (p : Past) → IsTrue old.tells → IsOpen old k H p → used ≡ uses_inode p.world i
       → Follows old new (learned_inode k i used) H p (entry caller old new (step.SeeInode i) no_claims (reply.Seen used))
   inode-learned caller H p tells o right = follows-seen old new k (learned_inode k i used) (step.SeeInode i) used is stays refl refl going going caller H p
-      (with_inode p.world i) tells o (sees-inode i)
+      (λ j. eqb j i || p.world.known_inodes j) p.world.known_blocks o (sees-inode i) tells
       (record {
         rows = inode-row p.world (with_inode p.world i) i k.at.inodes o.says.inodes low high;
         reply = ap reply.Seen right;
-        keeps =
-            keeps-inode p.world i;
-        going = o.says.stopped ∙ going;
-        learns = learns-inode p.world i;
+        learns = learns-seen p.world (step.SeeInode i);
       })
       (says-inode k p.world i used o.says low high right safe.unknown_inodes safe.free_inodes safe.agreement)

@@ -1,6 +1,7 @@
 -- Steps in a row: what a mount stands on goes on from each step to the next.
 use Rattle.std.proofs.Common.{◌≡◌, ℕ, Bool, true, false, List, [], ◌∷◌, ◌++◌, IsTrue, refl, sym, ap, ◌∙◌, subst}
 use Rattle.nofs_disk.specs.Disk.{DiskState}
+use Rattle.nofs_disk.specs.Chains.{IsSameDisk-refl}
 use Rattle.nofs_model.specs.Image.{Image}
 use Rattle.nofs_machine.specs.HistoryState.{HistoryState}
 use Rattle.nofs_machine.specs.Machine.{is_write_fault}
@@ -17,21 +18,13 @@ use Rattle.nofs_state.specs.Books.{IsSafe, Says, with_history}
 use Rattle.nofs_state.specs.Standing.{IsOpen, IsRun, IsStopped, Past, Stands, going, ended, ends_at}
 use Rattle.nofs_state.specs.Steps.{Goes, entry}
 use Rattle.nofs_state.specs.declared.books.Books.{Books}
+use Rattle.nofs_state.proofs.SafeBooks.{safe-over}
+use Rattle.nofs_state.proofs.Saying.{says-maps}
 
 -- what stands looks at the history's start alone
 module _ (d : DiskState) (k : Books) (h : HistoryState) (start : h.start ≡ k.history.start) where
   pub safe-with : IsSafe d k → IsSafe d (with_history k h)
-  safe-with s = record {
-    at = s.at;
-    mount = s.mount;
-    serial = s.serial;
-    unknown_inodes = s.unknown_inodes;
-    free_inodes = s.free_inodes;
-    agreement = s.agreement;
-    unknown_blocks = s.unknown_blocks;
-    free_blocks = s.free_blocks;
-    in_area = s.in_area;
-  }
+  safe-with = safe-over d d k k.stopped h (IsSameDisk-refl d) refl
 
   run-with : (H : List Entry1) (p : Past) → IsRun d k H p → IsRun d (with_history k h) H p
   run-with H p r = record {
@@ -40,19 +33,8 @@ module _ (d : DiskState) (k : Books) (h : HistoryState) (start : h.start ≡ k.h
   }
 
   says-with : (W : World) → Says k W → Says (with_history k h) W
-  says-with W s = record {
-    version = s.version;
-    blocks = s.blocks;
-    inodes = s.inodes;
-    mount = s.mount;
-    serial = s.serial;
-    stopped = s.stopped;
-    known_inodes = s.known_inodes;
-    known_blocks = s.known_blocks;
-    free_inodes = s.free_inodes;
-    free_blocks = s.free_blocks;
-    agreement = s.agreement;
-  }
+  says-with W s = says-maps k (with_history k h) W W.known_inodes W.known_blocks s (record { at = refl; serial = refl; stopped = refl })
+      s.known_inodes s.known_blocks s.free_inodes s.free_blocks s.agreement
 
   pub open-with : (H : List Entry1) (p : Past) → IsOpen d k H p → IsOpen d (with_history k h) H p
   open-with H p o = record {

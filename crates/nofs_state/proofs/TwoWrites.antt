@@ -1,9 +1,8 @@
 -- Two writes, one after the other.
-use Rattle.std.proofs.Common.{◌≡◌, ◌≢◌, ℕ, ◌⊎◌, Bool, IsTrue, inl, inr, List, [], ◌∷◌, Result, Ok, Err, refl, sym, ap, ◌∙◌, subst, arith, le_refl}
+use Rattle.std.proofs.Common.{◌≡◌, ◌≢◌, ℕ, ◌⊎◌, Bool, inl, inr, List, [], ◌∷◌, Result, Ok, Err, refl, ap, ◌∙◌, arith, le_refl}
 use Rattle.std.specs.Prelude.{OnOk, OnErr, slice_set}
 use Rattle.nofs_disk.specs.Disk.{DiskState, IsDisk, Writes, Rose, cell_at, no_cell}
 use Rattle.std.proofs.lemmas.List.{get_or-set_other}
-use Rattle.nofs_super.specs.Geometry.{IsGeometry}
 use Rattle.nofs_model.proofs.Sound.{supers}
 use Rattle.nofs_state.specs.Books.{IsSafe}
 use Rattle.nofs_state.specs.declared.books.Books.{Books}
@@ -12,8 +11,11 @@ use Rattle.nofs_disk.specs.Chains.{Rose-within}
 use Rattle.nofs_disk.specs.declared.Failed.{Failed}
 use Rattle.nofs_model.specs.Cells.{Cell}
 use Rattle.nofs_model.specs.Image.{Image}
-use Rattle.nofs_state.specs.Writing.{OneOf, IsApart, image_after, WritesAll}
+use Rattle.nofs_machine.specs.declared.replies.Refusal.{Refusal}
+use Rattle.nofs_machine.specs.declared.replies.Refusal.TheVariants as refusal
+use Rattle.nofs_state.specs.Writing.{OneOf, IsApart, NotStored, Stored, Stores, image_after, stopped_books, WritesAll}
 use Rattle.nofs_state.proofs.Done.{Adds-map}
+use Rattle.nofs_state.proofs.SafeBooks.{safe-over}
 
 -- other blocks stay, whatever comes of a write
 pub write-other : (old new : DiskState) (block : ℕ) (cell : Cell) (r : Result (Unit {0}) Failed) (b : ℕ) → Writes old new block cell r → b ≢ block
@@ -50,27 +52,6 @@ one-write old new b c (Ok done) is w = record {
   cause = tt;
 }
 
--- the second is done, whatever comes of it
-pub second-ends : (old mid new : DiskState) (b d : ℕ) (c e : Cell) (r : Result (Unit {0}) Failed) → IsDisk mid → IsDisk new → Writes old mid b c (Ok tt)
-    → Writes mid new d e r → WritesAll old new ((b, c) ∷ (d, e) ∷ []) r
-second-ends old mid new b d c e r is_mid is_new w v = record {
-  adds = Adds-trans (OneOf ((b, c) ∷ (d, e) ∷ [])) old mid new
-      (Adds-writes (OneOf ((b, c) ∷ (d, e) ∷ [])) old mid b c is_mid w (inl (refl, refl)))
-      (Adds-writes (OneOf ((b, c) ∷ (d, e) ∷ [])) mid new d e is_new v (inr (inl (refl, refl))));
-  later = (let m = w.moment in let n = v.moment in omega (arith, m, n));
-  others = λ n apart. write-other mid new d e r n v apart.1.0 ∙ write-other old mid b c (Ok tt) n w apart.0;
-  now = ok r v.ok;
-  cause = err r v.cause;
-}
-  where
-    ok : (q : Result (Unit {0}) Failed) → OnOk q (new.now ≡ slice_set mid.now d e) → OnOk q (new.now ≡ slice_set (slice_set old.now b c) d e)
-    ok (Ok u) s = s ∙ ap (λ (X : Image). slice_set X d e) w.ok
-    ok (Err x) s = tt
-
-    err : (q : Result (Unit {0}) Failed) → OnErr q (Rose mid.faults new.faults) → OnErr q (Rose old.faults new.faults)
-    err (Ok u) s = tt
-    err (Err x) s = Rose-within old.faults mid.faults new.faults new.faults w.disk.faults s (le_refl new.faults)
-
 -- the first is done, and then the others, whatever comes of them
 pub then-others : (old mid new : DiskState) (b : ℕ) (c : Cell) (ws : List (ℕ × Cell)) (r : Result (Unit {0}) Failed) → IsDisk mid → Writes old mid b c (Ok tt)
     → WritesAll mid new ws r → WritesAll old new ((b, c) ∷ ws) r
@@ -92,20 +73,18 @@ then-others old mid new b c ws r is_mid w v = record {
     err (Ok u) s = tt
     err (Err x) s = Rose-within old.faults mid.faults new.faults new.faults w.disk.faults s (le_refl new.faults)
 
+-- so where the mount stops at a fault
+pub stores-first : {old mid new : DiskState} {k l : Books} {b : ℕ} {c : Cell} {ws : List (ℕ × Cell)} {r : Result (Unit {0}) Refusal} → IsDisk mid
+    → Writes old mid b c (Ok tt) → Stores mid k new l ws r → Stores old k new l ((b, c) ∷ ws) r
+stores-first is w (Stored v same e) = Stored (then-others _ _ _ _ _ _ _ is w v) same e
+stores-first is w (NotStored x v same e) = NotStored x (then-others _ _ _ _ _ _ _ is w v) same e
+
+-- the first failed, and the mount is stopped
+pub stores-none : {old new : DiskState} {k l : Books} {b : ℕ} {c : Cell} {ws : List (ℕ × Cell)} {x : Failed} {why : Refusal} → IsDisk new
+    → Writes old new b c (Err x) → l ≡ stopped_books k → why ≡ refusal.WriteFault → Stores old k new l ((b, c) ∷ ws) (Err why)
+stores-none is w stopped e = NotStored _ (first-fails _ _ _ _ _ _ is w) stopped (ap Err e)
+
 -- the maps and numbers stay those of the disk, where no write is of the superblock
 pub safe-writes : (old new : DiskState) (k : Books) (ws : List (ℕ × Cell)) (r : Result (Unit {0}) Failed) (stop : Bool) → WritesAll old new ws r
     → IsApart ws 0 → IsSafe old k → IsSafe new (record k { stopped = stop })
-safe-writes old new k ws r stop w apart s = record {
-  at = record {
-    geometry = subst (λ (n : ℕ). IsGeometry n k.at.blocks k.at.inodes) (sym w.adds.disk.blocks) s.at.geometry;
-    same = λ t. supers old.now new.now (w.others 0 apart) ∙ s.at.same (subst (λ (b : Bool). IsTrue b) w.adds.disk.tells t);
-  };
-  mount = s.mount;
-  serial = s.serial;
-  unknown_inodes = s.unknown_inodes;
-  free_inodes = s.free_inodes;
-  agreement = s.agreement;
-  unknown_blocks = s.unknown_blocks;
-  free_blocks = s.free_blocks;
-  in_area = s.in_area;
-}
+safe-writes old new k ws r stop w apart = safe-over old new k stop k.history w.adds.disk (supers old.now new.now (w.others 0 apart))

@@ -1,14 +1,14 @@
 -- What stands goes on over a write-out.
-use Rattle.std.proofs.Common.{◌≡◌, ℕ, ◌<◌, ◌≤◌, inl, inr, List, ◌∷◌, Option, None, Result, Ok, Err, IfSome, IsPermutation, sym, ap, ◌∙◌, subst, subst₂, arith}
+use Rattle.std.proofs.Common.{◌≡◌, ℕ, ◌<◌, ◌≤◌, inl, inr, List, ◌∷◌, Option, None, Result, Ok, Err, IfSome, IsPermutation, [], IfOk, OnErr, OnOk, ◌↔◌, sym, ap, ◌∙◌, subst, subst₂, arith}
 use Rattle.std.proofs.lemmas.Bool.{cases_lt}
-use Rattle.nofs_disk.specs.Disk.{DiskState, IsDisk, MakesReady, Picks, WritesOut}
+use Rattle.nofs_disk.specs.Disk.{DiskState, IsDisk, MakesReady, Picks, Rose, WritesOut}
 use Rattle.nofs_disk.specs.Chains.{IsSameDisk-trans, KeepsCells-trans}
 use Rattle.nofs_disk.specs.Moments.{AtEach}
 use Rattle.nofs_disk.specs.declared.Failed.{Failed}
 use Rattle.nofs_disk.specs.declared.OutFault.{OutFault}
 use Rattle.nofs_disk.specs.declared.OutFault.TheVariants as fault
 use Rattle.nofs_model.specs.Cells.{Cell}
-use Rattle.nofs_model.specs.Image.{Image, IsSound}
+use Rattle.nofs_model.specs.Image.{Image, IsSound, super_at}
 use Rattle.nofs_machine.specs.Allowed.{IsAllowed}
 use Rattle.nofs_machine.specs.declared.history.Entry1.{Entry1}
 use Rattle.nofs_crashlaw.specs.Stage.{Lasts}
@@ -16,7 +16,8 @@ use Rattle.nofs_state.specs.Books.{IsSafe}
 use Rattle.nofs_state.specs.Standing.{IsOpen, IsStopped, Past, Sounds}
 use Rattle.nofs_state.specs.WritingOut.{WroteOne}
 use Rattle.nofs_state.specs.declared.books.Books.{Books}
-use Rattle.nofs_state.proofs.Keeping.{Keeping, open-keeps, safe-keeps, stopped-keeps}
+use Rattle.nofs_state.proofs.Keeping.{Keeping, open-keeps, stopped-keeps}
+use Rattle.nofs_state.proofs.SafeBooks.{safe-over}
 
 -- there was no room for the call
 pub out-refused : {E : Type 0} (old new : DiskState) (result : Result (Unit {0}) E) → IsDisk new → MakesReady old new 1 result
@@ -56,35 +57,33 @@ module _ {E : Type 0} (old mid new : DiskState) (ok : Result (Unit {0}) E) (is :
     was : (m : ℕ) → m ≤ old.moment → new.was m ≡ old.was m
     was m low = w.was m ∙ ready.past.was m low
 
+    -- what a write-out leaves, with what it answers
+    written : (out : Result (Option ℕ) OutFault) → IfOk out (λ o. (o ≡ None) ↔ (old.dirty ≡ []))
+        → IfOk out (λ o. IfSome o (λ block. IsPermutation (block ∷ new.dirty) old.dirty)) → OnErr out (new.dirty ≡ old.dirty)
+        → (out ≡ Err fault.Failed → Rose old.faults new.faults) → OnOk out (new.faults ≡ old.faults) → WroteOne old new out
+    written out none some err cause no_fault = record {
+      disk = IsSameDisk-trans old mid new ready.disk w.disk;
+      cells = KeepsCells-trans old mid new ready.cells w.cells;
+      was = was;
+      no_more = no-more;
+      no_less = no-less;
+      added = added result w;
+      none = none;
+      some = some;
+      err = err;
+      cause = cause;
+      no_fault = no_fault;
+    }
+
   pub out-done : (block : Option ℕ) → WritesOut mid new (Ok block) → WroteOne old new (Ok block)
-  out-done block w = record {
-    disk = IsSameDisk-trans old mid new ready.disk w.disk;
-    cells = KeepsCells-trans old mid new ready.cells w.cells;
-    was = was (Ok block) w;
-    no_more = no-more (Ok block) w;
-    no_less = no-less (Ok block) w;
-    added = added (Ok block) w;
-    none = (λ e. sym ready.dirty ∙ w.none.0 (ap Ok e), λ e. let t : Ok block ≡ Ok None = w.none.1 (ready.dirty ∙ e) in cc (t));
-    some = subst (λ (d : List ℕ). IfSome block (λ b. IsPermutation (b ∷ new.dirty) d)) ready.dirty w.some;
-    err = tt;
-    cause = λ e. absurd (cc (e));
-    no_fault = w.no_fault ∙ ready.no_fault;
-  }
+  out-done block w = written (Ok block) w (Ok block)
+      (λ e. sym ready.dirty ∙ w.none.0 (ap Ok e), λ e. let t : Ok block ≡ Ok None = w.none.1 (ready.dirty ∙ e) in cc (t))
+      (subst (λ (d : List ℕ). IfSome block (λ b. IsPermutation (b ∷ new.dirty) d)) ready.dirty w.some) tt (λ e. absurd (cc (e)))
+      (w.no_fault ∙ ready.no_fault)
 
   pub out-failed : (x : Failed) → WritesOut mid new (Err x) → WroteOne old new (Err fault.Failed)
-  out-failed x w = record {
-    disk = IsSameDisk-trans old mid new ready.disk w.disk;
-    cells = KeepsCells-trans old mid new ready.cells w.cells;
-    was = was (Err x) w;
-    no_more = no-more (Err x) w;
-    no_less = no-less (Err x) w;
-    added = added (Err x) w;
-    none = tt;
-    some = tt;
-    err = w.err ∙ ready.dirty;
-    cause = λ e. let c = w.cause in let f = ready.disk.faults in omega (arith, c, f);
-    no_fault = tt;
-  }
+  out-failed x w = written (Err x) w (Err fault.Failed) tt tt (w.err ∙ ready.dirty)
+      (λ e. let c = w.cause in let f = ready.disk.faults in omega (arith, c, f)) tt
 
 module _ (old new : DiskState) (result : Result (Option ℕ) OutFault) (out : WroteOne old new result) where
   -- the same disk, with the images that were left before
@@ -160,24 +159,8 @@ module _ (old new : DiskState) (result : Result (Option ℕ) OutFault) (out : Wr
       → IsStopped old k H p → IsStopped new k H p
   stopped-out k H p rest was =
       let o : IsStopped before k H p = stopped-keeps old before keep k H p was in
-      record {
-        run = record { run = o.run.run; ends = o.run.ends };
-        stopped = o.stopped;
-        world_stopped = o.world_stopped;
-        lasts = lasts-out p.base H p.mark p.stamps k.history.start rest was.lasts.images o.lasts;
-      }
+      let lasts : Lasts p.base H p.mark p.stamps k.history.start new = lasts-out p.base H p.mark p.stamps k.history.start rest was.lasts.images o.lasts in
+      record { run = record { run = o.run.run; ends = o.run.ends }; stopped = o.stopped; world_stopped = o.world_stopped; lasts = lasts }
 
   pub safe-out : (k : Books) → IsSafe old k → IsSafe new k
-  safe-out k safe =
-      let s : IsSafe before k = safe-keeps old before keep k safe in
-      record {
-        at = record { geometry = s.at.geometry; same = s.at.same };
-        mount = s.mount;
-        serial = s.serial;
-        unknown_inodes = s.unknown_inodes;
-        free_inodes = s.free_inodes;
-        agreement = s.agreement;
-        unknown_blocks = s.unknown_blocks;
-        free_blocks = s.free_blocks;
-        in_area = s.in_area;
-      }
+  safe-out k = safe-over old new k k.stopped k.history out.disk (ap super_at out.cells.now)

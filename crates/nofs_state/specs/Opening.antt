@@ -31,5 +31,5 @@ pub record Opens (old new : DiskState) (k : Books) (i g : ℕ) (last : LastRead)
   pub stays : StaysButFaults old new
   pub known : IfOk result (IsOpened new k.at i g)
   pub current : IfOk result (λ it. IsTrue old.tells → AreTrue old.now k.agreement → is_current old.now i g ≡ true)
-  pub kept : OnOk result (IsLast new last)
   pub refused : IfErr result (OpenFails old new k i g)
+  pub kept : OnOk result (IsLast new last)

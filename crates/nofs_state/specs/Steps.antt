@@ -86,13 +86,13 @@ pub record Goes (old : DiskState) (k : Books) (new : DiskState) (l : Books) (s :
 
 -- What holds of a step over any disk: no world is named, and nothing is asked of the device.
 pub record IsSafeStep (old : DiskState) (k : Books) (new : DiskState) (l : Books) (r : Reply) : Type 0 where
+  pub cause : Causes old new k l r
   pub disk : IsSameDisk old new
   pub past : KeepsPast old new
   pub later : old.moment ≤ new.moment
-  pub cause : Causes old new k l r
-  pub safe : IsSafe new l
   pub at : l.at ≡ k.at
   pub history : l.history ≡ k.history
+  pub safe : IsSafe new l
 
 -- each step that goes as the machine's is one
 pub goes-safely : {old new : DiskState} {k l : Books} {s : Step} {c : Claims} {r : Reply} → Goes old k new l s c r → IsSafeStep old k new l r

@@ -1,6 +1,6 @@
 -- Which elements are used, by the disk and by the maps, and what a map learns of one.
 use Rattle.std.specs.Prelude.{◌≡◌, ℕ, ◌+◌, ◌-◌, ◌/◌, ◌≤◌, Bool, false, not, List, Option, Some, None, if◌then◌else◌, ◌==◌, nat_lt, IsTrue, Result, Ok, Err}
-use Rattle.std.specs.Prelude.{IfOk, OnErr, slice_set}
+use Rattle.std.specs.Prelude.{IfOk, OnErr, length, slice_set}
 use Rattle.nofs_bits.specs.Bits.{is_set}
 use Rattle.nofs_disk.specs.declared.Failed.{Failed}
 use Rattle.nofs_disk.specs.Disk.{DiskState, StaysButFaults, Rose}
@@ -8,7 +8,13 @@ use Rattle.nofs_model.specs.Image.{Image, is_used_inode, is_used_block}
 use Rattle.nofs_model.specs.declared.path.PathAnswer.{PathAnswer}
 use Rattle.nofs_model.specs.declared.path.PathAnswer.TheVariants as answer
 use Rattle.nofs_agree.specs.Chains.{AreTrue}
+use Rattle.nofs_agree.specs.Reading.{IsAt}
 use Rattle.nofs_state.specs.declared.books.Books.{Books}
+
+-- the books have the numbers of the disk, and a place for each inode
+pub record CanCheck (d : DiskState) (k : Books) : Type 0 where
+  pub numbers : IsAt d k.at
+  pub known : length k.agreement ≡ k.at.inodes
 
 -- the answer is this one of the image, where the disk tells and what is known is true
 pub record Judges (old new : DiskState) (known : List (Option Bool)) (answer : Image → Bool) (result : Result Bool Failed) : Type 0 where

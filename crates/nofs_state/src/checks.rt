@@ -1,37 +1,30 @@
 //! Verdicts of the disk: which blocks and which inodes its scan has as used.
 //!
 //! Promise: each answer is the definition's, where what is said to be known of inodes is true.
-ghost use Rattle.std.specs.Prelude.{◌≡◌, ◌<◌, ◌+◌, ◌/◌, ◌≤◌, length, is_some, Some, false, IfOk};
+ghost use Rattle.std.specs.Prelude.{◌≡◌, ◌<◌, ◌+◌, ◌/◌, ◌≤◌, is_some, Some, false, IfOk};
 ghost use Rattle.nofs_model.specs.Owners as owners;
 ghost use Rattle.nofs_model.specs.Slots as slots;
 ghost use Rattle.nofs_model.specs.Files as files;
-ghost use Rattle.nofs_agree.specs.Reading.{IsAt};
-ghost use Rattle.nofs_state.specs.Verdicts.{Judges, names_block};
+ghost use Rattle.nofs_state.specs.Verdicts.{CanCheck, Judges, names_block};
 
-use nofs_agree::{Known, LastRead, PathAnswer, check_chain, check_path, read_block};
+use crate::books::Books;
+use nofs_agree::{LastRead, PathAnswer, check_chain, check_path, read_block};
 use nofs_disk::{Disk, Failed, Tag, read_tag};
 use nofs_model::is_slot;
-use nofs_super::SuperBlock;
 
 /// Whether an inode is used: it is 1 or 2, or agreed.
 ///
 /// # Errors
 ///
 /// `Failed` where a read failed.
-pub fn check_inode<D: Disk>(
-    disk: &mut D,
-    at: &SuperBlock,
-    known: &Known,
-    inode: u32,
-) -> Result<bool, Failed>
-    requires numbers { IsAt (D.state disk.old) at.now }
-    requires known { length known.now ≡ at.now.inodes }
-    ensures { Judges (D.state disk.old) (D.state disk.new) known.now (λ X. owners.is_used_inode X inode) result }
+pub fn check_inode<D: Disk>(disk: &mut D, books: &Books, inode: u32) -> Result<bool, Failed>
+    requires { CanCheck (D.state disk.old) books.now }
+    ensures { Judges (D.state disk.old) (D.state disk.new) books.now.agreement (λ X. owners.is_used_inode X inode) result }
 {
     if is_special(inode) {
         return Ok(true);
     }
-    check_chain(disk, at, known, inode)
+    check_chain(disk, &books.at, &books.agreement, inode)
 }
 
 fn is_special(inode: u32) -> bool
@@ -45,35 +38,23 @@ fn is_special(inode: u32) -> bool
 /// # Errors
 ///
 /// `Failed` where a read failed.
-pub fn check_block<D: Disk>(
-    disk: &mut D,
-    at: &SuperBlock,
-    known: &Known,
-    block: u64,
-) -> Result<bool, Failed>
-    requires numbers { IsAt (D.state disk.old) at.now }
-    requires known { length known.now ≡ at.now.inodes }
-    requires block { block < at.now.blocks }
-    ensures used { Judges (D.state disk.old) (D.state disk.new) known.now (λ X. owners.is_used_block X block) result }
-    ensures data { IfOk result (λ used. used ≡ false → 1 + at.now.inodes / 4 ≤ block) }
+pub fn check_block<D: Disk>(disk: &mut D, books: &Books, block: u64) -> Result<bool, Failed>
+    requires books { CanCheck (D.state disk.old) books.now }
+    requires block { block < books.now.at.blocks }
+    ensures used { Judges (D.state disk.old) (D.state disk.new) books.now.agreement (λ X. owners.is_used_block X block) result }
+    ensures data { IfOk result (λ used. used ≡ false → 1 + books.now.at.inodes / 4 ≤ block) }
 {
-    if block <= at.inodes / 4 {
+    if block <= books.at.inodes / 4 {
         return Ok(true);
     }
-    has_owner(disk, at, known, block)
+    has_owner(disk, books, block)
 }
 
 // Whether a block has an owner.
-fn has_owner<D: Disk>(
-    disk: &mut D,
-    at: &SuperBlock,
-    known: &Known,
-    block: u64,
-) -> Result<bool, Failed>
-    requires numbers { IsAt (D.state disk.old) at.now }
-    requires known { length known.now ≡ at.now.inodes }
-    requires block { block < at.now.blocks }
-    ensures { Judges (D.state disk.old) (D.state disk.new) known.now (λ X. is_some (owners.owner X block)) result }
+fn has_owner<D: Disk>(disk: &mut D, books: &Books, block: u64) -> Result<bool, Failed>
+    requires books { CanCheck (D.state disk.old) books.now }
+    requires block { block < books.now.at.blocks }
+    ensures { Judges (D.state disk.old) (D.state disk.new) books.now.agreement (λ X. is_some (owners.owner X block)) result }
 {
     let mut last = LastRead::NONE;
     match read_block(disk, block, &mut last) {
@@ -82,33 +63,26 @@ fn has_owner<D: Disk>(
     }
     match read_tag(&last.cell.tag) {
         None => Ok(false),
-        Some(tag) => is_owned(disk, at, known, block, &tag),
+        Some(tag) => is_owned(disk, books, block, &tag),
     }
 }
 
 // Whether the slot that this tag names has the block, and its inode is agreed.
-fn is_owned<D: Disk>(
-    disk: &mut D,
-    at: &SuperBlock,
-    known: &Known,
-    block: u64,
-    tag: &Tag,
-) -> Result<bool, Failed>
-    requires numbers { IsAt (D.state disk.old) at.now }
-    requires known { length known.now ≡ at.now.inodes }
-    ensures { Judges (D.state disk.old) (D.state disk.new) known.now (λ X. is_some (owners.owner_by X block (Some tag.now))) result }
+fn is_owned<D: Disk>(disk: &mut D, books: &Books, block: u64, tag: &Tag) -> Result<bool, Failed>
+    requires { CanCheck (D.state disk.old) books.now }
+    ensures { Judges (D.state disk.old) (D.state disk.new) books.now.agreement (λ X. is_some (owners.owner_by X block (Some tag.now))) result }
 {
     if !is_slot(tag.slot) {
         return Ok(false);
     }
-    let found = match check_path(disk, at, tag.inode, tag.slot) {
+    let found = match check_path(disk, &books.at, tag.inode, tag.slot) {
         Ok(found) => found,
         Err(failed) => return Err(failed),
     };
     if !names_block(found, block) {
         return Ok(false);
     }
-    check_chain(disk, at, known, tag.inode)
+    check_chain(disk, &books.at, &books.agreement, tag.inode)
 }
 
 // Whether a slot holds this block.

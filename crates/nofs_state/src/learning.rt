@@ -1,5 +1,5 @@
 //! Verdicts of the maps: what stands there of a block or an inode, and what is learned of one.
-ghost use Rattle.std.specs.Prelude.{◌≡◌, ◌-◌, ◌<◌, ◌≤◌, length};
+ghost use Rattle.std.specs.Prelude.{◌≡◌, ◌-◌, ◌<◌, ◌≤◌, None, length};
 ghost use Rattle.nofs_state.specs.Books.{IsSafe};
 ghost use Rattle.nofs_state.specs.Verdicts.{Settles, VerifiesBlock, VerifiesInode, learned_block, learned_inode, verdict_of_block, verdict_of_inode};
 
@@ -69,13 +69,11 @@ impl Books {
         requires free { block < length self.old.free_blocks }
         ensures { Settles self.old self.new (verdict_of_block self.old block) (learned_block self.old block) used result }
     {
-        match self.verdict_of_block(block) {
-            Some(stands) => stands,
-            None => {
-                self.learn_block(block, used);
-                used
-            }
+        let stands = self.verdict_of_block(block);
+        if stands.is_none() {
+            self.learn_block(block, used);
         }
+        stands.unwrap_or(used)
     }
 
     /// Sets the verdict of an inode where it was not examined, and answers the one that stands.
@@ -86,13 +84,11 @@ impl Books {
         requires agreed { inode - 1 < length self.old.agreement }
         ensures { Settles self.old self.new (verdict_of_inode self.old inode) (learned_inode self.old inode) used result }
     {
-        match self.verdict_of_inode(inode) {
-            Some(standing) => standing,
-            None => {
-                self.learn_inode(inode, used);
-                used
-            }
+        let stands = self.verdict_of_inode(inode);
+        if stands.is_none() {
+            self.learn_inode(inode, used);
         }
+        stands.unwrap_or(used)
     }
 }
 
@@ -110,19 +106,7 @@ impl<D: Disk + Drop> Core<D> {
     {
         match self.books.verdict_of_block(block) {
             Some(used) => Ok(used),
-            None => {
-                let used = match check_block(
-                    &mut self.disk,
-                    &self.books.at,
-                    &self.books.agreement,
-                    block,
-                ) {
-                    Ok(used) => used,
-                    Err(failed) => return Err(failed),
-                };
-                self.books.learn_block(block, used);
-                Ok(used)
-            }
+            None => self.examine_block(block),
         }
     }
 
@@ -140,19 +124,32 @@ impl<D: Disk + Drop> Core<D> {
     {
         match self.books.verdict_of_inode(inode) {
             Some(used) => Ok(used),
-            None => {
-                let used = match check_inode(
-                    &mut self.disk,
-                    &self.books.at,
-                    &self.books.agreement,
-                    inode,
-                ) {
-                    Ok(used) => used,
-                    Err(failed) => return Err(failed),
-                };
-                self.books.learn_inode(inode, used);
-                Ok(used)
-            }
+            None => self.examine_inode(inode),
         }
+    }
+
+    // Learns from the disk whether a block that was not examined is used.
+    fn examine_block(&mut self, block: u64) -> Result<bool, Failed>
+        requires safe { IsSafe (D.state self.old.disk) self.old.books }
+        requires block { block < self.old.books.at.blocks }
+        requires unknown { verdict_of_block self.old.books block ≡ None }
+        ensures { VerifiesBlock (D.state self.old.disk) self.old.books (D.state self.new.disk) self.new.books block result }
+    {
+        let used = check_block(&mut self.disk, &self.books, block)?;
+        self.books.learn_block(block, used);
+        Ok(used)
+    }
+
+    // Learns from the disk whether an inode that was not examined is used.
+    fn examine_inode(&mut self, inode: u32) -> Result<bool, Failed>
+        requires safe { IsSafe (D.state self.old.disk) self.old.books }
+        requires from_one { 1 ≤ inode }
+        requires within { inode ≤ self.old.books.at.inodes }
+        requires unknown { verdict_of_inode self.old.books inode ≡ None }
+        ensures { VerifiesInode (D.state self.old.disk) self.old.books (D.state self.new.disk) self.new.books inode result }
+    {
+        let used = check_inode(&mut self.disk, &self.books, inode)?;
+        self.books.learn_inode(inode, used);
+        Ok(used)
     }
 }

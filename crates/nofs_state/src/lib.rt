@@ -21,4 +21,4 @@ pub use freed::FreedBlocks;
 pub use opening::{Opened, open_inode};
 pub use owning::mark_slots;
 pub use pointing::{SlotCells, Spot};
-pub use writing::{write_four, write_three, write_two};
+pub use writing::{write_four, write_one, write_three, write_two};

@@ -1,10 +1,36 @@
 //! The writes of a step.
 ghost use Rattle.std.specs.Prelude.{◌≡◌, ◌<◌, ◌≤◌, ◌∷◌, []};
-ghost use Rattle.nofs_state.specs.Writing.{Stores, WritesAll};
+ghost use Rattle.nofs_state.specs.Writing.{Stores, stopped_books};
 
+use crate::books::Books;
 use crate::cores::Core;
-use nofs_disk::{Cell, Disk, Failed};
+use nofs_disk::{Cell, Disk};
 use nofs_machine::Refusal;
+
+// A write failed: the mount is stopped.
+fn stop(books: &mut Books) -> Refusal
+    ensures stopped { books.new ≡ stopped_books books.old }
+    ensures why { result ≡ Refusal.WriteFault }
+{
+    books.stopped = true;
+    Refusal::WriteFault
+}
+
+/// Writes a cell. Where the write fails the mount is stopped.
+///
+/// # Errors
+///
+/// `WriteFault` where the write failed: the cell may be written or not.
+pub fn write_one<D: Disk + Drop>(core: &mut Core<D>, block: u64, cell: &Cell) -> Result<(), Refusal>
+    requires block { block < (D.state core.old.disk).blocks }
+    requires spare { 1 ≤ (D.state core.old.disk).spare }
+    ensures { Stores (D.state core.old.disk) core.old.books (D.state core.new.disk) core.new.books ((block, cell.now) ∷ []) result }
+{
+    match core.disk.write(block, cell) {
+        Ok(()) => Ok(()),
+        Err(_) => Err(stop(&mut core.books)),
+    }
+}
 
 /// Writes two cells. Where a write fails the mount is stopped.
 ///
@@ -23,30 +49,9 @@ pub fn write_two<D: Disk + Drop>(
     requires spare { 2 ≤ (D.state core.old.disk).spare }
     ensures { Stores (D.state core.old.disk) core.old.books (D.state core.new.disk) core.new.books ((block, cell.now) ∷ (other, second.now) ∷ []) result }
 {
-    match write_both(&mut core.disk, block, cell, other, second) {
-        Ok(()) => Ok(()),
-        Err(_) => {
-            core.books.stopped = true;
-            Err(Refusal::WriteFault)
-        }
-    }
-}
-
-fn write_both<D: Disk>(
-    disk: &mut D,
-    block: u64,
-    cell: &Cell,
-    other: u64,
-    second: &Cell,
-) -> Result<(), Failed>
-    requires first { block < (D.state disk.old).blocks }
-    requires second { other < (D.state disk.old).blocks }
-    requires spare { 2 ≤ (D.state disk.old).spare }
-    ensures { WritesAll (D.state disk.old) (D.state disk.new) ((block, cell.now) ∷ (other, second.now) ∷ []) result }
-{
-    match disk.write(block, cell) {
-        Ok(()) => disk.write(other, second),
-        Err(failed) => Err(failed),
+    match core.disk.write(block, cell) {
+        Ok(()) => write_one(core, other, second),
+        Err(_) => Err(stop(&mut core.books)),
     }
 }
 
@@ -70,33 +75,9 @@ pub fn write_three<D: Disk + Drop>(
     requires spare { 3 ≤ (D.state core.old.disk).spare }
     ensures { Stores (D.state core.old.disk) core.old.books (D.state core.new.disk) core.new.books ((block, cell.now) ∷ (other, second.now) ∷ (table, third.now) ∷ []) result }
 {
-    match write_all_three(&mut core.disk, block, cell, other, second, table, third) {
-        Ok(()) => Ok(()),
-        Err(_) => {
-            core.books.stopped = true;
-            Err(Refusal::WriteFault)
-        }
-    }
-}
-
-fn write_all_three<D: Disk>(
-    disk: &mut D,
-    block: u64,
-    cell: &Cell,
-    other: u64,
-    second: &Cell,
-    table: u64,
-    third: &Cell,
-) -> Result<(), Failed>
-    requires first { block < (D.state disk.old).blocks }
-    requires second { other < (D.state disk.old).blocks }
-    requires third { table < (D.state disk.old).blocks }
-    requires spare { 3 ≤ (D.state disk.old).spare }
-    ensures { WritesAll (D.state disk.old) (D.state disk.new) ((block, cell.now) ∷ (other, second.now) ∷ (table, third.now) ∷ []) result }
-{
-    match disk.write(block, cell) {
-        Ok(()) => write_both(disk, other, second, table, third),
-        Err(failed) => Err(failed),
+    match core.disk.write(block, cell) {
+        Ok(()) => write_two(core, other, second, table, third),
+        Err(_) => Err(stop(&mut core.books)),
     }
 }
 
@@ -123,45 +104,8 @@ pub fn write_four<D: Disk + Drop>(
     requires spare { 4 ≤ (D.state core.old.disk).spare }
     ensures { Stores (D.state core.old.disk) core.old.books (D.state core.new.disk) core.new.books ((block, cell.now) ∷ (other, second.now) ∷ (above, third.now) ∷ (table, fourth.now) ∷ []) result }
 {
-    match write_all_four(
-        &mut core.disk,
-        block,
-        cell,
-        other,
-        second,
-        above,
-        third,
-        table,
-        fourth,
-    ) {
-        Ok(()) => Ok(()),
-        Err(_) => {
-            core.books.stopped = true;
-            Err(Refusal::WriteFault)
-        }
-    }
-}
-
-fn write_all_four<D: Disk>(
-    disk: &mut D,
-    block: u64,
-    cell: &Cell,
-    other: u64,
-    second: &Cell,
-    above: u64,
-    third: &Cell,
-    table: u64,
-    fourth: &Cell,
-) -> Result<(), Failed>
-    requires first { block < (D.state disk.old).blocks }
-    requires second { other < (D.state disk.old).blocks }
-    requires third { above < (D.state disk.old).blocks }
-    requires fourth { table < (D.state disk.old).blocks }
-    requires spare { 4 ≤ (D.state disk.old).spare }
-    ensures { WritesAll (D.state disk.old) (D.state disk.new) ((block, cell.now) ∷ (other, second.now) ∷ (above, third.now) ∷ (table, fourth.now) ∷ []) result }
-{
-    match disk.write(block, cell) {
-        Ok(()) => write_all_three(disk, other, second, above, third, table, fourth),
-        Err(failed) => Err(failed),
+    match core.disk.write(block, cell) {
+        Ok(()) => write_three(core, other, second, above, third, table, fourth),
+        Err(_) => Err(stop(&mut core.books)),
     }
 }

@@ -39,6 +39,18 @@ pub record IsGeometry (device blocks inodes : ℕ) : Type 0 where
   pub most_blocks : blocks ≤ 1048576
   pub fits : blocks ≤ device
 
+-- on a device that holds the blocks, whatever device it was tested on
+pub on_device : {blocks inodes : ℕ} (tested device : ℕ) → IsGeometry tested blocks inodes → blocks ≤ device → IsGeometry device blocks inodes
+on_device tested device g fits = record {
+  multiple = g.multiple;
+  some_inodes = g.some_inodes;
+  most_inodes = g.most_inodes;
+  table = g.table;
+  some_blocks = g.some_blocks;
+  most_blocks = g.most_blocks;
+  fits = fits;
+}
+
 not-false : (b : Bool) → not b ≡ false → b ≡ true
 not-false true e = refl
 not-false false e = cc

@@ -16,7 +16,7 @@ use Rattle.nofs_super.specs.declared.superblock.SuperBlock.{SuperBlock}
 use Rattle.nofs_super.specs.declared.superblock.MountFault.{MountFault}
 use Rattle.nofs_super.specs.declared.superblock.MountFault.TheVariants.{BadGeometry, BadMagic, BadVersion, DeviceTooSmall, MountsSpent}
 use Rattle.nofs_super.specs.Format.{super_payload}
-use Rattle.nofs_super.specs.Geometry.{IsGeometry, is_geometry, is_geometry-from, is_geometry-parts}
+use Rattle.nofs_super.specs.Geometry.{IsGeometry, on_device, is_geometry, is_geometry-from, is_geometry-parts}
 use Rattle.nofs_super.specs.Super.{CanMount, check_numbers, check_rest, check_super, has_magic, is_super, is_version, magic, rest_fault, super_in, super_of}
 
 -- What is written is read
@@ -88,27 +88,23 @@ module _ (it : SuperBlock) (version : it.version < 2 ^ 32) (blocks : it.blocks <
       ∙ take-put_number 8 16 it.blocks 8 p2 (omega arith) (omega arith) ∙ take-put_number 4 8 it.version 8 p1 (omega arith) (omega arith)
       ∙ take-put_bytes_first 8 magic (zeros 1024) refl
 
-  low_rest : slice_range p5 12 16 ≡ zeros 4
+  rests : (slice_range p5 12 16 ≡ zeros 4) × (slice_range p5 40 1024 ≡ zeros 984)
   unfolding p1
-  low_rest =
-      let a = len1 in let b = len2 in let c = len3 in let d = len4 in let z = length-zeros 1024 in
-      range-put_front 8 32 it.mount 12 16 p4 (omega arith) (omega arith) ∙ range-put_front 8 24 it.inodes 12 16 p3 (omega arith) (omega arith)
-      ∙ range-put_front 8 16 it.blocks 12 16 p2 (omega arith) (omega arith) ∙ range-put_behind 4 8 it.version 12 16 p1 (omega arith) (omega arith)
-      ∙ ap (take 4) (drop-put_bytes 0 12 magic (zeros 1024) (omega arith) (lit≤ tt)) ∙ range-zeros 1024 12 16 (omega arith)
-
-  high_rest : slice_range p5 40 1024 ≡ zeros 984
-  unfolding p1
-  high_rest =
-      let a = len1 in let b = len2 in let c = len3 in let d = len4 in let z = length-zeros 1024 in
-      range-put_behind 8 32 it.mount 40 1024 p4 (omega arith) (omega arith) ∙ range-put_behind 8 24 it.inodes 40 1024 p3 (omega arith) (omega arith)
-      ∙ range-put_behind 8 16 it.blocks 40 1024 p2 (omega arith) (omega arith) ∙ range-put_behind 4 8 it.version 40 1024 p1 (omega arith) (omega arith)
-      ∙ ap (take 984) (drop-put_bytes 0 40 magic (zeros 1024) (omega arith) (lit≤ tt)) ∙ range-zeros 1024 40 1024 (omega arith)
+  rests =
+      let a = len1 in let b = len2 in let c = len3 in let d = len4 in let z = length-zeros 1024 in (
+        range-put_front 8 32 it.mount 12 16 p4 (omega arith) (omega arith) ∙ range-put_front 8 24 it.inodes 12 16 p3 (omega arith) (omega arith)
+            ∙ range-put_front 8 16 it.blocks 12 16 p2 (omega arith) (omega arith) ∙ range-put_behind 4 8 it.version 12 16 p1 (omega arith) (omega arith)
+            ∙ ap (take 4) (drop-put_bytes 0 12 magic (zeros 1024) (omega arith) (lit≤ tt)) ∙ range-zeros 1024 12 16 (omega arith),
+        range-put_behind 8 32 it.mount 40 1024 p4 (omega arith) (omega arith) ∙ range-put_behind 8 24 it.inodes 40 1024 p3 (omega arith) (omega arith)
+            ∙ range-put_behind 8 16 it.blocks 40 1024 p2 (omega arith) (omega arith) ∙ range-put_behind 4 8 it.version 40 1024 p1 (omega arith) (omega arith)
+            ∙ ap (take 984) (drop-put_bytes 0 40 magic (zeros 1024) (omega arith) (lit≤ tt)) ∙ range-zeros 1024 40 1024 (omega arith),
+      )
 
   has_it : has_magic p5 ≡ true
   has_it = ap (λ l. pointwise nat_eq l magic) magic_is
 
   no_rest : rest_fault p5 ≡ None
-  no_rest = rw (low_rest, high_rest, no_fault 4, no_fault 984)
+  no_rest = rw (rests.0, rests.1, no_fault 4, no_fault 984)
 
   whole_is : p5 ≡ super_payload it
   unfolding p1 super_payload
@@ -131,17 +127,8 @@ module _ (it : SuperBlock) (version : it.version < 2 ^ 32) (blocks : it.blocks <
   check_super-payload device can =
       let g = can.geometry in
       let fits = g.fits in
-      let bound : IsGeometry (2 ^ 64 - 1) it.blocks it.inodes =
-      record {
-        multiple = g.multiple;
-        some_inodes = g.some_inodes;
-        most_inodes = g.most_inodes;
-        table = g.table;
-        some_blocks =
-            g.some_blocks;
-        most_blocks = g.most_blocks;
-        fits = omega arith;
-      } in
+      let most = g.most_blocks in
+      let bound = on_device device (2 ^ 64 - 1) g (omega arith) in
       rw (
         ← whole_is,
         has_it,
@@ -175,21 +162,11 @@ numbers-fine device payload it got numbers spelled version e =
     go true ea false eb true ec e = cc
     go true ea false eb false ec e =
         let g = is_geometry-parts (2 ^ 64 - 1) it.blocks it.inodes ea in
-        let on_device : IsGeometry device it.blocks it.inodes =
-        record {
-          multiple = g.multiple;
-          some_inodes = g.some_inodes;
-          most_inodes = g.most_inodes;
-          table = g.table;
-          some_blocks =
-              g.some_blocks;
-          most_blocks = g.most_blocks;
-          fits = ltb-false device it.blocks eb;
-        } in
+        let geometry = on_device (2 ^ 64 - 1) device g (ltb-false device it.blocks eb) in
         let same : it ≡ got = cc in
         let fine : IsFine device payload it = record {
           spelled = rw (spelled, numbers);
-          can = record { version = version; geometry = on_device; mount = leb-false (2 ^ 24 - 1) it.mount ec };
+          can = record { version = version; geometry = geometry; mount = leb-false (2 ^ 24 - 1) it.mount ec };
         } in
         subst (λ (s : SuperBlock). IsFine device payload s) same fine
 

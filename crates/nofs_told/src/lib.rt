@@ -9,6 +9,7 @@ mod made;
 mod notes;
 mod parts;
 mod paths;
+mod replies;
 #[cfg(test)]
 mod tests;
 mod told;
@@ -18,4 +19,5 @@ pub use made::MadeSteps;
 pub use notes::{InTurn, Notepad, Notes};
 pub use parts::{generation_of, inode_of, name_of, number_of, word_of};
 pub use paths::path_names;
+pub use replies::{full, name_list};
 pub use told::{Answers, Told};

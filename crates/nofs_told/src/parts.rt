@@ -24,41 +24,69 @@ pub fn word_of(step: &Step) -> &'static str {
     }
 }
 
+// The inode that a step is on, or its directory, and its generation; 0 where the step names none.
+fn file_of(step: &Step) -> (u32, u64) {
+    match *step {
+        Step::Look {
+            directory,
+            generation,
+            ..
+        }
+        | Step::Make {
+            directory,
+            generation,
+            ..
+        }
+        | Step::Link {
+            directory,
+            generation,
+            ..
+        }
+        | Step::Drop {
+            directory,
+            generation,
+            ..
+        }
+        | Step::Rename {
+            directory,
+            generation,
+            ..
+        }
+        | Step::List {
+            directory,
+            generation,
+            ..
+        } => (directory, generation),
+        Step::Get {
+            inode,
+            generation,
+            ..
+        }
+        | Step::Put {
+            inode,
+            generation,
+            ..
+        }
+        | Step::Resize {
+            inode,
+            generation,
+            ..
+        }
+        | Step::Stat { inode, generation }
+        | Step::Flush { inode, generation } => (inode, generation),
+        Step::SeeInode { inode } => (inode, 0),
+        Step::SeeBlock { .. } => (0, 0),
+    }
+}
+
 /// The inode that a step is on, or its directory; 0 where it is on a block.
 pub fn inode_of(step: &Step) -> u32 {
-    match step {
-        Step::Look { directory, .. }
-        | Step::Make { directory, .. }
-        | Step::Link { directory, .. }
-        | Step::Drop { directory, .. }
-        | Step::Rename { directory, .. }
-        | Step::List { directory, .. } => *directory,
-        Step::Get { inode, .. }
-        | Step::Put { inode, .. }
-        | Step::Resize { inode, .. }
-        | Step::Stat { inode, .. }
-        | Step::Flush { inode, .. }
-        | Step::SeeInode { inode } => *inode,
-        Step::SeeBlock { .. } => 0,
-    }
+    file_of(step).0
 }
 
 /// The generation of that inode; 0 where a step names none.
 pub fn generation_of(step: &Step) -> u64 {
-    match step {
-        Step::Look { generation, .. }
-        | Step::Make { generation, .. }
-        | Step::Link { generation, .. }
-        | Step::Drop { generation, .. }
-        | Step::Rename { generation, .. }
-        | Step::List { generation, .. }
-        | Step::Get { generation, .. }
-        | Step::Put { generation, .. }
-        | Step::Resize { generation, .. }
-        | Step::Stat { generation, .. }
-        | Step::Flush { generation, .. } => *generation,
-        Step::SeeInode { .. } | Step::SeeBlock { .. } => 0,
-    }
+    file_of(step).1
 }
 
 /// The name that a step is on; empty where there is none.

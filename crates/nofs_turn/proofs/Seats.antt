@@ -14,7 +14,7 @@ use Rattle.nofs_turn.specs.Rules.{SeatFits, Sits, TurnHolds}
 use Rattle.nofs_turn.specs.Passes.{Closes}
 use Rattle.nofs_turn.proofs.Words.{prefix_self, total_set, total_snoc, two_parts}
 use Rattle.nofs_turn.proofs.Merging.{once_le, times_merge, rises_merge, stands_merge, total_alone, all_numbered}
-use Rattle.nofs_turn.proofs.Steps.{off, live_of, seats_stay, holds_still, same_places, not_all}
+use Rattle.nofs_turn.proofs.Steps.{off, live_of, seats_stay, still_fits, holds_still, same_places, not_all}
 
 -- what the pass that stands for all finds at the end
 abbrev pub Found : {T E F : Type 0} → (T → List E) → (T → F) → View E F → List (Option T) → Type 0
@@ -36,40 +36,19 @@ module _ {T E F : Type 0} (entries : T → List E) (fixed : T → F) (f : F) (st
       let w = dealt v in
       let n = newcomer v in
       let cut = set s.views id w in record {
-        log = r.log;
-        taken = r.taken;
-        holder = r.holder;
-        bit = r.bit;
-        words = r.words;
-        small = r.small;
-        grown = r.grown;
-        home = r.home;
+        count = r.count;
         holds = λ t. let h = holds_still entries fixed f start seats s.views r.holder id v w at refl (r.holds t) in
             (h.0, at_longer cut (n ∷ []) r.holder h.0 h.1, h.2);
         each = λ j u e. ⊎_elim
             (seats_stay entries fixed f start seats (Sits f start seats r.log r.taken r.holder) s.views id w
-            (inr record {
-              same_fixed = x.same_fixed;
-              same_start = x.same_start;
-              same_seats = x.same_seats;
-              seen = x.seen;
-              heard = x.heard;
-              rising =
-                  x.rising;
-              mine = x.mine;
-              stands = x.stands;
-              turn = x.turn;
-            })
+            (inr (still_fits entries fixed f start seats r.log r.taken r.holder id v x r.taken r.holder w.splits w.looks w.last x.turn))
             (λ i y _ k. r.each i y k) j u)
             (λ (t : n ≡ u). subst (Sits f start seats r.log r.taken r.holder j) t
             (inr record {
-              same_fixed = x.same_fixed;
-              same_start = x.same_start;
-              same_seats = x.same_seats;
+              of_turn = x.of_turn;
               seen = x.seen;
               heard = x.heard;
-              rising =
-                  tt;
+              rising = tt;
               mine = tt;
               stands = omega arith;
               turn = λ h. absurd (off h);
@@ -99,22 +78,13 @@ module _ {T E F : Type 0} (entries : T → List E) (fixed : T → F) (f : F) (st
       let parts = two_parts (λ (u : V). u.stands + u.splits) s.views id other v w at was apart' in
       let sum = r.passes in
       let same : v.seats ≡ seats = x.same_seats in record {
-        log = r.log;
-        taken = r.taken;
-        holder = r.holder;
-        bit = r.bit;
-        words = r.words;
-        small = r.small;
-        grown = r.grown;
-        home = r.home;
+        count = r.count;
         holds = λ t. let h = holds_still entries fixed f start seats s.views r.holder id v both at refl (r.holds t)
             in holds_still entries fixed f start seats cut r.holder other w spent there (sym rests') h;
         each = seats_stay entries fixed f start seats (Sits f start seats r.log r.taken r.holder) cut other spent (inl refl)
             (λ j u _ e. seats_stay entries fixed f start seats (Sits f start seats r.log r.taken r.holder) s.views id both
             (inr record {
-              same_fixed = x.same_fixed;
-              same_start = x.same_start;
-              same_seats = x.same_seats;
+              of_turn = x.of_turn;
               seen = x.seen;
               heard = y.seen;
               mine = stands_merge r.log v.mine w.mine x.mine y.mine;
@@ -189,14 +159,16 @@ last_is v seats d = λ i. record v { mine = d.3 i; has = d.2 i; splits = d.0 i; 
 pub starts : {T E F : Type 0} (entries : T → List E) (fixed : T → F) (x : T) (seats : ℕ) → 0 < seats → length (entries x) < 2 ^ 63
     → TurnHolds entries fixed (fixed x) (length (entries x)) seats (opening (2 * length (entries x) ∷ []) (Some x ∷ []) (maker (fixed x) (entries x) seats))
 starts {T} {E} {F} entries fixed x seats some_seat small = record {
-  log = entries x;
-  taken = 0;
-  holder = 0;
-  bit = omega arith;
-  words = ap (λ k. k ∷ []) (omega arith);
-  small = small;
-  grown = omega arith;
-  home = λ _. (x, refl, refl, refl);
+  count = record {
+    log = entries x;
+    taken = 0;
+    holder = 0;
+    bit = omega arith;
+    words = ap (λ k. k ∷ []) (omega arith);
+    small = small;
+    grown = omega arith;
+    home = λ _. (x, refl, refl, refl);
+  };
   holds = λ z. absurd (omega arith);
   each = one;
   all_places = λ q. let o = once_nothing (length (entries x)) q in omega arith;
@@ -209,14 +181,11 @@ starts {T} {E} {F} entries fixed x seats some_seat small = record {
     one : (j : ℕ) (v : View E F) → get_elem? (maker (fixed x) (entries x) seats ∷ []) j ≡ some v → Sits (fixed x) (length (entries x)) seats (entries x) 0 0 j v
     one zero v e = subst (Sits (fixed x) (length (entries x)) seats (entries x) 0 0 0) (some-injective _ _ e)
         (inr record {
-          same_fixed = refl;
-          same_start = refl;
-          same_seats = refl;
+          of_turn = record { same_fixed = refl; same_start = refl; same_seats = refl };
           seen = prefix_self (entries x);
           heard = (entries x, refl);
           rising = tt;
-          mine =
-              tt;
+          mine = tt;
           stands = omega arith;
           turn = λ h. absurd (off h);
         })

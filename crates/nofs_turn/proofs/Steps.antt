@@ -12,7 +12,7 @@ use Rattle.atomic_table.proofs.Lists.{at_set, set_here, set_else}
 use Rattle.nofs_turn.specs.declared.view.View.{View}
 use Rattle.nofs_turn.specs.Lists.{times, total, longer, Rises, rises, Stands, numbered}
 use Rattle.nofs_turn.specs.Views.{spent, looked, took, gave, settled}
-use Rattle.nofs_turn.specs.Rules.{SeatFits, Sits, TurnHolds, Looks, Takes, Gives, Settles}
+use Rattle.nofs_turn.specs.Rules.{SeatFits, Sits, CountHolds, TurnHolds, Looks, Takes, Gives, Settles}
 use Rattle.nofs_turn.proofs.Words.{prefix_self, prefix_trans, prefix_length, total_set, part_le, two_parts, or_one}
 use Rattle.nofs_turn.proofs.Merging.{longer_begins, longer_both, places_more, rises_wider, rises_append, rises_test, stands_more, stands_given}
 
@@ -89,36 +89,26 @@ module _ {T E F : Type 0} (entries : T → List E) (fixed : T → F) (f : F) (st
       (w, ap (get_elem? (set vs id w)) here ∙ set_here vs id w (at_below vs id v at), same ∙ (ap (λ (u : V). u.has) is ∙ h.2)))
       (λ other. (h.0, set_else vs id k w other ∙ h.1, h.2))
 
-  fits_looked : (log : List E) (taken holder id n : ℕ) (v : V) → SeatFits f start seats log taken holder id v
-      → SeatFits f start seats log taken holder id (looked v n)
-  fits_looked log taken holder id n v x = record {
-    same_fixed = x.same_fixed;
-    same_start = x.same_start;
-    same_seats = x.same_seats;
-    seen = x.seen;
-    heard =
-        x.heard;
-    rising = x.rising;
-    mine = x.mine;
-    stands = x.stands;
-    turn = x.turn;
-  }
+  -- a seat of which nothing changes but its splits, its looks and who has the turn
+  pub still_fits : (log : List E) (taken holder id : ℕ) (v : V) → SeatFits f start seats log taken holder id v → (taken' holder' splits looks last : ℕ)
+      → (v.has ≡ true → (taken' ≡ 1) × (id ≡ holder') × (v.seen ≡ log))
+      → SeatFits f start seats log taken' holder' id (record v { splits = splits; looks = looks; last = last })
+  still_fits log taken holder id v x taken' holder' splits looks last turn =
+      record { of_turn = x.of_turn; seen = x.seen; heard = x.heard; rising = x.rising; mine = x.mine; stands = x.stands; turn = turn }
+
+  -- the count stays where the words say the same
+  abbrev counted : (s : St) (r : Rule s) (ws : List ℕ) → ws ≡ (2 * length r.log + r.taken) ∷ [] → CountHolds entries fixed f start ws s.homes
+  counted s r ws same =
+      record { log = r.log; taken = r.taken; holder = r.holder; bit = r.bit; words = same; small = r.small; grown = r.grown; home = r.home }
 
   -- a step that changes one view in nothing but its looks
   unmoved : (s : St) (r : Rule s) (id n : ℕ) (v : V) → get_elem? s.views id ≡ some v → 0 < v.stands → (ws : List ℕ) → ws ≡ (2 * length r.log + r.taken) ∷ []
       → Rule record { words = ws; homes = s.homes; views = set s.views id (looked v n) }
   unmoved s r id n v at live ws same = record {
-    log = r.log;
-    taken = r.taken;
-    holder = r.holder;
-    bit = r.bit;
-    words = same;
-    small = r.small;
-    grown = r.grown;
-    home = r.home;
+    count = counted s r ws same;
     holds = λ t. holds_still s.views r.holder id v (looked v n) at refl (r.holds t);
-    each = seats_stay (Sits f start seats r.log r.taken r.holder) s.views id (looked v n)
-        (inr (fits_looked r.log r.taken r.holder id n v (live_of s r id v at live))) (λ j u _ e. r.each j u e);
+    each = let x = live_of s r id v at live in seats_stay (Sits f start seats r.log r.taken r.holder) s.views id (looked v n)
+        (inr (still_fits r.log r.taken r.holder id v x r.taken r.holder v.splits (v.looks + 1) n x.turn)) (λ j u _ e. r.each j u e);
     all_places = λ x. same_places s.views id v (looked v n) at refl x ∙ r.all_places x;
     passes = same_passes s.views id v (looked v n) at refl ∙ r.passes;
   }
@@ -141,23 +131,22 @@ module _ {T E F : Type 0} (entries : T → List E) (fixed : T → F) (f : F) (st
   taken_free s r id n v at live free =
       let x = live_of s r id v at live in
       let w = took v n r.log in record {
-        log = r.log;
-        taken = 1;
-        holder = id;
-        bit = omega arith;
-        words = refl;
-        small = r.small;
-        grown = r.grown;
-        home = λ z. absurd (omega arith);
+        count = record {
+          log = r.log;
+          taken = 1;
+          holder = id;
+          bit = omega arith;
+          words = refl;
+          small = r.small;
+          grown = r.grown;
+          home = λ z. absurd (omega arith);
+        };
         holds = λ _. (w, set_here s.views id w (at_below s.views id v at), refl);
         each = seats_stay (Sits f start seats r.log 1 id) s.views id w
             (inr record {
-              same_fixed = x.same_fixed;
-              same_start = x.same_start;
-              same_seats = x.same_seats;
+              of_turn = x.of_turn;
               seen = prefix_self r.log;
-              heard =
-                  x.heard;
+              heard = x.heard;
               rising = x.rising;
               mine = x.mine;
               stands = x.stands;
@@ -170,19 +159,8 @@ module _ {T E F : Type 0} (entries : T → List E) (fixed : T → F) (f : F) (st
     where
       waits : (j : ℕ) (u : V) → Sits f start seats r.log r.taken r.holder j u → Sits f start seats r.log 1 id j u
       waits j u = ⊎_elim (λ (e : u ≡ spent). inl e)
-          (λ (y : SeatFits f start seats r.log r.taken r.holder j u). inr record {
-            same_fixed = y.same_fixed;
-            same_start = y.same_start;
-            same_seats =
-                y.same_seats;
-            seen = y.seen;
-            heard = y.heard;
-            rising = y.rising;
-            mine = y.mine;
-            stands = y.stands;
-            turn =
-                λ h. let t = (y.turn h).0 in absurd (omega arith);
-          })
+          (λ (y : SeatFits f start seats r.log r.taken r.holder j u). inr (still_fits r.log r.taken r.holder j u y 1 id u.splits u.looks u.last
+          (λ h. let t = (y.turn h).0 in absurd (omega arith))))
 
   -- where the turn is taken, the seat that takes it in vain does not stand for all
   pub not_all : (s : St) (r : Rule s) (id : ℕ) (v : V) → get_elem? s.views id ≡ some v → 0 < v.stands → v.has ≡ false → r.taken ≡ 1 → v.stands < v.seats
@@ -269,20 +247,20 @@ module _ {T E F : Type 0} (entries : T → List E) (fixed : T → F) (f : F) (st
       let up : Rises 0 (length (entries y)) w.mine = subst (λ (l : List E). Rises 0 (length (entries y))
       (v.mine ++ numbered (length l) (drop (length l) (entries y)))) (sym seen) up' in (
         record {
-          log = entries y;
-          taken = 0;
-          holder = id;
-          bit = omega arith;
-          words = ap (λ k. k ∷ []) (omega arith);
-          small = small;
-          grown = omega arith;
-          home = λ _. (y, refl, refl, cc (same, x.same_fixed));
+          count = record {
+            log = entries y;
+            taken = 0;
+            holder = id;
+            bit = omega arith;
+            words = ap (λ k. k ∷ []) (omega arith);
+            small = small;
+            grown = omega arith;
+            home = λ _. (y, refl, refl, cc (same, x.of_turn.same_fixed));
+          };
           holds = λ z. absurd (omega arith);
           each = seats_stay (Sits f start seats (entries y) 0 id) s.views id w
               (inr record {
-                same_fixed = x.same_fixed;
-                same_start = x.same_start;
-                same_seats = x.same_seats;
+                of_turn = x.of_turn;
                 seen = prefix_self (entries y);
                 heard = prefix_trans v.heard r.log (entries y) x.heard pre';
                 rising = up;
@@ -308,9 +286,7 @@ module _ {T E F : Type 0} (entries : T → List E) (fixed : T → F) (f : F) (st
           → Sits f start seats (entries y) 0 id j u
       waits pre' here j u apart = ⊎_elim (λ (e : u ≡ spent). inl e)
           (λ (z : SeatFits f start seats r.log r.taken r.holder j u). inr record {
-            same_fixed = z.same_fixed;
-            same_start = z.same_start;
-            same_seats = z.same_seats;
+            of_turn = z.of_turn;
             seen = prefix_trans u.seen r.log (entries y) z.seen (pre' 0);
             heard = prefix_trans u.heard r.log (entries y) z.heard (pre' 0);
             rising = rises_wider 0 (length r.log) (length (entries y)) u.mine (prefix_length r.log (entries y) (pre' 0)) z.rising;
@@ -368,20 +344,11 @@ module _ {T E F : Type 0} (entries : T → List E) (fixed : T → F) (f : F) (st
         keeps,
         tt,
         record {
-          log = r.log;
-          taken = r.taken;
-          holder = r.holder;
-          bit = r.bit;
-          words = rw is (ap (λ ws. set ws 0 (2 * length r.log + r.taken)) r.words);
-          small = r.small;
-          grown = r.grown;
-          home = r.home;
+          count = counted s r (set s.words 0 n) (rw is (ap (λ ws. set ws 0 (2 * length r.log + r.taken)) r.words));
           holds = λ t. holds_still s.views r.holder id v w at refl (r.holds t);
           each = seats_stay (Sits f start seats r.log r.taken r.holder) s.views id w
               (inr record {
-                same_fixed = x.same_fixed;
-                same_start = x.same_start;
-                same_seats = x.same_seats;
+                of_turn = x.of_turn;
                 seen = longer_begins v.seen v.heard r.log x.seen x.heard;
                 heard = (r.log, refl);
                 rising = x.rising;

@@ -1,8 +1,10 @@
 -- What a pass knows, and what a call tells it.
-use Rattle.std.specs.Prelude.{◌≡◌, ℕ, ◌+◌, ◌*◌, ◌^◌, ◌<◌, ◌≤◌, List, ◌++◌, length, drop, Some}
+use Rattle.std.specs.Prelude.{◌≡◌, ℕ, ◌+◌, ◌*◌, ◌^◌, ◌<◌, ◌≤◌, List, [], ◌∷◌, ◌++◌, length, drop, Option, Some}
 use mathlib.Core.List.{IsPrefix}
+use Rattle.atomic_table.specs.Table.{Me}
 use Rattle.nofs_turn.specs.declared.view.View.{View}
 use Rattle.nofs_turn.specs.Lists.{numbered}
+use Rattle.nofs_turn.specs.Views.{gave}
 
 -- A section ran once between the views v and w, and answered out. It met the list `before` and left `after`
 pub record Ran {E F Out : Type 0} (tells : F → List E → List E → Out → Type 0) (v w : View E F) (out : Out) : Type 0 where
@@ -27,6 +29,17 @@ pub record RanOnce {T E F Out : Type 0} (entries : T → List E) (fixed : T → 
   pub told : tells (fixed x) (entries x) (entries y) answer.0
   pub kept : answer.1 ≡ length (entries y)
   pub small : answer.1 < 2 ^ 63
+
+-- the seat carries the value whose list its view has seen, and the section may run on it
+abbrev pub Carries : {T E F : Type 0} → (T → List E) → (T → F) → (F → List E → Type 0) → Me (Option T) (View E F) → Type 0
+Carries {T = T} entries fixed asks me = (x : T) × (me.1 ≡ (0, Some x) ∷ []) × (entries x ≡ me.0.seen) × (me.0.fixed ≡ Some (fixed x))
+    × asks (fixed x) (entries x)
+
+-- the section ran on the value whose list the view v had seen, and what it left was given back
+abbrev pub HasRun : {T E F Out : Type 0} → (T → List E) → (T → F) → (F → List E → List E → Out → Type 0) → View E F → Out → Me (Option T) (View E F)
+    → Type 0
+HasRun {T = T} entries fixed tells v out after = (x y : T) × (entries x ≡ v.seen) × (v.fixed ≡ Some (fixed x)) × IsPrefix (entries x) (entries y)
+    × (length (entries y) ≤ length (entries x) + 1) × tells (fixed x) (entries x) (entries y) out × (after ≡ (gave v (entries y), []))
 
 -- what the pass v knows lets the section run
 abbrev pub MayRun : {E F : Type 0} → (F → List E → Type 0) → View E F → Type 0

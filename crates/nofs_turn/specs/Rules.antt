@@ -1,7 +1,7 @@
 -- The rule of the turn, and what each step tells.
 -- Word 0 is twice the number of entries, and one more while the turn is taken. The value lies in slot 0.
 use Rattle.std.specs.Prelude.{◌≡◌, ℕ, ◌+◌, ◌*◌, ◌%◌, ◌^◌, ◌<◌, ◌≤◌, ◌⊎◌, true, List, [], ◌∷◌, length, Option, Some}
-use mathlib.Core.Option.{some}
+use mathlib.Core.Option.{Option as Home, some}
 use mathlib.Core.List.{IsPrefix}
 use lib.ListN.{get_elem?}
 use Rattle.atomic_table.specs.Table.{State, Me, Step}
@@ -9,11 +9,16 @@ use Rattle.nofs_turn.specs.declared.view.View.{View}
 use Rattle.nofs_turn.specs.Lists.{times, total, once, Rises, rises, Stands}
 use Rattle.nofs_turn.specs.Views.{spent, looked, took, gave, settled}
 
+-- the part of a view that no step changes is that of its turn
+pub record IsOfTurn {F : Type 0} (f : F) (start seats : ℕ) (part : Option F) (first many : ℕ) : Type 0 where
+  pub same_fixed : part ≡ Some f
+  pub same_start : first ≡ start
+  pub same_seats : many ≡ seats
+
 -- what the rule says of the view of a seat that is not spent
 pub record SeatFits {E F : Type 0} (f : F) (start seats : ℕ) (log : List E) (taken holder j : ℕ) (v : View E F) : Type 0 where
-  pub same_fixed : v.fixed ≡ Some f
-  pub same_start : v.start ≡ start
-  pub same_seats : v.seats ≡ seats
+  pub of_turn : IsOfTurn f start seats v.fixed v.start v.seats
+  pub open of_turn use *
   pub seen : IsPrefix v.seen log
   pub heard : IsPrefix v.heard log
   pub rising : Rises 0 (length log) v.mine
@@ -24,15 +29,20 @@ pub record SeatFits {E F : Type 0} (f : F) (start seats : ℕ) (log : List E) (t
 abbrev pub Sits : {E F : Type 0} → F → ℕ → ℕ → List E → ℕ → ℕ → ℕ → View E F → Type 0
 Sits f start seats log taken holder j v = (v ≡ spent) ⊎ SeatFits f start seats log taken holder j v
 
-pub record TurnHolds {T E F : Type 0} (entries : T → List E) (fixed : T → F) (f : F) (start seats : ℕ) (s : State (Option T) (View E F)) : Type 0 where
+-- the word counts the entries, and the value is at home unless the turn is taken
+pub record CountHolds {T E F : Type 0} (entries : T → List E) (fixed : T → F) (f : F) (start : ℕ) (ws : List ℕ) (homes : List (Home (Option T))) : Type 0 where
   pub log : List E
   pub taken : ℕ
   pub holder : ℕ
   pub bit : taken < 2
-  pub words : s.words ≡ (2 * length log + taken) ∷ []
+  pub words : ws ≡ (2 * length log + taken) ∷ []
   pub small : length log < 2 ^ 63
   pub grown : start ≤ length log
-  pub home : taken ≡ 0 → (x : T) × (s.homes ≡ some (Some x) ∷ []) × (entries x ≡ log) × (fixed x ≡ f)
+  pub home : taken ≡ 0 → (x : T) × (homes ≡ some (Some x) ∷ []) × (entries x ≡ log) × (fixed x ≡ f)
+
+pub record TurnHolds {T E F : Type 0} (entries : T → List E) (fixed : T → F) (f : F) (start seats : ℕ) (s : State (Option T) (View E F)) : Type 0 where
+  pub count : CountHolds entries fixed f start s.words s.homes
+  pub open count use *
   pub holds : taken ≡ 1 → (h : View E F) × (get_elem? s.views holder ≡ some h) × (h.has ≡ true)
   pub each : (j : ℕ) (v : View E F) → get_elem? s.views j ≡ some v → Sits f start seats log taken holder j v
   pub all_places : (x : ℕ) → total (λ (v : View E F). times x v.mine) s.views ≡ once start (length log) x

@@ -8,9 +8,9 @@ module _ {E F : Type 0} where
   abbrev pub spent : View E F
   spent = record { fixed = None; start = 0; seats = 0; seen = []; heard = []; mine = []; has = false; splits = 0; stands = 0; looks = 0; last = 0 }
 
-  -- the maker's seat
-  abbrev pub maker : F → List E → ℕ → View E F
-  maker f xs seats = record {
+  -- a seat of a turn that was made over the list xs, with the part f
+  abbrev pub fresh : F → List E → ℕ → View E F
+  fresh f xs seats = record {
     fixed = Some f;
     start = length xs;
     seats = seats;
@@ -18,12 +18,15 @@ module _ {E F : Type 0} where
     heard = [];
     mine = [];
     has = false;
-    splits = seats - 1;
-    stands =
-        1;
+    splits = 0;
+    stands = 1;
     looks = 0;
     last = 0;
   }
+
+  -- the maker's seat
+  abbrev pub maker : F → List E → ℕ → View E F
+  maker f xs seats = record (fresh f xs seats) { splits = seats - 1 }
 
   -- one look more, which found n
   abbrev pub looked : View E F → ℕ → View E F
@@ -40,23 +43,6 @@ module _ {E F : Type 0} where
   -- a seat was split from it
   abbrev pub dealt : View E F → View E F
   dealt v = record v { splits = v.splits - 1 }
-
-  -- a seat of a turn that was made over the list xs, with the part f
-  abbrev pub fresh : F → List E → ℕ → View E F
-  fresh f xs seats = record {
-    fixed = Some f;
-    start = length xs;
-    seats = seats;
-    seen = xs;
-    heard = [];
-    mine = [];
-    has = false;
-    splits = 0;
-    stands =
-        1;
-    looks = 0;
-    last = 0;
-  }
 
   -- a seat split from v
   abbrev pub newcomer : View E F → View E F

@@ -36,7 +36,7 @@ const NAP: u64 = 1;
 
 impl<V: Kept> Turn<V> {
     ghost use Rattle.nofs_turn.specs.Views.{looked, gave, joined};
-    ghost use Rattle.nofs_turn.specs.Passes.{Ran, RanOnce, MayRun, Closes, Waited};
+    ghost use Rattle.nofs_turn.specs.Passes.{Ran, RanOnce, Carries, HasRun, MayRun, Closes, Waited};
     ghost use Rattle.nofs_turn.specs.Rules.{TakesFree, TakesBusy};
     ghost use Rattle.nofs_turn.specs.Turns.{view_of, IsPassOf};
     ghost use Rattle.nofs_turn.specs.Lists.{rises};
@@ -81,9 +81,9 @@ impl<V: Kept> Turn<V> {
     ) -> S::Out
         requires of { seat.old.table_id ≡ self.now.table.shared.table_id }
         requires has { seat.old.me.0.has ≡ true }
-        requires carries { (x : V) × (seat.old.me.1 ≡ (0, Some x) ∷ []) × (V.entries x ≡ seat.old.me.0.seen) × (seat.old.me.0.fixed ≡ Some (V.fixed x)) × S.asks section (V.fixed x) (V.entries x) }
+        requires carries { Carries V.entries V.fixed (S.asks section) seat.old.me }
         ensures same { (seat.new.table_id ≡ seat.old.table_id) × (seat.new.id ≡ seat.old.id) }
-        ensures ran { (x y : V) × (V.entries x ≡ seat.old.me.0.seen) × (seat.old.me.0.fixed ≡ Some (V.fixed x)) × IsPrefix (V.entries x) (V.entries y) × (length (V.entries y) ≤ length (V.entries x) + 1) × S.tells section (V.fixed x) (V.entries x) (V.entries y) result × (seat.new.me ≡ (gave seat.old.me.0 (V.entries y), [])) }
+        ensures ran { HasRun V.entries V.fixed (S.tells section) seat.old.me.0 result seat.new.me }
         ensures rising { rises 0 seat.new.me.0.mine ≡ true }
     {
         let (out, kept) = self.run_in_place(seat, section);

@@ -100,6 +100,18 @@ fn two_passes(alloc: Global) -> Option<(Turn<Log>, Pass<Log>, Pass<Log>)>
     Some((turn, first, second))
 }
 
+// The same, after one entry of the first pass.
+fn two_passes_and_an_entry<R: Wait>(
+    rt: &R,
+    alloc: Global,
+) -> Option<(Turn<Log>, Pass<Log>, Pass<Log>)>
+    ensures { IfSome result (λ t. IsPassOf t.0 t.1 × IsPassOf t.0 t.2) }
+{
+    let (turn, mut first, second) = two_passes(alloc)?;
+    turn.with(rt, &mut first, Add(1));
+    Some((turn, first, second))
+}
+
 fn add_often<R: Wait>(
     rt: &R,
     turn: &Turn<Log>,
@@ -188,10 +200,9 @@ fn two_threads_make_ten_thousand_sections_each(rt: HostRuntime) -> Result<(), Fa
 
 #[test]
 fn a_try_within_a_section_is_busy_with_an_odd_word(rt: HostRuntime) -> Result<(), Fail> {
-    let Some((turn, mut first, second)) = two_passes(rt.alloc()) else {
+    let Some((turn, mut first, second)) = two_passes_and_an_entry(&rt, rt.alloc()) else {
         panic!(rt; "no memory")
     };
-    turn.with(&rt, &mut first, Add(1));
     let tries = Tries {
         turn: &turn,
         pass: second,
@@ -205,10 +216,9 @@ fn a_try_within_a_section_is_busy_with_an_odd_word(rt: HostRuntime) -> Result<()
 
 #[test]
 fn a_pass_that_is_not_joined_keeps_the_turn_open(rt: HostRuntime) -> Result<(), Fail> {
-    let Some((turn, mut first, second)) = two_passes(rt.alloc()) else {
+    let Some((turn, first, second)) = two_passes_and_an_entry(&rt, rt.alloc()) else {
         panic!(rt; "no memory")
     };
-    turn.with(&rt, &mut first, Add(1));
     let Err(
         PassesOut {
             turn,

@@ -38,11 +38,18 @@ pub struct Turn<V: Kept> {
     ghost seats_are: { (seats ≡ table.shared.key.seats) × (seats ≤ 64) },
 }
 
-/// There was no memory for a turn. The value comes back unchanged.
+/// The right to take the turn, for one thread at a time. It stands for itself and for the passes joined to it.
 #[derive(Drop)]
-pub struct TurnFault<V> {
-    /// The value that was given.
-    pub value: V,
+pub struct Pass<V: Kept> {
+    pub(crate) seat: Seat<Option<V>, View<V::Entry, V::Fixed>>,
+    pub(crate) stands: u64,
+    ghost carries: { seat.me.1 ≡ [] },
+    ghost rests: { seat.me.0.has ≡ false },
+    ghost stands_are: { (stands ≡ seat.me.0.stands) × (0 < stands) },
+    ghost at_most: { stands ≤ seat.me.0.seats },
+    ghost settled: { seat.me.0.heard ≡ [] },
+    ghost rising: { rises 0 seat.me.0.mine ≡ true },
+    ghost whole: { seat.me.0.splits ≡ 0 },
 }
 
 /// A turn was not closed, since passes of it are out. All comes back unchanged.
@@ -56,18 +63,11 @@ pub struct PassesOut<V: Kept> {
     pub out: u64,
 }
 
-/// The right to take the turn, for one thread at a time. It stands for itself and for the passes joined to it.
+/// There was no memory for a turn. The value comes back unchanged.
 #[derive(Drop)]
-pub struct Pass<V: Kept> {
-    pub(crate) seat: Seat<Option<V>, View<V::Entry, V::Fixed>>,
-    pub(crate) stands: u64,
-    ghost carries: { seat.me.1 ≡ [] },
-    ghost rests: { seat.me.0.has ≡ false },
-    ghost stands_are: { (stands ≡ seat.me.0.stands) × (0 < stands) },
-    ghost at_most: { stands ≤ seat.me.0.seats },
-    ghost settled: { seat.me.0.heard ≡ [] },
-    ghost rising: { rises 0 seat.me.0.mine ≡ true },
-    ghost whole: { seat.me.0.splits ≡ 0 },
+pub struct TurnFault<V> {
+    /// The value that was given.
+    pub value: V,
 }
 
 /// The turn was taken, so the section did not run.

@@ -1,7 +1,7 @@
 //! The step of a frame's body (docs/FORMAT.md, "Frames").
 //!
 //! Promise: a body gives a step exactly where it spells one to its last byte, and then just that one.
-ghost use Rattle.std.specs.Prelude.{◌≡◌, ◌+◌, ◌≤◌, ◌==◌, IfOk, IfSome, Some, length};
+ghost use Rattle.std.specs.Prelude.{◌≡◌, ◌+◌, ◌≤◌, ◌==◌, IfOk, IfSome, Some, if◌then◌else◌, length};
 ghost use Rattle.std.specs.Option.{option_copied as copied};
 ghost use Rattle.nofs_wire.specs.Requests.{drop_of, flush_of, generation_of, get_of, handled_of, inode_of, kind_of as kind_numbered, link_of, list_of, look_of, make_of, name_at as name_in, named_of, put_of, rename_of, resize_of, see_block_of, see_inode_of, stat_of, step_by, step_of, where_ends};
 ghost use Rattle.nofs_wire.specs.Spelled.{FitsBody, request_bytes};
@@ -66,12 +66,9 @@ fn handled(alloc: Global, first: u8, body: &[u8]) -> Result<Option<Step>, AllocE
     ensures { IfOk result (λ step. step ≡ handled_of first body.now) }
 {
     match first {
-        6 => Ok(list(body)),
-        7 => Ok(get(body)),
+        6 | 7 | 9 => Ok(numbered(first, body)),
         8 => put(alloc, body),
-        9 => Ok(resize(body)),
-        10 => Ok(stat(body)),
-        11 => Ok(flush(body)),
+        10 | 11 => Ok(of_handle(first, body)),
         _ => match name_at(body, HANDLE_END) {
             None => Ok(None),
             Some(name) => named(alloc, first, name, body),
@@ -85,10 +82,9 @@ fn named(alloc: Global, first: u8, name: &[u8], body: &[u8]) -> Result<Option<St
     ensures { IfOk result (λ step. step ≡ named_of first name.now body.now) }
 {
     match first {
-        1 => look(alloc, name, body),
+        1 | 4 => of_name(alloc, first, name, body),
         2 => make(alloc, name, body),
         3 => link(alloc, name, body),
-        4 => drop_name(alloc, name, body),
         5 => rename(alloc, name, body),
         _ => Ok(None),
     }
@@ -121,18 +117,28 @@ fn kind_of(number: u8) -> Option<FileKind>
     }
 }
 
-#[tactic(auto, unfolding(crate::specs::Requests::look_of))]
-fn look(alloc: Global, name: &[u8], body: &[u8]) -> Result<Option<Step>, AllocError>
+// A look, 1, or a drop, 4: behind the name stands nothing.
+#[tactic(auto, unfolding(crate::specs::Requests::look_of, crate::specs::Requests::drop_of))]
+fn of_name(alloc: Global, first: u8, name: &[u8], body: &[u8]) -> Result<Option<Step>, AllocError>
     requires { 14 + length name.now ≤ length body.now }
-    ensures { IfOk result (λ step. step ≡ look_of name.now body.now) }
+    ensures { IfOk result (λ step. step ≡ (if first == 1 then look_of name.now body.now else drop_of name.now body.now)) }
 {
     if body.len() != NAME_AT + name.len() {
         return Ok(None);
     }
-    Ok(Some(Step::Look {
-        directory: read_u32_at(body, 1),
-        generation: read_u64_at(body, 5),
-        name: Name::from_slice(alloc, name)?,
+    let (directory, generation) = (read_u32_at(body, 1), read_u64_at(body, 5));
+    let name = Name::from_slice(alloc, name)?;
+    Ok(Some(match first {
+        1 => Step::Look {
+            directory,
+            generation,
+            name,
+        },
+        _ => Step::Drop {
+            directory,
+            generation,
+            name,
+        },
     }))
 }
 
@@ -161,31 +167,16 @@ fn link(alloc: Global, name: &[u8], body: &[u8]) -> Result<Option<Step>, AllocEr
     requires { 14 + length name.now ≤ length body.now }
     ensures { IfOk result (λ step. step ≡ link_of name.now body.now) }
 {
-    let end = NAME_AT + name.len();
-    if body.len() != end + 12 {
+    if body.len() != NAME_AT + name.len() + 12 {
         return Ok(None);
     }
+    let end = NAME_AT + name.len();
     Ok(Some(Step::Link {
         directory: read_u32_at(body, 1),
         generation: read_u64_at(body, 5),
         name: Name::from_slice(alloc, name)?,
         inode: read_u32_at(body, end),
         of: read_u64_at(body, end + 4),
-    }))
-}
-
-#[tactic(auto, unfolding(crate::specs::Requests::drop_of))]
-fn drop_name(alloc: Global, name: &[u8], body: &[u8]) -> Result<Option<Step>, AllocError>
-    requires { 14 + length name.now ≤ length body.now }
-    ensures { IfOk result (λ step. step ≡ drop_of name.now body.now) }
-{
-    if body.len() != NAME_AT + name.len() {
-        return Ok(None);
-    }
-    Ok(Some(Step::Drop {
-        directory: read_u32_at(body, 1),
-        generation: read_u64_at(body, 5),
-        name: Name::from_slice(alloc, name)?,
     }))
 }
 
@@ -215,33 +206,36 @@ fn renamed(alloc: Global, old: &[u8], new: &[u8], body: &[u8]) -> Result<Option<
     }))
 }
 
-#[tactic(auto, unfolding(crate::specs::Requests::list_of))]
-fn list(body: &[u8]) -> Option<Step>
+// A list, 6, a get, 7, or a resize, 9: behind the generation stands one number.
+#[tactic(auto, unfolding(crate::specs::Requests::list_of, crate::specs::Requests::get_of, crate::specs::Requests::resize_of))]
+fn numbered(first: u8, body: &[u8]) -> Option<Step>
     requires { 13 ≤ length body.now }
-    ensures { result ≡ list_of body.now }
+    ensures { result ≡ (if first == 6 then list_of body.now else if first == 7 then get_of body.now else resize_of body.now) }
 {
     if body.len() != NUMBER_END {
         return None;
     }
-    Some(Step::List {
-        directory: read_u32_at(body, 1),
-        generation: read_u64_at(body, 5),
-        slot: read_u64_at(body, 13),
-    })
-}
-
-#[tactic(auto, unfolding(crate::specs::Requests::get_of))]
-fn get(body: &[u8]) -> Option<Step>
-    requires { 13 ≤ length body.now }
-    ensures { result ≡ get_of body.now }
-{
-    if body.len() != NUMBER_END {
-        return None;
-    }
-    Some(Step::Get {
-        inode: read_u32_at(body, 1),
-        generation: read_u64_at(body, 5),
-        slot: read_u64_at(body, 13),
+    let (inode, generation, number) = (
+        read_u32_at(body, 1),
+        read_u64_at(body, 5),
+        read_u64_at(body, 13),
+    );
+    Some(match first {
+        6 => Step::List {
+            directory: inode,
+            generation,
+            slot: number,
+        },
+        7 => Step::Get {
+            inode,
+            generation,
+            slot: number,
+        },
+        _ => Step::Resize {
+            inode,
+            generation,
+            size: number,
+        },
     })
 }
 
@@ -263,59 +257,33 @@ fn put(alloc: Global, body: &[u8]) -> Result<Option<Step>, AllocError>
     }))
 }
 
-#[tactic(auto, unfolding(crate::specs::Requests::resize_of))]
-fn resize(body: &[u8]) -> Option<Step>
+// A stat, 10, or a flush, 11: behind the generation stands nothing.
+#[tactic(auto, unfolding(crate::specs::Requests::stat_of, crate::specs::Requests::flush_of))]
+fn of_handle(first: u8, body: &[u8]) -> Option<Step>
     requires { 13 ≤ length body.now }
-    ensures { result ≡ resize_of body.now }
-{
-    if body.len() != NUMBER_END {
-        return None;
-    }
-    Some(Step::Resize {
-        inode: read_u32_at(body, 1),
-        generation: read_u64_at(body, 5),
-        size: read_u64_at(body, 13),
-    })
-}
-
-#[tactic(auto, unfolding(crate::specs::Requests::stat_of))]
-fn stat(body: &[u8]) -> Option<Step>
-    requires { 13 ≤ length body.now }
-    ensures { result ≡ stat_of body.now }
+    ensures { result ≡ (if first == 10 then stat_of body.now else flush_of body.now) }
 {
     if body.len() != HANDLE_END {
         return None;
     }
-    Some(Step::Stat {
-        inode: read_u32_at(body, 1),
-        generation: read_u64_at(body, 5),
+    let (inode, generation) = (read_u32_at(body, 1), read_u64_at(body, 5));
+    Some(match first {
+        10 => Step::Stat { inode, generation },
+        _ => Step::Flush { inode, generation },
     })
 }
 
-#[tactic(auto, unfolding(crate::specs::Requests::flush_of))]
-fn flush(body: &[u8]) -> Option<Step>
-    requires { 13 ≤ length body.now }
-    ensures { result ≡ flush_of body.now }
-{
-    if body.len() != HANDLE_END {
-        return None;
-    }
-    Some(Step::Flush {
-        inode: read_u32_at(body, 1),
-        generation: read_u64_at(body, 5),
-    })
-}
-
+// The examination of an inode, 12, or of a block, 13: behind the first byte stands its number alone.
 #[tactic(auto, unfolding(crate::specs::Requests::see_inode_of))]
 fn see_inode(body: &[u8]) -> Option<Step>
     ensures { result ≡ see_inode_of body.now }
 {
-    if body.len() != 5 {
-        return None;
+    match body.len() {
+        5 => Some(Step::SeeInode {
+            inode: read_u32_at(body, 1),
+        }),
+        _ => None,
     }
-    Some(Step::SeeInode {
-        inode: read_u32_at(body, 1),
-    })
 }
 
 #[tactic(auto, unfolding(crate::specs::Requests::see_block_of))]

@@ -70,6 +70,19 @@ const NO_FAULTS: Faults<'static> = Faults {
     room: 100_000,
 };
 
+/// The reads with these numbers fail.
+fn failing_reads(reads: &[u64]) -> Faults<'_> {
+    Faults { reads, ..NO_FAULTS }
+}
+
+/// The writes with these numbers fail.
+fn failing_writes(writes: &[u64]) -> Faults<'_> {
+    Faults {
+        writes,
+        ..NO_FAULTS
+    }
+}
+
 /// Serves a stream that comes in pieces of at most so many bytes, while calls fail.
 fn serve_faulty(
     alloc: Global,
@@ -392,22 +405,23 @@ fn each_is_answered(served: &Served) -> bool {
     served.given.len() == whole.saturating_mul(STOPPED_REPLY.len())
 }
 
+/// Serves three stats, which a mount that is told nothing refuses, while calls fail.
+fn serve_stats(alloc: Global, piece: u64, faults: Faults<'_>) -> Result<Served, AllocError>
+    requires { 0 < piece }
+{
+    let stream = joined(alloc, &[STAT, STAT, STAT])?;
+    serve_faulty(alloc, &stream, piece, faults, &[])
+}
+
 #[test]
 fn each_call_of_a_source_fails_once(rt: HostRuntime) -> Result<(), Fail> {
     let alloc = rt.alloc();
-    let stream = joined(alloc, &[STAT, STAT, STAT])?;
     for number in 1..12u64 {
-        let fault = Faults {
-            reads: &[number],
-            ..NO_FAULTS
-        };
-        let served = serve_faulty(alloc, &stream, 7, fault, &[])?;
-        let want = if number < 10 {
-            WireEnd::SourceFault
-        } else {
-            WireEnd::End
-        };
-        assert_eq!(rt; served.end, want, "{number}");
+        let served = serve_stats(alloc, 7, failing_reads(&[number]))?;
+        match number {
+            1..=9 => assert_eq!(rt; served.end, WireEnd::SourceFault, "{number}"),
+            _ => assert_eq!(rt; served.end, WireEnd::End, "{number}"),
+        }
         assert!(rt; each_is_answered(&served), "{number}");
     }
     Ok(())
@@ -416,13 +430,8 @@ fn each_call_of_a_source_fails_once(rt: HostRuntime) -> Result<(), Fail> {
 #[test]
 fn each_call_of_a_sink_fails_once(rt: HostRuntime) -> Result<(), Fail> {
     let alloc = rt.alloc();
-    let stream = joined(alloc, &[STAT, STAT, STAT])?;
     for number in 1..5u64 {
-        let fault = Faults {
-            writes: &[number],
-            ..NO_FAULTS
-        };
-        let served = serve_faulty(alloc, &stream, 4096, fault, &[])?;
+        let served = serve_stats(alloc, 4096, failing_writes(&[number]))?;
         let want = if number < 4 {
             WireEnd::SinkFault
         } else {

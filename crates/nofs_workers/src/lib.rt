@@ -22,6 +22,6 @@ pub use course::Course;
 pub use flusher::{Flusher, WritesOut};
 pub use gate::{Gate, Gated, OpenGate};
 pub use orders::{Downwards, Upwards};
-pub use sweepers::{BlockSweeper, InodeSweeper};
-pub use tasks::{InodeOrder, Script};
+pub use sweepers::Sweeper;
+pub use tasks::{Elements, Script};
 pub use user::{UserEnd, UserWorker};

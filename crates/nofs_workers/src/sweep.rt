@@ -21,7 +21,7 @@ fn found_no_memory(reply: &Reply) -> bool
 }
 
 /// The step that examines an element.
-fn see_of(kind: ElementKind, item: u64) -> Step
+pub fn see_of(kind: ElementKind, item: u64) -> Step
     requires { kind ≡ Inode → item < 2 ^ 32 }
     ensures { result ≡ step_to_see kind item }
 {
@@ -29,6 +29,28 @@ fn see_of(kind: ElementKind, item: u64) -> Step
         ElementKind::Inode => Step::SeeInode { inode: item as u32 },
         ElementKind::Block => Step::SeeBlock { block: item },
     }
+}
+
+/// Examines each element by a step of its own. True where memory was wanting.
+fn see_each<S: Steps, T: Gate>(
+    steps: &mut S,
+    kind: ElementKind,
+    elements: &[u64],
+    gate: &mut T,
+) -> bool
+    requires { AreInRange kind elements.now }
+    ensures made { MakesFirst kind elements.now result (S.made steps.old) (S.made steps.new) }
+    ensures goes { S.goes steps.old steps.new }
+{
+    for element in elements {
+        gate.before();
+        let reply = steps.step(see_of(kind, *element));
+        gate.after();
+        if found_no_memory(&reply) {
+            return true;
+        }
+    }
+    false
 }
 
 /// The element that an item of the order stands for: inodes are counted from 1, blocks from 0.
@@ -69,29 +91,8 @@ fn commit_each<S: Batches, T: Gate>(
 {
     for at in 0..count {
         gate.before();
-        let reply = steps.commit(evidence, at, S::judge(evidence, at));
-        gate.after();
-        if found_no_memory(&reply) {
-            return true;
-        }
-    }
-    false
-}
-
-/// Examines each element by a step of its own. True where memory was wanting.
-fn see_each<S: Steps, T: Gate>(
-    steps: &mut S,
-    kind: ElementKind,
-    elements: &[u64],
-    gate: &mut T,
-) -> bool
-    requires { AreInRange kind elements.now }
-    ensures made { MakesFirst kind elements.now result (S.made steps.old) (S.made steps.new) }
-    ensures goes { S.goes steps.old steps.new }
-{
-    for element in elements {
-        gate.before();
-        let reply = steps.step(see_of(kind, *element));
+        let used = S::judge(evidence, at);
+        let reply = steps.commit(evidence, at, used);
         gate.after();
         if found_no_memory(&reply) {
             return true;

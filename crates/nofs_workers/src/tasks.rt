@@ -1,9 +1,11 @@
 //! What workers are given to do, with the facts that their work rests on.
 ghost use Rattle.std.specs.Prelude.{◌≡◌, ◌^◌, ◌<◌, All};
+ghost use Rattle.nofs_machine.specs.declared.steps.ElementKind.TheVariants.{Inode};
 ghost use Rattle.nofs_client.specs.Commands.{IsWellFormed, AreWellFormed};
 
 use crate::course::Course;
 use nofs_client::CommandList;
+use nofs_machine::ElementKind;
 
 /// The commands of one user, each well formed.
 #[derive(Drop)]
@@ -23,20 +25,22 @@ impl Script {
     }
 }
 
-/// An order of inodes: item `n` is inode `n + 1`, so that it has fewer than 2^32 places.
+/// All inodes or all blocks, in an order: item `n` is inode `n + 1`, so that there are fewer than 2^32 of them, or block `n`.
 #[derive(Drop)]
-pub struct InodeOrder<O: Course> {
+pub struct Elements<O: Course> {
+    /// What they are.
+    pub kind: ElementKind,
     /// The order of the items.
     pub order: O,
-    ghost small: { O.count_of order < 2 ^ 32 },
+    ghost small: { kind ≡ Inode → O.count_of order < 2 ^ 32 },
 }
 
-impl<O: Course> InodeOrder<O> {
-    /// An order of so many inodes.
-    pub fn new(order: O) -> Self
-        requires { O.count_of order < 2 ^ 32 }
-        ensures { result.order ≡ order }
+impl<O: Course> Elements<O> {
+    /// The elements of an order.
+    pub fn new(kind: ElementKind, order: O) -> Self
+        requires { kind ≡ Inode → O.count_of order < 2 ^ 32 }
+        ensures { (result.kind ≡ kind) × (result.order ≡ order) }
     {
-        InodeOrder { order }
+        Elements { kind, order }
     }
 }

@@ -7,9 +7,7 @@ mod gates;
 
 use crate::tests::fake::Fake;
 use crate::tests::gates::{CountGate, no_calls};
-use crate::{
-    BlockSweeper, Downwards, Flusher, InodeSweeper, OpenGate, Upwards, UserEnd, UserWorker,
-};
+use crate::{Downwards, Flusher, OpenGate, Sweeper, Upwards, UserWorker};
 use nofs_client::{Command, CommandList, Path};
 use nofs_told::Told;
 use std::alloc::{AllocError, Global};
@@ -25,19 +23,21 @@ fn two_stats(alloc: Global) -> Result<CommandList, AllocError>
     Ok(commands)
 }
 
+/// How many elements were examined, and how many by a commit, with the first and the last of them.
+fn counts(fake: &Fake) -> (usize, u64, Option<&u64>, Option<&u64>) {
+    let seen = &fake.seen;
+    (seen.len(), fake.committed, seen.first(), seen.last())
+}
+
 #[test]
 fn a_sweep_of_130_inodes_asks_for_64_and_64_and_2(rt: HostRuntime) -> Result<(), Fail> {
-    let mut sweeper = InodeSweeper::new(
-        Told::new(Fake::new(rt.alloc())),
-        Upwards { count: 130 },
-        OpenGate,
-    );
+    let told = Told::new(Fake::new(rt.alloc()));
+    let mut sweeper = Sweeper::of_inodes(told, Upwards { count: 130 }, OpenGate);
     sweeper.work();
     assert!(rt; !sweeper.out_of_memory);
     let fake = sweeper.into_inner().answers;
     assert_eq!(rt; fake.asked.as_slice(), [64, 64, 2].as_slice());
-    assert_eq!(rt; (fake.seen.len(), fake.committed), (130, 130));
-    assert!(rt; fake.seen.first() == Some(&1) && fake.seen.last() == Some(&130));
+    assert_eq!(rt; counts(&fake), (130, 130, Some(&1), Some(&130)));
     Ok(())
 }
 
@@ -45,12 +45,11 @@ fn a_sweep_of_130_inodes_asks_for_64_and_64_and_2(rt: HostRuntime) -> Result<(),
 fn a_sweep_whose_looks_are_refused_sees_one_by_one(rt: HostRuntime) -> Result<(), Fail> {
     let mut fake = Fake::new(rt.alloc());
     fake.refuses = true;
-    let mut sweeper = BlockSweeper::new(Told::new(fake), Downwards { count: 66 }, OpenGate);
+    let mut sweeper = Sweeper::of_blocks(Told::new(fake), Downwards { count: 66 }, OpenGate);
     sweeper.work();
     let fake = sweeper.into_inner().answers;
     assert_eq!(rt; fake.asked.as_slice(), [64, 2].as_slice());
-    assert_eq!(rt; (fake.seen.len(), fake.committed), (66, 0));
-    assert!(rt; fake.seen.first() == Some(&65) && fake.seen.last() == Some(&0));
+    assert_eq!(rt; counts(&fake), (66, 0, Some(&65), Some(&0)));
     Ok(())
 }
 
@@ -58,7 +57,7 @@ fn a_sweep_whose_looks_are_refused_sees_one_by_one(rt: HostRuntime) -> Result<()
 fn a_sweep_ends_where_memory_is_wanting(rt: HostRuntime) -> Result<(), Fail> {
     let mut fake = Fake::new(rt.alloc());
     fake.room = 70;
-    let mut sweeper = BlockSweeper::new(Told::new(fake), Upwards { count: 130 }, OpenGate);
+    let mut sweeper = Sweeper::of_blocks(Told::new(fake), Upwards { count: 130 }, OpenGate);
     sweeper.work();
     assert!(rt; sweeper.out_of_memory);
     let fake = sweeper.into_inner().answers;
@@ -99,13 +98,9 @@ fn a_user_passes_its_gate_at_each_step(rt: HostRuntime) -> Result<(), Fail> {
         CountGate { calls: &calls },
     );
     user.work();
-    let UserEnd {
-        steps,
-        lines,
-        out_of_memory,
-    } = user.into_inner();
-    assert!(rt; !out_of_memory);
-    assert_eq!(rt; (lines.len(), steps.answers.others), (2, 2));
+    let end = user.into_inner();
+    assert!(rt; !end.out_of_memory);
+    assert_eq!(rt; (end.lines.len(), end.steps.answers.others), (2, 2));
     assert_eq!(rt; calls.before.load(Ordering::SeqCst), 2);
     assert_eq!(rt; calls.after.load(Ordering::SeqCst), 2);
     Ok(())
@@ -118,12 +113,8 @@ fn a_user_ends_where_memory_is_wanting(rt: HostRuntime) -> Result<(), Fail> {
     let commands = two_stats(rt.alloc())?;
     let mut user = UserWorker::new(rt.alloc(), Told::new(fake), commands, OpenGate);
     user.work();
-    let UserEnd {
-        steps,
-        lines,
-        out_of_memory,
-    } = user.into_inner();
-    assert!(rt; out_of_memory);
-    assert_eq!(rt; (lines.len(), steps.answers.others), (1, 1));
+    let end = user.into_inner();
+    assert!(rt; end.out_of_memory);
+    assert_eq!(rt; (end.lines.len(), end.steps.answers.others), (1, 1));
     Ok(())
 }

@@ -1,32 +1,31 @@
 //! Runs over a cache that keeps writes back, and over the images that a crash in an ordinary day may leave.
 
-use crate::tests::disks::{bytes_of, cached, cells_of, left};
+use crate::tests::disks::{bytes_of, cached, cells_of, failing, fault, left};
 use crate::tests::recorder::{Recorder, draw};
-use crate::tests::{run_on, run_with};
+use crate::tests::{LINES, SESSION, prints, run_on, run_with};
 use nofs_disk::Disk;
 use nofs_filedisk::{FileDisk, MemFile};
 use nofs_io::{MemSink, MemSource};
 use nofs_memdisk::{CallKind, FaultAt, MemDisk, Pick};
 use std::alloc::{AllocError, Global};
+use std::process::Abort;
 use std::sync::Wait;
 use std::test::Fail;
 use std::thread::Threads;
-
-const SESSION: &str = "put @ 0 616263\nget @ 0 3\nfsync @";
-
-const LINES: &str = "put 3\ngot bytes:616263\nsynced\n";
 
 #[test]
 fn what_was_synced_over_a_cache_stands_on_the_disk_below(rt: HostRuntime) -> Result<(), Fail> {
     let alloc = rt.alloc();
     let disk = cached(alloc, MemDisk::new(alloc, 64)?)?;
-    let (status, sink, disk) = run_on(&rt, alloc, "new 64 16", SESSION.as_bytes(), disk)?;
-    assert_eq!(rt; sink.bytes(), LINES.as_bytes());
-    assert_eq!(rt; status, 0);
-    let session = b"get @ 0 3".as_slice();
-    let (status, sink, _) = run_on(&rt, alloc, "run", session, disk.below())?;
-    assert_eq!(rt; sink.bytes(), b"got bytes:616263\n".as_slice());
-    assert_eq!(rt; status, 0);
+    let disk = prints(&rt, disk, "new 64 16", SESSION, LINES, 0)?;
+    prints(
+        &rt,
+        disk.below(),
+        "run",
+        "get @ 0 3",
+        "got bytes:616263\n",
+        0,
+    )?;
     Ok(())
 }
 
@@ -54,12 +53,7 @@ fn tells_a_fault(lines: &[u8]) -> bool {
 fn a_write_below_that_fails_is_made_again_or_told(rt: HostRuntime) -> Result<(), Fail> {
     let alloc = rt.alloc();
     for _ in 0..20 {
-        let mut below = MemDisk::new(alloc, 64)?;
-        below.fail_at(&[FaultAt {
-            call: CallKind::Write,
-            number: 66,
-            taken: false,
-        }])?;
+        let below = failing(alloc, 64, fault(CallKind::Write, 66, false))?;
         let disk = cached(alloc, below)?;
         let (status, sink, _) = run_on(&rt, alloc, "new 64 16", SESSION.as_bytes(), disk)?;
         assert!(rt; may_tell(status, sink.bytes()), "{status}");
@@ -67,8 +61,8 @@ fn a_write_below_that_fails_is_made_again_or_told(rt: HostRuntime) -> Result<(),
     Ok(())
 }
 
-/// A line of a session: its words, and behind them so many times this byte in hexadecimal digits.
-pub type Line = (&'static str, u8, usize);
+/// A line of a session: its words, and how often their last two digits stand there.
+pub type Line = (&'static str, usize);
 
 const KEPT: usize = 3_072;
 
@@ -103,43 +97,43 @@ const LARGE: Story = Story {
 };
 
 const EVENING: [Line; 10] = [
-    ("make /kept", 0, 0),
-    ("put /kept 0 ", 16, KEPT),
-    ("mkdir /d", 0, 0),
-    ("make /a", 0, 0),
-    ("put /a 0 ", 17, 9_000),
-    ("make /d/b", 0, 0),
-    ("put /d/b 0 ", 18, 12_000),
-    ("make /c", 0, 0),
-    ("put /c 0 ", 19, 5_000),
-    ("put @ 0 ", 26, 2_000),
+    ("make /kept", 1),
+    ("put /kept 0 10", KEPT),
+    ("mkdir /d", 1),
+    ("make /a", 1),
+    ("put /a 0 11", 9_000),
+    ("make /d/b", 1),
+    ("put /d/b 0 12", 12_000),
+    ("make /c", 1),
+    ("put /c 0 13", 5_000),
+    ("put @ 0 1a", 2_000),
 ];
 
 const DAY: [Line; 24] = [
-    ("put /a 4096 ", 17, 7_000),
-    ("make /f", 0, 0),
-    ("put /f 0 ", 20, 14_000),
-    ("rename /c e", 0, 0),
-    ("link /a /d/l", 0, 0),
-    ("drop /d/b", 0, 0),
-    ("fsync /f", 0, 0),
-    ("make /d/g", 0, 0),
-    ("put /d/g 0 ", 21, 13_000),
-    ("size /a 2000", 0, 0),
-    ("drop /a", 0, 0),
-    ("put /e 5000 ", 19, 3_000),
-    ("size /f 20000", 0, 0),
-    ("put /f 19456 ", 20, 500),
-    ("fsync /f", 0, 0),
-    ("drop /d/l", 0, 0),
-    ("make /h", 0, 0),
-    ("put /h 0 ", 22, 16_000),
-    ("move /d/g /m", 0, 0),
-    ("put @ 1000 ", 26, 9_000),
-    ("drop /f", 0, 0),
-    ("make /d/i", 0, 0),
-    ("put /d/i 0 ", 23, 20_000),
-    ("put /e 0 ", 19, 8_000),
+    ("put /a 4096 11", 7_000),
+    ("make /f", 1),
+    ("put /f 0 14", 14_000),
+    ("rename /c e", 1),
+    ("link /a /d/l", 1),
+    ("drop /d/b", 1),
+    ("fsync /f", 1),
+    ("make /d/g", 1),
+    ("put /d/g 0 15", 13_000),
+    ("size /a 2000", 1),
+    ("drop /a", 1),
+    ("put /e 5000 13", 3_000),
+    ("size /f 20000", 1),
+    ("put /f 19456 14", 500),
+    ("fsync /f", 1),
+    ("drop /d/l", 1),
+    ("make /h", 1),
+    ("put /h 0 16", 16_000),
+    ("move /d/g /m", 1),
+    ("put @ 1000 1a", 9_000),
+    ("drop /f", 1),
+    ("make /d/i", 1),
+    ("put /d/i 0 17", 20_000),
+    ("put /e 0 13", 8_000),
 ];
 
 const FILES: [(&str, u8); 12] = [
@@ -159,27 +153,27 @@ const FILES: [(&str, u8); 12] = [
 
 // A file has 72 blocks before it needs a top, and 64 more below each child.
 const LARGE_EVENING: [Line; 4] = [
-    ("make /kept", 0, 0),
-    ("put /kept 0 ", 16, KEPT),
-    ("make /a", 0, 0),
-    ("put /a 70000 ", 17, 9_000),
+    ("make /kept", 1),
+    ("put /kept 0 10", KEPT),
+    ("make /a", 1),
+    ("put /a 70000 11", 9_000),
 ];
 
 const LARGE_DAY: [Line; 14] = [
-    ("put /a 0 ", 17, 60_000),
-    ("put /a 137000 ", 17, 9_000),
-    ("fsync /a", 0, 0),
-    ("size /a 73728", 0, 0),
-    ("make /b", 0, 0),
-    ("put /b 72000 ", 18, 20_000),
-    ("put /b 4260000 ", 18, 8_000),
-    ("drop /a", 0, 0),
-    ("fsync /b", 0, 0),
-    ("make /c", 0, 0),
-    ("put /c 73728 ", 19, 60_000),
-    ("size /b 139264", 0, 0),
-    ("size /b 4268032", 0, 0),
-    ("put /b 139264 ", 18, 5_000),
+    ("put /a 0 11", 60_000),
+    ("put /a 137000 11", 9_000),
+    ("fsync /a", 1),
+    ("size /a 73728", 1),
+    ("make /b", 1),
+    ("put /b 72000 12", 20_000),
+    ("put /b 4260000 12", 8_000),
+    ("drop /a", 1),
+    ("fsync /b", 1),
+    ("make /c", 1),
+    ("put /c 73728 13", 60_000),
+    ("size /b 139264", 1),
+    ("size /b 4268032", 1),
+    ("put /b 139264 12", 5_000),
 ];
 
 const LARGE_FILES: [(&str, u8); 4] = [("/kept", 16), ("/a", 17), ("/b", 18), ("/c", 19)];
@@ -192,15 +186,23 @@ pub fn push_bytes(alloc: Global, text: &mut Vec<u8>, byte: u8, count: usize) -> 
     Ok(())
 }
 
-fn session(alloc: Global, lines: &[Line]) -> Result<Vec<u8>, Fail> {
+fn session(alloc: Global, lines: &[Line]) -> Result<Vec<u8>, AllocError> {
     let mut text = Vec::new(alloc);
     for line in lines {
-        let (words, byte, count) = *line;
-        text.extend_from_slice(words.as_bytes())?;
-        push_bytes(alloc, &mut text, byte, count)?;
-        text.push(b'\n')?;
+        push_line(&mut text, *line)?;
     }
     Ok(text)
+}
+
+fn push_line(text: &mut Vec<u8>, line: Line) -> Result<(), AllocError> {
+    let words = line.0.as_bytes();
+    text.extend_from_slice(words)?;
+    let digits = words.get(words.len().saturating_sub(2)..).unwrap_or(&[]);
+    for _ in 1..line.1 {
+        text.extend_from_slice(digits)?;
+    }
+    text.push(b'\n')?;
+    Ok(())
 }
 
 // Gets every file, in order, and lists the directories.
@@ -276,11 +278,7 @@ pub fn fault_after(made: (u64, u64), call: (CallKind, u64), taken: bool) -> Faul
         CallKind::Flush => made.1,
         _ => made.0,
     };
-    FaultAt {
-        call: call.0,
-        number: before.saturating_add(call.1),
-        taken,
-    }
+    fault(call.0, before.saturating_add(call.1), taken)
 }
 
 /// A disk on which a day was stopped by a call that failed, and the status.
@@ -473,66 +471,38 @@ fn are_own(seen: Seen, images: u64) -> bool {
     seen.images >= images && seen.foreign == 0 && seen.bytes > 0 && seen.lost > 0
 }
 
-// Whether a day ends well in a file that keeps its calls, and survives a crash in each of them.
-fn survives<R: Threads + Wait + Sync>(
-    rt: &R,
-    alloc: Global,
-    story: Story,
-    start: u64,
-) -> Result<bool, Fail> {
-    let (status, file) = recorded_day(rt, alloc, story)?;
+// Whether the small day ends well in a file that keeps its calls, and survives a crash in each of them.
+fn survives<R: Threads + Wait + Sync>(rt: &R, alloc: Global, start: u64) -> Result<bool, Fail> {
+    let (status, file) = recorded_day(rt, alloc, SMALL)?;
     let is_recorded = status == 0 && file.tells_all()? && file.calls() >= LEAST_CALLS;
-    let (served, seen) = served_images(rt, alloc, story, &file, start)?;
+    let (served, seen) = served_images(rt, alloc, SMALL, &file, start)?;
     Ok(is_recorded && served && are_own(seen, LEAST_IMAGES as u64))
 }
 
-// Two thousand images in eight tests, each of which serves a day anew and draws at every call of its file.
+// Two thousand images in three tests. Each start serves the day anew and draws at every call of its file.
+fn survive_from<R: Threads + Wait + Sync + Abort + AllocGlobal>(
+    rt: &R,
+    starts: &[u64],
+) -> Result<(), Fail> {
+    for start in starts {
+        assert!(rt; survives(rt, rt.alloc(), *start)?, "{start}");
+    }
+    Ok(())
+}
+
 #[test]
 fn a_day_survives_its_first_crashes(rt: HostRuntime) -> Result<(), Fail> {
-    assert!(rt; survives(&rt, rt.alloc(), SMALL, 1)?);
-    Ok(())
+    survive_from(&rt, &[1, 2, 3])
 }
 
 #[test]
 fn a_day_survives_its_second_crashes(rt: HostRuntime) -> Result<(), Fail> {
-    assert!(rt; survives(&rt, rt.alloc(), SMALL, 2)?);
-    Ok(())
+    survive_from(&rt, &[4, 5, 6])
 }
 
 #[test]
 fn a_day_survives_its_third_crashes(rt: HostRuntime) -> Result<(), Fail> {
-    assert!(rt; survives(&rt, rt.alloc(), SMALL, 3)?);
-    Ok(())
-}
-
-#[test]
-fn a_day_survives_its_fourth_crashes(rt: HostRuntime) -> Result<(), Fail> {
-    assert!(rt; survives(&rt, rt.alloc(), SMALL, 4)?);
-    Ok(())
-}
-
-#[test]
-fn a_day_survives_its_fifth_crashes(rt: HostRuntime) -> Result<(), Fail> {
-    assert!(rt; survives(&rt, rt.alloc(), SMALL, 5)?);
-    Ok(())
-}
-
-#[test]
-fn a_day_survives_its_sixth_crashes(rt: HostRuntime) -> Result<(), Fail> {
-    assert!(rt; survives(&rt, rt.alloc(), SMALL, 6)?);
-    Ok(())
-}
-
-#[test]
-fn a_day_survives_its_seventh_crashes(rt: HostRuntime) -> Result<(), Fail> {
-    assert!(rt; survives(&rt, rt.alloc(), SMALL, 7)?);
-    Ok(())
-}
-
-#[test]
-fn a_day_survives_its_eighth_crashes(rt: HostRuntime) -> Result<(), Fail> {
-    assert!(rt; survives(&rt, rt.alloc(), SMALL, 8)?);
-    Ok(())
+    survive_from(&rt, &[7, 8])
 }
 
 /// How often the day of large files is stopped, and how many images are drawn of each.

@@ -3,7 +3,7 @@
 ghost use Rattle.std.specs.Prelude.{◌<◌};
 
 use crate::tests::disks::{cells_of, scan_line, used};
-use crate::tests::run_on;
+use crate::tests::{prints, run_on};
 use nofs_memdisk::MemDisk;
 use std::alloc::{AllocError, Global};
 use std::test::Fail;
@@ -16,13 +16,9 @@ const THEIR_LINES: &str =
 
 #[test]
 fn two_users_get_the_same_lines_in_a_hundred_runs(rt: HostRuntime) -> Result<(), Fail> {
-    let alloc = rt.alloc();
     for _ in 0..100 {
-        let disk = MemDisk::new(alloc, 64)?;
-        let session = TWO_USERS.as_bytes();
-        let (status, sink, _) = run_on(&rt, alloc, "new 64 16", session, disk)?;
-        assert_eq!(rt; sink.bytes(), THEIR_LINES.as_bytes());
-        assert_eq!(rt; status, 0);
+        let disk = MemDisk::new(rt.alloc(), 64)?;
+        prints(&rt, disk, "new 64 16", TWO_USERS, THEIR_LINES, 0)?;
     }
     Ok(())
 }
@@ -32,41 +28,28 @@ fn push_text(text: &mut Vec<u8>, words: &str) -> Result<(), AllocError> {
 }
 
 // Makes a file of a directory and puts its bytes, with a flush after every fifth put.
-fn push_file(
-    alloc: Global,
-    text: &mut Vec<u8>,
-    directory: &str,
-    number: u64,
-) -> Result<(), AllocError>
+fn push_file(alloc: Global, text: &mut Vec<u8>, path: &str, number: u64) -> Result<(), AllocError>
     requires { number < 70 }
 {
-    push_text(
-        text,
-        format!(in alloc; "make {directory}/f{number}\n")?.as_str(),
-    )?;
-    push_text(
-        text,
-        format!(in alloc; "put {directory}/f{number} 0 ")?.as_str(),
-    )?;
+    let line = format!(in alloc; "make {path}/f{number}\n")?;
+    push_text(text, line.as_str())?;
+    let words = format!(in alloc; "put {path}/f{number} 0 ")?;
+    push_text(text, words.as_str())?;
     for _ in 0..71_680 - 1_024 * number {
         push_text(text, "5a")?;
     }
     push_text(text, "\n")?;
     if number % 5 == 4 {
-        push_text(
-            text,
-            format!(in alloc; "fsync {directory}/f{number}\n")?.as_str(),
-        )?;
+        let line = format!(in alloc; "fsync {path}/f{number}\n")?;
+        push_text(text, line.as_str())?;
     }
     Ok(())
 }
 
 // Two directories with fifteen files.
 fn push_user(alloc: Global, text: &mut Vec<u8>, one: &str, two: &str) -> Result<(), AllocError> {
-    push_text(
-        text,
-        format!(in alloc; "mkdir {one}\nmkdir {two}\n")?.as_str(),
-    )?;
+    let lines = format!(in alloc; "mkdir {one}\nmkdir {two}\n")?;
+    push_text(text, lines.as_str())?;
     for number in 0..15 {
         let directory = if number % 2 == 0 { one } else { two };
         push_file(alloc, text, directory, number)?;

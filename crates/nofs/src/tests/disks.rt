@@ -6,7 +6,7 @@ ghost use Rattle.std.specs.Prelude.{IsTrue, ◌↔◌};
 
 use nofs_cache::Cached;
 use nofs_disk::{Cell, Disk};
-use nofs_memdisk::{MemDisk, Pick};
+use nofs_memdisk::{CallKind, FaultAt, MemDisk, Pick};
 use nofs_model::{ScanResult, full_scan, is_mountable};
 use std::alloc::{AllocError, Global};
 
@@ -26,6 +26,22 @@ fn lay(disk: &mut MemDisk, block: u64, cell: &Cell)
     if block < disk.blocks() {
         disk.put_cell(block, cell);
     }
+}
+
+/// The call of this kind and number, which fails.
+pub fn fault(call: CallKind, number: u64, taken: bool) -> FaultAt {
+    FaultAt {
+        call,
+        number,
+        taken,
+    }
+}
+
+/// A disk of so many blocks, of which this call fails.
+pub fn failing(alloc: Global, blocks: u64, fault: FaultAt) -> Result<MemDisk, AllocError> {
+    let mut disk = MemDisk::new(alloc, blocks)?;
+    disk.fail_at(&[fault])?;
+    Ok(disk)
 }
 
 /// The first cells of a disk, up to one that can't be read.

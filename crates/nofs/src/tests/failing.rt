@@ -1,7 +1,7 @@
 //! Runs in which one call of a disk fails: what they tell, and what the images of a crash after them show.
 
-use crate::tests::disks::{cached, left};
-use crate::tests::moves::{failing, faults_of, images_of, push_fault};
+use crate::tests::disks::{cached, failing, left};
+use crate::tests::moves::{calls_of, faults_behind, faults_of, images_of, run_failing, shown_by};
 use crate::tests::run_on;
 use nofs_memdisk::{CallCounts, CallKind, FaultAt, MemDisk};
 use std::alloc::{AllocError, Global};
@@ -19,135 +19,97 @@ struct Told {
     rest: &'static str,
 }
 
+// A command that writes to the disk, or flushes it.
+fn writes(line: &'static str, rest: &'static str) -> Told {
+    Told {
+        writes: true,
+        ..reads(line, rest)
+    }
+}
+
+// A command that does not, as one over a cache.
+fn reads(line: &'static str, rest: &'static str) -> Told {
+    Told {
+        line,
+        writes: false,
+        end: "\n",
+        rest,
+    }
+}
+
+// A put over a cache.
+fn puts(line: &'static str, rest: &'static str) -> Told {
+    Told {
+        end: ", stored 0\n",
+        ..reads(line, rest)
+    }
+}
+
 const NAMES: &str =
     "mkdir /d\nmake /d/a\nmake /d/b\nrename /d/a c\nlist /d\nlist /\ndrop /d\ndrop /d/b\nmake /d/x\nlist /d";
-
-const NAMES_TOLD: [Told; 10] = [
-    Told {
-        line: "made\n",
-        writes: true,
-        end: "\n",
-        rest: "refused 1 missing\nrefused 1 missing\nrefused 1 missing\nrefused 1 missing\nnames\nrefused 1 missing\nrefused 1 missing\nrefused 1 missing\nrefused 1 missing\n",
-    },
-    Told {
-        line: "made\n",
-        writes: true,
-        end: "\n",
-        rest: "made\nrefused 1 missing\nnames b\nnames d/\nrefused 7 not empty\ndropped\nmade\nnames x\n",
-    },
-    Told {
-        line: "made\n",
-        writes: true,
-        end: "\n",
-        rest: "renamed\nnames c\nnames d/\nrefused 7 not empty\nrefused 1 missing\nmade\nnames c x\n",
-    },
-    Told {
-        line: "renamed\n",
-        writes: true,
-        end: "\n",
-        rest: "names a b\nnames d/\nrefused 7 not empty\ndropped\nmade\nnames a x\n",
-    },
-    Told {
-        line: "names c b\n",
-        writes: false,
-        end: "\n",
-        rest: "names d/\nrefused 7 not empty\ndropped\nmade\nnames c x\n",
-    },
-    Told {
-        line: "names d/\n",
-        writes: false,
-        end: "\n",
-        rest: "refused 7 not empty\ndropped\nmade\nnames c x\n",
-    },
-    Told {
-        line: "refused 7 not empty\n",
-        writes: false,
-        end: "\n",
-        rest: "dropped\nmade\nnames c x\n",
-    },
-    Told {
-        line: "dropped\n",
-        writes: true,
-        end: "\n",
-        rest: "made\nnames c b x\n",
-    },
-    Told {
-        line: "made\n",
-        writes: true,
-        end: "\n",
-        rest: "names c\n",
-    },
-    Told {
-        line: "names c x\n",
-        writes: false,
-        end: "\n",
-        rest: "",
-    },
-];
 
 const FILES: &str =
     "put @ 0 616263\nget @ 0 3\nfsync @\nmake /a\nput /a 0 646566\nget /a 0 3\nfsync /a";
 
-const FILES_TOLD: [Told; 7] = [
-    Told {
-        line: "put 3\n",
-        writes: false,
-        end: ", stored 0\n",
-        rest: "got\nsynced\nmade\nput 3\ngot bytes:646566\nsynced\n",
-    },
-    Told {
-        line: "got bytes:616263\n",
-        writes: false,
-        end: "\n",
-        rest: "synced\nmade\nput 3\ngot bytes:646566\nsynced\n",
-    },
-    Told {
-        line: "synced\n",
-        writes: true,
-        end: "\n",
-        rest: "made\nput 3\ngot bytes:646566\nsynced\n",
-    },
-    Told {
-        line: "made\n",
-        writes: false,
-        end: "\n",
-        rest: "refused 1 missing, stored 0\nrefused 1 missing\nrefused 1 missing\n",
-    },
-    Told {
-        line: "put 3\n",
-        writes: false,
-        end: ", stored 0\n",
-        rest: "got\nsynced\n",
-    },
-    Told {
-        line: "got bytes:646566\n",
-        writes: false,
-        end: "\n",
-        rest: "synced\n",
-    },
-    Told {
-        line: "synced\n",
-        writes: true,
-        end: "\n",
-        rest: "",
-    },
-];
-
-// Each call of a run, failing once. A write that fails is taken or not.
-fn each_fault(alloc: Global, calls: CallCounts) -> Result<Vec<FaultAt>, AllocError> {
-    let mut faults = Vec::new(alloc);
-    for before in 0..calls.reads {
-        push_fault(&mut faults, CallKind::Read, before, false)?;
-    }
-    for before in 0..calls.writes {
-        push_fault(&mut faults, CallKind::Write, before, false)?;
-        push_fault(&mut faults, CallKind::Write, before, true)?;
-    }
-    for before in 0..calls.flushes {
-        push_fault(&mut faults, CallKind::Flush, before, false)?;
-    }
-    Ok(faults)
+fn names_told() -> [Told; 10] {
+    [
+        writes(
+            "made\n",
+            "refused 1 missing\nrefused 1 missing\nrefused 1 missing\nrefused 1 missing\nnames\nrefused 1 missing\nrefused 1 missing\nrefused 1 missing\nrefused 1 missing\n",
+        ),
+        writes(
+            "made\n",
+            "made\nrefused 1 missing\nnames b\nnames d/\nrefused 7 not empty\ndropped\nmade\nnames x\n",
+        ),
+        writes(
+            "made\n",
+            "renamed\nnames c\nnames d/\nrefused 7 not empty\nrefused 1 missing\nmade\nnames c x\n",
+        ),
+        writes(
+            "renamed\n",
+            "names a b\nnames d/\nrefused 7 not empty\ndropped\nmade\nnames a x\n",
+        ),
+        reads(
+            "names c b\n",
+            "names d/\nrefused 7 not empty\ndropped\nmade\nnames c x\n",
+        ),
+        reads(
+            "names d/\n",
+            "refused 7 not empty\ndropped\nmade\nnames c x\n",
+        ),
+        reads("refused 7 not empty\n", "dropped\nmade\nnames c x\n"),
+        writes("dropped\n", "made\nnames c b x\n"),
+        writes("made\n", "names c\n"),
+        reads("names c x\n", ""),
+    ]
 }
+
+fn files_told() -> [Told; 7] {
+    [
+        puts(
+            "put 3\n",
+            "got\nsynced\nmade\nput 3\ngot bytes:646566\nsynced\n",
+        ),
+        reads(
+            "got bytes:616263\n",
+            "synced\nmade\nput 3\ngot bytes:646566\nsynced\n",
+        ),
+        writes("synced\n", "made\nput 3\ngot bytes:646566\nsynced\n"),
+        reads(
+            "made\n",
+            "refused 1 missing, stored 0\nrefused 1 missing\nrefused 1 missing\n",
+        ),
+        puts("put 3\n", "got\nsynced\n"),
+        reads("got bytes:646566\n", "synced\n"),
+        writes("synced\n", ""),
+    ]
+}
+
+const NONE: CallCounts = CallCounts {
+    reads: 0,
+    writes: 0,
+    flushes: 0,
+};
 
 // The lines up to the command at a place, which is refused; all of them where none has this place.
 fn lines_to(
@@ -252,15 +214,13 @@ fn each_call_that_fails_once_is_told(rt: HostRuntime) -> Result<(), Fail> {
     let alloc = rt.alloc();
     let disk = MemDisk::new(alloc, 64)?;
     let (_, sink, disk) = run_on(&rt, alloc, "new 64 16", NAMES.as_bytes(), disk)?;
-    let whole = lines_to(alloc, &NAMES_TOLD, 10, "")?;
+    let told = names_told();
+    let whole = lines_to(alloc, &told, 10, "")?;
     assert_eq!(rt; sink.bytes(), whole.as_slice());
-    for fault in each_fault(alloc, disk.calls())? {
-        let disk = failing(alloc, fault)?;
-        let (status, sink, disk) = run_on(&rt, alloc, "new 64 16", NAMES.as_bytes(), disk)?;
-        assert!(rt;
-            may_tell(alloc, &NAMES_TOLD, fault, status, sink.bytes())?,
-            "{fault:?} {status}"
-        );
+    for fault in faults_behind(alloc, NONE, disk.calls())? {
+        let (status, sink, disk) = run_failing(&rt, alloc, NAMES, fault)?;
+        let may = may_tell(alloc, &told, fault, status, sink.bytes())?;
+        assert!(rt; may, "{fault:?} {status}");
         assert!(rt; status == 3 || fault.call == CallKind::Read, "{fault:?}");
         assert!(rt; is_last(fault, disk.calls()), "{fault:?}");
     }
@@ -333,22 +293,15 @@ fn may_all_show(alloc: Global, lines: &[u8]) -> Result<bool, AllocError> {
 }
 
 #[test]
-fn a_crash_after_a_write_fault_shows_only_names_that_steps_gave(
-    rt: HostRuntime,
-) -> Result<(), Fail> {
+fn a_crash_after_a_fault_shows_only_names_that_steps_gave(rt: HostRuntime) -> Result<(), Fail> {
     let alloc = rt.alloc();
-    let disk = MemDisk::new(alloc, 64)?;
-    let (_, _, disk) = run_on(&rt, alloc, "new 64 16", NAMES.as_bytes(), disk)?;
     let mut seen = 0_usize;
-    for fault in faults_of(alloc, disk.calls())? {
-        let disk = failing(alloc, fault)?;
-        let (_, _, disk) = run_on(&rt, alloc, "new 64 16", NAMES.as_bytes(), disk)?;
-        let images = images_of(alloc, &disk)?;
-        seen = seen.saturating_add(images.len());
-        for image in images {
-            let (status, sink, _) = run_on(&rt, alloc, "run", LOOKS.as_bytes(), image)?;
-            assert_eq!(rt; status, 0, "{fault:?}");
-            assert!(rt; may_all_show(alloc, sink.bytes())?, "{fault:?}");
+    for fault in faults_of(alloc, calls_of(&rt, alloc, NAMES)?)? {
+        let (_, _, disk) = run_failing(&rt, alloc, NAMES, fault)?;
+        for image in images_of(alloc, &disk)? {
+            seen = seen.saturating_add(1);
+            let shown = shown_by(&rt, image, LOOKS)?;
+            assert!(rt; may_all_show(alloc, shown.bytes())?, "{fault:?}");
         }
     }
     assert!(rt; seen > 50, "{seen}");
@@ -356,9 +309,6 @@ fn a_crash_after_a_write_fault_shows_only_names_that_steps_gave(
 }
 
 const GETS: &str = "get @ 0 3\nget /a 0 3";
-
-/// What may be told of `@`.
-const LABEL: [&str; 4] = ["got", "got hole:3", "got lost:3", "got bytes:616263"];
 
 /// What may be told of `/a`.
 const NEW_FILE: [&str; 7] = [
@@ -370,6 +320,9 @@ const NEW_FILE: [&str; 7] = [
     "refused 2 lost entry 0",
     "refused 3 lost slot 0",
 ];
+
+/// What may be told of `@`.
+const LABEL: [&str; 4] = ["got", "got hole:3", "got lost:3", "got bytes:616263"];
 
 // Whether lines of gets may follow a run that told these lines: what was synced is there.
 fn may_get(told: &[u8], got: &[u8]) -> bool {
@@ -403,23 +356,19 @@ fn served_images(alloc: Global, disk: &MemDisk) -> Result<Vec<MemDisk>, AllocErr
 }
 
 #[test]
-fn each_call_below_a_cache_that_fails_once_is_told_and_loses_nothing_synced(
-    rt: HostRuntime,
-) -> Result<(), Fail> {
+fn a_fault_below_a_cache_is_told_and_loses_nothing_synced(rt: HostRuntime) -> Result<(), Fail> {
     let alloc = rt.alloc();
     let disk = cached(alloc, MemDisk::new(alloc, 64)?)?;
     let (_, _, disk) = run_on(&rt, alloc, "new 64 16", FILES.as_bytes(), disk)?;
-    for fault in each_fault(alloc, disk.below().calls())? {
-        let disk = cached(alloc, failing(alloc, fault)?)?;
+    let commands = files_told();
+    for fault in faults_behind(alloc, NONE, disk.below().calls())? {
+        let disk = cached(alloc, failing(alloc, 64, fault)?)?;
         let (status, told, disk) = run_on(&rt, alloc, "new 64 16", FILES.as_bytes(), disk)?;
-        assert!(rt;
-            may_tell(alloc, &FILES_TOLD, fault, status, told.bytes())?,
-            "{fault:?} {status}"
-        );
+        let may = may_tell(alloc, &commands, fault, status, told.bytes())?;
+        assert!(rt; may, "{fault:?} {status}");
         for image in served_images(alloc, &disk.below())? {
-            let (status, sink, _) = run_on(&rt, alloc, "run", GETS.as_bytes(), image)?;
-            assert_eq!(rt; status, 0, "{fault:?}");
-            assert!(rt; may_get(told.bytes(), sink.bytes()), "{fault:?}");
+            let shown = shown_by(&rt, image, GETS)?;
+            assert!(rt; may_get(told.bytes(), shown.bytes()), "{fault:?}");
         }
     }
     Ok(())

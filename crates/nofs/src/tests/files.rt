@@ -46,14 +46,10 @@ const SECOND_LINES: &str =
 // the root, of `b` and of `d`.
 const COUNTS: &str = "inodes used 4 free 4 unchecked 0, blocks used 17 free 7 unchecked 0\n";
 
-// The path of a file that isn't there.
-fn new_path(rt: &HostRuntime) -> Result<String, Fail> {
+// The path of a file of this run alone.
+fn own_path(rt: &HostRuntime) -> Result<String, AllocError> {
     let id = process::id(rt.process());
-    let path = format!(in rt.alloc(); "/tmp/nofs_image_{id}")?;
-    if fs::exists(rt, path.as_str())? {
-        fs::remove_file(rt, path.as_str())?;
-    }
-    Ok(path)
+    format!(in rt.alloc(); "/tmp/nofs_image_{id}")
 }
 
 // A disk in the file of this path.
@@ -64,7 +60,10 @@ fn open(rt: &HostRuntime, path: &str) -> Result<FileDisk<HostFile>, Fail> {
 #[test]
 fn an_image_in_a_file_is_that_of_a_disk_in_memory(rt: HostRuntime) -> Result<(), Fail> {
     let alloc = rt.alloc();
-    let path = new_path(&rt)?;
+    let path = own_path(&rt)?;
+    if fs::exists(&rt, path.as_str())? {
+        fs::remove_file(&rt, path.as_str())?;
+    }
     let mut memory = MemDisk::new(alloc, 24)?;
     let first = first_session(alloc)?;
     for (command, session, want) in [

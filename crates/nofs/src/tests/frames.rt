@@ -64,14 +64,8 @@ fn a_source_of_single_bytes_is_served_the_same(rt: HostRuntime) -> Result<(), Fa
     let alloc = rt.alloc();
     let mut source = MemSource::new(alloc, &stats(alloc, 3)?, 1, &[])?;
     let mut sink = MemSink::new(alloc, 65_536, &[])?;
-    let (status, _) = run_with(
-        &rt,
-        alloc,
-        "wire",
-        &mut source,
-        &mut sink,
-        empty_disk(alloc)?,
-    )?;
+    let disk = empty_disk(alloc)?;
+    let (status, _) = run_with(&rt, alloc, "wire", &mut source, &mut sink, disk)?;
     assert_eq!(rt; status, 0);
     assert_eq!(rt; sink.bytes().len(), 3 * 18);
     Ok(())
@@ -83,14 +77,8 @@ fn a_call_that_fails_ends_the_frames(rt: HostRuntime) -> Result<(), Fail> {
     for (source_call, sink_call, status) in [(2, 0, 6), (0, 2, 5), (0, 0, 0)] {
         let mut source = MemSource::new(alloc, &stats(alloc, 3)?, 65_536, &[source_call])?;
         let mut sink = MemSink::new(alloc, 65_536, &[sink_call])?;
-        let (ended, _) = run_with(
-            &rt,
-            alloc,
-            "wire",
-            &mut source,
-            &mut sink,
-            empty_disk(alloc)?,
-        )?;
+        let disk = empty_disk(alloc)?;
+        let (ended, _) = run_with(&rt, alloc, "wire", &mut source, &mut sink, disk)?;
         assert_eq!(rt; ended, status, "{source_call} {sink_call}");
     }
     Ok(())

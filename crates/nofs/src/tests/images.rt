@@ -1,7 +1,7 @@
 //! Runs over images that were laid down cell by cell, some of them as a crash leaves them.
 
 use crate::tests::disks::{bytes_of, cells_of, disk_of, scan_line, used};
-use crate::tests::run_on;
+use crate::tests::{prints, run_on};
 use nofs_disk::{Cell, write_bytes_at};
 use nofs_examples as images;
 use std::alloc::Global;
@@ -202,9 +202,7 @@ fn images_are_served_as_they_stand_and_counted_as_defined(rt: HostRuntime) -> Re
     let alloc = rt.alloc();
     for (image, session, want) in ROWS {
         let disk = disk_of(alloc, 16, &image_cells(alloc, image)?)?;
-        let (status, sink, disk) = run_on(&rt, alloc, "run", session.as_bytes(), disk)?;
-        assert_eq!(rt; sink.bytes(), want.as_bytes(), "{session}");
-        assert_eq!(rt; status, 0, "{session}");
+        let disk = prints(&rt, disk, "run", session, want, 0)?;
         let (status, sink, mut disk) = run_on(&rt, alloc, "scan", b"".as_slice(), disk)?;
         let Some(counts) = used(alloc, &cells_of(alloc, &mut disk, 16)?)? else {
             panic!(rt; "{session}")
@@ -222,10 +220,8 @@ fn a_dropped_file_with_a_dead_link_leaves_its_inode_free(rt: HostRuntime) -> Res
     let disk = disk_of(alloc, 16, &images::dead_second_link(alloc)?)?;
     let session = b"stat /a\ndrop /a\nstat /a".as_slice();
     let (_, _, disk) = run_on(&rt, alloc, "run", session, disk)?;
-    let (status, sink, _) = run_on(&rt, alloc, "scan", b"".as_slice(), disk)?;
     let want = "inodes used 2 free 2 unchecked 0, blocks used 3 free 13 unchecked 0\n";
-    assert_eq!(rt; sink.bytes(), want.as_bytes());
-    assert_eq!(rt; status, 0);
+    prints(&rt, disk, "scan", "", want, 0)?;
     Ok(())
 }
 
@@ -245,9 +241,7 @@ fn larger_images_are_counted(rt: HostRuntime) -> Result<(), Fail> {
         ),
     ] {
         let disk = disk_of(alloc, blocks, &image_cells(alloc, image)?)?;
-        let (status, sink, _) = run_on(&rt, alloc, "scan", b"".as_slice(), disk)?;
-        assert_eq!(rt; sink.bytes(), want.as_bytes());
-        assert_eq!(rt; status, 0);
+        prints(&rt, disk, "scan", "", want, 0)?;
     }
     Ok(())
 }
@@ -291,10 +285,7 @@ fn an_image_that_cannot_be_mounted_is_told_and_left_as_it_was(rt: HostRuntime) -
         let want = format!(in alloc; "mount: {fault}\n")?;
         for command in ["run", "scan"] {
             let disk = disk_of(alloc, 16, &cells)?;
-            let session = b"make /a".as_slice();
-            let (status, sink, mut disk) = run_on(&rt, alloc, command, session, disk)?;
-            assert_eq!(rt; sink.bytes(), want.as_bytes());
-            assert_eq!(rt; status, 4, "{fault}");
+            let mut disk = prints(&rt, disk, command, "make /a", want.as_str(), 4)?;
             assert_eq!(rt; disk.calls().writes, 0, "{fault}");
             let after = cells_of(alloc, &mut disk, 16)?;
             assert!(rt;

@@ -11,6 +11,7 @@ use crate::tests::run_on;
 use nofs_disk::{Cell, Disk, read_u64_at};
 use nofs_memdisk::{CallKind, FaultAt, MemDisk, Pick};
 use std::alloc::{AllocError, Global};
+use std::process::Abort;
 use std::sync::Wait;
 use std::test::Fail;
 use std::thread::Threads;
@@ -559,20 +560,6 @@ fn found_in<R: Threads + Wait + Sync>(
     Ok(chain.found)
 }
 
-// What is found in so many chains from this seed on.
-fn found_from<R: Threads + Wait + Sync>(
-    rt: &R,
-    alloc: Global,
-    first: u64,
-    chains: u64,
-) -> Result<Found, Fail> {
-    let mut found = Found::NOTHING;
-    for number in 0..chains {
-        found = found_in(rt, alloc, first.saturating_add(number), found)?;
-    }
-    Ok(found)
-}
-
 // Whether so much came in these chains that what was not found might have been.
 fn are_full(found: Found, chains: u64) -> bool {
     let seen = found.seen;
@@ -585,35 +572,39 @@ fn are_full(found: Found, chains: u64) -> bool {
         && seen.lost > 10
 }
 
+// So many chains from this seed on give no number twice and mix no files.
+fn give_and_mix_nothing<R: Threads + Wait + Sync + Abort + AllocGlobal>(
+    rt: &R,
+    first: u64,
+    chains: u64,
+) -> Result<(), Fail> {
+    let mut found = Found::NOTHING;
+    for number in 0..chains {
+        found = found_in(rt, rt.alloc(), first.saturating_add(number), found)?;
+    }
+    assert_eq!(rt; found.wrong, Wrong::NOTHING);
+    assert_eq!(rt; found.seen.foreign, 0);
+    assert!(rt; are_full(found, chains), "{found:?}");
+    Ok(())
+}
+
 #[test]
 fn the_first_chains_of_lives_give_no_number_twice_and_mix_no_files(
     rt: HostRuntime,
 ) -> Result<(), Fail> {
-    let found = found_from(&rt, rt.alloc(), 1, 17)?;
-    assert_eq!(rt; found.wrong, Wrong::NOTHING);
-    assert_eq!(rt; found.seen.foreign, 0);
-    assert!(rt; are_full(found, 17), "{found:?}");
-    Ok(())
+    give_and_mix_nothing(&rt, 1, 17)
 }
 
 #[test]
 fn the_second_chains_of_lives_give_no_number_twice_and_mix_no_files(
     rt: HostRuntime,
 ) -> Result<(), Fail> {
-    let found = found_from(&rt, rt.alloc(), 101, 17)?;
-    assert_eq!(rt; found.wrong, Wrong::NOTHING);
-    assert_eq!(rt; found.seen.foreign, 0);
-    assert!(rt; are_full(found, 17), "{found:?}");
-    Ok(())
+    give_and_mix_nothing(&rt, 101, 17)
 }
 
 #[test]
 fn the_third_chains_of_lives_give_no_number_twice_and_mix_no_files(
     rt: HostRuntime,
 ) -> Result<(), Fail> {
-    let found = found_from(&rt, rt.alloc(), 201, 16)?;
-    assert_eq!(rt; found.wrong, Wrong::NOTHING);
-    assert_eq!(rt; found.seen.foreign, 0);
-    assert!(rt; are_full(found, 16), "{found:?}");
-    Ok(())
+    give_and_mix_nothing(&rt, 201, 16)
 }

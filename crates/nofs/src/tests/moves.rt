@@ -1,12 +1,16 @@
 //! Moves of files: their lines, what a crash in the midst of one leaves, and two users who move at once.
 
-use crate::tests::disks::left;
-use crate::tests::run_on;
+use crate::tests::disks::{failing, fault, left};
 use crate::tests::statuses::many;
+use crate::tests::{prints, run_on};
 use nofs_disk::Disk;
+use nofs_io::MemSink;
 use nofs_memdisk::{CallCounts, CallKind, FaultAt, MemDisk, Pick};
 use std::alloc::{AllocError, Global};
+use std::process::Abort;
+use std::sync::Wait;
 use std::test::Fail;
+use std::thread::Threads;
 
 const SESSION: &str =
     "mkdir /d\nmake /a\nput /a 0 6162\nmove /a /d/b\nlist /\nlist /d\nget /d/b 0 2\nmove /d /e";
@@ -18,24 +22,47 @@ const LINES: &str =
 fn a_file_moves_to_a_name_that_is_free_and_a_directory_does_not(
     rt: HostRuntime,
 ) -> Result<(), Fail> {
-    let alloc = rt.alloc();
     for (session, want) in [
         (SESSION, LINES),
         ("make /a\nmove /a /a", "made\nrefused 4 exists\n"),
     ] {
-        let disk = MemDisk::new(alloc, 64)?;
-        let (status, sink, _) = run_on(&rt, alloc, "new 64 16", session.as_bytes(), disk)?;
-        assert_eq!(rt; sink.bytes(), want.as_bytes(), "{session}");
-        assert_eq!(rt; status, 0, "{session}");
+        let disk = MemDisk::new(rt.alloc(), 64)?;
+        prints(&rt, disk, "new 64 16", session, want, 0)?;
     }
     Ok(())
 }
 
-// A disk of 64 blocks of which a call fails.
-pub fn failing(alloc: Global, fault: FaultAt) -> Result<MemDisk, AllocError> {
-    let mut disk = MemDisk::new(alloc, 64)?;
-    disk.fail_at(&[fault])?;
-    Ok(disk)
+/// A session on a new disk of 64 blocks, of which this call fails: the status, the lines and the disk.
+pub fn run_failing<R: Threads + Wait + Sync>(
+    rt: &R,
+    alloc: Global,
+    session: &str,
+    fault: FaultAt,
+) -> Result<(u8, MemSink, MemDisk), AllocError> {
+    let disk = failing(alloc, 64, fault)?;
+    run_on(rt, alloc, "new 64 16", session.as_bytes(), disk)
+}
+
+/// How often each kind of call is made by a session on a new disk of 64 blocks.
+pub fn calls_of<R: Threads + Wait + Sync>(
+    rt: &R,
+    alloc: Global,
+    session: &str,
+) -> Result<CallCounts, AllocError> {
+    let disk = MemDisk::new(alloc, 64)?;
+    let (_, _, disk) = run_on(rt, alloc, "new 64 16", session.as_bytes(), disk)?;
+    Ok(disk.calls())
+}
+
+/// The lines of a session over an image. It ends well.
+pub fn shown_by<R: Threads + Wait + Sync + Abort + AllocGlobal>(
+    rt: &R,
+    image: MemDisk,
+    session: &str,
+) -> Result<MemSink, Fail> {
+    let (status, sink, _) = run_on(rt, rt.alloc(), "run", session.as_bytes(), image)?;
+    assert_eq!(rt; status, 0, "{session}");
+    Ok(sink)
 }
 
 // How many versions a block may have, where it may have several.
@@ -75,51 +102,58 @@ pub fn images_of(alloc: Global, disk: &MemDisk) -> Result<Vec<MemDisk>, AllocErr
 #[test]
 fn a_move_whose_second_flush_fails_leaves_the_old_name(rt: HostRuntime) -> Result<(), Fail> {
     let alloc = rt.alloc();
-    let fault = FaultAt {
-        call: CallKind::Flush,
-        number: 4,
-        taken: false,
-    };
-    let session = b"make /a\nmove /a /b".as_slice();
-    let (status, sink, disk) = run_on(&rt, alloc, "new 64 16", session, failing(alloc, fault)?)?;
-    assert_eq!(rt; sink.bytes(), b"made\nrefused 19 write fault\n".as_slice());
-    assert_eq!(rt; status, 3);
+    let disk = failing(alloc, 64, fault(CallKind::Flush, 4, false))?;
+    let want = "made\nrefused 19 write fault\n";
+    let disk = prints(&rt, disk, "new 64 16", "make /a\nmove /a /b", want, 3)?;
     let images = images_of(alloc, &disk)?;
     assert!(rt; images.len() > 1);
     for image in images {
-        let (status, sink, _) = run_on(&rt, alloc, "run", b"stat /a".as_slice(), image)?;
-        assert!(rt; sink.bytes().starts_with(b"stat file 0 ".as_slice()));
-        assert_eq!(rt; status, 0);
+        let shown = shown_by(&rt, image, "stat /a")?;
+        assert!(rt; shown.bytes().starts_with(b"stat file 0 ".as_slice()));
     }
     Ok(())
 }
 
-// Each call of the session that writes, failing once. The format and the mount make 65 writes and
-// two flushes before them.
+/// The calls of the format and the mount, which come before a session. Reads are left out.
+const BEFORE: CallCounts = CallCounts {
+    reads: u64::MAX,
+    writes: 65,
+    flushes: 2,
+};
+
+/// Each call that writes and comes behind the mount, failing once.
 pub fn faults_of(alloc: Global, calls: CallCounts) -> Result<Vec<FaultAt>, AllocError> {
+    faults_behind(alloc, BEFORE, calls)
+}
+
+/// Each call behind so many of its kind, failing once. A write that fails is taken or not.
+pub fn faults_behind(
+    alloc: Global,
+    before: CallCounts,
+    calls: CallCounts,
+) -> Result<Vec<FaultAt>, AllocError> {
     let mut faults = Vec::new(alloc);
-    for before in 65..calls.writes {
-        push_fault(&mut faults, CallKind::Write, before, false)?;
-        push_fault(&mut faults, CallKind::Write, before, true)?;
+    for number in before.reads..calls.reads {
+        push_fault(&mut faults, CallKind::Read, number, false)?;
     }
-    for before in 2..calls.flushes {
-        push_fault(&mut faults, CallKind::Flush, before, false)?;
+    for number in before.writes..calls.writes {
+        push_fault(&mut faults, CallKind::Write, number, false)?;
+        push_fault(&mut faults, CallKind::Write, number, true)?;
+    }
+    for number in before.flushes..calls.flushes {
+        push_fault(&mut faults, CallKind::Flush, number, false)?;
     }
     Ok(faults)
 }
 
 // Adds the fault of the call that comes after so many of its kind.
-pub fn push_fault(
+fn push_fault(
     faults: &mut Vec<FaultAt>,
     call: CallKind,
     before: u64,
     taken: bool,
 ) -> Result<(), AllocError> {
-    faults.push(FaultAt {
-        call,
-        number: before.saturating_add(1),
-        taken,
-    })?;
+    faults.push(fault(call, before.saturating_add(1), taken))?;
     Ok(())
 }
 
@@ -150,24 +184,19 @@ fn show_file(lines: &[u8]) -> bool {
 const LOOKS: &str = "list /\nlist /d\nget /a 0 2\nget /d/b 0 2";
 
 #[test]
-fn a_crash_at_any_call_of_a_move_leaves_the_file_under_one_of_its_names(
-    rt: HostRuntime,
-) -> Result<(), Fail> {
+fn a_crash_in_a_move_leaves_the_file_under_one_of_its_names(rt: HostRuntime) -> Result<(), Fail> {
     let alloc = rt.alloc();
-    let disk = MemDisk::new(alloc, 64)?;
-    let (_, _, disk) = run_on(&rt, alloc, "new 64 16", SESSION.as_bytes(), disk)?;
+    let calls = calls_of(&rt, alloc, SESSION)?;
     let mut seen = 0_usize;
-    for fault in faults_of(alloc, disk.calls())? {
-        let disk = failing(alloc, fault)?;
-        let (status, _, disk) = run_on(&rt, alloc, "new 64 16", SESSION.as_bytes(), disk)?;
+    for fault in faults_of(alloc, calls)? {
+        let (status, _, disk) = run_failing(&rt, alloc, SESSION, fault)?;
         assert_eq!(rt; status, 3, "{fault:?}");
         let flushed = has_flushed(fault, disk.calls());
         let images = images_of(alloc, &disk)?;
         seen = seen.saturating_add(if flushed { images.len() } else { 0 });
         for image in images {
-            let (status, sink, _) = run_on(&rt, alloc, "run", LOOKS.as_bytes(), image)?;
-            assert_eq!(rt; status, 0, "{fault:?}");
-            assert!(rt; !flushed || show_file(sink.bytes()), "{fault:?}");
+            let shown = shown_by(&rt, image, LOOKS)?;
+            assert!(rt; !flushed || show_file(shown.bytes()), "{fault:?}");
         }
     }
     assert!(rt; seen > 20, "{seen}");

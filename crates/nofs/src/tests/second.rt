@@ -2,13 +2,12 @@
 
 ghost use Rattle.std.specs.Prelude.{◌≤◌};
 
-use crate::tests::disks::{bytes_of, cells_of, disk_of, left, scan_line, used};
+use crate::tests::disks::{bytes_of, cells_of, disk_of, fault, left, scan_line, used};
 use crate::tests::images::{FAULTS, Patch, VERSION_2, image_cells, patched, patched_empty};
-use crate::tests::unready::Unready;
-use crate::tests::{USAGE, run_on, run_with};
+use crate::tests::{USAGE, prints, run_on, run_with};
 use nofs_disk::Disk;
 use nofs_io::{MemSink, MemSource};
-use nofs_memdisk::{CallKind, FaultAt, MemDisk, Pick};
+use nofs_memdisk::{CallKind, MemDisk, Pick, Unready};
 use std::alloc::{AllocError, Global};
 use std::test::Fail;
 
@@ -32,18 +31,14 @@ fn bytes_on<D: Disk>(alloc: Global, disk: &mut D) -> Result<Vec<u8>, AllocError>
 
 #[test]
 fn an_upgraded_image_has_larger_files(rt: HostRuntime) -> Result<(), Fail> {
-    let alloc = rt.alloc();
-    let mut disk = empty_disk(alloc)?;
+    let mut disk = empty_disk(rt.alloc())?;
     for (command, session, want, status) in [
         ("run", "size @ 73729", "refused 12 too large\n", 0),
         ("upgrade", "", "upgraded\n", 0),
         ("upgrade", "", "upgrade: already version 2\n", 4),
         ("run", "size @ 73729", "sized 73729\n", 0),
     ] {
-        let (ended, sink, after) = run_on(&rt, alloc, command, session.as_bytes(), disk)?;
-        assert_eq!(rt; sink.bytes(), want.as_bytes(), "{command}");
-        assert_eq!(rt; ended, status, "{command}");
-        disk = after;
+        disk = prints(&rt, disk, command, session, want, status)?;
     }
     Ok(())
 }
@@ -73,14 +68,8 @@ fn a_device_that_fails_in_an_upgrade_leaves_either_version(rt: HostRuntime) -> R
         (CallKind::Read, false, 1),
     ] {
         let mut disk = empty_disk(alloc)?;
-        disk.fail_at(&[FaultAt {
-            call,
-            number: 1,
-            taken,
-        }])?;
-        let (status, sink, disk) = run_on(&rt, alloc, "upgrade", b"".as_slice(), disk)?;
-        assert_eq!(rt; sink.bytes(), b"device fault\n".as_slice(), "{call:?}");
-        assert_eq!(rt; status, 3, "{call:?}");
+        disk.fail_at(&[fault(call, 1, taken)])?;
+        let disk = prints(&rt, disk, "upgrade", "", "device fault\n", 3)?;
         assert!(rt; leaves_empty(alloc, &disk, 0)?, "{call:?}");
         assert_eq!(rt; leaves_empty(alloc, &disk, 1)?, versions == 2, "{call:?}");
         assert!(rt; left_first(alloc, &disk, versions)?.is_none(), "{call:?}");
@@ -98,9 +87,7 @@ fn an_image_that_cannot_be_upgraded_is_told_and_left_as_it_was(
         let want = format!(in alloc; "mount: {fault}\n")?;
         for (command, want, status) in [("upgrade", want.as_str(), 4), ("upgrade 1", USAGE, 1)] {
             let disk = disk_of(alloc, 16, &cells)?;
-            let (ended, sink, mut disk) = run_on(&rt, alloc, command, b"".as_slice(), disk)?;
-            assert_eq!(rt; sink.bytes(), want.as_bytes());
-            assert_eq!(rt; ended, status, "{fault}");
+            let mut disk = prints(&rt, disk, command, "", want, status)?;
             assert_eq!(rt; disk.calls().writes, 0, "{fault}");
             assert!(rt;
                 bytes_on(alloc, &mut disk)? == bytes_of(alloc, &cells)?,
@@ -131,10 +118,11 @@ fn an_upgrade_asks_no_source_and_stands_without_its_line(rt: HostRuntime) -> Res
 fn an_upgrade_without_memory_writes_nothing(rt: HostRuntime) -> Result<(), Fail> {
     let alloc = rt.alloc();
     for (rooms, want, status, version) in [(0, "", 7, 1), (1, "upgraded\n", 0, 2)] {
-        let disk = Unready::over(empty_disk(alloc)?, rooms);
-        let (ended, sink, mut disk) = run_on(&rt, alloc, "upgrade", b"".as_slice(), disk)?;
-        assert_eq!(rt; sink.bytes(), want.as_bytes());
-        assert_eq!(rt; ended, status);
+        let disk = Unready {
+            under: empty_disk(alloc)?,
+            rooms,
+        };
+        let mut disk = prints(&rt, disk, "upgrade", "", want, status)?;
         assert!(rt; bytes_on(alloc, &mut disk)? == empty_bytes(alloc, version)?);
     }
     Ok(())
@@ -215,72 +203,76 @@ struct Part {
     used: (u64, u64),
 }
 
+// Commands that fill no file.
+fn cutting(session: &'static str, lines: &'static str, used: (u64, u64)) -> Part {
+    filling((session, lines), None, ("", ""), used)
+}
+
+// Commands, a file that is filled, and commands after that.
+fn filling(
+    before: (&'static str, &'static str),
+    fill: Option<(&'static str, u64)>,
+    after: (&'static str, &'static str),
+    used: (u64, u64),
+) -> Part {
+    Part {
+        before,
+        fill,
+        after,
+        used,
+    }
+}
+
 // Six blocks are always used: the superblock, four of the table, and one of the root. A file of the
 // greatest size has 4,168 blocks of content, a leaf, a top and 64 children.
-const PARTS: [Part; 7] = [
-    // Each put fills what one block of pointers has.
-    Part {
-        before: ("", ""),
-        fill: Some(("/a", 8192)),
-        after: (
-            "get /a 8191 2\nget /a 73727 2\nget /a 139263 2\nget /a 4268030 9\nput /a 4268032 00\nsize /a 4268033\nstat /a",
-            "got bytes:01 bytes:02\ngot bytes:02 bytes:03\ngot bytes:03 bytes:04\ngot bytes:4242\nrefused 12 too large, stored 0\nrefused 12 too large\nstat file 4268032 1\n",
+fn parts() -> [Part; 7] {
+    [
+        // Each put fills what one block of pointers has.
+        filling(
+            ("", ""),
+            Some(("/a", 8192)),
+            (
+                "get /a 8191 2\nget /a 73727 2\nget /a 139263 2\nget /a 4268030 9\nput /a 4268032 00\nsize /a 4268033\nstat /a",
+                "got bytes:01 bytes:02\ngot bytes:02 bytes:03\ngot bytes:03 bytes:04\ngot bytes:4242\nrefused 12 too large, stored 0\nrefused 12 too large\nstat file 4268032 1\n",
+            ),
+            (3, 4240),
         ),
-        used: (3, 4240),
-    },
-    // The top goes with the last child.
-    Part {
-        before: (
+        // The top goes with the last child.
+        cutting(
             "size /a 73728\nget /a 73727 2\nstat /a",
             "sized 73728\ngot bytes:02\nstat file 73728 1\n",
+            (3, 79),
         ),
-        fill: None,
-        after: ("", ""),
-        used: (3, 79),
-    },
-    Part {
-        before: ("size /a 100\nget /a 98 9", "sized 100\ngot bytes:0101\n"),
-        fill: None,
-        after: ("", ""),
-        used: (3, 7),
-    },
-    // Slots 0, 71, 72, 135, 136 and 4,167, the leaf, the top, and children 0, 1 and 63.
-    Part {
-        before: (
+        cutting(
+            "size /a 100\nget /a 98 9",
+            "sized 100\ngot bytes:0101\n",
+            (3, 7),
+        ),
+        // Slots 0, 71, 72, 135, 136 and 4,167, the leaf, the top, and children 0, 1 and 63.
+        cutting(
             "size /a 4268032\nget /a 98 4\nget /a 1023 2\nput /a 73726 aabbccdd\nput /a 139263 1122\nput /a 4268031 07\nget /a 73725 6\nget /a 139262 4\nget /a 4268030 9\nget /a 8191 2",
             "sized 4268032\ngot bytes:01010000\ngot bytes:00 hole:1\nput 4\nput 2\nput 1\ngot bytes:00aabb bytes:ccdd00\ngot bytes:0011 bytes:2200\ngot bytes:0007\ngot hole:1 hole:1\n",
+            (3, 17),
         ),
-        fill: None,
-        after: ("", ""),
-        used: (3, 17),
-    },
-    // The last block that stays ends where child 0 does.
-    Part {
-        before: (
+        // The last block that stays ends where child 0 does.
+        cutting(
             "size /a 139264\nsize /a 139263\nget /a 139262 9\nsize /a 139265\nget /a 139262 9",
             "sized 139264\nsized 139263\ngot bytes:00\nsized 139265\ngot bytes:0000 hole:1\n",
+            (3, 13),
         ),
-        fill: None,
-        after: ("", ""),
-        used: (3, 13),
-    },
-    // Each put but the last ends inside a block.
-    Part {
-        before: ("drop /a\nlist /\n", "dropped\nnames\n"),
-        fill: Some(("/b", 7000)),
-        after: (
-            "get /b 6999 2\nget /b 72535 2\nget /b 4266839 2\nget /b 4268030 9\nstat /b",
-            "got bytes:0102\ngot bytes:0203\ngot bytes:4243\ngot bytes:4343\nstat file 4268032 1\n",
+        // Each put but the last ends inside a block.
+        filling(
+            ("drop /a\nlist /\n", "dropped\nnames\n"),
+            Some(("/b", 7000)),
+            (
+                "get /b 6999 2\nget /b 72535 2\nget /b 4266839 2\nget /b 4268030 9\nstat /b",
+                "got bytes:0102\ngot bytes:0203\ngot bytes:4243\ngot bytes:4343\nstat file 4268032 1\n",
+            ),
+            (3, 4240),
         ),
-        used: (3, 4240),
-    },
-    Part {
-        before: ("drop /b\nstat /b", "dropped\nrefused 1 missing\n"),
-        fill: None,
-        after: ("", ""),
-        used: (2, 6),
-    },
-];
+        cutting("drop /b\nstat /b", "dropped\nrefused 1 missing\n", (2, 6)),
+    ]
+}
 
 fn told_of(alloc: Global, part: Part) -> Result<Told, AllocError> {
     let mut told = Told {
@@ -311,17 +303,14 @@ fn a_large_file_is_filled_and_cut_and_another_takes_its_blocks(
     let disk = MemDisk::new(alloc, 8192)?;
     let (_, _, disk) = run_on(&rt, alloc, "new 8192 16", b"".as_slice(), disk)?;
     let (_, _, mut disk) = run_on(&rt, alloc, "upgrade", b"".as_slice(), disk)?;
-    for part in PARTS {
+    for part in parts() {
         let told = told_of(alloc, part)?;
         let (status, sink, after) = run_on(&rt, alloc, "run", &told.session, disk)?;
         assert_eq!(rt; sink.bytes(), told.lines.as_slice());
         assert_eq!(rt; status, 0);
-        let (status, sink, mut after) = run_on(&rt, alloc, "scan", b"".as_slice(), after)?;
         let want = scan_line(alloc, (16, 8192), part.used)?;
-        assert_eq!(rt; sink.bytes(), want.as_bytes());
-        assert_eq!(rt; status, 0);
-        assert!(rt; scan_of(alloc, &mut after)? == Some(want));
-        disk = after;
+        disk = prints(&rt, after, "scan", "", want.as_str(), 0)?;
+        assert!(rt; scan_of(alloc, &mut disk)? == Some(want));
     }
     Ok(())
 }

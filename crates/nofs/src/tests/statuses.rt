@@ -1,9 +1,9 @@
 //! The statuses that tell what went wrong, and what is written and left on the disk then.
 
-use crate::tests::unready::Unready;
-use crate::tests::{run_on, run_with};
+use crate::tests::disks::{failing, fault};
+use crate::tests::{LINES, SESSION, prints, run_on, run_with};
 use nofs_io::{MemSink, MemSource};
-use nofs_memdisk::{CallCounts, CallKind, FaultAt, MemDisk};
+use nofs_memdisk::{CallCounts, CallKind, MemDisk, Unready};
 use std::alloc::{AllocError, Global};
 use std::test::Fail;
 
@@ -13,26 +13,26 @@ const UNTOUCHED: CallCounts = CallCounts {
     flushes: 0,
 };
 
+/// Texts that are no session, and what is printed of them.
+const NO_SESSIONS: [(&str, &str); 7] = [
+    ("put @ 0 616263\nfrob", "line 2: unknown command\n"),
+    ("make", "line 1: wrong number of words\n"),
+    ("\n# none\nstat a", "line 3: bad path\n"),
+    ("get @ 01 1", "line 1: bad number\n"),
+    ("put @ 0 616", "line 1: bad hex\n"),
+    (
+        "user\nuser\nuser\nuser\nuser\nuser\nuser\nuser",
+        "line 8: too many users\n",
+    ),
+    ("get @ 0 67108864\nget @ 0 1", "line 2: too much asked\n"),
+];
+
 #[test]
 fn a_text_that_is_no_session_is_told_by_its_line(rt: HostRuntime) -> Result<(), Fail> {
-    let alloc = rt.alloc();
-    for (session, want) in [
-        ("put @ 0 616263\nfrob", "line 2: unknown command\n"),
-        ("make", "line 1: wrong number of words\n"),
-        ("\n# none\nstat a", "line 3: bad path\n"),
-        ("get @ 01 1", "line 1: bad number\n"),
-        ("put @ 0 616", "line 1: bad hex\n"),
-        (
-            "user\nuser\nuser\nuser\nuser\nuser\nuser\nuser",
-            "line 8: too many users\n",
-        ),
-        ("get @ 0 67108864\nget @ 0 1", "line 2: too much asked\n"),
-    ] {
+    for (session, want) in NO_SESSIONS {
         for command in ["new 64 16", "run"] {
-            let disk = MemDisk::new(alloc, 64)?;
-            let (status, sink, disk) = run_on(&rt, alloc, command, session.as_bytes(), disk)?;
-            assert_eq!(rt; sink.bytes(), want.as_bytes(), "{session}");
-            assert_eq!(rt; status, 2, "{session}");
+            let disk = MemDisk::new(rt.alloc(), 64)?;
+            let disk = prints(&rt, disk, command, session, want, 2)?;
             assert_eq!(rt; disk.calls(), UNTOUCHED, "{session}");
         }
     }
@@ -76,21 +76,9 @@ fn a_session_has_a_longest_text(rt: HostRuntime) -> Result<(), Fail> {
     Ok(())
 }
 
-// A disk of 16 blocks of which a call fails.
-fn failing(alloc: Global, call: CallKind, number: u64, taken: bool) -> Result<MemDisk, AllocError> {
-    let mut disk = MemDisk::new(alloc, 16)?;
-    disk.fail_at(&[FaultAt {
-        call,
-        number,
-        taken,
-    }])?;
-    Ok(disk)
-}
-
 // The format makes 16 writes and a flush, and the mount a read, a write and a flush.
 #[test]
 fn a_device_that_fails_before_a_mount_stands_is_told(rt: HostRuntime) -> Result<(), Fail> {
-    let alloc = rt.alloc();
     for (call, number, taken) in [
         (CallKind::Write, 1, false),
         (CallKind::Write, 16, true),
@@ -100,38 +88,40 @@ fn a_device_that_fails_before_a_mount_stands_is_told(rt: HostRuntime) -> Result<
         (CallKind::Write, 17, true),
         (CallKind::Flush, 2, false),
     ] {
-        let disk = failing(alloc, call, number, taken)?;
-        let (status, sink, _) = run_on(&rt, alloc, "new 16 4", b"make /a".as_slice(), disk)?;
-        assert_eq!(rt;
-            sink.bytes(),
-            b"device fault\n".as_slice(),
-            "{call:?} {number}"
-        );
-        assert_eq!(rt; status, 3, "{call:?} {number}");
+        let disk = failing(rt.alloc(), 16, fault(call, number, taken))?;
+        prints(&rt, disk, "new 16 4", "make /a", "device fault\n", 3)?;
     }
     Ok(())
 }
 
 #[test]
-fn a_flush_that_fails_stops_the_mount(rt: HostRuntime) -> Result<(), Fail> {
-    let alloc = rt.alloc();
-    let disk = failing(alloc, CallKind::Flush, 3, false)?;
-    let session = b"stat @\nfsync @\nstat @".as_slice();
-    let (status, sink, _) = run_on(&rt, alloc, "new 16 4", session, disk)?;
-    let want = "stat file 0 0\nrefused 19 write fault\nrefused 20 stopped\n";
-    assert_eq!(rt; sink.bytes(), want.as_bytes());
-    assert_eq!(rt; status, 3);
+fn a_write_or_flush_that_fails_stops_the_mount(rt: HostRuntime) -> Result<(), Fail> {
+    for (blocks, call, number, session, want) in [
+        (
+            4096,
+            CallKind::Write,
+            18,
+            "make /a\nget @ 0 1",
+            "refused 19 write fault\nrefused 20 stopped\n",
+        ),
+        (
+            16,
+            CallKind::Flush,
+            3,
+            "stat @\nfsync @\nstat @",
+            "stat file 0 0\nrefused 19 write fault\nrefused 20 stopped\n",
+        ),
+    ] {
+        let disk = failing(rt.alloc(), blocks, fault(call, number, false))?;
+        prints(&rt, disk, "new 16 4", session, want, 3)?;
+    }
     Ok(())
 }
 
 // Lets each read fail but that of the mount.
 fn fail_reads(disk: &mut MemDisk) -> Result<(), AllocError> {
     for number in 2..1000 {
-        disk.fail_at(&[FaultAt {
-            call: CallKind::Read,
-            number,
-            taken: false,
-        }])?;
+        disk.fail_at(&[fault(CallKind::Read, number, false)])?;
     }
     Ok(())
 }
@@ -148,10 +138,6 @@ fn a_read_that_fails_is_told_and_stops_nothing(rt: HostRuntime) -> Result<(), Fa
     assert_eq!(rt; status, 3);
     Ok(())
 }
-
-const SESSION: &str = "put @ 0 616263\nget @ 0 3\nfsync @";
-
-const LINES: &str = "put 3\ngot bytes:616263\nsynced\n";
 
 // The 32 bytes of the session come in seven pieces, and its end is the eighth call.
 #[test]
@@ -223,7 +209,10 @@ fn where_memory_is_wanting_no_line_is_written(rt: HostRuntime) -> Result<(), Fai
     let alloc = rt.alloc();
     let session = b"make /a\nput /a 0 6162\nfsync /a".as_slice();
     for rooms in 0..132 {
-        let disk = Unready::over(MemDisk::new(alloc, 64)?, rooms);
+        let disk = Unready {
+            under: MemDisk::new(alloc, 64)?,
+            rooms,
+        };
         let (status, sink, _) = run_on(&rt, alloc, "new 64 16", session, disk)?;
         let want = if status == 7 {
             ""

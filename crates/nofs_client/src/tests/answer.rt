@@ -1,7 +1,8 @@
 //! The replies of the tables.
 
-use nofs_lists::{Content, Name};
-use nofs_machine::{FileKind, Found, NameLine, NameList, Refusal, Reply, Stat};
+use nofs_lists::Content;
+use nofs_machine::{FileKind, Found, Refusal, Reply, Stat};
+use nofs_told::{full, name_list};
 use std::alloc::{AllocError, Global};
 
 /// A reply of a table.
@@ -49,21 +50,12 @@ fn slot(alloc: Global, at: u64, bytes: &[u8]) -> Result<Content, AllocError> {
     Ok(content)
 }
 
-fn names(alloc: Global) -> Result<NameList, AllocError> {
-    let mut names = NameList::new(alloc);
-    for (name, kind, dead) in [
-        ("f", FileKind::File, false),
-        ("d", FileKind::Directory, false),
-        ("x", FileKind::File, true),
-    ] {
-        names.push(NameLine {
-            name: Name::from_slice(alloc, name.as_bytes())?,
-            kind,
-            dead,
-        })?;
-    }
-    Ok(names)
-}
+/// A file, a directory and a dead entry.
+const NAMES: [(&str, FileKind, bool); 3] = [
+    ("f", FileKind::File, false),
+    ("d", FileKind::Directory, false),
+    ("x", FileKind::File, true),
+];
 
 fn found(inode: u32, generation: u64, kind: FileKind) -> Reply {
     Reply::Found(Found {
@@ -93,7 +85,7 @@ pub fn reply(alloc: Global, answer: Answer<'_>) -> Result<Reply, AllocError> {
         Answer::Linked => Reply::Linked,
         Answer::Dropped => Reply::Dropped { removed: true },
         Answer::Renamed => Reply::Renamed,
-        Answer::Names(at) => Reply::Names(at, names(alloc)?),
+        Answer::Names(at) => Reply::Names(at, name_list(alloc, &NAMES)?),
         Answer::LostNames(at) => Reply::LostNames(at),
         Answer::NoMore => Reply::NoMore,
         Answer::Bytes(at, bytes) => Reply::Bytes(slot(alloc, at, bytes)?),
@@ -105,12 +97,7 @@ pub fn reply(alloc: Global, answer: Answer<'_>) -> Result<Reply, AllocError> {
         Answer::Directory => stat(FileKind::Directory, 0),
         Answer::Flushed => Reply::Flushed,
         Answer::Seen => Reply::Seen { used: false },
-        Answer::Full(unverified) => Reply::Refused(Refusal::Full {
-            needed: 1,
-            free: 0,
-            unverified,
-            next: 24,
-        }),
+        Answer::Full(unverified) => Reply::Refused(full(unverified)),
         Answer::InodesFull(unverified) => Reply::Refused(Refusal::InodesFull {
             unverified,
             next: 3,

@@ -11,7 +11,7 @@ use crate::tests::file_asks::{
     ask_flush, ask_get, ask_put, ask_resize, ask_see_block, ask_see_inode, ask_stat, free,
 };
 use crate::tests::name_asks::{ask_drop, ask_link, ask_list, ask_look, ask_make, ask_rename};
-use crate::tests::steps::{Ask, Said};
+use crate::tests::steps::{Ask, MemCore, Said};
 use nofs_disk::Disk;
 use nofs_inode::FileKind;
 use nofs_memdisk::MemDisk;
@@ -19,12 +19,13 @@ use nofs_state::{Core, Room};
 use nofs_super::{SuperBlock, raise_mount, read_super};
 use nofs_testdisks::read_numbers;
 use std::alloc::Global;
+use std::process::Abort;
 use std::test::Fail;
 
 /// A mounted disk in memory.
 #[derive(Drop)]
 pub struct Bench {
-    pub core: Core<MemDisk>,
+    pub core: MemCore,
     ghost safe: { IsSafe (memory_state core.disk) core.books },
 }
 
@@ -59,6 +60,15 @@ impl Bench {
         })
     }
 
+    /// Mounts a disk, and examines these blocks.
+    pub fn seeing(alloc: Global, disk: MemDisk, from: u64, to: u64) -> Result<Bench, Fail> {
+        let mut bench = Bench::over(alloc, disk, 0)?;
+        for block in from..to {
+            bench.ask(alloc, Ask::SeeBlock(block));
+        }
+        Ok(bench)
+    }
+
     /// Makes a step.
     pub fn ask(&mut self, alloc: Global, ask: Ask) -> Said
         ensures { self.new.core.books.at ≡ self.old.core.books.at }
@@ -83,13 +93,6 @@ impl Bench {
         }
     }
 
-    /// Examines these blocks.
-    pub fn see_blocks(&mut self, alloc: Global, from: u64, to: u64) {
-        for block in from..to {
-            self.ask(alloc, Ask::SeeBlock(block));
-        }
-    }
-
     /// Makes these steps.
     pub fn ask_all(&mut self, alloc: Global, asks: &[Ask])
         ensures { self.new.core.books.at ≡ self.old.core.books.at }
@@ -108,5 +111,15 @@ impl Bench {
             }
         }
         None
+    }
+
+    /// Makes these steps, each of which is to be answered so.
+    pub fn answers(
+        &mut self,
+        rt: &(impl Abort + AllocGlobal),
+        cases: &[(Ask, Said)],
+    ) -> Result<(), Fail> {
+        assert_eq!(rt; self.first_wrong(rt.alloc(), cases), None);
+        Ok(())
     }
 }

@@ -2,19 +2,18 @@
 //!
 //! Promise: each leaves a core as the next one needs it.
 ghost use Rattle.std.specs.Prelude.{◌≡◌};
+ghost use Rattle.nofs_memdisk.specs.Parts.{memory_state};
 ghost use Rattle.nofs_state.specs.Books.{IsSafe};
 
-use crate::tests::steps::{Handle, Said, four_of, stored};
-use nofs_disk::Disk;
+use crate::tests::steps::{Handle, MemCore, Said, four_of, stored};
 use nofs_files::{Ended, Got, flush, get, put, resize, stat};
 use nofs_machine::Refusal;
 use nofs_scan::{see_block, see_inode};
-use nofs_state::Core;
 use std::alloc::Global;
 
-pub fn ask_get<D: Disk + Drop>(core: &mut Core<D>, on: Handle, slot: u64, at: usize) -> Said
-    requires { IsSafe (D.state core.old.disk) core.old.books }
-    ensures safe { IsSafe (D.state core.new.disk) core.new.books }
+pub fn ask_get(core: &mut MemCore, on: Handle, slot: u64, at: usize) -> Said
+    requires { IsSafe (memory_state core.old.disk) core.old.books }
+    ensures safe { IsSafe (memory_state core.new.disk) core.new.books }
     ensures at { core.new.books.at ≡ core.old.books.at }
 {
     let mut bytes = [0; 1024];
@@ -26,16 +25,9 @@ pub fn ask_get<D: Disk + Drop>(core: &mut Core<D>, on: Handle, slot: u64, at: us
     }
 }
 
-pub fn ask_put<D: Disk + Drop>(
-    core: &mut Core<D>,
-    on: Handle,
-    slot: u64,
-    at: u32,
-    length: usize,
-    byte: u8,
-) -> Said
-    requires { IsSafe (D.state core.old.disk) core.old.books }
-    ensures safe { IsSafe (D.state core.new.disk) core.new.books }
+pub fn ask_put(core: &mut MemCore, on: Handle, slot: u64, at: u32, length: usize, byte: u8) -> Said
+    requires { IsSafe (memory_state core.old.disk) core.old.books }
+    ensures safe { IsSafe (memory_state core.new.disk) core.new.books }
     ensures at { core.new.books.at ≡ core.old.books.at }
 {
     let bytes = [byte; 1024];
@@ -53,20 +45,17 @@ fn front_of(bytes: &[u8; 1024], length: usize) -> &[u8] {
     }
 }
 
-pub fn ask_resize<D: Disk + Drop>(core: &mut Core<D>, alloc: Global, on: Handle, size: u64) -> Said
-    requires { IsSafe (D.state core.old.disk) core.old.books }
-    ensures safe { IsSafe (D.state core.new.disk) core.new.books }
+pub fn ask_resize(core: &mut MemCore, alloc: Global, on: Handle, size: u64) -> Said
+    requires { IsSafe (memory_state core.old.disk) core.old.books }
+    ensures safe { IsSafe (memory_state core.new.disk) core.new.books }
     ensures at { core.new.books.at ≡ core.old.books.at }
 {
-    match resize(core, alloc, on.0, on.1, size) {
-        Ok(()) => Said::Resized,
-        Err(why) => Said::Refused(why),
-    }
+    done(resize(core, alloc, on.0, on.1, size), Said::Resized)
 }
 
-pub fn ask_stat<D: Disk + Drop>(core: &mut Core<D>, on: Handle) -> Said
-    requires { IsSafe (D.state core.old.disk) core.old.books }
-    ensures safe { IsSafe (D.state core.new.disk) core.new.books }
+pub fn ask_stat(core: &mut MemCore, on: Handle) -> Said
+    requires { IsSafe (memory_state core.old.disk) core.old.books }
+    ensures safe { IsSafe (memory_state core.new.disk) core.new.books }
     ensures at { core.new.books.at ≡ core.old.books.at }
 {
     match stat(core, on.0, on.1) {
@@ -75,31 +64,36 @@ pub fn ask_stat<D: Disk + Drop>(core: &mut Core<D>, on: Handle) -> Said
     }
 }
 
-pub fn ask_flush<D: Disk + Drop>(core: &mut Core<D>, on: Handle) -> Said
-    requires { IsSafe (D.state core.old.disk) core.old.books }
-    ensures safe { IsSafe (D.state core.new.disk) core.new.books }
+pub fn ask_flush(core: &mut MemCore, on: Handle) -> Said
+    requires { IsSafe (memory_state core.old.disk) core.old.books }
+    ensures safe { IsSafe (memory_state core.new.disk) core.new.books }
     ensures at { core.new.books.at ≡ core.old.books.at }
 {
-    match flush(core, on.0, on.1) {
-        Ok(()) => Said::Flushed,
-        Err(why) => Said::Refused(why),
-    }
+    done(flush(core, on.0, on.1), Said::Flushed)
 }
 
-pub fn ask_see_block<D: Disk + Drop>(core: &mut Core<D>, block: u64) -> Said
-    requires { IsSafe (D.state core.old.disk) core.old.books }
-    ensures safe { IsSafe (D.state core.new.disk) core.new.books }
+pub fn ask_see_block(core: &mut MemCore, block: u64) -> Said
+    requires { IsSafe (memory_state core.old.disk) core.old.books }
+    ensures safe { IsSafe (memory_state core.new.disk) core.new.books }
     ensures at { core.new.books.at ≡ core.old.books.at }
 {
     seen(see_block(core, block))
 }
 
-pub fn ask_see_inode<D: Disk + Drop>(core: &mut Core<D>, inode: u32) -> Said
-    requires { IsSafe (D.state core.old.disk) core.old.books }
-    ensures safe { IsSafe (D.state core.new.disk) core.new.books }
+pub fn ask_see_inode(core: &mut MemCore, inode: u32) -> Said
+    requires { IsSafe (memory_state core.old.disk) core.old.books }
+    ensures safe { IsSafe (memory_state core.new.disk) core.new.books }
     ensures at { core.new.books.at ≡ core.old.books.at }
 {
     seen(see_inode(core, inode))
+}
+
+/// What is said where a step was made, or why it is refused.
+pub fn done(answer: Result<(), Refusal>, said: Said) -> Said {
+    match answer {
+        Ok(()) => said,
+        Err(why) => Said::Refused(why),
+    }
 }
 
 fn seen(answer: Result<bool, Refusal>) -> Said {
@@ -110,8 +104,8 @@ fn seen(answer: Result<bool, Refusal>) -> Said {
 }
 
 /// How many inodes and blocks are known to be free.
-pub fn free<D: Disk + Drop>(core: &Core<D>) -> Said
-    requires { IsSafe (D.state core.now.disk) core.now.books }
+pub fn free(core: &MemCore) -> Said
+    requires { IsSafe (memory_state core.now.disk) core.now.books }
 {
     let counts = core.books.counts();
     Said::Free(counts.inodes_free, counts.blocks_free)

@@ -8,6 +8,7 @@ use nofs_machine::Refusal;
 use nofs_memdisk::CallKind;
 use nofs_testdisks::disk_of;
 use std::alloc::Global;
+use std::process::Abort;
 use std::test::Fail;
 
 /// A whole slot of one byte.
@@ -29,6 +30,48 @@ fn size(bytes: u64) -> Ask {
     Ask::Resize(LABEL, bytes)
 }
 
+/// A slot with one byte.
+fn one(slot: u64) -> (Ask, Said) {
+    (get(slot), Said::Bytes([0x41, 0, 0, 0]))
+}
+
+fn hole(slot: u64) -> (Ask, Said) {
+    (get(slot), Said::Hole)
+}
+
+fn sized(bytes: u64) -> (Ask, Said) {
+    (size(bytes), Said::Resized)
+}
+
+/// So many blocks are known to be free.
+fn free(blocks: u64) -> (Ask, Said) {
+    (Ask::Free, Said::Free(0, blocks))
+}
+
+fn too_large(ask: Ask) -> (Ask, Said) {
+    (ask, refused(Refusal::TooLarge))
+}
+
+/// No file has this slot.
+fn no_put(slot: u64) -> (Ask, Said) {
+    too_large(put(slot))
+}
+
+fn no_get(slot: u64) -> (Ask, Said) {
+    too_large(get(slot))
+}
+
+/// A put finds no block.
+fn full(ask: Ask, unverified: u64, next: u64) -> (Ask, Said) {
+    let full = Refusal::Full {
+        needed: 1,
+        free: 0,
+        unverified,
+        next,
+    };
+    (ask, refused(full))
+}
+
 fn refused(why: Refusal) -> Said {
     Said::Refused(why)
 }
@@ -39,19 +82,21 @@ fn file_of(size: u64) -> Said {
     Said::Stat(FileKind::File, size, 0)
 }
 
-/// A slot with one byte.
-const ONE: Said = Said::Bytes([0x41, 0, 0, 0]);
-
 /// A full slot.
 const ALL: Said = Said::Bytes([0x41; 4]);
 
-const TOO_LARGE: Said = Said::Refused(Refusal::TooLarge);
-
 /// A new disk of 64 blocks and 16 inodes, all examined.
 fn examined(alloc: Global) -> Result<Bench, Fail> {
-    let mut bench = Bench::over(alloc, formatted(alloc, 64, 16)?, 0)?;
-    bench.see_blocks(alloc, 0, 64);
-    Ok(bench)
+    Bench::seeing(alloc, formatted(alloc, 64, 16)?, 0, 64)
+}
+
+/// Puts the first slots whole, each of which takes a block and no top.
+fn fill(rt: &(impl Abort + AllocGlobal), bench: &mut Bench, slots: u64) -> Result<(), Fail> {
+    for slot in 0..slots {
+        let said = bench.ask(rt.alloc(), whole(slot));
+        assert!(rt; matches!(said, Said::Stored(_, _, 0)));
+    }
+    Ok(())
 }
 
 #[test]
@@ -59,21 +104,21 @@ fn a_put_reaches_over_two_slots_and_a_hole_stays(rt: HostRuntime) -> Result<(), 
     let alloc = rt.alloc();
     for cases in [
         [
-            (get(0), Said::Hole),
+            hole(0),
             (STAT, file_of(0)),
             (Ask::Put(LABEL, 0, 1022, 2, 0xaa), Said::Stored(S, 0, 0)),
             (Ask::Put(LABEL, 1, 0, 2, 0xcc), Said::Stored(S + 1, 0, 0)),
             (Ask::Get(LABEL, 0, 1020), Said::Bytes([0, 0, 0xaa, 0xaa])),
             (get(1), Said::Bytes([0xcc, 0xcc, 0, 0])),
             (STAT, file_of(1026)),
-            (Ask::Free, Said::Free(0, 57)),
+            free(57),
         ],
         [
-            (size(5000), Said::Resized),
-            (get(4), Said::Hole),
+            sized(5000),
+            hole(4),
             (put(2), Said::Stored(S, 0, 0)),
-            (get(1), Said::Hole),
-            (get(2), ONE),
+            hole(1),
+            one(2),
             (STAT, file_of(5000)),
             (put(6), refused(Refusal::PastEnd)),
             (put(5), refused(Refusal::PastEnd)),
@@ -82,14 +127,14 @@ fn a_put_reaches_over_two_slots_and_a_hole_stays(rt: HostRuntime) -> Result<(), 
             (put(0), Said::Stored(S, 0, 0)),
             (Ask::Put(LABEL, 0, 1, 1023, 0x42), Said::Stored(0, 0, 0)),
             (Ask::Get(LABEL, 0, 0), Said::Bytes([0x41, 0x42, 0x42, 0x42])),
-            (size(2), Said::Resized),
-            (size(1024), Said::Resized),
+            sized(2),
+            sized(1024),
             (Ask::Get(LABEL, 0, 0), Said::Bytes([0x41, 0x42, 0, 0])),
             (Ask::Put(LABEL, 0, 1, 1024, 1), refused(Refusal::BadRange)),
             (Ask::Put(LABEL, 0, 0, 0, 1), refused(Refusal::BadRange)),
         ],
     ] {
-        assert_eq!(rt; examined(alloc)?.first_wrong(alloc, &cases), None);
+        examined(alloc)?.answers(&rt, &cases)?;
     }
     Ok(())
 }
@@ -98,31 +143,30 @@ fn a_put_reaches_over_two_slots_and_a_hole_stays(rt: HostRuntime) -> Result<(), 
 fn slots_from_8_on_have_a_leaf_and_there_are_72(rt: HostRuntime) -> Result<(), Fail> {
     let alloc = rt.alloc();
     let cases = [
-        (size(73_728), Said::Resized),
+        sized(73_728),
         (put(7), Said::Stored(S, 0, 0)),
         (put(8), Said::Stored(S + 1, S + 2, 0)),
         (put(71), Said::Stored(S + 3, 0, 0)),
-        (put(72), TOO_LARGE),
-        (get(72), TOO_LARGE),
-        (size(73_729), TOO_LARGE),
-        (Ask::Free, Said::Free(0, 55)),
-        (get(7), ONE),
-        (get(8), ONE),
-        (get(70), Said::Hole),
-        (get(71), ONE),
-        (size(8193), Said::Resized),
-        (get(71), Said::Hole),
-        (get(8), ONE),
-        (Ask::Free, Said::Free(0, 56)),
-        (size(8192), Said::Resized),
-        (get(8), Said::Hole),
-        (get(7), ONE),
-        (Ask::Free, Said::Free(0, 58)),
-        (size(9000), Said::Resized),
+        no_put(72),
+        no_get(72),
+        too_large(size(73_729)),
+        free(55),
+        one(7),
+        one(8),
+        hole(70),
+        one(71),
+        sized(8193),
+        hole(71),
+        one(8),
+        free(56),
+        sized(8192),
+        hole(8),
+        one(7),
+        free(58),
+        sized(9000),
         (put(8), Said::Stored(S + 4, S + 5, 0)),
     ];
-    assert_eq!(rt; examined(alloc)?.first_wrong(alloc, &cases), None);
-    Ok(())
+    examined(alloc)?.answers(&rt, &cases)
 }
 
 #[test]
@@ -132,19 +176,15 @@ fn what_a_crash_left_past_the_end_is_freed_by_a_resize(rt: HostRuntime) -> Resul
     let cases = [
         (get(8), Said::Bytes(*b"junk")),
         (STAT, file_of(8192)),
-        (Ask::Free, Said::Free(0, 0)),
-        (size(9000), Said::Resized),
-        (get(8), Said::Hole),
-        (Ask::Free, Said::Free(0, 2)),
+        free(0),
+        sized(9000),
+        hole(8),
+        free(2),
         (put(8), Said::Stored(T, T + 1, 0)),
-        (Ask::Free, Said::Free(0, 0)),
-        (get(8), ONE),
+        free(0),
+        one(8),
     ];
-    assert_eq!(rt;
-        Bench::over(alloc, disk, 0)?.first_wrong(alloc, &cases),
-        None
-    );
-    Ok(())
+    Bench::over(alloc, disk, 0)?.answers(&rt, &cases)
 }
 
 #[test]
@@ -152,72 +192,69 @@ fn slots_from_72_on_have_a_top_and_children_in_version_2(rt: HostRuntime) -> Res
     let alloc = rt.alloc();
     let mut cells = empty(alloc)?;
     raise_version(&mut cells);
-    let mut bench = Bench::over(alloc, disk_of(alloc, &cells)?, 0)?;
-    bench.see_blocks(alloc, 0, 16);
+    let mut bench = Bench::seeing(alloc, disk_of(alloc, &cells)?, 0, 16)?;
     let cases = [
-        (Ask::Free, Said::Free(0, 13)),
-        (size(4_268_033), TOO_LARGE),
-        (size(4_268_032), Said::Resized),
-        (get(72), Said::Hole),
+        free(13),
+        too_large(size(4_268_033)),
+        sized(4_268_032),
+        hole(72),
         (put(72), Said::Stored(T, T + 1, T + 2)),
         (put(71), Said::Stored(T + 3, T + 4, 0)),
         (put(135), Said::Stored(T + 5, 0, 0)),
         (put(136), Said::Stored(T + 6, T + 7, 0)),
         (put(4_167), Said::Stored(T + 8, T + 9, 0)),
-        (put(4_168), TOO_LARGE),
-        (get(4_168), TOO_LARGE),
-        (get(71), ONE),
-        (get(72), ONE),
-        (get(73), Said::Hole),
-        (get(135), ONE),
-        (get(136), ONE),
-        (get(200), Said::Hole),
-        (get(4_167), ONE),
-        (Ask::Free, Said::Free(0, 3)),
-        (size(139_265), Said::Resized),
-        (get(4_167), Said::Hole),
-        (get(136), ONE),
-        (Ask::Free, Said::Free(0, 5)),
-        (size(139_264), Said::Resized),
-        (get(136), Said::Hole),
-        (get(135), ONE),
-        (Ask::Free, Said::Free(0, 7)),
-        (size(73_728), Said::Resized),
-        (get(72), Said::Hole),
-        (get(71), ONE),
-        (Ask::Free, Said::Free(0, 11)),
+        no_put(4_168),
+        no_get(4_168),
+        one(71),
+        one(72),
+        hole(73),
+        one(135),
+        one(136),
+        hole(200),
+        one(4_167),
+        free(3),
+        sized(139_265),
+        hole(4_167),
+        one(136),
+        free(5),
+        sized(139_264),
+        hole(136),
+        one(135),
+        free(7),
+        sized(73_728),
+        hole(72),
+        one(71),
+        free(11),
         (STAT, file_of(73_728)),
     ];
-    assert_eq!(rt; bench.first_wrong(alloc, &cases), None);
-    Ok(())
+    bench.answers(&rt, &cases)
 }
 
 #[test]
 fn a_lost_child_is_named_by_its_first_slot(rt: HostRuntime) -> Result<(), Fail> {
     let alloc = rt.alloc();
-    let mut bench = Bench::over(alloc, disk_of(alloc, &blocks_under_the_top(alloc)?)?, 0)?;
-    bench.see_blocks(alloc, 0, 16);
+    let disk = disk_of(alloc, &blocks_under_the_top(alloc)?)?;
+    let mut bench = Bench::seeing(alloc, disk, 0, 16)?;
     let cases = [
         (get(72), Said::Bytes(*b"far\0")),
         (get(73), Said::Lost),
-        (get(135), Said::Hole),
+        hole(135),
         (get(136), Said::Lost),
-        (get(200), Said::Hole),
+        hole(200),
         (put(136), refused(Refusal::LostSlot { slot: 136 })),
         (whole(199), refused(Refusal::LostSlot { slot: 199 })),
         (put(73), refused(Refusal::LostSlot { slot: 73 })),
         (whole(73), Said::Stored(T, 0, 0)),
         (get(73), ALL),
         (size(204_800), refused(Refusal::LostSlot { slot: 136 })),
-        (size(139_264), Said::Resized),
-        (get(136), Said::Hole),
+        sized(139_264),
+        hole(136),
         (get(72), Said::Bytes(*b"far\0")),
-        (size(100), Said::Resized),
-        (get(72), Said::Hole),
-        (get(0), Said::Hole),
+        sized(100),
+        hole(72),
+        hole(0),
     ];
-    assert_eq!(rt; bench.first_wrong(alloc, &cases), None);
-    Ok(())
+    bench.answers(&rt, &cases)
 }
 
 #[test]
@@ -225,51 +262,31 @@ fn a_put_that_finds_too_few_blocks_is_made_after_one_is_examined(
     rt: HostRuntime,
 ) -> Result<(), Fail> {
     let alloc = rt.alloc();
-    let mut bench = Bench::over(alloc, formatted(alloc, 64, 16)?, 0)?;
-    bench.see_blocks(alloc, 5, 24);
+    let mut bench = Bench::seeing(alloc, formatted(alloc, 64, 16)?, 5, 24)?;
     assert_eq!(rt; bench.ask(alloc, Ask::Free), Said::Free(0, 19));
-    for slot in 0..18 {
-        assert!(rt; matches!(bench.ask(alloc, whole(slot)), Said::Stored(_, _, 0)));
-    }
-    let full = Refusal::Full {
-        needed: 1,
-        free: 0,
-        unverified: 40,
-        next: 24,
-    };
+    fill(&rt, &mut bench, 18)?;
     let cases = [
-        (whole(18), refused(full)),
+        full(whole(18), 40, 24),
         (Ask::SeeBlock(24), Said::Seen(false)),
         (whole(18), Said::Stored(S + 19, 0, 0)),
         (Ask::SeeBlock(24), Said::Seen(true)),
         (Ask::SeeBlock(64), refused(Refusal::BadRange)),
     ];
-    assert_eq!(rt; bench.first_wrong(alloc, &cases), None);
-    Ok(())
+    bench.answers(&rt, &cases)
 }
 
 #[test]
 fn thirteen_slots_and_a_leaf_fill_the_smallest_disk(rt: HostRuntime) -> Result<(), Fail> {
     let alloc = rt.alloc();
-    let mut bench = Bench::over(alloc, formatted(alloc, 16, 4)?, 0)?;
-    bench.see_blocks(alloc, 0, 16);
-    for slot in 0..13 {
-        assert!(rt; matches!(bench.ask(alloc, whole(slot)), Said::Stored(_, _, 0)));
-    }
-    let full = Refusal::Full {
-        needed: 1,
-        free: 0,
-        unverified: 0,
-        next: 0,
-    };
+    let mut bench = Bench::seeing(alloc, formatted(alloc, 16, 4)?, 0, 16)?;
+    fill(&rt, &mut bench, 13)?;
     let cases = [
-        (put(13), refused(full)),
+        full(put(13), 0, 0),
         (put(12), Said::Stored(0, 0, 0)),
-        (size(12_288), Said::Resized),
+        sized(12_288),
         (put(12), Said::Stored(S + 14, 0, 0)),
     ];
-    assert_eq!(rt; bench.first_wrong(alloc, &cases), None);
-    Ok(())
+    bench.answers(&rt, &cases)
 }
 
 #[test]
@@ -282,21 +299,20 @@ fn the_last_stamp_of_a_mount_is_given_once(rt: HostRuntime) -> Result<(), Fail> 
         (whole(0), Said::Stored(2_199_023_255_551, 0, 0)),
         (whole(1), refused(Refusal::SerialsSpent)),
         (put(0), Said::Stored(0, 0, 0)),
-        (size(0), Said::Resized),
+        sized(0),
         (put(0), refused(Refusal::SerialsSpent)),
     ];
-    assert_eq!(rt; bench.first_wrong(alloc, &cases), None);
-    Ok(())
+    bench.answers(&rt, &cases)
 }
 
 #[test]
 fn a_read_that_fails_refuses_one_step(rt: HostRuntime) -> Result<(), Fail> {
     let alloc = rt.alloc();
     for (ask, want) in [
-        (get(0), Said::Hole),
+        hole(0),
         (STAT, file_of(0)),
         (Ask::Flush(LABEL), Said::Flushed),
-        (size(9), Said::Resized),
+        sized(9),
         (put(0), Said::Stored(S, 0, 0)),
         (Ask::SeeBlock(3), Said::Seen(false)),
     ] {
@@ -308,10 +324,7 @@ fn a_read_that_fails_refuses_one_step(rt: HostRuntime) -> Result<(), Fail> {
             (ask, refused(Refusal::ReadFault)),
             (ask, want),
         ];
-        assert_eq!(rt;
-            Bench::over(alloc, disk, 0)?.first_wrong(alloc, &cases),
-            None
-        );
+        Bench::over(alloc, disk, 0)?.answers(&rt, &cases)?;
     }
     Ok(())
 }
@@ -342,10 +355,7 @@ fn after_a_write_that_fails_each_step_is_stopped(rt: HostRuntime) -> Result<(), 
             (Ask::SeeBlock(2), stopped),
             (Ask::SeeBlock(99), stopped),
         ];
-        assert_eq!(rt;
-            Bench::over(alloc, disk, 0)?.first_wrong(alloc, &cases),
-            None
-        );
+        Bench::over(alloc, disk, 0)?.answers(&rt, &cases)?;
     }
     Ok(())
 }

@@ -68,9 +68,7 @@ const MAKE: Ask = Ask::Make(ROOT, b"a");
 
 /// A new disk of 64 blocks and 16 inodes, of which block 9 was examined.
 fn begun(alloc: Global) -> Result<Bench, Fail> {
-    let mut bench = Bench::over(alloc, formatted(alloc, 64, 16)?, 0)?;
-    bench.see_blocks(alloc, 9, 10);
-    Ok(bench)
+    Bench::seeing(alloc, formatted(alloc, 64, 16)?, 9, 10)
 }
 
 #[test]
@@ -111,8 +109,7 @@ fn a_block_that_was_freed_since_stays_free(rt: HostRuntime) -> Result<(), Fail> 
         (PUT, Said::Stored(S + 1, 0, 0)),
         (Ask::SeeBlock(9), Said::Seen(true)),
     ];
-    assert_eq!(rt; bench.first_wrong(alloc, &cases), None);
-    Ok(())
+    bench.answers(&rt, &cases)
 }
 
 #[test]
@@ -131,6 +128,5 @@ fn what_was_found_free_may_be_claimed(rt: HostRuntime) -> Result<(), Fail> {
         (Ask::SeeBlock(16), Said::Refused(Refusal::BadRange)),
         (Ask::SeeInode(0), Said::Refused(Refusal::BadRange)),
     ];
-    assert_eq!(rt; bench.first_wrong(alloc, &cases), None);
-    Ok(())
+    bench.answers(&rt, &cases)
 }

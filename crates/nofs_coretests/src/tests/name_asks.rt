@@ -2,18 +2,18 @@
 //!
 //! Promise: each leaves a core as the next one needs it.
 ghost use Rattle.std.specs.Prelude.{◌≡◌};
+ghost use Rattle.nofs_memdisk.specs.Parts.{memory_state};
 ghost use Rattle.nofs_state.specs.Books.{IsSafe};
 
-use crate::tests::steps::{Handle, Said, names_of};
-use nofs_disk::Disk;
+use crate::tests::file_asks::done;
+use crate::tests::steps::{Handle, MemCore, Said, names_of};
 use nofs_inode::FileKind;
 use nofs_names::{Ended, Listed, drop_name, link, list, look, make, rename};
-use nofs_state::Core;
 use std::alloc::Global;
 
-pub fn ask_look<D: Disk + Drop>(core: &mut Core<D>, on: Handle, name: &[u8]) -> Said
-    requires { IsSafe (D.state core.old.disk) core.old.books }
-    ensures safe { IsSafe (D.state core.new.disk) core.new.books }
+pub fn ask_look(core: &mut MemCore, on: Handle, name: &[u8]) -> Said
+    requires { IsSafe (memory_state core.old.disk) core.old.books }
+    ensures safe { IsSafe (memory_state core.new.disk) core.new.books }
     ensures at { core.new.books.at ≡ core.old.books.at }
 {
     match look(core, on.0, on.1, name) {
@@ -22,15 +22,9 @@ pub fn ask_look<D: Disk + Drop>(core: &mut Core<D>, on: Handle, name: &[u8]) -> 
     }
 }
 
-pub fn ask_make<D: Disk + Drop>(
-    core: &mut Core<D>,
-    alloc: Global,
-    on: Handle,
-    name: &[u8],
-    kind: FileKind,
-) -> Said
-    requires { IsSafe (D.state core.old.disk) core.old.books }
-    ensures safe { IsSafe (D.state core.new.disk) core.new.books }
+pub fn ask_make(core: &mut MemCore, alloc: Global, on: Handle, name: &[u8], kind: FileKind) -> Said
+    requires { IsSafe (memory_state core.old.disk) core.old.books }
+    ensures safe { IsSafe (memory_state core.new.disk) core.new.books }
     ensures at { core.new.books.at ≡ core.old.books.at }
 {
     let Ended { claims, result } = make(alloc, core, on.0, on.1, name, kind);
@@ -45,15 +39,9 @@ pub fn ask_make<D: Disk + Drop>(
     }
 }
 
-pub fn ask_link<D: Disk + Drop>(
-    core: &mut Core<D>,
-    alloc: Global,
-    on: Handle,
-    name: &[u8],
-    file: Handle,
-) -> Said
-    requires { IsSafe (D.state core.old.disk) core.old.books }
-    ensures safe { IsSafe (D.state core.new.disk) core.new.books }
+pub fn ask_link(core: &mut MemCore, alloc: Global, on: Handle, name: &[u8], file: Handle) -> Said
+    requires { IsSafe (memory_state core.old.disk) core.old.books }
+    ensures safe { IsSafe (memory_state core.new.disk) core.new.books }
     ensures at { core.new.books.at ≡ core.old.books.at }
 {
     let Ended { claims, result } = link(core, alloc, on.0, on.1, name, file.0, file.1);
@@ -63,9 +51,9 @@ pub fn ask_link<D: Disk + Drop>(
     }
 }
 
-pub fn ask_drop<D: Disk + Drop>(core: &mut Core<D>, alloc: Global, on: Handle, name: &[u8]) -> Said
-    requires { IsSafe (D.state core.old.disk) core.old.books }
-    ensures safe { IsSafe (D.state core.new.disk) core.new.books }
+pub fn ask_drop(core: &mut MemCore, alloc: Global, on: Handle, name: &[u8]) -> Said
+    requires { IsSafe (memory_state core.old.disk) core.old.books }
+    ensures safe { IsSafe (memory_state core.new.disk) core.new.books }
     ensures at { core.new.books.at ≡ core.old.books.at }
 {
     match drop_name(core, alloc, on.0, on.1, name) {
@@ -74,26 +62,17 @@ pub fn ask_drop<D: Disk + Drop>(core: &mut Core<D>, alloc: Global, on: Handle, n
     }
 }
 
-pub fn ask_rename<D: Disk + Drop>(
-    core: &mut Core<D>,
-    alloc: Global,
-    on: Handle,
-    old: &[u8],
-    new: &[u8],
-) -> Said
-    requires { IsSafe (D.state core.old.disk) core.old.books }
-    ensures safe { IsSafe (D.state core.new.disk) core.new.books }
+pub fn ask_rename(core: &mut MemCore, alloc: Global, on: Handle, old: &[u8], new: &[u8]) -> Said
+    requires { IsSafe (memory_state core.old.disk) core.old.books }
+    ensures safe { IsSafe (memory_state core.new.disk) core.new.books }
     ensures at { core.new.books.at ≡ core.old.books.at }
 {
-    match rename(alloc, core, on.0, on.1, old, new) {
-        Ok(()) => Said::Renamed,
-        Err(why) => Said::Refused(why),
-    }
+    done(rename(alloc, core, on.0, on.1, old, new), Said::Renamed)
 }
 
-pub fn ask_list<D: Disk + Drop>(core: &mut Core<D>, alloc: Global, on: Handle, slot: u64) -> Said
-    requires { IsSafe (D.state core.old.disk) core.old.books }
-    ensures safe { IsSafe (D.state core.new.disk) core.new.books }
+pub fn ask_list(core: &mut MemCore, alloc: Global, on: Handle, slot: u64) -> Said
+    requires { IsSafe (memory_state core.old.disk) core.old.books }
+    ensures safe { IsSafe (memory_state core.new.disk) core.new.books }
     ensures at { core.new.books.at ≡ core.old.books.at }
 {
     match list(alloc, core, on.0, on.1, slot) {

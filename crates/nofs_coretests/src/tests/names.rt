@@ -37,8 +37,7 @@ fn wrong_at(
     cells: &[Cell],
     cases: &[(Ask, Said)],
 ) -> Result<Option<(usize, Said)>, Fail> {
-    let mut bench = Bench::over(alloc, disk_of(alloc, cells)?, 0)?;
-    bench.see_blocks(alloc, 0, cells.len() as u64);
+    let mut bench = Bench::seeing(alloc, disk_of(alloc, cells)?, 0, cells.len() as u64)?;
     Ok(bench.first_wrong(alloc, cases))
 }
 
@@ -77,8 +76,7 @@ fn a_name_is_made_listed_dropped_and_made_again(rt: HostRuntime) -> Result<(), F
         (Ask::SeeInode(0), refused(Refusal::BadRange)),
         (Ask::SeeInode(5), refused(Refusal::BadRange)),
     ];
-    assert_eq!(rt; bench.first_wrong(alloc, &cases), None);
-    Ok(())
+    bench.answers(&rt, &cases)
 }
 
 /// The directory of the next test.
@@ -90,8 +88,7 @@ const FILE: Handle = (4, S + 2);
 #[test]
 fn names_of_one_file_stand_in_two_directories(rt: HostRuntime) -> Result<(), Fail> {
     let alloc = rt.alloc();
-    let mut bench = Bench::over(alloc, formatted(alloc, 64, 16)?, 0)?;
-    bench.see_blocks(alloc, 0, 64);
+    let mut bench = Bench::seeing(alloc, formatted(alloc, 64, 16)?, 0, 64)?;
     let cases = [
         (Ask::SeeInode(3), Said::Seen(false)),
         (Ask::MakeDirectory(ROOT, b"d"), Said::Made(3, S, S + 1, 0)),
@@ -131,8 +128,7 @@ fn names_of_one_file_stand_in_two_directories(rt: HostRuntime) -> Result<(), Fai
         (Ask::Drop(ROOT, b"z"), Said::Dropped(true)),
         (Ask::Free, Said::Free(3, 58)),
     ];
-    assert_eq!(rt; bench.first_wrong(alloc, &cases), None);
-    Ok(())
+    bench.answers(&rt, &cases)
 }
 
 /// Names of 48 and of 49 bytes.
@@ -158,8 +154,7 @@ fn a_name_has_1_to_48_bytes_and_no_slash(rt: HostRuntime) -> Result<(), Fail> {
         (Ask::Rename(ROOT, b"a\r", b"a"), bad),
         (Ask::Look(ROOT, b"a\0"), bad),
     ];
-    assert_eq!(rt; bench.first_wrong(alloc, &cases), None);
-    Ok(())
+    bench.answers(&rt, &cases)
 }
 
 #[test]

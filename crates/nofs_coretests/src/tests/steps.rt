@@ -1,6 +1,11 @@
 //! Steps as tests write them down, and what is answered.
 use nofs_inode::FileKind;
 use nofs_machine::{Claims, NameLine, Refusal};
+use nofs_memdisk::MemDisk;
+use nofs_state::Core;
+
+/// A core over a disk in memory.
+pub type MemCore = Core<MemDisk>;
 
 /// A file or directory: its inode and its generation.
 pub type Handle = (u32, u64);

@@ -5,7 +5,6 @@ ghost use Rattle.std.specs.Prelude.{◌≡◌, ◌<◌, ◌≤◌, ℕ, IfOk, Is
 ghost use Rattle.nofs_ptrs.specs.Paths.{slot_limit};
 ghost use Rattle.nofs_disk.specs.Number.{number_at};
 ghost use Rattle.nofs_machine.specs.History.{agreed_files};
-ghost use Rattle.nofs_inode.specs.InodeRecords.{record_at};
 ghost use Rattle.nofs_model.specs.Files.{file_from};
 ghost use Rattle.nofs_model.specs.Geometry as image;
 ghost use Rattle.nofs_model.specs.Slots as slots;
@@ -16,7 +15,7 @@ ghost use Rattle.nofs_history.specs.Kept.{file_at, file_of, kept_files_of, kept_
 use crate::accepted::files::{FileNow, FilesNow, Kept};
 use nofs_disk::{Cell, read_u64_at};
 use nofs_inode::inode::FileKind;
-use nofs_inode::{FREE_RECORD, Record, read_record};
+use nofs_inode::{Record, record_at};
 use nofs_model::{Value, agreed, value_of};
 use nofs_ptrs::SLOT_LIMIT;
 use std::alloc::{AllocError, Global};
@@ -98,17 +97,6 @@ pub(crate) fn read_inode(base: &[Cell], inode: u32) -> Record
     let place = u64::from(inode) - 1;
     let block = cell_at(base, 1 + place / 4);
     record_at(&block.payload, (place % 4) as u32)
-}
-
-#[tactic(auto, unfolding(nofs_inode::specs::InodeRecords::record_at))]
-fn record_at(payload: &[u8; 1024], index: u32) -> Record
-    requires { index < 4 }
-    ensures { result ≡ record_at payload.now index }
-{
-    match read_record(payload, index) {
-        None => FREE_RECORD,
-        Some(it) => it,
-    }
 }
 
 // The file of a live inode, with its record.

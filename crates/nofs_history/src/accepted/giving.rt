@@ -161,28 +161,6 @@ impl FilesNow {
         }
     }
 
-    fn link_gift_at(
-        &self,
-        alloc: Global,
-        at: BackLink,
-        said: &Says<'_>,
-        place: usize,
-    ) -> Result<Gift, AllocError>
-        requires entry { at.entry < entry_limit }
-        requires name { length said.now.name.now ≤ 48 }
-        requires place { place < 4 }
-        ensures given { IfOk result (λ it. given_of (kept_files_of self.now) it
-            ≡ machine.link_given (kept_files_of self.now) at.directory at.generation said.now.name.now said.now.inode said.now.generation at.entry place) }
-        ensures sound { IfOk result (λ it. is_sound it ≡ true) }
-    {
-        let meta = MetaGift {
-            inode: said.inode,
-            generation: said.generation,
-            meta: self.linked(said.inode, place, at),
-        };
-        self.spelled_gift(alloc, at, &said.bytes(), Some(meta))
-    }
-
     fn link_gift_in(&self, alloc: Global, at: BackLink, said: &Says<'_>) -> Result<Gift, AllocError>
         requires entry { at.entry < entry_limit }
         requires name { length said.now.name.now ≤ 48 }
@@ -193,7 +171,14 @@ impl FilesNow {
     {
         match self.link_place(alloc, said.inode)? {
             None => Ok(Gift::Nothing),
-            Some(place) => self.link_gift_at(alloc, at, said, place),
+            Some(place) => {
+                let meta = MetaGift {
+                    inode: said.inode,
+                    generation: said.generation,
+                    meta: self.linked(said.inode, place, at),
+                };
+                self.spelled_gift(alloc, at, &said.bytes(), Some(meta))
+            }
         }
     }
 

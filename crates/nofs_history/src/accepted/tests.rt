@@ -2,6 +2,7 @@
 use crate::{Claims, Entry1, FileKind, History, Reply, Step, accepted_of};
 use nofs_disk::{Cell, Pointer, write_pointer_at, write_u32_at, write_u64_at};
 use nofs_lists::{Content, Name};
+use nofs_machine::NO_CLAIMS;
 use nofs_model::Value;
 use nofs_super::{SuperBlock, write_super};
 use std::alloc::{AllocError, Global};
@@ -9,14 +10,6 @@ use std::test::Fail;
 
 /// The first stamp of the first mount.
 const S: u64 = 1_099_511_627_776;
-
-const NO_CLAIMS: Claims = Claims {
-    inode: 0,
-    generation: 0,
-    cell: Pointer::NULL,
-    leaf: Pointer::NULL,
-    top: Pointer::NULL,
-};
 
 /// A formatted image of the first mount: the root with its empty block 6, and the empty label file.
 fn base(alloc: Global) -> Result<Vec<Cell>, AllocError> {
@@ -119,22 +112,22 @@ fn a_put_behind_a_new_size_is_the_third_value(rt: HostRuntime) -> Result<(), Fai
 fn a_new_name_is_in_the_second_value_of_its_directory(rt: HostRuntime) -> Result<(), Fail> {
     let alloc = rt.alloc();
     let mut history = History::new(alloc, 2);
-    history.reserve(1)?;
+    let claims = Claims {
+        inode: 3,
+        generation: S,
+        ..NO_CLAIMS
+    };
+    let made = Reply::Made {
+        inode: 3,
+        generation: S,
+    };
     let make = Step::Make {
         directory: 1,
         generation: 1,
         name: Name::from_slice(alloc, b"a")?,
         kind: FileKind::File,
     };
-    let made = Reply::Made {
-        inode: 3,
-        generation: S,
-    };
-    let claims = Claims {
-        inode: 3,
-        generation: S,
-        ..NO_CLAIMS
-    };
+    history.reserve(1)?;
     history.push(accepted(make, made, claims));
     let values = accepted_of(alloc, &base(alloc)?, &history, 1, 1, 0)?;
     assert_eq!(rt; values.len(), 2);

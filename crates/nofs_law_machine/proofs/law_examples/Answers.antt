@@ -1,21 +1,20 @@
-use Rattle.nofs_law_machine.proofs.Shown.{names-shown, new-names-shown, contents-shown, large-files-shown, elements-shown, failed-read, failed-flush}
-use Rattle.nofs_law_machine.proofs.Shown.{given-to-slot}
+use Rattle.nofs_law_machine.proofs.Shown.{all-shown, failed-read, failed-flush, given-to-slot}
 use Rattle.nofs_law_machine.proofs.law_examples.Goals as goal
 
 pub returns-clause-names : goal.returns-clause-names
-returns-clause-names c = names-shown
+returns-clause-names c = all-shown.0
 
 pub returns-clause-new_names : goal.returns-clause-new_names
-returns-clause-new_names c = new-names-shown
+returns-clause-new_names c = all-shown.1
 
 pub returns-clause-contents : goal.returns-clause-contents
-returns-clause-contents c = contents-shown
+returns-clause-contents c = all-shown.2
 
 pub returns-clause-large_files : goal.returns-clause-large_files
-returns-clause-large_files c = large-files-shown
+returns-clause-large_files c = all-shown.3
 
 pub returns-clause-elements : goal.returns-clause-elements
-returns-clause-elements c = elements-shown
+returns-clause-elements c = all-shown.4
 
 pub returns-clause-failed_read : goal.returns-clause-failed_read
 returns-clause-failed_read c = failed-read

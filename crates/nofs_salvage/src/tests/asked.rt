@@ -12,12 +12,7 @@ pub struct AskedSteps {
 
 impl Notes for AskedSteps {
     fn note(&mut self, step: &Step) -> Result<(), AllocError> {
-        match step {
-            Step::Look { .. } | Step::List { .. } | Step::Get { .. } | Step::Stat { .. } => {
-                let numbers = [u64::from(inode_of(step)), number_of(step)];
-                self.pad.step(word_of(step), &numbers, &[])
-            }
-            _ => self.pad.word("other; "),
-        }
+        let numbers = [u64::from(inode_of(step)), number_of(step)];
+        self.pad.step(word_of(step), &numbers, &[])
     }
 }

@@ -224,12 +224,12 @@ fn chain_answers(
 /// Compares both checks with what is listed of an image, the inodes that are agreed and the slots
 /// that are not empty, and with the definitions.
 fn answers(
-    rt: &impl Abort,
-    alloc: Global,
+    rt: &(impl Abort + AllocGlobal),
     cells: &[Cell],
     names: &[u32],
     slots: &[(u32, u64, PathAnswer)],
 ) -> Result<(), Fail> {
+    let alloc = rt.alloc();
     assert!(rt; is_mountable(cells));
     let mut disk = disk_of(alloc, cells)?;
     assert!(rt; learns(alloc, &mut disk, names)?);
@@ -255,52 +255,28 @@ const ROOT: (u32, u64, PathAnswer) = (1, 0, PathAnswer::Holds(Pointer { block: 6
 #[test]
 fn a_slot_is_empty_or_holds_or_is_lost(rt: HostRuntime) -> Result<(), Fail> {
     let alloc = rt.alloc();
+    answers(&rt, &empty(alloc)?, &[1, 2], &[ROOT])?;
     let lost = |inode| (inode, 0, PathAnswer::Lost);
-    answers(&rt, alloc, &empty(alloc)?, &[1, 2], &[ROOT])?;
-    answers(
-        &rt,
-        alloc,
-        &stamp_that_differs(alloc)?,
-        &[1, 2],
-        &[ROOT, lost(2)],
-    )?;
-    answers(
-        &rt,
-        alloc,
-        &two_owners(alloc)?,
-        &[1, 2, 3],
-        &[ROOT, lost(3)],
-    )?;
-    answers(
-        &rt,
-        alloc,
-        &two_owners_the_other_way(alloc)?,
-        &[1, 2, 4],
-        &[ROOT, lost(4)],
-    )?;
-    answers(
-        &rt,
-        alloc,
-        &inode_made_again(alloc)?,
-        &[1, 2, 3],
-        &[ROOT, lost(3)],
-    )?;
-    answers(&rt, alloc, &bytes_ff(alloc)?, &[], &[])
+    let image = stamp_that_differs(alloc)?;
+    answers(&rt, &image, &[1, 2], &[ROOT, lost(2)])?;
+    for (image, inode) in [
+        (two_owners(alloc)?, 3),
+        (two_owners_the_other_way(alloc)?, 4),
+        (inode_made_again(alloc)?, 3),
+    ] {
+        answers(&rt, &image, &[1, 2, inode], &[ROOT, lost(inode)])?;
+    }
+    answers(&rt, &bytes_ff(alloc)?, &[], &[])
 }
 
 #[test]
 fn a_slot_under_leaf_top_or_child_holds_with_the_ones_above(rt: HostRuntime) -> Result<(), Fail> {
     let alloc = rt.alloc();
+    let image = residue_past_the_size(alloc)?;
+    let slots = [ROOT, (2, LEAF, holds(9, S + 1)), (2, 8, holds(10, S + 2))];
+    answers(&rt, &image, &[1, 2], &slots)?;
     answers(
         &rt,
-        alloc,
-        &residue_past_the_size(alloc)?,
-        &[1, 2],
-        &[ROOT, (2, LEAF, holds(9, S + 1)), (2, 8, holds(10, S + 2))],
-    )?;
-    answers(
-        &rt,
-        alloc,
         &blocks_under_the_top(alloc)?,
         &[1, 2],
         &[
@@ -319,31 +295,19 @@ fn a_slot_under_leaf_top_or_child_holds_with_the_ones_above(rt: HostRuntime) -> 
 #[test]
 fn a_chain_leads_to_the_root_by_entries_and_back_links(rt: HostRuntime) -> Result<(), Fail> {
     let alloc = rt.alloc();
-    answers(&rt, alloc, &dead_second_link(alloc)?, &[1, 2, 3], &[ROOT])?;
-    answers(&rt, alloc, &one_name_twice(alloc)?, &[1, 2, 3, 4], &[ROOT])?;
-    answers(
-        &rt,
-        alloc,
-        &entry_of_a_free_record(alloc)?,
-        &[1, 2],
-        &[ROOT],
-    )?;
-    answers(
-        &rt,
-        alloc,
-        &entry_of_another_generation(alloc)?,
-        &[1, 2],
-        &[ROOT],
-    )?;
-    answers(
-        &rt,
-        alloc,
-        &loop_of_directories(alloc)?,
-        &[1, 2],
-        &[ROOT, (3, 0, holds(7, S + 3)), (4, 0, holds(8, S + 4))],
-    )?;
+    answers(&rt, &dead_second_link(alloc)?, &[1, 2, 3], &[ROOT])?;
+    answers(&rt, &one_name_twice(alloc)?, &[1, 2, 3, 4], &[ROOT])?;
+    for image in [
+        entry_of_a_free_record(alloc)?,
+        entry_of_another_generation(alloc)?,
+    ] {
+        answers(&rt, &image, &[1, 2], &[ROOT])?;
+    }
+    let image = loop_of_directories(alloc)?;
+    let slots = [ROOT, (3, 0, holds(7, S + 3)), (4, 0, holds(8, S + 4))];
+    answers(&rt, &image, &[1, 2], &slots)?;
     // What is wrongly said to be known is believed or not, and the check returns.
-    let mut disk = disk_of(alloc, &loop_of_directories(alloc)?)?;
+    let mut disk = disk_of(alloc, &image)?;
     for inode in 0..6 {
         let answer = chain(alloc, &mut disk, &[3], inode)?;
         assert!(rt;

@@ -12,22 +12,29 @@ pub fn failing(
     taken: bool,
 ) -> Result<MemDisk, AllocError> {
     let mut disk = MemDisk::new(alloc, 4)?;
-    disk.fail_at(&[FaultAt {
+    fail_call(&mut disk, call, number, taken)?;
+    Ok(disk)
+}
+
+// Lets a call fail.
+fn fail_call(
+    disk: &mut MemDisk,
+    call: CallKind,
+    number: u64,
+    taken: bool,
+) -> Result<(), AllocError> {
+    let fault = FaultAt {
         call,
         number,
         taken,
-    }])?;
-    Ok(disk)
+    };
+    disk.fail_at(&[fault])
 }
 
 /// Lets a read fail: the next one has number 1.
 pub fn fail_read(disk: &mut MemDisk, number: u64) -> Result<(), AllocError> {
-    let call = FaultAt {
-        call: CallKind::Read,
-        number: disk.calls().reads.saturating_add(number),
-        taken: false,
-    };
-    disk.fail_at(&[call])
+    let number = disk.calls().reads.saturating_add(number);
+    fail_call(disk, CallKind::Read, number, false)
 }
 
 /// A disk of 16 blocks, of which block 0 has this payload and the others are zeros.
@@ -42,14 +49,14 @@ pub fn disk_with(alloc: Global, payload: &[u8; 1024]) -> Result<MemDisk, AllocEr
 /// Writes a cell of one byte; whether the call succeeded.
 pub fn wrote<D: Disk>(disk: &mut D, block: u64, byte: u8) -> Result<bool, AllocError> {
     disk.ready(1)?;
-    if block >= disk.blocks() {
-        return Ok(false);
-    }
-    let cell = Cell {
+    Ok(block < disk.blocks() && disk.write(block, &cell_of(byte)).is_ok())
+}
+
+fn cell_of(byte: u8) -> Cell {
+    Cell {
         payload: [byte; 1024],
         tag: [byte; 32],
-    };
-    Ok(disk.write(block, &cell).is_ok())
+    }
 }
 
 /// Flushes; whether the call succeeded.

@@ -21,6 +21,12 @@ const OTHER: Sides = Sides {
     other_in: true,
 };
 
+const UNTOUCHED: CallCounts = CallCounts {
+    reads: 0,
+    writes: 0,
+    flushes: 0,
+};
+
 /// A call of one side that fails, and the sides that are in at the end.
 #[derive(Clone, Copy)]
 struct Case {
@@ -36,6 +42,16 @@ fn mirrored<A: Disk + Drop, B: Disk + Drop>(lead: A, other: B) -> Result<Mirror<
         Ok(mirror) => Ok(mirror),
         Err(_) => Err(AllocError),
     }
+}
+
+/// A mirror of two disks of which a write fails: on the lead one with this number, on the other with that.
+fn failing_twice(
+    alloc: Global,
+    on_lead: u64,
+    on_other: u64,
+) -> Result<Mirror<MemDisk, MemDisk>, AllocError> {
+    let lead = failing(alloc, CallKind::Write, on_lead, false)?;
+    mirrored(lead, failing(alloc, CallKind::Write, on_other, false)?)
 }
 
 /// Why two disks of so many blocks make no mirror of four, and the calls that each has then had.
@@ -138,9 +154,7 @@ fn a_call_that_fails_on_both_sides_keeps_the_lead(rt: HostRuntime) -> Result<(),
 
 #[test]
 fn the_last_side_that_is_in_stays_in(rt: HostRuntime) -> Result<(), Fail> {
-    let lead = failing(rt.alloc(), CallKind::Write, 1, false)?;
-    let other = failing(rt.alloc(), CallKind::Write, 6, false)?;
-    let mut mirror = mirrored(lead, other)?;
+    let mut mirror = failing_twice(rt.alloc(), 1, 6)?;
     assert!(rt; wrote(&mut mirror, 1, 5)?);
     assert_eq!(rt; mirror.sides(), OTHER);
     assert!(rt; !wrote(&mut mirror, 3, 6)?);
@@ -154,9 +168,7 @@ fn the_last_side_that_is_in_stays_in(rt: HostRuntime) -> Result<(), Fail> {
 
 #[test]
 fn a_mirror_of_a_mirror_outlives_two_sides(rt: HostRuntime) -> Result<(), Fail> {
-    let lead = failing(rt.alloc(), CallKind::Write, 1, false)?;
-    let other = failing(rt.alloc(), CallKind::Write, 6, false)?;
-    let mut inner = mirrored(lead, other)?;
+    let mut inner = failing_twice(rt.alloc(), 1, 6)?;
     assert!(rt; wrote(&mut inner, 1, 5)?);
     let third = MemDisk::new(rt.alloc(), 4)?;
     let mut outer = mirrored(inner, third)?;
@@ -185,16 +197,11 @@ fn a_lead_that_cannot_be_read_comes_back(rt: HostRuntime) -> Result<(), Fail> {
 
 #[test]
 fn too_few_blocks_are_told_before_any_call(rt: HostRuntime) -> Result<(), Fail> {
-    let none = CallCounts {
-        reads: 0,
-        writes: 0,
-        flushes: 0,
-    };
     for (lead, other) in [(3, 4), (4, 3), (0, 9)] {
         let cause = MirrorCause::TooSmall { lead, other };
         assert_eq!(rt;
             refused(rt.alloc(), lead, other)?,
-            Some((cause, none, none))
+            Some((cause, UNTOUCHED, UNTOUCHED))
         );
     }
     assert_eq!(rt; refused(rt.alloc(), 4, 9)?, None);

@@ -13,65 +13,33 @@ const MOUNTED: SuperBlock = SuperBlock {
     mount: 1,
 };
 
-/// Its first 40 bytes.
-const MOUNTED_BYTES: [u8; 40] = *b"NoFSv001\x01\0\0\0\0\0\0\0\
-    \x40\0\0\0\0\0\0\0\x10\0\0\0\0\0\0\0\x01\0\0\0\0\0\0\0";
-
 #[test]
-fn a_disk_without_the_magic_is_refused(rt: HostRuntime) -> Result<(), Fail> {
-    for found in [[0; 8], *b"NoFS\0\0\0\0"] {
-        let mut payload = [0; 1024];
-        write_bytes_at(&mut payload, 0, &found);
-        let mut disk = disk_with(rt.alloc(), &payload)?;
-        assert_eq!(rt; read_super(&mut disk), Err(MountFault::BadMagic { found }));
-    }
-    Ok(())
-}
-
-#[test]
-fn the_first_fault_of_a_superblock_is_named(rt: HostRuntime) -> Result<(), Fail> {
-    for (version, rest, blocks, mount, want) in [
-        (2, 0, 16, 1, None),
-        (3, 9, 15, 1, Some(MountFault::BadVersion { found: 3 })),
-        (0, 0, 16, 1, Some(MountFault::BadVersion { found: 0 })),
-        (2, 1, 15, 1, Some(MountFault::BadRest { at: 40 })),
-        (
-            1,
-            0,
-            15,
-            1,
-            Some(MountFault::BadGeometry {
-                blocks: 15,
-                inodes: 4,
-            }),
-        ),
-        (
-            1,
-            0,
-            32,
-            16_777_215,
-            Some(MountFault::DeviceTooSmall { has: 16 }),
-        ),
-        (1, 0, 16, 16_777_214, None),
-        (
-            1,
-            0,
-            16,
-            16_777_215,
-            Some(MountFault::MountsSpent { found: 16_777_215 }),
-        ),
-    ] {
-        let it = SuperBlock {
-            version,
-            blocks,
+fn a_disk_is_refused_for_the_first_fault_of_its_block_0(rt: HostRuntime) -> Result<(), Fail> {
+    let mut large = Cell::ZERO;
+    let mount = 16_777_215;
+    write_super(
+        &SuperBlock {
+            blocks: 32,
             inodes: 4,
             mount,
-        };
-        let mut cell = Cell::ZERO;
-        write_super(&it, &mut cell);
-        cell.payload[40] = rest;
-        let mut disk = disk_with(rt.alloc(), &cell.payload)?;
-        assert_eq!(rt; read_super(&mut disk).err(), want, "{it:?}");
+            ..MOUNTED
+        },
+        &mut large,
+    );
+    let mut named = [0; 1024];
+    write_bytes_at(&mut named, 0, b"NoFS");
+    for (payload, fault) in [
+        ([0; 1024], MountFault::BadMagic { found: [0; 8] }),
+        (
+            named,
+            MountFault::BadMagic {
+                found: *b"NoFS\0\0\0\0",
+            },
+        ),
+        (large.payload, MountFault::DeviceTooSmall { has: 16 }),
+    ] {
+        let mut disk = disk_with(rt.alloc(), &payload)?;
+        assert_eq!(rt; read_super(&mut disk), Err(fault));
         assert_eq!(rt; disk.calls().writes, 0);
     }
     Ok(())
@@ -96,7 +64,9 @@ fn a_disk_is_formatted_and_mounted(rt: HostRuntime) -> Result<(), Fail> {
     assert!(rt; disk.blocks() == 64);
     let mut cell = Cell::ZERO;
     assert!(rt; disk.read(0, &mut cell).is_ok());
-    assert_eq!(rt; &cell.payload[..40], MOUNTED_BYTES.as_slice());
+    let worked = b"NoFSv001\x01\0\0\0\0\0\0\0\
+        \x40\0\0\0\0\0\0\0\x10\0\0\0\0\0\0\0\x01\0\0\0\0\0\0\0";
+    assert_eq!(rt; &cell.payload[..40], worked.as_slice());
     assert_eq!(rt; disk.calls().flushes, 2);
     Ok(())
 }

@@ -1,7 +1,8 @@
 //! The replies of the tables.
 
-use nofs_lists::{Content, Name};
-use nofs_machine::{FileKind, Found, NameLine, NameList, Refusal, Reply, Stat};
+use nofs_lists::Content;
+use nofs_machine::{FileKind, Found, Refusal, Reply, Stat};
+use nofs_told::name_list;
 use std::alloc::{AllocError, Global};
 
 /// A reply of a table.
@@ -30,20 +31,11 @@ pub enum Answer {
     No(Refusal),
 }
 
-fn names(alloc: Global) -> Result<NameList, AllocError> {
-    let mut names = NameList::new(alloc);
-    for (name, kind, dead) in [
-        ("de", FileKind::Directory, false),
-        ("x", FileKind::File, true),
-    ] {
-        names.push(NameLine {
-            name: Name::from_slice(alloc, name.as_bytes())?,
-            kind,
-            dead,
-        })?;
-    }
-    Ok(names)
-}
+/// A directory and a dead entry.
+const NAMES: [(&str, FileKind, bool); 2] = [
+    ("de", FileKind::Directory, false),
+    ("x", FileKind::File, true),
+];
 
 /// The reply, its bytes and names made anew.
 pub fn reply(alloc: Global, answer: Answer) -> Result<Reply, AllocError> {
@@ -60,7 +52,7 @@ pub fn reply(alloc: Global, answer: Answer) -> Result<Reply, AllocError> {
         Answer::Linked => Reply::Linked,
         Answer::Dropped(removed) => Reply::Dropped { removed },
         Answer::Renamed => Reply::Renamed,
-        Answer::Names(slot) => Reply::Names(slot, names(alloc)?),
+        Answer::Names(slot) => Reply::Names(slot, name_list(alloc, &NAMES)?),
         Answer::LostNames(slot) => Reply::LostNames(slot),
         Answer::NoMore => Reply::NoMore,
         Answer::Bytes(byte) => Reply::Bytes(Content::from_slice(alloc, &[byte; 1024])?),

@@ -1,8 +1,8 @@
 //! What a stand-in for a mount replies; it notes the elements that it is asked for.
-ghost use Rattle.std.specs.Prelude.{◌≡◌, ◌^◌, ◌<◌, All};
-ghost use Rattle.nofs_workers.specs.Sweeps.{AreInRange, see_of as step_to_see};
-ghost use Rattle.nofs_machine.specs.declared.steps.ElementKind.TheVariants.{Inode};
+ghost use Rattle.std.specs.Prelude.{◌^◌, ◌<◌, All};
+ghost use Rattle.nofs_workers.specs.Sweeps.{AreInRange};
 
+use crate::sweep::see_of;
 use crate::{Batches, WritesOut};
 use nofs_disk::OutFault;
 use nofs_machine::{ElementKind, FileKind, Refusal, Reply, Stat, Step, Steps};
@@ -39,16 +39,6 @@ pub struct Odds {
     kind: ElementKind,
     items: Vec<u64>,
     ghost in_range: { AreInRange kind items.items },
-}
-
-fn see_of(kind: ElementKind, item: u64) -> Step
-    requires { kind ≡ Inode → item < 2 ^ 32 }
-    ensures { result ≡ step_to_see kind item }
-{
-    match kind {
-        ElementKind::Inode => Step::SeeInode { inode: item as u32 },
-        ElementKind::Block => Step::SeeBlock { block: item },
-    }
 }
 
 /// What a step is answered.

@@ -28,11 +28,10 @@ returns-clause-ends g c =
 pub returns-clause-served : goal.returns-clause-served
 returns-clause-served g c =
     let v = c.visit_and_close-mount in
+    let H = v.result.mount.core.books.history.entries in
     let Q = g.Q.Source.state in
     let K = g.K.Sink.state in
-    let at = c.args.mount.core.books.at in
-    let H = v.result.mount.core.books.history.entries in
-    let made = visit-steps _ at.inodes at.blocks v.result.out_of_memory H v.ensures.ran in
+    let made = visit-steps _ c.args.mount.core.books.at.inodes c.args.mount.core.books.at.blocks v.result.out_of_memory H v.ensures.ran in
     let one = made.0 in
     let two = made.1 in
     let source_is : c.source-1.given.0 ≡ v.new.visitor.source.now = c.source-1.given.1 (sym one) ∙ c.take_back.ensures in

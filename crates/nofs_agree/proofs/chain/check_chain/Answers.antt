@@ -11,5 +11,5 @@ returns-then-is_special-clause-agreed g c = λ t a. whole-special _ _ c.args.at.
 
 pub returns-clause-agreed : goal.returns-clause-agreed
 returns-clause-agreed g c =
-    whole-links _ _ _ c.args.at.now c.args.known.now c.args.inode c.in_ok-it.it _ c.has_agreed_link.result c.read_inode.ensures.stays
-    c.in_ok-it.ensures.found c.if-is_root.ensures c.if-is_special.ensures c.has_agreed_link.ensures
+    whole-links _ _ _ c.args.at.now c.args.known.now c.args.inode c.in_ok-it.it _ c.any_agreed_link.result c.read_inode.ensures.stays
+    c.in_ok-it.ensures.found c.if-is_root.ensures c.if-is_special.ensures c.any_agreed_link.ensures

@@ -1,86 +1,40 @@
-use Rattle.std.proofs.Common.{◌≡◌, ℕ, ◌+◌, ◌-◌, ◌*◌, ◌/◌, max, length, refl, sym, ap, ◌∙◌, subst, subst₂, Some, [], ◌∷◌, le_refl}
-use Rattle.nofs_disk.specs.Chains.{StaysButFaults-trans, Rose-within}
-use Rattle.nofs_disk.specs.Disk.{cell_at}
-use Rattle.nofs_model.specs.Cells.{Content, Pointer, Record, null}
-use Rattle.nofs_model.specs.Places.{place_path}
-use Rattle.nofs_machine.specs.declared.steps.Step.TheVariants as step
-use Rattle.nofs_state.specs.Writing.{Stores}
-use Rattle.nofs_state.specs.Books.{claimed_pointer}
-use Rattle.nofs_state.specs.Steps.{Goes}
-use Rattle.nofs_state.specs.declared.books.Books.{Books}
-use Rattle.nofs_files.specs.Putting.{put_answer, sized}
-use Rattle.nofs_state.specs.Owing.{RecordIn}
-use Rattle.nofs_files.specs.declared.puts.Ended.{Ended}
-use Rattle.nofs_files.proofs.Below.{below-ends, goes-unread-late, later-cell}
-use Rattle.nofs_files.proofs.Needs.{claims_are}
+use Rattle.std.proofs.Common.{◌+◌, ◌-◌, ◌/◌, refl, ap, ◌∙◌}
+use Rattle.nofs_disk.specs.Chains.{StaysButFaults-trans}
+use Rattle.nofs_files.specs.Putting.{sized}
+use Rattle.nofs_files.proofs.Below.{below-ends, later-cell}
+use Rattle.nofs_files.proofs.Contents.{recorded}
+use Rattle.nofs_files.proofs.Damage.{ended}
+use Rattle.nofs_files.proofs.LeafRooms.{below-asked}
+use Rattle.nofs_files.proofs.Rooms.{goes-no-room, goes-unread-late, goes-untabled}
+use Rattle.nofs_files.proofs.Taking.{takes-one}
 use Rattle.nofs_files.proofs.deep.put_below.Goals as goal
 
 pub returns-in-Err : goal.returns-in-Err
-returns-in-Err g c =
-    subst (λ (r : Ended). Goes (g.D.Disk.state c.args.core.now.disk) c.args.core.now.books (g.D.Disk.state c.read_block.new.disk) c.args.core.now.books
-    (step.Put c.args.inode c.args.generation c.args.slot c.args.at c.args.bytes.now) r.claims (put_answer r.result)) (sym c.refused.ensures)
-    (goes-unread-late (g.D.Disk.state c.args.core.now.disk) (g.D.Disk.state c.read_block.new.disk) c.args.core.now.books c.args.inode c.args.generation
-    c.args.slot c.args.at c.args.bytes.now (g.met.D.Disk.is_disk c.args.core.now.disk) c.requires.safe c.requires.going
-    c.read_block.ensures.stays c.in-Err.ensures.cause c.requires.rows)
+returns-in-Err g c = ended c.refused.ensures (goes-no-room
+    (below-asked (g.met.D.Disk.is_disk c.args.core.now.disk) c.requires.may c.requires.empty c.requires.rows c.requires.upper c.requires.path)
+    c.in-Err.ensures.refused)
 
 pub returns-in-Err-read_block : goal.returns-in-Err-read_block
-returns-in-Err-read_block g c =
-    subst (λ (r : Ended). Goes (g.D.Disk.state c.args.core.now.disk) c.args.core.now.books (g.D.Disk.state c.read_block-2.new.disk) c.args.core.now.books
-    (step.Put c.args.inode c.args.generation c.args.slot c.args.at c.args.bytes.now) r.claims (put_answer r.result))
-    (sym c.refused-in-Err-read_block.ensures)
-    (goes-unread-late (g.D.Disk.state c.args.core.now.disk) (g.D.Disk.state c.read_block-2.new.disk) c.args.core.now.books c.args.inode c.args.generation
-    c.args.slot c.args.at c.args.bytes.now (g.met.D.Disk.is_disk c.args.core.now.disk) c.requires.safe c.requires.going
-    (StaysButFaults-trans (g.D.Disk.state c.args.core.now.disk) (g.D.Disk.state c.read_block.new.disk) (g.D.Disk.state c.read_block-2.new.disk)
-    c.read_block.ensures.stays c.read_block-2.ensures.stays)
-    (let s = c.read_block.ensures.stays in Rose-within (g.D.Disk.state c.args.core.now.disk).faults (g.D.Disk.state c.read_block.new.disk).faults
-    (g.D.Disk.state c.read_block-2.new.disk).faults (g.D.Disk.state c.read_block-2.new.disk).faults s.disk.faults c.in-Err-read_block.ensures.cause
-    (le_refl (g.D.Disk.state c.read_block-2.new.disk).faults)) c.requires.rows)
+returns-in-Err-read_block g c = ended c.refused-in-Err-read_block.ensures (goes-unread-late
+    (below-asked (g.met.D.Disk.is_disk c.args.core.now.disk) c.requires.may c.requires.empty c.requires.rows c.requires.upper c.requires.path)
+    c.in-Ok.ensures.room c.read_block.ensures.stays c.in-Err-read_block.ensures.cause)
+
+pub returns-in-Err-read_table : goal.returns-in-Err-read_table
+returns-in-Err-read_table g c = ended c.refused-in-Err-read_table.ensures (goes-untabled
+    (below-asked (g.met.D.Disk.is_disk c.args.core.now.disk) c.requires.may c.requires.empty c.requires.rows c.requires.upper c.requires.path)
+    c.in-Ok.ensures.room c.read_block.ensures.stays c.read_table.ensures.stays c.in-Err-read_table.ensures.refused)
 
 pub returns : goal.returns
-returns g c =
-    let k : Books = c.args.core.now.books in
-    let here : c.claim_block-pointer.result ≡ claimed_pointer k c.args.block = c.claim_block-pointer.ensures.pointer in
-    subst (λ (x : Pointer). Goes (g.D.Disk.state c.args.core.now.disk) c.args.core.now.books (g.D.Disk.state c.write_three-result.new.core.disk)
-    c.write_three-result.new.core.books (step.Put c.args.inode c.args.generation c.args.slot c.args.at c.args.bytes.now)
-    (claims_are x null null) (put_answer c.write_three-result.result)) (sym here)
-    (below-ends (g.D.Disk.state c.args.core.now.disk) (g.D.Disk.state c.read_block-2.new.disk) (g.D.Disk.state c.write_three-result.new.core.disk)
-    c.args.core.now.books c.write_three-result.new.core.books c.args.inode c.args.generation c.args.slot c.args.at c.args.bytes.now c.args.it.now
-    (place_path c.args.above) c.args.place c.args.block c.args.upper c.fill_content.new.cell c.read_block.new.last.cell
-    (record { payload = c.write_pointer.new.payload; tag = c.read_block.new.last.cell.tag }) c.read_block-2.new.last.cell c.with_record.new.table
-    c.write_three-result.result
-    (g.met.D.Disk.is_disk c.read_block-2.new.disk) (g.met.D.Disk.is_disk c.write_three-result.new.core.disk)
-    (StaysButFaults-trans (g.D.Disk.state c.args.core.now.disk) (g.D.Disk.state c.read_block.new.disk) (g.D.Disk.state c.read_block-2.new.disk)
-    c.read_block.ensures.stays c.read_block-2.ensures.stays)
-    c.requires.safe c.requires.going
-    (record {
-      file = c.requires.file;
-      current = c.requires.current;
-      path = c.requires.path;
-      range = c.requires.slot;
-      positive = c.requires.positive;
-      upper = c.requires.upper;
-      within = c.requires.within;
-      free = c.requires.free;
-      serial = c.requires.serial;
-      empty = c.requires.empty;
-      payload = c.fill_content.ensures.payload;
-      tag = c.fill_content.ensures.tag ∙ ap (λ (x : Pointer). Some (record
-          { kind = Content; inode = c.args.inode; generation = c.args.generation; slot = c.args.slot; stamp = x.stamp })) here;
-      upper_cell = c.in-Ok.ensures.cell;
-      next = c.write_pointer.ensures.written ∙ here;
-      others = λ q ne lt. c.write_pointer.ensures.others q ne lt;
-      upper_tag = refl;
-      table_cell = later-cell (g.D.Disk.state c.args.core.now.disk) (g.D.Disk.state c.read_block.new.disk) c.read_block-2.new.last.cell
-          (1 + (c.args.inode - 1) / 4) c.read_block.ensures.stays
-          (λ t. c.in-Ok-read_block.ensures.cell t ∙ ap (λ (n : ℕ). cell_at (g.D.Disk.state c.read_block.new.disk).now (1 + n)) c.from-number.ensures);
-      table = subst (λ (q : Record). RecordIn c.read_block-2.new.last.cell c.args.inode q c.with_record.new.table)
-          (c.sized.ensures ∙ ap (sized c.args.it.now) (c.max.ensures ∙ ap
-          (λ (n : ℕ). max c.args.it.now.size (1024 * c.args.slot + n + length c.args.bytes.now)) c.from.ensures)) c.with_record.ensures.here;
-      tag_table = c.with_record.ensures.tag;
-    })
-    c.requires.rows
-    (subst₂ (λ (m : Books) (n : ℕ). Stores (g.D.Disk.state c.read_block-2.new.disk) m (g.D.Disk.state c.write_three-result.new.core.disk)
-    c.write_three-result.new.core.books
-    ((c.args.block, c.fill_content.new.cell) ∷ (c.args.upper.block, record { payload = c.write_pointer.new.payload; tag = c.read_block.new.last.cell.tag })
-    ∷ (1 + n, c.with_record.new.table) ∷ []) c.write_three-result.result)
-    c.claim_block-pointer.ensures.claimed c.from-number.ensures c.write_three-result.ensures))
+returns g c = below-ends
+    (below-asked (g.met.D.Disk.is_disk c.args.core.now.disk) c.requires.may c.requires.empty c.requires.rows c.requires.upper c.requires.path)
+    c.in-Ok.ensures.room
+    (takes-one c.requires.may.safe c.in-Ok.ensures.found c.in-Ok.ensures.room c.claim_one-claims.ensures.claims c.claim_one-claims.ensures.books)
+    (g.met.D.Disk.is_disk c.read_table.new.disk) (g.met.D.Disk.is_disk c.write_three.new.core.disk)
+    (StaysButFaults-trans (g.D.Disk.state c.args.core.now.disk) (g.D.Disk.state c.read_block.new.disk) (g.D.Disk.state c.read_table.new.disk)
+    c.read_block.ensures.stays c.read_table.ensures.stays)
+    c.requires.upper c.requires.path c.content_cell-cell.ensures c.in-Ok-read_block.ensures.cell
+    (record { here = c.write_pointer.ensures.written; others = λ q ne lt. c.write_pointer.ensures.others q ne lt; tag = refl })
+    (later-cell (g.D.Disk.state c.args.core.now.disk) (g.D.Disk.state c.read_block.new.disk) c.read_table.new.last.cell (1 + (c.args.put.now.inode - 1) / 4)
+    c.read_block.ensures.stays c.in-Ok-read_table.ensures.cell)
+    (recorded (c.sized.ensures ∙ ap (sized c.args.it.now) c.size_after.ensures) c.record_cell-table.ensures) c.table_block-number.ensures
+    c.write_three.ensures

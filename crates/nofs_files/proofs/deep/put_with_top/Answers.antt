@@ -1,100 +1,30 @@
-use Rattle.std.proofs.Common.{◌≡◌, ℕ, ◌+◌, ◌*◌, max, length, refl, sym, ap, ◌∙◌, subst, subst₂, Some, [], ◌∷◌}
-use Rattle.nofs_disk.specs.Disk.{cell_at}
-use Rattle.nofs_model.specs.Cells.{Content, Leaf, Pointer, Record}
-use Rattle.nofs_model.specs.Image.{InRecord, Under, slot_of}
-use Rattle.nofs_machine.specs.declared.steps.Step.TheVariants as step
-use Rattle.nofs_state.specs.Writing.{Stores}
-use Rattle.nofs_state.specs.Books.{claimed_books, claimed_pointer}
-use Rattle.nofs_state.specs.Steps.{Goes}
-use Rattle.nofs_state.specs.declared.books.Books.{Books}
-use Rattle.nofs_files.specs.Putting.{put_answer, rooted}
-use Rattle.nofs_state.specs.Owing.{RecordIn}
-use Rattle.nofs_files.specs.declared.puts.Ended.{Ended}
-use Rattle.nofs_files.proofs.Below.{goes-unread-late}
+use Rattle.std.proofs.Common.{ℕ, ap, ◌∙◌}
+use Rattle.nofs_disk.specs.Chains.{StaysButFaults-refl}
+use Rattle.nofs_files.specs.Putting.{rooted}
+use Rattle.nofs_files.proofs.Contents.{recorded}
+use Rattle.nofs_files.proofs.Damage.{ended}
 use Rattle.nofs_files.proofs.Grown.{top-ends}
-use Rattle.nofs_files.proofs.Needs.{claims_are}
+use Rattle.nofs_files.proofs.LeafRooms.{top-asked}
+use Rattle.nofs_files.proofs.Rooms.{goes-no-room, goes-untabled}
+use Rattle.nofs_files.proofs.Taking.{takes-three}
 use Rattle.nofs_files.proofs.deep.put_with_top.Goals as goal
 
-pub returns-in-Err : goal.returns-in-Err
-returns-in-Err g c =
-    subst (λ (r : Ended). Goes (g.D.Disk.state c.args.core.now.disk) c.args.core.now.books (g.D.Disk.state c.read_block.new.disk) c.args.core.now.books
-    (step.Put c.args.inode c.args.generation c.args.slot c.args.at c.args.bytes.now) r.claims (put_answer r.result)) (sym c.refused.ensures)
-    (goes-unread-late (g.D.Disk.state c.args.core.now.disk) (g.D.Disk.state c.read_block.new.disk) c.args.core.now.books c.args.inode c.args.generation
-    c.args.slot c.args.at c.args.bytes.now (g.met.D.Disk.is_disk c.args.core.now.disk) c.requires.safe c.requires.going
-    c.read_block.ensures.stays c.in-Err.ensures.cause c.requires.rows)
+pub returns-in-Err-read_table : goal.returns-in-Err-read_table
+returns-in-Err-read_table g c = ended c.refused-in-Err-read_table.ensures (goes-untabled
+    (top-asked (g.met.D.Disk.is_disk c.args.core.now.disk) c.requires.may c.requires.empty c.requires.rows c.requires.path c.requires.hole)
+    c.in-Ok.ensures.room (StaysButFaults-refl (g.D.Disk.state c.args.core.now.disk)) c.read_table.ensures.stays c.in-Err-read_table.ensures.refused)
 
 pub returns : goal.returns
-returns g c =
-    let k : Books = c.args.core.now.books in
-    let here : c.claim_block-pointer.result ≡ claimed_pointer k c.args.block = c.claim_block-pointer.ensures.pointer in
-    let second : c.claim_block-middle.result ≡ claimed_pointer (claimed_books k c.args.block) c.args.second = c.claim_block-middle.ensures.pointer
-    ∙ ap (λ (b : Books). claimed_pointer b c.args.second) c.claim_block-pointer.ensures.claimed in
-    let books : c.claim_block-middle.new.self ≡ claimed_books (claimed_books k c.args.block) c.args.second = c.claim_block-middle.ensures.claimed
-    ∙ ap (λ (b : Books). claimed_books b c.args.second) c.claim_block-pointer.ensures.claimed in
-    let third : c.claim_block-top.result ≡ claimed_pointer (claimed_books (claimed_books k c.args.block) c.args.second)
-    c.args.third = c.claim_block-top.ensures.pointer ∙ ap (λ (b : Books). claimed_pointer b c.args.third) books in
-    let all : c.claim_block-top.new.self ≡ claimed_books (claimed_books (claimed_books k c.args.block) c.args.second)
-    c.args.third = c.claim_block-top.ensures.claimed ∙ ap (λ (b : Books). claimed_books b c.args.third) books in
-    subst (λ (z : Pointer). Goes (g.D.Disk.state c.args.core.now.disk) c.args.core.now.books (g.D.Disk.state c.write_four-result.new.core.disk)
-    c.write_four-result.new.core.books (step.Put c.args.inode c.args.generation c.args.slot c.args.at c.args.bytes.now)
-    (claims_are c.claim_block-pointer.result c.claim_block-middle.result z) (put_answer c.write_four-result.result)) (sym third)
-    (subst₂ (λ (x y : Pointer). Goes (g.D.Disk.state c.args.core.now.disk) c.args.core.now.books (g.D.Disk.state c.write_four-result.new.core.disk)
-    c.write_four-result.new.core.books (step.Put c.args.inode c.args.generation c.args.slot c.args.at c.args.bytes.now)
-    (claims_are x y (claimed_pointer (claimed_books (claimed_books c.args.core.now.books c.args.block) c.args.second) c.args.third))
-    (put_answer c.write_four-result.result)) (sym here) (sym second)
-    (top-ends (g.D.Disk.state c.args.core.now.disk) (g.D.Disk.state c.read_block.new.disk) (g.D.Disk.state c.write_four-result.new.core.disk)
-    c.args.core.now.books c.write_four-result.new.core.books c.args.inode c.args.generation c.args.slot c.args.at c.args.bytes.now c.args.it.now
-    c.args.child c.args.place c.args.block c.args.second c.args.third c.fill_content.new.cell c.fill_pointers.new.cell c.fill_pointers-2.new.cell
-    c.read_block.new.last.cell c.with_record.new.table c.write_four-result.result
-    (g.met.D.Disk.is_disk c.read_block.new.disk) (g.met.D.Disk.is_disk c.write_four-result.new.core.disk) c.read_block.ensures.stays c.requires.safe
-    c.requires.going c.requires.serial
-    (record {
-      file = c.requires.file;
-      current = c.requires.current;
-      path = c.requires.path;
-      range = c.requires.slot;
-      within = c.requires.within;
-      free = c.requires.free;
-      within_second = c.requires.within_second;
-      free_second = c.requires.free_second;
-      apart = c.requires.apart;
-      empty = c.requires.empty;
-      payload = c.fill_content.ensures.payload;
-      tag = c.fill_content.ensures.tag ∙ ap (λ (x : Pointer). Some (record
-          { kind = Content; inode = c.args.inode; generation = c.args.generation; slot = c.args.slot; stamp = x.stamp })) here;
-      table_cell = λ t. c.in-Ok.ensures.cell t ∙ ap (λ (n : ℕ). cell_at (g.D.Disk.state c.args.core.now.disk).now (1 + n)) c.from-number.ensures;
-      table = subst (λ (q : Record). RecordIn c.read_block.new.last.cell c.args.inode q c.with_record.new.table)
-          (c.rooted.ensures ∙ subst₂ (λ (n : ℕ) (x : Pointer). rooted c.args.it.now c.max.result 9 c.claim_block-top.result ≡ rooted c.args.it.now n 9 x)
-          (c.max.ensures ∙ ap (λ (n : ℕ). max c.args.it.now.size (1024 * c.args.slot + n + length c.args.bytes.now)) c.from-2.ensures) third refl)
-          c.with_record.ensures.here;
-      tag_table = c.with_record.ensures.tag;
-    })
-    c.requires.within_third c.requires.free_third c.requires.first_third c.requires.second_third c.requires.hole
-    (record {
-      tag = c.fill_pointers.ensures.tag ∙ (λ j. Some (record {
-        kind = Leaf;
-        inode = c.args.inode;
-        generation = c.args.generation;
-        slot = (c.slot_number.ensures ∙ ap (λ (n : ℕ). slot_of (Under (InRecord 9) n)) c.from.ensures) j;
-        stamp = (ap (λ (x : Pointer). x.stamp) second) j;
-      }));
-      pointer = c.fill_pointers.ensures.pointer ∙ here;
-      others = λ q ne lt. c.fill_pointers.ensures.others q ne lt;
-    })
-    (record {
-      tag = c.fill_pointers-2.ensures.tag ∙ (λ j. Some (record {
-        kind = Leaf;
-        inode = c.args.inode;
-        generation = c.args.generation;
-        slot = c.slot_number-2.ensures j;
-        stamp = (ap (λ (x : Pointer). x.stamp) third) j;
-      }));
-      pointer = c.fill_pointers-2.ensures.pointer ∙ second;
-      others = λ q ne lt. c.fill_pointers-2.ensures.others q ne lt;
-    })
-    c.requires.rows
-    (subst₂ (λ (m : Books) (n : ℕ). Stores (g.D.Disk.state c.read_block.new.disk) m (g.D.Disk.state c.write_four-result.new.core.disk)
-    c.write_four-result.new.core.books
-    ((c.args.block, c.fill_content.new.cell) ∷ (c.args.second, c.fill_pointers.new.cell) ∷ (c.args.third, c.fill_pointers-2.new.cell)
-    ∷ (1 + n, c.with_record.new.table) ∷ []) c.write_four-result.result)
-    all c.from-number.ensures c.write_four-result.ensures)))
+returns g c = top-ends (g.met.D.Disk.is_disk c.read_table.new.disk) (g.met.D.Disk.is_disk c.write_four.new.core.disk) c.read_table.ensures.stays
+    c.in-Ok-read_table.ensures.cell c.table_block-number.ensures
+    (top-asked (g.met.D.Disk.is_disk c.args.core.now.disk) c.requires.may c.requires.empty c.requires.rows c.requires.path c.requires.hole)
+    c.in-Ok.ensures.room
+    (takes-three c.requires.may.safe c.in-Ok.ensures.found c.in-Ok.ensures.room c.claim_three-claims.ensures.claims c.claim_three-claims.ensures.books)
+    c.requires.path c.requires.hole c.content_cell-cell.ensures c.pointers_cell-pointers.ensures c.pointers_cell-tops.ensures
+    (recorded (c.rooted-it.ensures ∙ ap (λ (n : ℕ). rooted c.args.it.now n 9 c.claim_three-claims.result.top) c.size_after.ensures)
+    c.record_cell-table.ensures) c.write_four.ensures
+
+pub returns-in-Err : goal.returns-in-Err
+returns-in-Err g c = ended c.refused.ensures (goes-no-room
+    (top-asked (g.met.D.Disk.is_disk c.args.core.now.disk) c.requires.may c.requires.empty c.requires.rows c.requires.path c.requires.hole)
+    c.in-Err.ensures.refused)

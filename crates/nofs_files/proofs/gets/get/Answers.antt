@@ -15,44 +15,29 @@ returns-then-core g c = goes-stopped (g.D.Disk.state c.args.core.now.disk) (g.D.
     (StaysButFaults-refl (g.D.Disk.state c.args.core.now.disk)) c.if-core.true
 
 pub returns-then-slot-slots_of : goal.returns-then-slot-slots_of
-returns-then-slot-slots_of g c = get-large (g.D.Disk.state c.args.core.now.disk) c.args.core.now.books c.args.inode c.args.generation c.args.slot
-    (g.met.D.Disk.is_disk c.args.core.now.disk) c.requires c.if-core.false
+returns-then-slot-slots_of g c = get-large c.args.inode c.args.generation c.args.slot (g.met.D.Disk.is_disk c.args.core.now.disk) c.requires c.if-core.false
     (let e = c.slots_of.ensures in let h = c.if-slot-slots_of.true in omega (arith, e, h))
 
 pub returns-in-Err : goal.returns-in-Err
-returns-in-Err g c = get-unfiled (g.D.Disk.state c.args.core.now.disk) c.args.core.now.books c.args.inode c.args.generation c.args.slot
-    (g.met.D.Disk.is_disk c.args.core.now.disk) c.requires c.if-core.false (g.D.Disk.state c.open_file.new.disk) c.open_file.new.last c.open_file.result
-    c.in-Err.why (let e = c.slots_of.ensures in let h = c.if-slot-slots_of.false in omega (arith, e, h)) c.open_file.ensures c.in-Err.is
+returns-in-Err g c = get-unfiled c.args.inode c.args.generation c.args.slot (g.met.D.Disk.is_disk c.args.core.now.disk) c.requires c.if-core.false
+    (let e = c.slots_of.ensures in let h = c.if-slot-slots_of.false in omega (arith, e, h)) c.open_file.ensures c.in-Err.is
 
 pub returns-in-Err-find_content : goal.returns-in-Err-find_content
-returns-in-Err-find_content g c = get-unread (g.D.Disk.state c.args.core.now.disk) c.args.core.now.books c.args.inode c.args.generation c.args.slot
-    (g.met.D.Disk.is_disk c.args.core.now.disk) c.requires c.if-core.false
-    (g.D.Disk.state c.open_file.new.disk) (g.D.Disk.state c.find_content.new.disk) c.open_file.new.last c.find_content.new.last c.in-Ok.it
-    (let e = c.slots_of.ensures in let h = c.if-slot-slots_of.false in omega (arith, e, h)) c.in-Ok.ensures c.in-Err-find_content.field-0
-    c.in-Err-find_content.ensures
+returns-in-Err-find_content g c = get-unread c.args.inode c.args.generation c.args.slot (g.met.D.Disk.is_disk c.args.core.now.disk) c.requires c.if-core.false
+    (let e = c.slots_of.ensures in let h = c.if-slot-slots_of.false in omega (arith, e, h)) c.in-Ok.ensures c.in-Err-find_content.ensures
 
 pub returns-in-Hole : goal.returns-in-Hole
-returns-in-Hole g c = get-found (g.D.Disk.state c.args.core.now.disk) c.args.core.now.books c.args.inode c.args.generation c.args.slot
-    (g.met.D.Disk.is_disk c.args.core.now.disk) c.requires c.if-core.false
-    (g.D.Disk.state c.open_file.new.disk) (g.D.Disk.state c.find_content.new.disk) c.open_file.new.last c.find_content.new.last c.in-Ok.it
-    (let e = c.slots_of.ensures in let h = c.if-slot-slots_of.false in omega (arith, e, h)) c.in-Ok.ensures c.in-Ok-find_content.found reply.Hole refl
-    refl c.in-Ok-find_content.ensures
+returns-in-Hole g c = get-found c.args.inode c.args.generation c.args.slot (g.met.D.Disk.is_disk c.args.core.now.disk) c.requires c.if-core.false
+    (let e = c.slots_of.ensures in let h = c.if-slot-slots_of.false in omega (arith, e, h)) c.in-Ok.ensures reply.Hole refl refl c.in-Ok-find_content.ensures
     (λ tells. ap (λ (q : PathAnswer). got_reply (value_in (g.D.Disk.state c.args.core.now.disk).now q)) (sym c.in-Hole.is))
 
-pub returns-in-Lost : goal.returns-in-Lost
-returns-in-Lost g c = get-found (g.D.Disk.state c.args.core.now.disk) c.args.core.now.books c.args.inode c.args.generation c.args.slot
-    (g.met.D.Disk.is_disk c.args.core.now.disk) c.requires c.if-core.false
-    (g.D.Disk.state c.open_file.new.disk) (g.D.Disk.state c.find_content.new.disk) c.open_file.new.last c.find_content.new.last c.in-Ok.it
-    (let e = c.slots_of.ensures in let h = c.if-slot-slots_of.false in omega (arith, e, h)) c.in-Ok.ensures c.in-Ok-find_content.found reply.Lost refl
-    refl c.in-Ok-find_content.ensures
-    (λ tells. ap (λ (q : PathAnswer). got_reply (value_in (g.D.Disk.state c.args.core.now.disk).now q)) (sym c.in-Lost.is))
-
 pub returns-in-Holds : goal.returns-in-Holds
-returns-in-Holds g c = get-found (g.D.Disk.state c.args.core.now.disk) c.args.core.now.books c.args.inode c.args.generation c.args.slot
-    (g.met.D.Disk.is_disk c.args.core.now.disk) c.requires c.if-core.false
-    (g.D.Disk.state c.open_file.new.disk) (g.D.Disk.state c.find_content.new.disk) c.open_file.new.last c.find_content.new.last c.in-Ok.it
-    (let e = c.slots_of.ensures in let h = c.if-slot-slots_of.false in omega (arith, e, h)) c.in-Ok.ensures c.in-Ok-find_content.found
+returns-in-Holds g c = get-found c.args.inode c.args.generation c.args.slot (g.met.D.Disk.is_disk c.args.core.now.disk) c.requires c.if-core.false
+    (let e = c.slots_of.ensures in let h = c.if-slot-slots_of.false in omega (arith, e, h)) c.in-Ok.ensures
     (reply.Bytes c.find_content.new.last.cell.payload) refl refl c.in-Ok-find_content.ensures
-    (get-bytes (g.D.Disk.state c.args.core.now.disk) (g.D.Disk.state c.open_file.new.disk) (g.D.Disk.state c.find_content.new.disk) c.args.core.now.books.at
-    c.args.inode c.args.slot c.in-Ok-find_content.found c.in-Holds.field-0 c.find_content.new.last c.in-Ok.ensures.stays c.in-Ok-find_content.ensures
-    c.in-Holds.is)
+    (get-bytes c.args.inode c.args.slot c.in-Ok.ensures.stays c.in-Ok-find_content.ensures c.in-Holds.is)
+
+pub returns-in-Lost : goal.returns-in-Lost
+returns-in-Lost g c = get-found c.args.inode c.args.generation c.args.slot (g.met.D.Disk.is_disk c.args.core.now.disk) c.requires c.if-core.false
+    (let e = c.slots_of.ensures in let h = c.if-slot-slots_of.false in omega (arith, e, h)) c.in-Ok.ensures reply.Lost refl refl c.in-Ok-find_content.ensures
+    (λ tells. ap (λ (q : PathAnswer). got_reply (value_in (g.D.Disk.state c.args.core.now.disk).now q)) (sym c.in-Lost.is))

@@ -1,53 +1,37 @@
-use Rattle.std.proofs.Common.{refl, ap, arith}
+use Rattle.std.proofs.Common.{ap}
 use Rattle.nofs_model.specs.Image.{node_in}
 use Rattle.nofs_model.specs.declared.path.PathAnswer.{PathAnswer}
-use Rattle.nofs_model.proofs.Paths.{path-leaf}
-use Rattle.nofs_files.proofs.Damage.{IsReached, after-reads, ended, goes-lost-above, goes-unread-above, is_ruined, lead-above}
-use Rattle.nofs_files.proofs.Damage.{ruin-is}
+use Rattle.nofs_files.proofs.Damage.{after-reads, ended, goes-lost-above, goes-unread-above, is_ruined, lead-above, leaf-path, leaf-ruin}
+use Rattle.nofs_files.proofs.Damage.{reached}
 use Rattle.nofs_files.proofs.storing.put_under_leaf.Goals as goal
 
 pub returns-in-Err : goal.returns-in-Err
-returns-in-Err g c = ended c.refused.ensures
-    (goes-unread-above (record { disk = g.met.D.Disk.is_disk c.args.core.now.disk; safe = c.requires.safe; going = c.requires.going; reach = c.requires.rows })
+returns-in-Err g c = ended c.refused.ensures (goes-unread-above (reached (g.met.D.Disk.is_disk c.args.core.now.disk) c.requires.may c.requires.rows)
     c.find_slot.ensures.stays c.in-Err.ensures.cause)
 
 pub returns-in-Lost : goal.returns-in-Lost
-returns-in-Lost g c = ended c.refused-in-Lost.ensures
-    (goes-lost-above (record { disk = g.met.D.Disk.is_disk c.args.core.now.disk; safe = c.requires.safe; going = c.requires.going; reach = c.requires.rows })
-    c.find_slot.ensures.stays
-    (ruin-is (record { safe = c.requires.safe; current = c.requires.current }) c.args.slot (let h = c.requires.slot in omega (arith, h))
-    (path-leaf c.args.slot c.requires.from c.requires.slot) (λ t H p o. refl)
-    (ap (λ (q : PathAnswer). is_ruined (node_in q)) c.in-Lost.is)
-    c.in-Ok.ensures.found))
+returns-in-Lost g c = ended c.refused-in-Lost.ensures (goes-lost-above (reached (g.met.D.Disk.is_disk c.args.core.now.disk) c.requires.may c.requires.rows)
+    c.find_slot.ensures.stays (leaf-ruin c.requires.may c.requires.from c.requires.slot
+    (ap (λ (q : PathAnswer). is_ruined (node_in q)) c.in-Lost.is) c.in-Ok.ensures.found))
 
-pub put_new_leaf-requires-clause-rows : goal.put_new_leaf-requires-clause-rows
-put_new_leaf-requires-clause-rows g c =
-    let f : IsReached (g.D.Disk.state c.args.core.now.disk) c.args.core.now.books c.args.inode c.args.generation c.args.slot c.args.at c.args.bytes.now =
-    record { disk = g.met.D.Disk.is_disk c.args.core.now.disk; safe = c.requires.safe; going = c.requires.going; reach = c.requires.rows } in
-    lead-above f c.find_slot.ensures.stays
-    (ruin-is (record { safe = c.requires.safe; current = c.requires.current }) c.args.slot (let h = c.requires.slot in omega (arith, h))
-    (path-leaf c.args.slot c.requires.from c.requires.slot) (λ t H p o. refl)
-    (ap (λ (q : PathAnswer). is_ruined (node_in q)) c.in-Hole.is)
-    c.in-Ok.ensures.found)
+pub put_with_leaf-requires-clause-rows : goal.put_with_leaf-requires-clause-rows
+put_with_leaf-requires-clause-rows g c = lead-above (reached (g.met.D.Disk.is_disk c.args.core.now.disk) c.requires.may c.requires.rows)
+    c.find_slot.ensures.stays (leaf-ruin c.requires.may c.requires.from c.requires.slot
+    (ap (λ (q : PathAnswer). is_ruined (node_in q)) c.in-Hole.is) c.in-Ok.ensures.found)
+
+pub put_below-requires-clause-rows : goal.put_below-requires-clause-rows
+put_below-requires-clause-rows g c = lead-above (reached (g.met.D.Disk.is_disk c.args.core.now.disk) c.requires.may c.requires.rows)
+    c.find_slot.ensures.stays (leaf-ruin c.requires.may c.requires.from c.requires.slot
+    (ap (λ (q : PathAnswer). is_ruined (node_in q)) c.in-Holds.is) c.in-Ok.ensures.found)
 
 pub returns-in-Hole : goal.returns-in-Hole
-returns-in-Hole g c = after-reads c.find_slot.ensures.stays c.put_new_leaf.ensures
-
-pub put_new_below-requires-clause-rows : goal.put_new_below-requires-clause-rows
-put_new_below-requires-clause-rows g c =
-    let f : IsReached (g.D.Disk.state c.args.core.now.disk) c.args.core.now.books c.args.inode c.args.generation c.args.slot c.args.at c.args.bytes.now =
-    record { disk = g.met.D.Disk.is_disk c.args.core.now.disk; safe = c.requires.safe; going = c.requires.going; reach = c.requires.rows } in
-    lead-above f c.find_slot.ensures.stays
-    (ruin-is (record { safe = c.requires.safe; current = c.requires.current }) c.args.slot (let h = c.requires.slot in omega (arith, h))
-    (path-leaf c.args.slot c.requires.from c.requires.slot) (λ t H p o. refl)
-    (ap (λ (q : PathAnswer). is_ruined (node_in q)) c.in-Holds.is)
-    c.in-Ok.ensures.found)
+returns-in-Hole g c = after-reads c.find_slot.ensures.stays c.put_with_leaf.ensures
 
 pub returns-in-Holds : goal.returns-in-Holds
-returns-in-Holds g c = after-reads c.find_slot.ensures.stays c.put_new_below.ensures
+returns-in-Holds g c = after-reads c.find_slot.ensures.stays c.put_below.ensures
 
-pub put_new_leaf-requires-clause-path : goal.put_new_leaf-requires-clause-path
-put_new_leaf-requires-clause-path g c = path-leaf c.args.slot c.requires.from c.requires.slot
+pub put_with_leaf-requires-clause-path : goal.put_with_leaf-requires-clause-path
+put_with_leaf-requires-clause-path g c = leaf-path c.requires.from c.requires.slot
 
-pub put_new_below-requires-clause-path : goal.put_new_below-requires-clause-path
-put_new_below-requires-clause-path g c = path-leaf c.args.slot c.requires.from c.requires.slot
+pub put_below-requires-clause-path : goal.put_below-requires-clause-path
+put_below-requires-clause-path g c = leaf-path c.requires.from c.requires.slot

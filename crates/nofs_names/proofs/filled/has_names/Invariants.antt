@@ -4,5 +4,6 @@ use Rattle.nofs_names.proofs.Fullness.{Emptying}
 use Rattle.nofs_names.proofs.filled.has_names.Given as goal
 
 abbrev pub invariant-loop-slot : goal.invariant-loop-slot
-invariant-loop-slot g l = Emptying (g.D.Disk.state l.fn.disk) (g.D.Disk.state l.disk) l.directory 0 (16 * l.slot) l.records × IsLast (g.D.Disk.state l.disk)
+invariant-loop-slot g l = Emptying (g.D.Disk.state l.fn.disk) (g.D.Disk.state l.disk) l.directory.inode 0 (16 * l.slot) l.records × IsLast (g.D.Disk.state
+    l.disk)
     l.names

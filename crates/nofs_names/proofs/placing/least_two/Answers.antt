@@ -1,6 +1,6 @@
 use Rattle.std.proofs.Common.{◌<◌, arith, refl}
 use Rattle.nofs_state.proofs.Counting.{none-free}
-use Rattle.nofs_names.proofs.FreeCounts.{one-free, two-free}
+use Rattle.nofs_state.proofs.FreeCounts.{one-free, two-free}
 use Rattle.nofs_names.proofs.placing.least_two.Goals as goal
 
 pub returns-in-None-clause-none : goal.returns-in-None-clause-none

@@ -1,5 +1,4 @@
 use Rattle.std.proofs.Common.{arith, rules}
-use Rattle.nofs_salvage.specs.Reads.{Reads, refusal_by}
 use Rattle.nofs_salvage.proofs.Reading.{reads-none, reads-on, answered-both}
 use Rattle.nofs_salvage.proofs.Walking.{walked-none}
 use Rattle.nofs_salvage.proofs.Refusing.{right-none, right-on}
@@ -18,11 +17,6 @@ loop-slot-init g c = record {
   asks = λ first asks at. asks;
   met = λ first asks at met. met;
 }
-
-pub returns-in_err-slot-clause-reads : goal.returns-in_err-slot-clause-reads
-returns-in_err-slot-clause-reads g c =
-    let last : Reads (g.S.Steps.made c.loop-slot.steps) (g.S.Steps.made c.note_next.new.steps) (refusal_by c.from_residual.result) = search rules in
-    reads-on _ _ _ _ c.loop-slot.invariant.reads last
 
 pub loop-slot-preserved : goal.loop-slot-preserved
 loop-slot-preserved g c =
@@ -47,6 +41,9 @@ loop-slot-preserved g c =
       met = λ first asks at met. c.in_ok-slot.ensures.met first (inv.asks first asks at) (met-on first _ _ _ c.args.at inv.reads at)
           (inv.met first asks at met);
     }
+
+pub returns-in_err-slot-clause-reads : goal.returns-in_err-slot-clause-reads
+returns-in_err-slot-clause-reads g c = reads-on _ _ _ _ c.loop-slot.invariant.reads (search rules)
 
 pub returns-in_err-slot-clause-right : goal.returns-in_err-slot-clause-right
 returns-in_err-slot-clause-right g c = λ W a ask.

@@ -38,18 +38,14 @@ returns-in-NoMore-clause-walked g c = λ W start w a.
 
 pub returns-in_err-note_lines-in-Names-clause-right : goal.returns-in_err-note_lines-in-Names-clause-right
 returns-in_err-note_lines-in-Names-clause-right g c = λ W start w a ask.
-    names-right W (g.R.NameRule.picks c.args.filter.now.rule) c.args.at.inode start c.args.slot c.in-Names.held c.in-Names.lines c.args.findings.now
-    c.args.seen.now
-    _ c.in-Names.is c.in_ok-listed.ensures.below c.in_ok-listed.ensures.names w _ _ _ _ _ c.in_ok-listed.ensures.reads c.note_lines.ensures.reads a
-    (λ b. c.in_ok-listed.ensures.listed W b) (λ b. c.in_ok-listed.ensures.right W b ask)
+    names-right W _ _ _ _ _ _ _ _ _ c.in-Names.is c.in_ok-listed.ensures.below c.in_ok-listed.ensures.names w _ _ _ _ _ c.in_ok-listed.ensures.reads
+    c.note_lines.ensures.reads a (λ b. c.in_ok-listed.ensures.listed W b) (λ b. c.in_ok-listed.ensures.right W b ask)
     (λ s t b. c.note_lines.ensures.right W (lines_below W.files c.args.at.inode c.in-Names.held) s b ask t)
 
 pub returns-in_ok-note_lines-in-Names-clause-right : goal.returns-in_ok-note_lines-in-Names-clause-right
 returns-in_ok-note_lines-in-Names-clause-right g c = λ W start w a ask.
-    names-right W (g.R.NameRule.picks c.args.filter.now.rule) c.args.at.inode start c.args.slot c.in-Names.held c.in-Names.lines c.args.findings.now
-    c.args.seen.now
-    _ c.in-Names.is c.in_ok-listed.ensures.below c.in_ok-listed.ensures.names w _ _ _ _ _ c.in_ok-listed.ensures.reads c.note_lines.ensures.reads a
-    (λ b. c.in_ok-listed.ensures.listed W b) (λ b. c.in_ok-listed.ensures.right W b ask)
+    names-right W _ _ _ _ _ _ _ _ _ c.in-Names.is c.in_ok-listed.ensures.below c.in_ok-listed.ensures.names w _ _ _ _ _ c.in_ok-listed.ensures.reads
+    c.note_lines.ensures.reads a (λ b. c.in_ok-listed.ensures.listed W b) (λ b. c.in_ok-listed.ensures.right W b ask)
     (λ s t b. c.note_lines.ensures.right W (lines_below W.files c.args.at.inode c.in-Names.held) s b ask t)
 
 pub returns-in_ok-note_lines-in-Names-clause-there : goal.returns-in_ok-note_lines-in-Names-clause-there

@@ -3,33 +3,33 @@ use Rattle.nofs_salvage.proofs.Refusing.{listed-there, listed-names, list-right}
 use Rattle.nofs_salvage.proofs.Asking.{asks-list, list-gives}
 use Rattle.nofs_salvage.proofs.steps.list.Goals as goal
 
-pub returns-clause-below : goal.returns-clause-below
-returns-clause-below g c = rw c.listed_in.ensures.is
-    (listed-below c.args.slot c.args.at.inode c.args.at.generation c.in_ok-reply.reply c.in_ok-reply.ensures.accepted.fits)
-
 pub returns-clause-listed : goal.returns-clause-listed
 returns-clause-listed g c = rw c.listed_in.ensures.is
-    (listed-is _ _ c.args.at.inode c.args.at.generation c.args.slot c.in_ok-reply.reply c.in_ok-reply.ensures.accepted)
+    (listed-is _ _ c.args.at.inode c.args.at.generation c.args.slot c.in_ok-ask.field-0 c.in_ok-ask.ensures.accepted)
+
+pub returns-clause-below : goal.returns-clause-below
+returns-clause-below g c = rw c.listed_in.ensures.is
+    (listed-below c.args.slot c.args.at.inode c.args.at.generation c.in_ok-ask.field-0 c.in_ok-ask.ensures.accepted.fits)
 
 pub returns-clause-names : goal.returns-clause-names
 returns-clause-names g c = rw c.listed_in.ensures.is
-    (listed-names c.args.slot c.args.at.inode c.args.at.generation c.in_ok-reply.reply c.in_ok-reply.ensures.accepted.fits)
+    (listed-names c.args.slot c.args.at.inode c.args.at.generation c.in_ok-ask.field-0 c.in_ok-ask.ensures.accepted.fits)
 
 pub returns-clause-there : goal.returns-clause-there
 returns-clause-there g c = rw c.listed_in.ensures.is
-    (listed-there _ _ c.args.at.inode c.args.at.generation c.args.slot c.in_ok-reply.reply c.in_ok-reply.ensures.accepted)
+    (listed-there _ _ c.args.at.inode c.args.at.generation c.args.slot c.in_ok-ask.field-0 c.in_ok-ask.ensures.accepted)
 
-pub returns-in_err-reply-clause-right : goal.returns-in_err-reply-clause-right
-returns-in_err-reply-clause-right g c = λ W a ask. list-right W _ _ c.args.at c.args.slot ask c.ask.ensures.one a
+pub returns-in_err-ask-clause-right : goal.returns-in_err-ask-clause-right
+returns-in_err-ask-clause-right g c = λ W a ask. list-right W _ _ c.args.at c.args.slot ask c.ask.ensures.one a
 
 pub returns-clause-right : goal.returns-clause-right
 returns-clause-right g c = λ W a ask. list-right W _ _ c.args.at c.args.slot ask c.ask.ensures.one a
 
 pub returns-clause-gives : goal.returns-clause-gives
-returns-clause-gives g c = rw c.listed_in.ensures.is (list-gives _ _ c.args.at c.args.slot c.in_ok-reply.reply c.in_ok-reply.ensures.accepted)
+returns-clause-gives g c = rw c.listed_in.ensures.is (list-gives _ _ c.args.at c.args.slot c.in_ok-ask.field-0 c.in_ok-ask.ensures.accepted)
 
-pub returns-in_err-reply-clause-asks : goal.returns-in_err-reply-clause-asks
-returns-in_err-reply-clause-asks g c = λ first asks met. asks-list first _ _ c.args.at asks c.args.slot met c.ask.ensures.one
+pub returns-in_err-ask-clause-asks : goal.returns-in_err-ask-clause-asks
+returns-in_err-ask-clause-asks g c = λ first asks met. asks-list first _ _ c.args.at asks c.args.slot met c.ask.ensures.one
 
 pub returns-clause-asks : goal.returns-clause-asks
 returns-clause-asks g c = λ first asks met. asks-list first _ _ c.args.at asks c.args.slot met c.ask.ensures.one

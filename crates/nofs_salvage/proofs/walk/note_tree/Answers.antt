@@ -1,6 +1,5 @@
-use Rattle.std.proofs.Common.{◌≡◌, ◌≤◌, ◌^◌, None, inl, refl, sym, ◌∙◌, arith, rules}
+use Rattle.std.proofs.Common.{◌≡◌, ◌≤◌, ◌^◌, None, inl, map, refl, sym, ap, ◌∙◌, arith, rules}
 use Rattle.nofs_salvage.specs.Handles.{inode_of}
-use Rattle.nofs_salvage.specs.Reads.{Reads, refusal_by}
 use Rattle.nofs_salvage.proofs.Reading.{reads-none, reads-on, answered-both}
 use Rattle.nofs_salvage.proofs.Growing.{grown-none, grown-on, grown-end, none-left}
 use Rattle.nofs_salvage.proofs.Refusing.{right-none, right-on}
@@ -12,18 +11,16 @@ pub loop-directory-init : goal.loop-directory-init
 loop-directory-init g c = record {
   reads = reads-none _;
   goes = g.met.S.Steps.goes_none _;
-  grown = λ W a. grown-none W (g.R.NameRule.picks c.args.filter.now.rule) c.args.findings.now c.requires.root;
+  grown = λ W a. grown-none W (g.R.NameRule.picks c.args.filter.now.rule) c.args.findings.now (ap (map inode_of) c.requires.root);
   right = λ W roots a. right-none W.files _;
-  folders = λ W roots a. folders-root W.files c.args.findings.now.tree roots c.requires.handle;
-  rooted = λ W a. inl (refl, c.requires.handle);
+  folders = λ W roots a. folders-root W.files c.args.findings.now.tree roots c.requires.root;
+  rooted = λ W a. inl (refl, c.requires.root);
   asks = λ first asks. asks;
-  met = λ first asks. met-root first _ c.args.findings.now.tree asks c.requires.handle;
+  met = λ first asks. met-root first _ c.args.findings.now.tree asks c.requires.root;
 }
 
 pub returns-in_err-note_folder-clause-reads : goal.returns-in_err-note_folder-clause-reads
-returns-in_err-note_folder-clause-reads g c =
-    let last : Reads (g.S.Steps.made c.loop-directory.steps) (g.S.Steps.made c.note_folder.new.steps) (refusal_by c.from_residual.result) = search rules in
-    reads-on _ _ _ _ c.loop-directory.invariant.reads last
+returns-in_err-note_folder-clause-reads g c = reads-on _ _ _ _ c.loop-directory.invariant.reads (search rules)
 
 pub loop-directory-preserved : goal.loop-directory-preserved
 loop-directory-preserved g c =

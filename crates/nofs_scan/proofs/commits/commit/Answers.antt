@@ -11,6 +11,6 @@ returns-clause-commits g c = commits (g.D.Disk.state c.args.evidence.now.core.va
     (g.met.D.Disk.is_disk c.args.core.now.disk) c.args.evidence.now.safe c.requires.safe c.requires.going
     (All-get_or (IsRight (g.D.Disk.state c.args.evidence.now.core.value.disk) c.args.evidence.now.core.value.books c.args.evidence.now.kind)
     c.args.evidence.now.verdicts c.args.at (record { item = 0; used = false }) c.requires.within c.args.evidence.now.right)
-    c.requires.used c.requires.numbers c.settle.new.books c.settle.result
+    c.requires.verdict c.requires.numbers c.settle.new.books c.settle.result
     (subst (λ (i : ℕ). Settles c.args.core.now.books c.settle.new.books (verdict_of c.args.evidence.now.kind c.args.core.now.books i)
     (learned c.args.evidence.now.kind c.args.core.now.books i) c.args.used c.settle.result) c.item-item.ensures c.settle.ensures)

@@ -15,7 +15,7 @@ returns-clause-stands g c tells base first of stands =
     (stands-committed (g.D.Disk.state c.args.evidence.now.core.value.disk) c.args.evidence.now.core.value.books (g.D.Disk.state c.args.core.now.disk)
     c.args.core.now.books c.commit-stands.new.core.books c.args.evidence.now.kind
     (verdict_at c.args.evidence.now.verdicts c.args.at).item c.args.used c.commit-stands.result
-    c.requires.going c.commit-stands.ensures.commits tells base first c.args.caller c.moment-from.result
+    c.requires.may.going c.commit-stands.ensures.commits tells base first c.args.caller c.moment-from.result
     (g.D.Disk.state c.commit-stands.new.core.disk).moment (c.commit-stands.new.core.books.history.spare - 1) c.step_of-step.result
     (c.step_of-step.ensures ∙ ap (see_step c.args.evidence.now.kind) c.item.ensures) c.moment-from.ensures
     (λ j. (g.D.Disk.state (c.commit-stands.ensures.disk j)).moment) of stands)

@@ -28,11 +28,9 @@ returns g c =
     record { headline = ∥∥₁_elim c.end-disk.ensures.ends ∥∥₁_prop (λ e. ∣ record { follows = follow; ends = subst₂ E found first e } ∣₁); unmounted = tt }
 
 pub serve_two-mount-requires-send-V : goal.serve_two-mount-requires-send-V
-serve_two-mount-requires-send-V g c κs within =
-    let m = mount-send (param 1 g.row.D) g.D.Disk c.type_bounds.send-D in
+serve_two-mount-requires-send-V g c κs within = let m = mount-send (param 1 g.row.D) g.D.Disk c.type_bounds.send-D in
     record { owned = m.owned; leaving = λ k. Quiet-if (k (of_param 1)) _ _ (m.leaving no) (λ x w. tt) }
 
 pub serve_two-mount-requires-send-V-Evidence : goal.serve_two-mount-requires-send-V-Evidence
-serve_two-mount-requires-send-V-Evidence g c κs within =
-    let m = evidence-send (param 1 g.row.D) g.D.Disk in
+serve_two-mount-requires-send-V-Evidence g c κs within = let m = evidence-send (param 1 g.row.D) g.D.Disk in
     record { owned = m.owned; leaving = λ k. Quiet-if (k (of_param 2)) _ _ (m.leaving no) (λ x w. tt) }

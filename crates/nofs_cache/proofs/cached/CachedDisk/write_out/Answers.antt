@@ -8,15 +8,15 @@ invariant_of-self g c =
     let did = c.write_back.ensures in
     let kept_room = old.kept_room in
     let below_room = old.below_room in
-    let room = did.room in
-    let no_more = did.no_more in
-    let spare = did.spare_all in
-    out_holds old c.write_back.new.dirty did.writes_back did.blocks (omega arith) (omega arith)
+    let room = did.shrinks.room in
+    let no_more = did.shrinks.no_more in
+    let spare = did.spends.all in
+    out_holds old c.write_back.new.dirty did.writes_back did.shrinks.blocks (omega arith) (omega arith)
 
 pub returns-clause-writes_out : goal.returns-clause-writes_out
 returns-clause-writes_out g c =
     let did = c.write_back.ensures in
-    out_does c.args.self.now did.writes_back did.out did.cause did.no_fault c.requires
+    out_does c.args.self.now did.writes_back did.out did.cause did.wrote c.requires
 
 pub returns-clause-left : goal.returns-clause-left
 returns-clause-left g c = out_leaves c.args.self.now _ _

@@ -3,7 +3,7 @@ use Rattle.nofs_machine.specs.Steps.{is_out_of_memory}
 use Rattle.nofs_client.specs.declared.driver.Next.TheVariants.{Do}
 use Rattle.nofs_client.specs.Drive.{asks, progress_after, drive_of, start_of, Answers}
 use Rattle.nofs_client.proofs.Rank.{rank-falls}
-use Rattle.nofs_client.proofs.Runs.{Asked-more, made-more, progress-more}
+use Rattle.nofs_client.proofs.Runs.{progress-more, step-more}
 use Rattle.nofs_client.proofs.client.Client.run.Goals as goal
 
 pub returns-in_default-clause-ran : goal.returns-in_default-clause-ran
@@ -15,23 +15,17 @@ returns-in_default-clause-ran g c =
 pub returns-in_err-progress-clause-partly : goal.returns-in_err-progress-clause-partly
 returns-in_err-progress-clause-partly g c =
     let (made, more, asked, is, stands, goes) = c.loop-progress.invariant in
-    let asks-it : asks c.args.command.now c.loop-progress.progress ≡ Do c.in-Some.step = rw c.in-Some.is at c.in_ok-step.ensures in
-    let room : is_out_of_memory c.step-reply.result ≡ false = grind arith in (
-      made ++ (c.in-Some.step, c.step-reply.result) ∷ [],
-      made-more _ _ _ made c.in-Some.step c.step-reply.result more room c.step-reply.ensures.made,
-      Asked-more c.args.command.now (start_of c.args.command.now) made c.in-Some.step c.step-reply.result asked
-          (ap (asks c.args.command.now) (sym is) ∙ asks-it),
-    )
+    let e = c.step-reply.ensures.made in
+    let (more', asked') = step-more _ _ _ _ _ made _ _ more asked is (rw c.in-Some.is at c.in_ok-step.ensures) (grind arith) e in
+    (made ++ (c.in-Some.step, c.step-reply.result) ∷ [], more', asked')
 
 pub loop-progress-preserved : goal.loop-progress-preserved
 loop-progress-preserved g c =
     let (made, more, asked, is, stands, goes) = c.loop-progress.invariant in
-    let asks-it : asks c.args.command.now c.loop-progress.progress ≡ Do c.in-Some.step = rw c.in-Some.is at c.in_ok-step.ensures in
-    let room : is_out_of_memory c.step-reply.result ≡ false = grind arith in (
+    let (more', asked') = step-more _ _ _ _ _ made _ _ more asked is (rw c.in-Some.is at c.in_ok-step.ensures) (grind arith) c.step-reply.ensures.made in (
       made ++ (c.in-Some.step, c.step-reply.result) ∷ [],
-      made-more _ _ _ made c.in-Some.step c.step-reply.result more room c.step-reply.ensures.made,
-      Asked-more c.args.command.now (start_of c.args.command.now) made c.in-Some.step c.step-reply.result asked
-          (ap (asks c.args.command.now) (sym is) ∙ asks-it),
+      more',
+      asked',
       c.in_ok-progress.ensures.is ∙ ap (λ p. progress_after c.args.command.now p c.step-reply.result) is
           ∙ sym (progress-more _ made c.in-Some.step c.step-reply.result),
       c.in_ok-progress.ensures.stands,

@@ -10,7 +10,8 @@ use Rattle.nofs_turn.proofs.Words.{prefix_self}
 use Rattle.nofs_shared.specs.Earlier.{earlier-on}
 use Rattle.nofs_shared.proofs.Owning.{adds-prefix}
 use Rattle.nofs_shared.proofs.Committing.{commit-beside, commit-unmade}
-use Rattle.nofs_shared.proofs.Mounting.{mount-history, safe-history}
+use Rattle.nofs_shared.proofs.Mounting.{mount-history}
+use Rattle.nofs_shared.proofs.Roomed.{roomed}
 use Rattle.nofs_shared.proofs.Rooming.{adds-none, few-left, sweep-served}
 use Rattle.nofs_shared.proofs.mount.Mount.commit.Goals as goal
 
@@ -23,14 +24,9 @@ commit_in-requires-clause-earlier g c = record {
 }
 
 pub invariant_of-self : goal.invariant_of-self
-invariant_of-self g c = record {
-  few = subst (λ (H : List Entry1). length H + c.args.self.now.kept ≤ 2 ^ 62) (sym c.take_room.ensures.stays.0) c.args.self.now.few;
-  room = c.take_room.ensures.kept;
-  safe = safe-history c.args.self.now.core.books c.take_room.new.history (g.D.Disk.state c.args.self.now.core.disk) c.args.self.now.safe;
-  stands = ∥∥₁_elim c.args.self.now.stands ∥∥₁_prop (λ m.
-      ∣ mount-history (g.D.Disk.state c.args.self.now.found.value) (g.D.Disk.state c.args.self.now.core.disk)
-      c.args.self.now.first c.args.self.now.core.books c.take_room.new.history c.take_room.ensures.stays.1 c.take_room.ensures.stays.0 m ∣₁);
-}
+invariant_of-self g c =
+    let kept = roomed _ _ _ _ c.take_room.new.history _ c.take_room.ensures.stays c.args.self.now.few c.args.self.now.safe c.args.self.now.stands in
+    record { few = kept.few; room = c.take_room.ensures.kept; safe = kept.safe; stands = kept.stands }
 
 pub invariant_of-self-in-Some : goal.invariant_of-self-in-Some
 invariant_of-self-in-Some g c = record {

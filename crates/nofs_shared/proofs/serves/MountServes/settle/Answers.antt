@@ -8,9 +8,9 @@ use Rattle.nofs_shared.proofs.serves.MountServes.settle.Goals as goal
 
 pub returns-clause-tells : goal.returns-clause-tells
 returns-clause-tells g c =
-    subst (λ (i : ℕ). TellsStep c.args.caller (see_step c.args.evidence.now.kind i)
+    subst (λ (i : ℕ). TellsStep c.args.caller (see_step c.args.found.now.kind i)
     c.args.self.now.core.books.history.entries c.commit.new.self.core.books.history.entries c.commit.result)
-    (sym (item-at c.args.evidence.now.verdicts c.args.at (items-length c.args.evidence.now.verdicts c.args.at c.requires.within)))
+    (sym (item-at c.args.found.now.verdicts c.args.at (items-length c.args.found.now.verdicts c.args.at c.requires.within)))
     (record { adds = c.commit.ensures.adds; fits = c.commit.ensures.fits })
 
 pub returns-clause-commits : goal.returns-clause-commits
@@ -21,5 +21,5 @@ returns-clause-commits g c = ∥∥₁_elim c.args.self.now.stands ∥∥₁_pro
   stood = m;
   history = refl;
   commit = subst (λ (b : Bool). IsCommit (g.D.Disk.state c.args.self.now.found.value) (g.D.Disk.state c.args.self.now.core.disk) c.args.self.now.core.books
-      c.commit.new.self.core.books c.args.evidence.now.kind (verdict_at c.args.evidence.now.verdicts c.args.at).item b c.commit.result) c.requires.used q;
+      c.commit.new.self.core.books c.args.found.now.kind (verdict_at c.args.found.now.verdicts c.args.at).item b c.commit.result) c.requires.used q;
 } ∣₁))
