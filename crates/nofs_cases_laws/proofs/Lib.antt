@@ -1,15 +1,5 @@
-pub mod Cases
-pub mod CrashCases
-pub mod RaceCases
 pub mod PathCases
 pub mod BeginCases
-pub mod MachineCases
 pub mod LivesCase
-pub mod HomesCases
-pub mod CutCase
-pub mod KeptCase
-pub mod DeepCase
 pub mod RefusedCase
-pub mod PlaceCases
-pub mod CellCases
 pub mod MoveCase

@@ -35,12 +35,12 @@ use Rattle.nofs_cases_steps.proofs.Slots.{others-null, unowned}
 use Rattle.nofs_cases_steps.proofs.Matches.{agreed-file, none-is, first-value}
 use Rattle.nofs_cases_steps.proofs.FileCases.{first-inode, first-plain, first-free, first-root, first-label, put-inode, put-plain, put-holds, put-claim}
 use Rattle.nofs_cases_steps.proofs.FileCases.{no-pointer}
-use Rattle.nofs_cases_laws.specs.CrashCases.{see_block_entry, still, put_state}
-use Rattle.nofs_cases_laws.specs.RaceCases.{mounted}
+use Rattle.nofs_cases_crash.specs.CrashCases.{see_block_entry, still, put_state}
+use Rattle.nofs_cases_numbers.specs.RaceCases.{mounted}
 use Rattle.nofs_cases_laws.specs.LivesCase.{seen_block, put_seen, next_base, BytesCase}
-use Rattle.nofs_cases_laws.proofs.Cases.{new-disk}
-use Rattle.nofs_cases_laws.proofs.CrashCases.{still-disk, put-adds, idle-stage-case, within}
-use Rattle.nofs_cases_laws.proofs.RaceCases.{or-left, or-right, or-split}
+use Rattle.nofs_cases_crash.proofs.Cases.{new-disk}
+use Rattle.nofs_cases_crash.proofs.CrashCases.{still-disk, put-adds, idle-stage-case, within}
+use Rattle.nofs_cases_numbers.proofs.RaceCases.{or-left, or-right, or-split}
 
 -- The world of the base
 

@@ -45,8 +45,8 @@ use Rattle.nofs_cases_names.proofs.Roots.{file_record, name-records, root-plain,
 use Rattle.nofs_cases_names.proofs.NameCases.{name-inode}
 use Rattle.nofs_cases_laws.specs.MoveCase.{look_entry, first_flush, link_entry, second_flush, drop_entry, move_entries, move_history, DirectoryCase, PairCase}
 use Rattle.nofs_cases_laws.specs.MoveCase.{MoveCase}
-use Rattle.nofs_cases_laws.proofs.HomesCases.{name-below}
-use Rattle.nofs_cases_laws.proofs.CrashCases.{sized-cell, sized-image}
+use Rattle.nofs_cases_numbers.proofs.HomesCases.{name-below}
+use Rattle.nofs_cases_crash.proofs.CrashCases.{sized-cell, sized-image}
 
 -- The base
 

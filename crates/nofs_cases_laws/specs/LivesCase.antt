@@ -10,8 +10,8 @@ use Rattle.nofs_cases_steps.specs.Worlds.{world_after}
 use Rattle.nofs_cases_steps.specs.FileCases.{put_step, put_claims}
 use Rattle.nofs_cases_steps.specs.StateCases.{put_entry}
 use Rattle.nofs_cases_laws.specs.BeginCases.{super_with}
-use Rattle.nofs_cases_laws.specs.CrashCases.{see_block_entry}
-use Rattle.nofs_cases_laws.specs.RaceCases.{mounted}
+use Rattle.nofs_cases_crash.specs.CrashCases.{see_block_entry}
+use Rattle.nofs_cases_numbers.specs.RaceCases.{mounted}
 
 -- after a mount and a look at block 2, which is free
 abbrev pub seen_block : World

@@ -18,8 +18,8 @@ use Rattle.nofs_machine.specs.declared.replies.Reply.{Reply}
 use Rattle.nofs_machine.specs.declared.replies.Reply.TheVariants as reply
 use Rattle.nofs_machine.specs.declared.replies.Refusal.TheVariants as refusal
 use Rattle.nofs_law_runs.specs.Runs.{files_before}
-use Rattle.nofs_law_runs.proofs.Acts.{accepted-acts, flush-gives}
-use Rattle.nofs_law_runs.proofs.Gives.{none-at, row-none}
+use Rattle.nofs_law_links.proofs.Acts.{accepted-acts, flush-gives}
+use Rattle.nofs_law_links.proofs.Gives.{none-at, row-none}
 use Rattle.nofs_law_runs.proofs.Along.{SaneRun, moment-at}
 use Rattle.nofs_law_runs.proofs.Base.{sane-run}
 use Rattle.nofs_law_paths.specs.Moves.{KeepsEntry, IsMove, HasDrop, IsAlone, LawAlone}

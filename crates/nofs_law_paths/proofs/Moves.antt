@@ -18,7 +18,7 @@ use Rattle.nofs_law_runs.proofs.Rooted.{directory-of, name-of}
 use Rattle.nofs_law_runs.specs.Runs.{files_before}
 use Rattle.nofs_law_runs.proofs.Runs.{Moment, files-after, run-order, run-time, begun-before, begun-reaches, mark-behind, MarkAt, Unmoved, Behind, mark-is}
 use Rattle.nofs_law_runs.proofs.Runs.{run-faultless}
-use Rattle.nofs_law_runs.proofs.Links.{IsSane, Linked, linked-range, linked-paired, linked-filled}
+use Rattle.nofs_law_links.proofs.Links.{IsSane, Linked, linked-range, linked-paired, linked-filled}
 use Rattle.nofs_law_runs.proofs.Along.{Guard, SaneRun, moment-at, linked-along, stays-along}
 use Rattle.nofs_law_runs.proofs.Base.{sane-run}
 use Rattle.nofs_law_paths.specs.Finds.{Finds}

@@ -31,12 +31,12 @@ use Rattle.nofs_law_untouched.proofs.Matching.{gen-of}
 use Rattle.nofs_law_untouched.proofs.EntryCells.{no-entry, entry-here}
 use Rattle.nofs_law_old_names.proofs.NameDrop.{paired-link}
 use Rattle.nofs_law_new_names.proofs.NameRows.{least-passes, least-none, found-parts, drop-gives, link-gives, link-place-parts}
-use Rattle.nofs_law_runs.specs.Runs.{HasAt, IsDirectory}
-use Rattle.nofs_law_runs.proofs.Places.{contains-at, set-here}
-use Rattle.nofs_law_runs.proofs.Acts.{Acts, Idle, Acting, acts, accepted-acts, files-next}
-use Rattle.nofs_law_runs.proofs.Gives.{none-at, row-none, folder-at, folder-metas, not-born, link-file}
-use Rattle.nofs_law_runs.proofs.Slots.{Kept, Same, Renamed, Dropped, Spelled, read-back}
-use Rattle.nofs_law_runs.proofs.Links.{IsSane, Linked, pair-linked, after-file, directory-after}
+use Rattle.nofs_law_links.specs.Pairs.{HasAt, IsDirectory}
+use Rattle.nofs_law_links.proofs.Places.{contains-at, set-here}
+use Rattle.nofs_law_links.proofs.Acts.{Acts, Idle, Acting, acts, accepted-acts, files-next}
+use Rattle.nofs_law_links.proofs.Gives.{none-at, row-none, folder-at, folder-metas, not-born, link-file}
+use Rattle.nofs_law_links.proofs.Slots.{Kept, Same, Renamed, Dropped, Spelled, read-back}
+use Rattle.nofs_law_links.proofs.Links.{IsSane, Linked, pair-linked, after-file, directory-after}
 use Rattle.nofs_law_runs.proofs.Along.{Guard, linked-kept, Names}
 use Rattle.nofs_law_runs.proofs.Directories.{IsLive, live-row, directory-row, place-range}
 use Rattle.nofs_law_paths.specs.Moves.{KeepsEntry, named_entry}

@@ -17,12 +17,13 @@ use Rattle.nofs_machine.specs.Next.{Next}
 use Rattle.nofs_machine.specs.declared.history.Entry1.{Entry1}
 use Rattle.nofs_law_untouched.proofs.Matching.{gen-of}
 use Rattle.nofs_law_old_names.proofs.NameRename.{entry-parts}
-use Rattle.nofs_law_runs.specs.Runs.{files_before, Filled, IsDirectory}
-use Rattle.nofs_law_runs.proofs.Places.{at-get, contains-at}
-use Rattle.nofs_law_runs.proofs.Acts.{Acts, Idle, Acting, acts}
-use Rattle.nofs_law_runs.proofs.Gives.{folder-metas}
-use Rattle.nofs_law_runs.proofs.Slots.{AtMeta}
-use Rattle.nofs_law_runs.proofs.Links.{IsSane, Linked, pair-linked, linked-filled, Stays, NamesOnly}
+use Rattle.nofs_law_links.specs.Pairs.{Filled, IsDirectory}
+use Rattle.nofs_law_runs.specs.Runs.{files_before}
+use Rattle.nofs_law_links.proofs.Places.{at-get, contains-at}
+use Rattle.nofs_law_links.proofs.Acts.{Acts, Idle, Acting, acts}
+use Rattle.nofs_law_links.proofs.Gives.{folder-metas}
+use Rattle.nofs_law_links.proofs.Slots.{AtMeta}
+use Rattle.nofs_law_links.proofs.Links.{IsSane, Linked, pair-linked, linked-filled, Stays, NamesOnly}
 use Rattle.nofs_law_runs.proofs.Runs.{since-passes, given-passes, metas-since}
 use Rattle.nofs_law_runs.proofs.Along.{Guard, Names, names-only, chain-guard, root-folder, SaneRun, moment-at, linked-along, stays-along}
 use Rattle.nofs_law_paths.specs.Finds.{SureName, SureChain, SureRoot, SureEntry}

@@ -19,11 +19,12 @@ use Rattle.nofs_machine.specs.declared.history.Entry1.{Entry1}
 use Rattle.nofs_machine.specs.declared.steps.Step.{Step}
 use Rattle.nofs_machine.specs.declared.steps.Step.TheVariants as step
 use Rattle.nofs_law_new_names.proofs.NameRows.{drop-gives}
-use Rattle.nofs_law_runs.specs.Runs.{files_before, Filled, is_drop, IsDirectory}
-use Rattle.nofs_law_runs.proofs.Acts.{Acts, Idle, Acting, acts}
-use Rattle.nofs_law_runs.proofs.Gives.{folder-metas}
-use Rattle.nofs_law_runs.proofs.Slots.{Spelled, Kept, Same, Renamed, Dropped, slot-kept}
-use Rattle.nofs_law_runs.proofs.Links.{IsSane, Linked, linked-paired, Stays, NamesOnly, step-stays, step-linked}
+use Rattle.nofs_law_links.specs.Pairs.{Filled, is_drop, IsDirectory}
+use Rattle.nofs_law_runs.specs.Runs.{files_before}
+use Rattle.nofs_law_links.proofs.Acts.{Acts, Idle, Acting, acts}
+use Rattle.nofs_law_links.proofs.Gives.{folder-metas}
+use Rattle.nofs_law_links.proofs.Slots.{Spelled, Kept, Same, Renamed, Dropped, slot-kept}
+use Rattle.nofs_law_links.proofs.Links.{IsSane, Linked, linked-paired, Stays, NamesOnly, step-stays, step-linked}
 use Rattle.nofs_law_runs.proofs.Runs.{Moment, run-moment, files-after}
 
 -- what an entry needs so that the link stays over it: no Drop of its entry is done, and a cell for its slot has an entry that passes

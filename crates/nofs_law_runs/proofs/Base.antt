@@ -15,12 +15,12 @@ use Rattle.nofs_machine.specs.declared.steps.Step.{Step}
 use Rattle.nofs_machine.specs.declared.steps.Step.TheVariants as step
 use Rattle.nofs_machine.proofs.Era.{gives-birth}
 use Rattle.nofs_law_runs.specs.Bases.{IsHistory}
-use Rattle.nofs_law_runs.proofs.Gives.{given-kind}
-use Rattle.nofs_law_runs.proofs.Slots.{Spelled}
-use Rattle.nofs_law_runs.proofs.Links.{IsSane}
+use Rattle.nofs_law_links.proofs.Gives.{given-kind}
+use Rattle.nofs_law_links.proofs.Slots.{Spelled}
+use Rattle.nofs_law_links.proofs.Links.{IsSane}
 use Rattle.nofs_law_runs.proofs.Along.{SaneRun}
 use Rattle.nofs_law_runs.proofs.Start.{sane-start, files-start}
-use Rattle.nofs_law_runs.proofs.Sane.{After, Old, New, after, slot-whole, Made, made, make-new, new-spelled}
+use Rattle.nofs_law_links.proofs.Sane.{After, Old, New, after, slot-whole, Made, made, make-new, new-spelled}
 use Rattle.nofs_law_runs.proofs.Rooted.{rooted-next}
 
 -- a world with the same files and numbers

@@ -12,8 +12,8 @@ use Rattle.nofs_machine.specs.Refusals.{stale, not_directory}
 use Rattle.nofs_machine.specs.declared.replies.Refusal.TheVariants as refusal
 use Rattle.nofs_law_untouched.proofs.Matching.{gen-of}
 use Rattle.nofs_law_new_names.proofs.NameRows.{least-passes}
-use Rattle.nofs_law_runs.specs.Runs.{IsDirectory}
-use Rattle.nofs_law_runs.proofs.Gives.{row-none, folder-at}
+use Rattle.nofs_law_links.specs.Pairs.{IsDirectory}
+use Rattle.nofs_law_links.proofs.Gives.{row-none, folder-at}
 
 -- a file that is not stale
 pub record IsLive (F : Files) (i g : ℕ) : Type 0 where

@@ -9,9 +9,10 @@ use Rattle.nofs_machine.specs.HistoryState.{HistoryState}
 use Rattle.nofs_machine.specs.declared.history.Entry1.{Entry1}
 use Rattle.nofs_machine.specs.declared.steps.Step.TheVariants as step
 use Rattle.nofs_law_runs.specs.Bases.{IsHistory}
-use Rattle.nofs_law_runs.specs.Runs.{files_before, IsDirectory, Filled, HasPair, LawDirectory, LawRooted, LawPair}
+use Rattle.nofs_law_links.specs.Pairs.{IsDirectory, Filled}
+use Rattle.nofs_law_runs.specs.Runs.{files_before, HasPair, LawDirectory, LawRooted, LawPair}
 use Rattle.nofs_law_runs.proofs.Runs.{Moment, files-after}
-use Rattle.nofs_law_runs.proofs.Links.{IsSane, Linked, linked-pair, pair-linked}
+use Rattle.nofs_law_links.proofs.Links.{IsSane, Linked, linked-pair, pair-linked}
 use Rattle.nofs_law_runs.proofs.Along.{SaneRun, moment-at, Names}
 use Rattle.nofs_law_runs.proofs.Rooted.{directory-next, link-next}
 use Rattle.nofs_law_runs.proofs.Base.{sane-run}

@@ -1,12 +1,6 @@
-pub mod Places
-pub mod Acts
-pub mod Gives
-pub mod Slots
-pub mod Links
 pub mod Runs
 pub mod Along
 pub mod Start
-pub mod Sane
 pub mod Directories
 pub mod Rooted
 pub mod Base

@@ -23,15 +23,15 @@ use Rattle.nofs_machine.specs.declared.steps.Step.TheVariants as step
 use Rattle.nofs_machine.proofs.Era.{gives-birth}
 use Rattle.nofs_law_untouched.proofs.Given.{value-of, at-itself}
 use Rattle.nofs_law_new_names.proofs.NameRows.{drop-gives, make-given-is}
-use Rattle.nofs_law_runs.specs.Runs.{HasAt, Filled, is_drop, IsDirectory}
-use Rattle.nofs_law_runs.proofs.Places.{at-contains, contains-at}
-use Rattle.nofs_law_runs.proofs.Acts.{accepted-acts, files-next, Acts, Idle, Acting, acts}
-use Rattle.nofs_law_runs.proofs.Gives.{none-at, other-inode, folder-metas, not-born, given-kind}
-use Rattle.nofs_law_runs.proofs.Slots.{Kept, Same, Renamed, Dropped, read-back, not-empty-link}
-use Rattle.nofs_law_runs.proofs.Links.{IsSane, Linked, linked-pair, pair-linked, linked-filled, directory-after, step-linked}
+use Rattle.nofs_law_links.specs.Pairs.{HasAt, Filled, is_drop, IsDirectory}
+use Rattle.nofs_law_links.proofs.Places.{at-contains, contains-at}
+use Rattle.nofs_law_links.proofs.Acts.{accepted-acts, files-next, Acts, Idle, Acting, acts}
+use Rattle.nofs_law_links.proofs.Gives.{none-at, other-inode, folder-metas, not-born, given-kind}
+use Rattle.nofs_law_links.proofs.Slots.{Kept, Same, Renamed, Dropped, read-back, not-empty-link}
+use Rattle.nofs_law_links.proofs.Links.{IsSane, Linked, linked-pair, pair-linked, linked-filled, directory-after, step-linked}
 use Rattle.nofs_law_runs.proofs.Along.{linked-kept, Names, names-only, chain-guard, root-folder}
 use Rattle.nofs_law_runs.proofs.Directories.{directory-row, place-range}
-use Rattle.nofs_law_runs.proofs.Sane.{After, Old, New, after, made, IsNew, make-new, new-spelled}
+use Rattle.nofs_law_links.proofs.Sane.{After, Old, New, after, made, IsNew, make-new, new-spelled}
 
 root-is : (F : Files) → IsDirectory F 1 1 → is_root F 1 ≡ true
 root-is F d =

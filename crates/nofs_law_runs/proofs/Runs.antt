@@ -21,8 +21,8 @@ use Rattle.nofs_machine.proofs.Lives.{along-append, begun-take}
 use Rattle.nofs_model.proofs.Find.{and-both}
 use Rattle.nofs_law_machine.proofs.Faultless.{answer-free}
 use Rattle.nofs_law_runs.specs.Runs.{files_before}
-use Rattle.nofs_law_runs.proofs.Places.{take-more, part-get}
-use Rattle.nofs_law_runs.proofs.Acts.{faultless, row-faultless, files-next}
+use Rattle.nofs_law_links.proofs.Places.{take-more, part-get}
+use Rattle.nofs_law_links.proofs.Acts.{faultless, row-faultless, files-next}
 
 -- The worlds around an entry
 

@@ -23,8 +23,8 @@ use Rattle.nofs_crashlaw.proofs.Unflushed.{self-match}
 use Rattle.nofs_crashlaw.proofs.Below.{live-stands, live-below}
 use Rattle.nofs_law_old_names.proofs.NameInPlace.{no-file-zero}
 use Rattle.nofs_law_runs.specs.Bases.{IsBase}
-use Rattle.nofs_law_runs.proofs.Slots.{Spelled}
-use Rattle.nofs_law_runs.proofs.Links.{IsSane}
+use Rattle.nofs_law_links.proofs.Slots.{Spelled}
+use Rattle.nofs_law_links.proofs.Links.{IsSane}
 
 -- a record in use has a generation
 record-generation : (payload : List ℕ) (j : ℕ) → is_live (record_at payload j) ≡ true → 1 ≤ (record_at payload j).generation

@@ -1,41 +1,18 @@
 -- What a run of the machine keeps, whatever its entries.
-use Rattle.std.specs.Prelude.{◌≡◌, ℕ, zero, suc, ◌<◌, ◌≤◌, Bool, true, false, List, [], ◌∷◌, length, take, Some, slice_get}
-use Rattle.nofs_dirent.specs.Entries.{entry_limit}
+use Rattle.std.specs.Prelude.{◌≡◌, ℕ, suc, ◌≤◌, true, List, length, take, Some, slice_get}
 use Rattle.nofs_model.specs.Cells.{BackLink}
-use Rattle.nofs_model.specs.Image.{Image, Files, FileState, Agreed, is_folder, is_pair}
-use Rattle.nofs_machine.specs.Machine.{found, is_paired}
+use Rattle.nofs_model.specs.Image.{Image, Files, FileState, Agreed, is_pair}
+use Rattle.nofs_machine.specs.Machine.{found}
 use Rattle.nofs_machine.specs.History.{agreed_files, files_along}
 use Rattle.nofs_machine.specs.HistoryState.{HistoryState}
 use Rattle.nofs_machine.specs.declared.history.Entry1.{Entry1}
-use Rattle.nofs_machine.specs.declared.steps.Step.{Step}
 use Rattle.nofs_machine.specs.declared.steps.Step.TheVariants as step
 use Rattle.nofs_law_runs.specs.Bases.{IsHistory}
+use Rattle.nofs_law_links.specs.Pairs.{is_drop, Filled, HasAt, IsDirectory}
 
 -- the machine's files before the entry at place p
 abbrev pub files_before : Image → List Entry1 → ℕ → Files
 files_before B H p = files_along (agreed_files B) (take p H)
-
--- a directory of this generation
-pub record IsDirectory (F : Files) (d g : ℕ) : Type 0 where
-  pub file : FileState
-  pub is : F d ≡ Some file
-  pub generation : file.generation ≡ g
-  pub folder : is_folder file.kind ≡ true
-
--- a directory in which some entry is the other half of a back link
-abbrev pub Filled : Files → ℕ → Type 0
-Filled F j = (n : ℕ) × (n < entry_limit) × (is_paired F j n ≡ true)
-
--- whether a step is a Drop
-abbrev pub is_drop : Step → Bool
-is_drop (step.Drop d g name) = true
-is_drop _ = false
-
--- place b of these links has this one
-abbrev pub HasAt : List BackLink → ℕ → BackLink → Type 0
-HasAt [] b link = ⊥
-HasAt (l ∷ ls) zero link = l ≡ link
-HasAt (l ∷ ls) (suc b) link = HasAt ls b link
 
 -- place b of the file (i, g) has this back link, which is a pair: the entry to which it leads names (i, g)
 pub record HasPair (F : Files) (i g b : ℕ) (link : BackLink) : Type 0 where

@@ -20,18 +20,18 @@ use Rattle.nofs_client.specs.declared.commands.Path.{Path}
 use Rattle.nofs_client.specs.Places.{last_name}
 use Rattle.nofs_law_runs.specs.Runs.{files_before}
 use Rattle.nofs_law_runs.proofs.Runs.{files-after}
-use Rattle.nofs_law_runs.proofs.Links.{IsSane, Linked, linked-range, linked-paired}
+use Rattle.nofs_law_links.proofs.Links.{IsSane, Linked, linked-range, linked-paired}
 use Rattle.nofs_law_runs.proofs.Along.{Guard, SaneRun, moment-at, linked-along}
 use Rattle.nofs_law_runs.proofs.Base.{sane-run}
 use Rattle.nofs_law_paths.specs.Moves.{KeepsEntry, named_entry}
 use Rattle.nofs_law_paths.proofs.Alone.{Places, look-places, link-place-is}
 use Rattle.nofs_law_paths.proofs.Moving.{Only, plain-guard, keeping-guard, found-name, name-finds, look-linked, link-linked}
-use Rattle.nofs_move.specs.Own.{done_of, RunBy}
-use Rattle.nofs_move.specs.Linked.{is_idle, DropMade, LinkedSteps}
-use Rattle.nofs_move.specs.Laws.{place_in, end_of, NamesStay, LeavesName, NamesLeft, LawNamesLeft}
-use Rattle.nofs_move.proofs.Own.{OwnEntry}
-use Rattle.nofs_move.proofs.Replies.{idle-keeps}
-use Rattle.nofs_move.proofs.Entries.{own, rises, by-end, Between, between}
+use Rattle.nofs_law_moves.specs.Own.{done_of, RunBy, place_in, end_of}
+use Rattle.nofs_law_moves.specs.Linked.{is_idle, DropMade, LinkedSteps}
+use Rattle.nofs_move.specs.Laws.{NamesStay, LeavesName, NamesLeft, LawNamesLeft}
+use Rattle.nofs_law_moves.proofs.Own.{OwnEntry}
+use Rattle.nofs_law_moves.proofs.Replies.{idle-keeps}
+use Rattle.nofs_law_moves.proofs.Entries.{own, rises, by-end, Between, between}
 
 -- An entry whose step leaves a name keeps its link
 

@@ -1,10 +1,2 @@
-pub mod Own
-pub mod Driver
-pub mod Stages
-pub mod Walk
-pub mod Looks
-pub mod Replies
-pub mod Entries
 pub mod Moves
 pub mod Left
-pub mod Scripts

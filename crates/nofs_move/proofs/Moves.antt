@@ -13,21 +13,18 @@ use Rattle.nofs_machine.specs.declared.replies.Reply.TheVariants as reply
 use Rattle.nofs_client.specs.declared.commands.Command.TheVariants as command
 use Rattle.nofs_client.specs.declared.commands.Path.{Path}
 use Rattle.nofs_client.specs.Places.{last_name}
-use Rattle.nofs_client.specs.Drive.{drive_of, start_of}
 use Rattle.nofs_law_runs.specs.Runs.{files_before}
 use Rattle.nofs_law_runs.proofs.Along.{SaneRun, moment-at}
 use Rattle.nofs_law_runs.proofs.Base.{sane-run}
 use Rattle.nofs_law_paths.specs.Moves.{KeepsEntry, named_entry, IsMove, HasDrop}
 use Rattle.nofs_law_paths.proofs.Alone.{Places, look-places, link-place-is}
 use Rattle.nofs_law_paths.proofs.Moves.{law-move, law-moved}
-use Rattle.nofs_move.specs.Own.{done_of, RunBy}
-use Rattle.nofs_move.specs.Linked.{is_idle, DropMade, LinkedSteps}
-use Rattle.nofs_move.specs.Laws.{place_in, end_of, NamesStay, MoveAt, LawSteps, LawMovedSteps, LawIsMove, LawOneName, LawNewName}
-use Rattle.nofs_move.proofs.Own.{OwnEntry}
-use Rattle.nofs_move.proofs.Driver.{Says}
-use Rattle.nofs_move.proofs.Looks.{located, linked-steps}
-use Rattle.nofs_move.proofs.Replies.{idle-keeps}
-use Rattle.nofs_move.proofs.Entries.{own, rises, by-end, between, all-told}
+use Rattle.nofs_law_moves.specs.Own.{done_of, RunBy, place_in, end_of}
+use Rattle.nofs_law_moves.specs.Linked.{is_idle, DropMade, LinkedSteps}
+use Rattle.nofs_move.specs.Laws.{NamesStay, MoveAt, LawIsMove, LawOneName, LawNewName}
+use Rattle.nofs_law_moves.proofs.Own.{OwnEntry}
+use Rattle.nofs_law_moves.proofs.Replies.{idle-keeps}
+use Rattle.nofs_law_moves.proofs.Entries.{own, rises, by-end, between}
 
 module _ (B : Image) (H : List Entry1) (r : SaneRun B H) (c : ℕ) (from to : Path) (made : List Made) (run : RunBy c (command.Move from to) made H)
     (s : LinkedSteps from to made) where
@@ -198,17 +195,3 @@ law-new-name B H c from to made history run s done last by stay flush e flush_at
     (move-with B H.entries r c from to made run s last by stay (place_in c (command.Move from to) made H.entries run s.drop)
     (its-drop B H.entries r c from to made run s last by stay) (λ done. omega arith)) drop e last_at
     m (let q = ap (λ (x : Entry1). x.to) f in omega (arith, q, low)) high X allowed
-
-pub law-steps : LawSteps
-law-steps B H c from to made history name run k asked answered =
-    let told = all-told c (command.Move from to) made H.entries run B (sane-run B H history) in
-    linked-steps from to (Says from to (start_of (command.Move from to)) made) made (located from to made name told run.asked (inl (k, asked, answered)))
-
-pub law-moved-steps : LawMovedSteps
-unfolding drive_of
-law-moved-steps B H c from to made history name run says =
-    let told = all-told c (command.Move from to) made H.entries run B (sane-run B H history) in
-    let t = located from to made name told run.asked (inr says) in (
-      linked-steps from to (Says from to (start_of (command.Move from to)) made) made t,
-      elim t.ends [ inl none ↦ absurd (none.1 says) | inr r ↦ record { after_link = r.0; before_drop = r.1; flushed = r.2; answer = r.3; dropped = r.4 } ],
-    )

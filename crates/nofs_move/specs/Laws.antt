@@ -1,7 +1,7 @@
--- What a run of a move promises, wherever its entries stand in a history.
+-- What a run of a move promises of a crash, wherever its entries stand in a history.
 --
 -- The premises are ones that a user can see: the replies to the steps of the command, and what other callers did meanwhile.
-use Rattle.std.specs.Prelude.{◌≡◌, ◌≢◌, ℕ, ◌+◌, ◌-◌, ◌<◌, ◌≤◌, ◌⊎◌, List, length, map, Some, slice_get}
+use Rattle.std.specs.Prelude.{◌≡◌, ◌≢◌, ℕ, ◌<◌, ◌≤◌, ◌⊎◌, List, length, Some, slice_get}
 use Rattle.nofs_model.specs.Cells.{Entry}
 use Rattle.nofs_model.specs.Image.{Image, entry_at}
 use Rattle.nofs_machine.specs.Machine.{found, place_for, given_by}
@@ -11,31 +11,15 @@ use Rattle.nofs_machine.specs.Steps.{Made}
 use Rattle.nofs_machine.specs.declared.history.Entry1.{Entry1}
 use Rattle.nofs_machine.specs.declared.steps.Step.{Step}
 use Rattle.nofs_machine.specs.declared.steps.Step.TheVariants as step
-use Rattle.nofs_machine.specs.declared.replies.Reply.TheVariants as reply
-use Rattle.nofs_client.specs.declared.commands.Command.{Command}
 use Rattle.nofs_client.specs.declared.commands.Command.TheVariants as command
 use Rattle.nofs_client.specs.declared.commands.Path.{Path}
-use Rattle.nofs_client.specs.declared.driver.Next.TheVariants.{Say}
-use Rattle.nofs_client.specs.declared.lines.Line.{Line}
-use Rattle.nofs_client.specs.declared.lines.Line.TheVariants as line
-use Rattle.nofs_client.specs.Commands.{HasName}
 use Rattle.nofs_client.specs.Places.{last_name}
-use Rattle.nofs_client.specs.Drive.{drive_of}
-use Rattle.nofs_client.specs.Runs.{made_reply, IsCommandRun, IsPartlyDriven}
 use Rattle.nofs_law_runs.specs.Bases.{IsHistory}
 use Rattle.nofs_law_runs.specs.Runs.{files_before}
 use Rattle.nofs_law_paths.specs.Finds.{Finds}
 use Rattle.nofs_law_paths.specs.Moves.{KeepsEntry, named_entry, IsMove, DropIsLate}
-use Rattle.nofs_move.specs.Own.{steps_by, own_place, RunBy}
-use Rattle.nofs_move.specs.Linked.{DropMade, LinkedSteps}
-
--- where the history has step number k of this run
-abbrev pub place_in : (c : ℕ) (moves : Command) (made : List Made) (H : List Entry1) → RunBy c moves made H → ℕ → ℕ
-place_in c moves made H run k = own_place c H (length run.front + k)
-
--- and its last step
-abbrev pub end_of : (c : ℕ) (moves : Command) (made : List Made) (H : List Entry1) → RunBy c moves made H → ℕ
-end_of c moves made H run = place_in c moves made H run (length made - 1)
+use Rattle.nofs_law_moves.specs.Own.{RunBy, place_in, end_of}
+use Rattle.nofs_law_moves.specs.Linked.{DropMade, LinkedSteps}
 
 -- the entry e at place p is not one of the run's: another caller's, or one behind the end of the run
 abbrev pub IsOther : ℕ → ℕ → ℕ → Entry1 → Type 0
@@ -80,19 +64,6 @@ LawNamesLeft = (B : Image) (H : HistoryState) (c : ℕ) (from to : Path) (made :
     → (last : ℕ) → end_of c (command.Move from to) made H.entries run ≤ last → NamesLeft H.entries c from to made run s last
     → NamesStay B H.entries c from to made run s last
 
--- The steps of a run of the command in which one was answered Linked are those of a move: which is which is settled.
-abbrev pub LawSteps : Type 0
-LawSteps = (B : Image) (H : HistoryState) (c : ℕ) (from to : Path) (made : List Made) → IsHistory B H → HasName from
-    → RunBy c (command.Move from to) made H.entries
-    → (k : ℕ) (asked : Step) → slice_get made k ≡ Some (asked, reply.Linked) → LinkedSteps from to made
-
--- And of one that ended with the line `moved` all are: Link was accepted, the second flush succeeded, and Drop came.
-abbrev pub LawMovedSteps : Type 0
-LawMovedSteps = (B : Image) (H : HistoryState) (c : ℕ) (from to : Path) (made : List Made) → IsHistory B H → HasName from
-    → RunBy c (command.Move from to) made H.entries
-    → drive_of (command.Move from to) (map made_reply made) ≡ Say line.Moved
-    → (s : LinkedSteps from to made) × DropMade made s.link s.second s.drop s.d s.dg (last_name from) s.i s.g
-
 -- the entries of such a run are a move of which the laws of paths speak, at the places where the history has them
 pub record MoveAt (B : Image) (H : List Entry1) (c : ℕ) (from to : Path) (made : List Made) (run : RunBy c (command.Move from to) made H)
     (s : LinkedSteps from to made) (last : ℕ) : Type 0 where
@@ -128,14 +99,3 @@ LawNewName = (B : Image) (H : HistoryState) (c : ℕ) (from to : Path) (made : L
     → (last : ℕ) → end_of c (command.Move from to) made H.entries run ≤ last → NamesStay B H.entries c from to made run s last
     → (flush e : Entry1) → slice_get H.entries (place_in c (command.Move from to) made H.entries run s.second) ≡ Some flush → slice_get H.entries last ≡ Some e
     → (m : ℕ) → flush.to ≤ m → m ≤ e.to → (X : Image) → IsAllowed B H.entries m X → Finds X s.d2 s.dg2 (last_name to) s.i s.g
-
--- Each command of a user's script that was run to its line has its run among the steps that the user made.
-abbrev pub LawCommandRun : Type 0
-LawCommandRun = (c : ℕ) (script : List Command) (H : List Entry1) (lines : List Line) → IsPartlyDriven script (steps_by c H) lines
-    → (k : ℕ) (asked : Command) (said : Line) → slice_get script k ≡ Some asked → slice_get lines k ≡ Some said
-    → (made : List Made) × RunBy c asked made H × IsCommandRun asked made said
-
--- So has the command at which the user ended early, where memory was wanting, as far as it came.
-abbrev pub LawCommandBegun : Type 0
-LawCommandBegun = (c : ℕ) (script : List Command) (H : List Entry1) (lines : List Line) → IsPartlyDriven script (steps_by c H) lines
-    → (asked : Command) → slice_get script (length lines) ≡ Some asked → (made : List Made) × RunBy c asked made H

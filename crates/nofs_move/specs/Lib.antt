@@ -1,3 +1,1 @@
-pub mod Own
-pub mod Linked
 pub mod Laws

@@ -2,19 +2,7 @@
 //!
 //! Promise: the replies to the steps of the command, and what other callers did to its two names, are all
 //! that has to be known of a history for this.
-ghost use Rattle.nofs_move.specs.Laws.{LawCommandBegun, LawCommandRun, LawIsMove, LawMovedSteps, LawNamesLeft, LawNewName, LawOneName, LawSteps};
-
-/// The steps of one run of the command, by their replies. Where one was answered `Linked`: the Look that
-/// found the file, the first flush and the Link were accepted, in this order, and each other step changed
-/// nothing, but for Drop, which comes after an accepted second flush only. Where the line is `moved`, the
-/// second flush and Drop came. In the history of a session each command of a user has such a run, the one
-/// at which the user ended early as far as it came.
-pub fn law_move_steps()
-    ensures linked { LawSteps }
-    ensures moved { LawMovedSteps }
-    ensures run { LawCommandRun }
-    ensures begun { LawCommandBegun }
-{}
+ghost use Rattle.nofs_move.specs.Laws.{LawIsMove, LawNamesLeft, LawNewName, LawOneName};
 
 /// Over a base that a mount leaves, whatever else the history holds: where no other entry changes the entry
 /// that Look found, until Drop, or from Link on the new one, the entries of the run are a durable move. So

@@ -12,5 +12,6 @@ mod paths;
 #[cfg(test)]
 mod tests;
 
-pub use laws::{law_move_run, law_move_steps};
+pub use laws::law_move_run;
 pub use mover::move_file;
+pub use nofs_law_moves::law_move_steps;

@@ -1,0 +1,9 @@
+pub mod Own
+pub mod Driver
+pub mod Stages
+pub mod Walk
+pub mod Looks
+pub mod Replies
+pub mod Entries
+pub mod Scripts
+pub mod MoveSteps
