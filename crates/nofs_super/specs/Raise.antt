@@ -1,6 +1,6 @@
 -- What a raised mount number leaves on a device.
-use Rattle.std.specs.Prelude.{◌≡◌, ℕ, ◌+◌, [], slice_set}
-use Rattle.nofs_disk.specs.Disk.{DiskState, IsSettled}
+use Rattle.std.specs.Prelude.{◌≡◌, ℕ, ◌+◌, ◌<◌, ◌⊎◌, [], slice_set}
+use Rattle.nofs_disk.specs.Disk.{DiskState, IsSettled, Rose}
 use Rattle.nofs_disk.specs.declared.tag.Cell.{Cell}
 use Rattle.nofs_super.specs.Format.{super_cell}
 use Rattle.nofs_super.specs.declared.superblock.SuperBlock.{SuperBlock}
@@ -22,3 +22,12 @@ pub record IsRaised (it : SuperBlock) (old new : DiskState) : Type 0 where
   pub clean : new.dirty ≡ []
   pub moment : new.moment ≡ old.moment + 4
   pub spare : new.spare + 2 ≡ old.spare
+
+-- the write or the flush failed: block 0 holds its old cell or this superblock
+pub record IsRaiseStopped (it : SuperBlock) (old new : DiskState) : Type 0 where
+  -- the device failed a call
+  pub cause : Rose old.faults new.faults
+  -- and not before the write began
+  pub began : old.moment < new.moment
+  -- a read gives what it gave before, or this superblock in block 0
+  pub now : (new.now ≡ old.now) ⊎ (new.now ≡ slice_set old.now 0 (super_cell it))

@@ -1,5 +1,5 @@
 -- The superblock, as the payload of block 0 spells it.
-use Rattle.std.specs.Prelude.{◌≡◌, ℕ, ◌+◌, ◌-◌, ◌^◌, ◌<◌, ◌==◌, if◌then◌else◌, Bool, true, not, ◌&&◌, ◌||◌, nat_lt, nat_le, List, take, position, codes}
+use Rattle.std.specs.Prelude.{◌≡◌, ◌≢◌, ℕ, ◌+◌, ◌-◌, ◌^◌, ◌<◌, ◌==◌, if◌then◌else◌, Bool, true, not, ◌&&◌, ◌||◌, nat_lt, nat_le, List, take, position, codes}
 use Rattle.std.specs.Prelude.{nat_eq, Option, Some, None, is_none, Result, Ok, Err, slice_range}
 use Rattle.std.specs.Option.{option_map, option_or}
 use lib.Pointwise.{pointwise}
@@ -7,7 +7,7 @@ use Rattle.nofs_disk.specs.Number.{number_at}
 use Rattle.nofs_super.specs.Geometry.{IsGeometry, is_geometry}
 use Rattle.nofs_super.specs.declared.superblock.SuperBlock.{SuperBlock}
 use Rattle.nofs_super.specs.declared.superblock.MountFault.{MountFault}
-use Rattle.nofs_super.specs.declared.superblock.MountFault.TheVariants.{BadMagic, BadVersion, BadGeometry, DeviceTooSmall, MountsSpent, BadRest}
+use Rattle.nofs_super.specs.declared.superblock.MountFault.TheVariants.{BadMagic, BadVersion, BadGeometry, DeviceTooSmall, MountsSpent, BadRest, WriteFault, OutOfMemory}
 
 -- the first eight bytes
 abbrev pub magic : List ℕ
@@ -64,3 +64,10 @@ check_super device payload =
     if not (has_magic payload) then Err (BadMagic (take 8 payload))
     else if not (is_version (super_in payload).version) then Err (BadVersion (super_in payload).version)
     else check_rest device (super_in payload) (rest_fault payload)
+
+-- the answer of a call that does nothing but read: it names no failed write, and no want of memory
+pub record IsReadAnswer (result : Result SuperBlock MountFault) : Type 0 where
+  -- no write failed
+  pub no_write : result ≢ Err WriteFault
+  -- no memory was wanted
+  pub no_memory : result ≢ Err OutOfMemory

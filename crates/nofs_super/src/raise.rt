@@ -1,9 +1,7 @@
 //! The mount number is raised, so that no stamp of an earlier mount comes again.
-ghost use Rattle.std.specs.Prelude.{◌≡◌, ◌+◌, ◌-◌, ◌^◌, ◌<◌, ◌≤◌, ◌⊎◌, IfOk, IfErr, OnOk, OnErr, slice_set};
+ghost use Rattle.std.specs.Prelude.{◌≡◌, ◌+◌, ◌-◌, ◌^◌, ◌<◌, ◌≤◌, IfOk, IfErr, OnOk, OnErr};
 ghost use Rattle.nofs_disk.specs.Adds.{Adds};
-ghost use Rattle.nofs_disk.specs.Disk.{Rose};
-ghost use Rattle.nofs_super.specs.Format.{super_cell};
-ghost use Rattle.nofs_super.specs.Raise.{IsRaised, IsSuperCell, raised};
+ghost use Rattle.nofs_super.specs.Raise.{IsRaiseStopped, IsRaised, IsSuperCell, raised};
 
 use crate::superblock::{MountFault, SuperBlock, write_super};
 use nofs_disk::{Cell, Disk};
@@ -25,9 +23,7 @@ pub fn raise_mount<D: Disk>(disk: &mut D, old: &SuperBlock) -> Result<SuperBlock
     ensures ends { OnOk result (IsRaised (raised old.now) (D.state disk.old) (D.state disk.new)) }
     ensures adds { Adds (IsSuperCell (raised old.now)) (D.state disk.old) (D.state disk.new) }
     ensures fault { IfErr result (λ fault. fault ≡ MountFault.WriteFault) }
-    ensures cause { OnErr result (Rose (D.state disk.old).faults (D.state disk.new).faults) }
-    ensures began { OnErr result ((D.state disk.old).moment < (D.state disk.new).moment) }
-    ensures now { OnErr result (((D.state disk.new).now ≡ (D.state disk.old).now) ⊎ ((D.state disk.new).now ≡ slice_set (D.state disk.old).now 0 (super_cell (raised old.now)))) }
+    ensures stopped { OnErr result (IsRaiseStopped (raised old.now) (D.state disk.old) (D.state disk.new)) }
 {
     let it = SuperBlock {
         version: old.version,

@@ -3,7 +3,7 @@ ghost use Rattle.std.specs.Prelude.{◌≡◌, ◌≢◌, ◌<◌, ◌==◌, tru
 ghost use Rattle.nofs_disk.specs.Disk.{Rose, StaysButFaults, cell_at};
 ghost use Rattle.nofs_disk.specs.Number.{IsBytes};
 ghost use Rattle.nofs_super.specs.Format.{super_cell, super_payload};
-ghost use Rattle.nofs_super.specs.Super.{CanMount, check_super, is_version, rest_fault, super_in, super_of};
+ghost use Rattle.nofs_super.specs.Super.{CanMount, IsReadAnswer, check_super, is_version, rest_fault, super_in, super_of};
 
 use crate::geometry::accepts;
 use nofs_disk::{
@@ -59,13 +59,14 @@ pub enum MountFault {
 pub fn read_super<D: Disk>(disk: &mut D) -> Result<SuperBlock, MountFault>
     ensures stays { StaysButFaults (D.state disk.old) (D.state disk.new) }
     ensures empty { (D.state disk.old).blocks ≡ 0 → result ≡ Err (MountFault.DeviceTooSmall 0) }
-    ensures told { result ≢ Err MountFault.ReadFault → 0 < (D.state disk.old).blocks → IsTrue (D.state disk.old).tells → result ≡ check_super (D.state disk.old).blocks (cell_at (D.state disk.old).now 0).payload }
-    ensures some { result ≢ Err MountFault.ReadFault → 0 < (D.state disk.old).blocks → (payload : List ℕ) × IsBytes 1024 payload × (result ≡ check_super (D.state disk.old).blocks payload) }
+    ensures told { result ≢ Err MountFault.ReadFault → 0 < (D.state disk.old).blocks → IsTrue (D.state disk.old).tells
+        → result ≡ check_super (D.state disk.old).blocks (cell_at (D.state disk.old).now 0).payload }
+    ensures some { result ≢ Err MountFault.ReadFault → 0 < (D.state disk.old).blocks
+        → (payload : List ℕ) × IsBytes 1024 payload × (result ≡ check_super (D.state disk.old).blocks payload) }
     ensures spelled { IfOk result (λ it. IsTrue (D.state disk.old).tells → super_of (cell_at (D.state disk.old).now 0).payload ≡ Some it) }
     ensures mountable { IfOk result (CanMount (D.state disk.old).blocks) }
     ensures cause { result ≡ Err MountFault.ReadFault → Rose (D.state disk.old).faults (D.state disk.new).faults }
-    ensures no_write { result ≢ Err MountFault.WriteFault }
-    ensures no_memory { result ≢ Err MountFault.OutOfMemory }
+    ensures reads { IsReadAnswer result }
 {
     let device = disk.blocks();
     if device == 0 {

@@ -16,8 +16,8 @@ returns-in-Ok-clause-mountable g c =
     let old = g.D.Disk.state c.args.disk.now in
     if-mountable old.blocks c.read.new.into.payload c.check.result (rw (← c.blocks-device.ensures, c.check.ensures.value))
 
-pub returns-in-Ok-clause-no_write : goal.returns-in-Ok-clause-no_write
-returns-in-Ok-clause-no_write g c = not-a-row _ _ c.check.result _ c.check.ensures.value refl
-
-pub returns-in-Ok-clause-no_memory : goal.returns-in-Ok-clause-no_memory
-returns-in-Ok-clause-no_memory g c = not-a-row _ _ c.check.result _ c.check.ensures.value refl
+pub returns-in-Ok-clause-reads : goal.returns-in-Ok-clause-reads
+returns-in-Ok-clause-reads g c = record {
+  no_write = not-a-row _ _ c.check.result _ c.check.ensures.value refl;
+  no_memory = not-a-row _ _ c.check.result _ c.check.ensures.value refl;
+}
