@@ -1,5 +1,5 @@
 -- What contracts see of a file of bytes, and what each of its calls does.
-use Rattle.std.specs.Prelude.{◌≡◌, ℕ, ◌+◌, ◌^◌, ◌<◌, ◌≤◌, nat_lt, if◌then◌else◌, max, Bool, IsTrue, List, length, take, slice_index, Result, IfOk, OnOk, OnErr}
+use Rattle.std.specs.Prelude.{◌≡◌, ℕ, ◌+◌, ◌^◌, ◌<◌, ◌≤◌, nat_lt, if◌then◌else◌, max, Bool, IsTrue, List, length, take, drop, slice_index, Result, IfOk, OnOk, OnErr}
 use Rattle.nofs_disk.specs.Disk.{Rose}
 use Rattle.nofs_disk.specs.declared.Failed.{Failed}
 
@@ -59,6 +59,23 @@ pub record ReadsSome (old new : HostFileState) (at : ℕ) (from into : List ℕ)
   pub fits : IfOk result (λ n. n ≤ length from)
   pub part : IfOk result (λ n. IsTrue old.tells → IsPart old.bytes at (take n into))
   pub end : IfOk result (λ n. n ≡ 0 → 0 < length from → IsTrue old.tells → length old.bytes ≤ at)
+  pub cause : OnErr result (Rose old.faults new.faults)
+  pub no_fault : OnOk result (new.faults ≡ old.faults)
+
+-- some bytes are read behind the first ones of a slice, which are done
+pub record ReadsBehind (old new : HostFileState) (at first : ℕ) (from into : List ℕ) (result : Result ℕ Failed) : Type 0 where
+  -- the file stays
+  pub keeps : KeepsBytes old new
+  -- so do the length of the slice and its first bytes
+  pub len : length into ≡ length from
+  pub done : take first into ≡ take first from
+  -- not more than there is room for
+  pub fits : IfOk result (λ n. first + n ≤ length from)
+  -- the bytes behind them are those of the file
+  pub part : IfOk result (λ n. IsTrue old.tells → IsPart old.bytes (at + first) (take n (drop first into)))
+  -- none only at the end
+  pub end : IfOk result (λ n. n ≡ 0 → IsTrue old.tells → length old.bytes ≤ at + first)
+  -- a call fails only by the file's, and one that succeeds counts no fault
   pub cause : OnErr result (Rose old.faults new.faults)
   pub no_fault : OnOk result (new.faults ≡ old.faults)
 

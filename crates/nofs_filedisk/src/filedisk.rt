@@ -77,7 +77,8 @@ impl<B: Positioned + Drop> Disk for FileDisk<B> {
     }
 
     fn ready(&mut self, calls: u64) -> Result<(), AllocError>
-        ensures makes_ready { MakesReady (silent_state self.old.moment self.old.spare (B.state self.old.file).faults) (silent_state self.new.moment self.new.spare (B.state self.new.file).faults) calls result }
+        ensures makes_ready { MakesReady (silent_state self.old.moment self.old.spare (B.state self.old.file).faults)
+            (silent_state self.new.moment self.new.spare (B.state self.new.file).faults) calls result }
         ensures file { self.new.file ≡ self.old.file }
     {
         if calls <= self.spare {
@@ -92,7 +93,8 @@ impl<B: Positioned + Drop> Disk for FileDisk<B> {
 
     fn read(&mut self, block: u64, into: &mut Cell) -> Result<(), Failed>
         requires { block < 1048576 }
-        ensures reads { Reads (silent_state self.old.moment self.old.spare (B.state self.old.file).faults) (silent_state self.new.moment self.new.spare (B.state self.new.file).faults) block into.new result }
+        ensures reads { Reads (silent_state self.old.moment self.old.spare (B.state self.old.file).faults)
+            (silent_state self.new.moment self.new.spare (B.state self.new.file).faults) block into.new result }
         ensures keeps { KeepsBytes (B.state self.old.file) (B.state self.new.file) }
         ensures cell { OnOk result (IsTrue (B.state self.old.file).tells → into.new ≡ cell_in (B.state self.old.file).bytes block) }
     {
@@ -102,10 +104,13 @@ impl<B: Positioned + Drop> Disk for FileDisk<B> {
     fn write(&mut self, block: u64, cell: &Cell) -> Result<(), Failed>
         requires block { block < 1048576 }
         requires spare { 1 ≤ self.old.spare }
-        ensures writes { Writes (silent_state self.old.moment self.old.spare (B.state self.old.file).faults) (silent_state self.new.moment self.new.spare (B.state self.new.file).faults) block cell.now result }
+        ensures writes { Writes (silent_state self.old.moment self.old.spare (B.state self.old.file).faults)
+            (silent_state self.new.moment self.new.spare (B.state self.new.file).faults) block cell.now result }
         ensures keeps { KeepsDurable (B.state self.old.file) (B.state self.new.file) }
-        ensures put { OnOk result (IsTrue (B.state self.old.file).tells → IsPut (1056 * block) (cell_bytes cell.now) (B.state self.old.file).bytes (B.state self.new.file).bytes) }
-        ensures partly { OnErr result (IsTrue (B.state self.old.file).tells → IsPartlyPut (1056 * block) (cell_bytes cell.now) (B.state self.old.file).bytes (B.state self.new.file).bytes) }
+        ensures put { OnOk result (IsTrue (B.state self.old.file).tells
+            → IsPut (1056 * block) (cell_bytes cell.now) (B.state self.old.file).bytes (B.state self.new.file).bytes) }
+        ensures partly { OnErr result (IsTrue (B.state self.old.file).tells
+            → IsPartlyPut (1056 * block) (cell_bytes cell.now) (B.state self.old.file).bytes (B.state self.new.file).bytes) }
     {
         let mut bytes = [0; CELL_BYTES];
         join(cell, &mut bytes);
@@ -125,7 +130,8 @@ impl<B: Positioned + Drop> Disk for FileDisk<B> {
 
     fn flush(&mut self) -> Result<(), Failed>
         requires { 1 ≤ self.old.spare }
-        ensures flushes { Flushes (silent_state self.old.moment self.old.spare (B.state self.old.file).faults) (silent_state self.new.moment self.new.spare (B.state self.new.file).faults) result }
+        ensures flushes { Flushes (silent_state self.old.moment self.old.spare (B.state self.old.file).faults)
+            (silent_state self.new.moment self.new.spare (B.state self.new.file).faults) result }
         ensures bytes { (B.state self.new.file).bytes ≡ (B.state self.old.file).bytes }
         ensures durable { OnOk result ((B.state self.new.file).durable ≡ (B.state self.old.file).bytes) }
     {
@@ -136,7 +142,8 @@ impl<B: Positioned + Drop> Disk for FileDisk<B> {
 
     fn write_out(&mut self) -> Result<Option<u64>, Failed>
         requires { 1 ≤ self.old.spare }
-        ensures writes_out { WritesOut (silent_state self.old.moment self.old.spare (B.state self.old.file).faults) (silent_state self.new.moment self.new.spare (B.state self.new.file).faults) result }
+        ensures writes_out { WritesOut (silent_state self.old.moment self.old.spare (B.state self.old.file).faults)
+            (silent_state self.new.moment self.new.spare (B.state self.new.file).faults) result }
         ensures file { self.new.file ≡ self.old.file }
     {
         self.spare -= 1;

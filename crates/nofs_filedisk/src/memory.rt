@@ -74,12 +74,11 @@ impl MemFile {
 }
 
 impl MemFile {
+    ghost use Rattle.nofs_filedisk.specs.Memory.{StaysButCounts};
+
     // Counts a call, up to the greatest u64, and whether it fails.
     fn begin(&mut self) -> Result<(), Failed>
-        ensures bytes { self.new.bytes ≡ self.old.bytes }
-        ensures durable { self.new.durable ≡ self.old.durable }
-        ensures piece { self.new.piece ≡ self.old.piece }
-        ensures named { self.new.fails ≡ self.old.fails }
+        ensures stays { StaysButCounts self.old self.new }
         ensures calls { self.new.calls ≡ min (self.old.calls + 1) (2 ^ 64 - 1) }
         ensures faults { self.old.faults ≤ self.new.faults }
         ensures no_fault { OnOk result (self.new.faults ≡ self.old.faults) }
@@ -102,10 +101,7 @@ impl MemFile {
 
     // Counts a fault.
     fn failed(&mut self) -> Failed
-        ensures bytes { self.new.bytes ≡ self.old.bytes }
-        ensures durable { self.new.durable ≡ self.old.durable }
-        ensures piece { self.new.piece ≡ self.old.piece }
-        ensures named { self.new.fails ≡ self.old.fails }
+        ensures stays { StaysButCounts self.old self.new }
         ensures calls { self.new.calls ≡ self.old.calls }
         ensures faults { self.old.faults ≤ self.new.faults }
         ensures cause { Rose self.old.faults self.new.faults }

@@ -1,9 +1,9 @@
 //! All bytes of a part are read, or written, in as many calls as the file takes.
 //!
 //! Promise: a part is read or written whole, or the call fails; then its first bytes may stand.
-ghost use Rattle.std.specs.Prelude.{◌≡◌, ◌+◌, ◌^◌, ◌<◌, ◌≤◌, ℕ, IfOk, IsTrue, OnErr, OnOk, drop, length, slice_index, take};
+ghost use Rattle.std.specs.Prelude.{◌≡◌, ◌+◌, ◌^◌, ◌<◌, ◌≤◌, ℕ, IsTrue, OnErr, OnOk, length, slice_index, take};
 ghost use Rattle.nofs_disk.specs.Disk.{Rose};
-ghost use Rattle.nofs_filedisk.specs.Bytes.{IsPart, IsPartlyPut, IsPut, KeepsBytes, KeepsDurable};
+ghost use Rattle.nofs_filedisk.specs.Bytes.{IsPart, IsPartlyPut, IsPut, KeepsBytes, KeepsDurable, ReadsBehind};
 
 use crate::positioned::Positioned;
 use nofs_disk::{Failed, clear};
@@ -38,14 +38,7 @@ fn read_on<B: Positioned>(
 ) -> Result<usize, Failed>
     requires place { at + length into.old < 2 ^ 63 }
     requires done { done < length into.old }
-    ensures keeps { KeepsBytes (B.state file.old) (B.state file.new) }
-    ensures len { length into.new ≡ length into.old }
-    ensures done { take done into.new ≡ take done into.old }
-    ensures fits { IfOk result (λ n. done + n ≤ length into.old) }
-    ensures part { IfOk result (λ n. IsTrue (B.state file.old).tells → IsPart (B.state file.old).bytes (at + done) (take n (drop done into.new))) }
-    ensures end { IfOk result (λ n. n ≡ 0 → IsTrue (B.state file.old).tells → length (B.state file.old).bytes ≤ at + done) }
-    ensures cause { OnErr result (Rose (B.state file.old).faults (B.state file.new).faults) }
-    ensures no_fault { OnOk result ((B.state file.new).faults ≡ (B.state file.old).faults) }
+    ensures { ReadsBehind (B.state file.old) (B.state file.new) at done into.old into.new result }
 {
     let end = into.len();
     file.read_at(at + done as u64, &mut into[done..end])

@@ -350,7 +350,8 @@ impl Windows {
     /// A cell of the file was written.
     pub fn put(&mut self, block: u64, cell: &[u8])
         requires { length cell.now ≡ 1056 }
-        ensures { (old new : List ℕ) → IsPut (1056 * block) cell.now old new → All (IsShown old) self.old.windows.items → All (IsShown new) self.new.windows.items }
+        ensures { (old new : List ℕ) → IsPut (1056 * block) cell.now old new
+            → All (IsShown old) self.old.windows.items → All (IsShown new) self.new.windows.items }
     {
         for at in 0..WINDOWS {
             self.windows[at].put(block, cell);
@@ -359,7 +360,8 @@ impl Windows {
 
     /// A cell of the file was written in part.
     pub fn forget(&mut self, block: u64)
-        ensures { (old new part : List ℕ) → length part ≡ 1056 → IsPartlyPut (1056 * block) part old new → All (IsShown old) self.old.windows.items → All (IsShown new) self.new.windows.items }
+        ensures { (old new part : List ℕ) → length part ≡ 1056 → IsPartlyPut (1056 * block) part old new
+            → All (IsShown old) self.old.windows.items → All (IsShown new) self.new.windows.items }
     {
         for at in 0..WINDOWS {
             self.windows[at].forget(block);
