@@ -1,5 +1,6 @@
 -- A flush: where it succeeds, what was written is the new mark.
-use Rattle.std.proofs.Common.{◌≡◌, ℕ, ◌+◌, ◌<◌, Bool, true, false, List, [], ◌∷◌, ◌++◌, None, IsTrue, Result, Ok, Err, refl, sym, ap, ◌∙◌, subst, arith, le_refl}
+use Rattle.std.proofs.Common.{◌≡◌, ℕ, ◌+◌, ◌<◌, Bool, true, false, List, [], ◌∷◌, ◌++◌, None, IsTrue}
+use Rattle.std.proofs.Common.{Result, Ok, Err, refl, sym, ap, ◌∙◌, subst, arith, le_refl}
 use Rattle.nofs_disk.specs.Disk.{DiskState, IsDisk, Flushes}
 use Rattle.nofs_disk.specs.Adds.{Adds-flushes}
 use Rattle.nofs_disk.specs.declared.Failed.{Failed}

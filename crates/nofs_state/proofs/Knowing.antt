@@ -16,7 +16,8 @@ use Rattle.nofs_state.proofs.Saying.{says-maps}
 
 pub safe-knows : (d : DiskState) (k : Books) (known : List (Option Bool)) → Learns d k.agreement known → IsSafe d k → IsSafe d (with_agreement k known)
 safe-knows d k known learns s = safe-sizes d d k (with_agreement k known) s s.at
-    (record { at = refl; serial = refl; unknown_inodes = refl; free_inodes = refl; agreement = learns.len; unknown_blocks = refl; free_blocks = refl }) s.in_area
+    (record { at = refl; serial = refl; unknown_inodes = refl; free_inodes = refl; agreement = learns.len; unknown_blocks = refl; free_blocks = refl })
+    s.in_area
 
 pub open-knows : (d : DiskState) (k : Books) (known : List (Option Bool)) (H : List Entry1) (p : Past) → IsTrue d.tells → Learns d k.agreement known
     → IsSafe d k → IsOpen d k H p

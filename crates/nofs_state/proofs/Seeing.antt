@@ -86,7 +86,9 @@ module _ (old new : DiskState) (k l : Books) (s : Step) (used : Bool) (is : IsDi
     files-stay-so = ap (λ g. files_after W.files g) (seeing.gives W.files) ∙ files-stay W.files
 
     next-seen : Sees W V s used → Next W e V
-    next-seen sees = Done open_world sees.rows sees.reply (no-claim W s seeing.no_inode seeing.no_block) (sym files-stay-so) homes-are serial (refl, refl, refl, refl, open_world) sees.learns
+    next-seen sees =
+        Done open_world sees.rows sees.reply (no-claim W s seeing.no_inode seeing.no_block) (sym files-stay-so) homes-are serial
+        (refl, refl, refl, refl, open_world) sees.learns
       where
         open_world : W.stopped ≡ false
         open_world = o.says.stopped ∙ going

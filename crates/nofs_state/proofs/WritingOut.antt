@@ -1,5 +1,6 @@
 -- What stands goes on over a write-out.
-use Rattle.std.proofs.Common.{◌≡◌, ℕ, ◌<◌, ◌≤◌, inl, inr, List, ◌∷◌, Option, None, Result, Ok, Err, IfSome, IsPermutation, [], IfOk, OnErr, OnOk, ◌↔◌, sym, ap, ◌∙◌, subst, subst₂, arith}
+use Rattle.std.proofs.Common.{◌≡◌, ℕ, ◌<◌, ◌≤◌, inl, inr, List, ◌∷◌, Option, None, Result, Ok, Err, IfSome, IsPermutation}
+use Rattle.std.proofs.Common.{[], IfOk, OnErr, OnOk, ◌↔◌, sym, ap, ◌∙◌, subst, subst₂, arith}
 use Rattle.std.proofs.lemmas.Bool.{cases_lt}
 use Rattle.nofs_disk.specs.Disk.{DiskState, IsDisk, MakesReady, Picks, Rose, WritesOut}
 use Rattle.nofs_disk.specs.Chains.{IsSameDisk-trans, KeepsCells-trans}

@@ -1,11 +1,11 @@
 //! A mounted disk.
-ghost use Rattle.std.specs.Prelude.{◌≡◌, ◌+◌, ◌-◌, ◌∷◌, ◌++◌, ◌*◌, ◌^◌, ◌<◌, ◌≤◌, [], false, length, IsTrue};
+ghost use Rattle.std.specs.Prelude.{◌≡◌, ◌+◌, ◌-◌, ◌∷◌, ◌++◌, ◌*◌, ◌^◌, ◌<◌, ◌≤◌, [], IsTrue};
 ghost use Rattle.nofs_disk.specs.Disk.{IsSettled};
 ghost use Rattle.nofs_model.specs.Image as image;
 ghost use Rattle.nofs_agree.specs.Reading.{IsAt};
 ghost use Rattle.nofs_state.specs.Books.{IsRoom, IsSafe, with_history};
 ghost use Rattle.nofs_state.specs.Standing.{IsOpen};
-ghost use Rattle.nofs_state.specs.Beginning.{first_past};
+ghost use Rattle.nofs_state.specs.Beginning.{HasBegun, first_past};
 ghost use Rattle.nofs_state.specs.WritingOut.{WroteOne};
 
 use crate::books::{Books, Room};
@@ -30,10 +30,10 @@ impl<D: Disk + Drop> Core<D> {
         requires room { IsRoom at room }
         ensures disk { result.disk ≡ disk }
         ensures safe { IsSafe (D.state disk) result.books }
-        ensures empty { result.books.history.entries ≡ [] }
-        ensures begun { (result.books.history.start ≡ (D.state disk).moment) × (result.books.at ≡ at) × (result.books.stopped ≡ false) }
-        ensures spare { at.inodes + at.blocks ≤ result.books.history.spare }
-        ensures open { IsTrue (D.state disk).tells → IsSettled (D.state disk) → IsTrue (image.is_mountable (D.state disk).now) → 0 < at.mount * 2 ^ 40 + first → image.IsBelow (at.mount * 2 ^ 40 + first) (D.state disk).now → IsOpen (D.state disk) result.books [] (first_past (D.state disk) first) }
+        ensures begun { HasBegun (D.state disk) at result.books }
+        ensures open { IsTrue (D.state disk).tells → IsSettled (D.state disk) → IsTrue (image.is_mountable (D.state disk).now)
+            → 0 < at.mount * 2 ^ 40 + first → image.IsBelow (at.mount * 2 ^ 40 + first) (D.state disk).now
+            → IsOpen (D.state disk) result.books [] (first_past (D.state disk) first) }
     {
         let mut history = room.history;
         history.restart(disk.moment());
@@ -57,7 +57,12 @@ impl<D: Disk + Drop> Core<D> {
     pub fn keep_step(&mut self, caller: u32, from: u64, step: Step, reply: Reply, claims: Claims)
         requires { 0 < self.old.books.history.spare }
         ensures disk { self.new.disk ≡ self.old.disk }
-        ensures books { self.new.books ≡ with_history self.old.books (record { start = self.old.books.history.start; entries = self.old.books.history.entries ++ record { caller = caller; from = from; to = (D.state self.old.disk).moment; step = step; reply = reply; claims = claims } ∷ []; spare = self.old.books.history.spare - 1 }) }
+        ensures books { self.new.books ≡ with_history self.old.books (record {
+          start = self.old.books.history.start;
+          entries = self.old.books.history.entries
+              ++ record { caller = caller; from = from; to = (D.state self.old.disk).moment; step = step; reply = reply; claims = claims } ∷ [];
+          spare = self.old.books.history.spare - 1;
+        }) }
     {
         let to = self.disk.moment();
         self.books.history.push(Entry1 {

@@ -104,7 +104,8 @@ impl<D: Disk + Drop> Core<D> {
         requires slot { IsTrue (is_slot slot) }
         requires block { (spot_at cells.now inode (path_of slot)).block < (D.state self.old.disk).blocks }
         requires spare { 1 ≤ (D.state self.old.disk).spare }
-        requires told { IsTrue (D.state self.old.disk).tells → (spot_at cells.now inode (path_of slot)).cell ≡ cell_at (D.state self.old.disk).now (spot_at cells.now inode (path_of slot)).block }
+        requires told { IsTrue (D.state self.old.disk).tells
+            → (spot_at cells.now inode (path_of slot)).cell ≡ cell_at (D.state self.old.disk).now (spot_at cells.now inode (path_of slot)).block }
         ensures { SetsPointer (D.state self.old.disk) self.old.books (D.state self.new.disk) self.new.books (spot_at cells.now inode (path_of slot)) to result }
     {
         let spot = spot_at(cells, inode, place_of(slot));

@@ -73,7 +73,8 @@ pub fn write_three<D: Disk + Drop>(
     requires second { other < (D.state core.old.disk).blocks }
     requires third { table < (D.state core.old.disk).blocks }
     requires spare { 3 ≤ (D.state core.old.disk).spare }
-    ensures { Stores (D.state core.old.disk) core.old.books (D.state core.new.disk) core.new.books ((block, cell.now) ∷ (other, second.now) ∷ (table, third.now) ∷ []) result }
+    ensures { Stores (D.state core.old.disk) core.old.books (D.state core.new.disk) core.new.books
+        ((block, cell.now) ∷ (other, second.now) ∷ (table, third.now) ∷ []) result }
 {
     match core.disk.write(block, cell) {
         Ok(()) => write_two(core, other, second, table, third),
@@ -102,7 +103,8 @@ pub fn write_four<D: Disk + Drop>(
     requires third { above < (D.state core.old.disk).blocks }
     requires fourth { table < (D.state core.old.disk).blocks }
     requires spare { 4 ≤ (D.state core.old.disk).spare }
-    ensures { Stores (D.state core.old.disk) core.old.books (D.state core.new.disk) core.new.books ((block, cell.now) ∷ (other, second.now) ∷ (above, third.now) ∷ (table, fourth.now) ∷ []) result }
+    ensures { Stores (D.state core.old.disk) core.old.books (D.state core.new.disk) core.new.books
+        ((block, cell.now) ∷ (other, second.now) ∷ (above, third.now) ∷ (table, fourth.now) ∷ []) result }
 {
     match core.disk.write(block, cell) {
         Ok(()) => write_three(core, other, second, above, third, table, fourth),
