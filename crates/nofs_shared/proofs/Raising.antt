@@ -21,7 +21,7 @@ use Rattle.nofs_law_lives.proofs.Begin.{law-begin}
 use Rattle.nofs_agree.specs.Reading.{IsAt}
 use Rattle.nofs_state.specs.Books.{IsSafe}
 use Rattle.nofs_state.specs.Standing.{IsOpen, IsStopped, Sounds}
-use Rattle.nofs_state.specs.Beginning.{first_past}
+use Rattle.nofs_state.specs.Beginning.{HasBegun, first_past}
 use Rattle.nofs_state.specs.declared.books.Books.{Books}
 use Rattle.nofs_machine.specs.declared.history.Entry1.{Entry1}
 use Rattle.nofs_shared.proofs.RestingImages.{rests-at}
@@ -194,21 +194,21 @@ pub begin-mount : (found old new : DiskState) (it at : SuperBlock) (first : ℕ)
     → KeepsPast found old → KeepsCells found old
     → CanMount old.blocks it → (IsTrue old.tells → super_of (cell_at old.now 0).payload ≡ Some it) → Adds (IsSuperCell (raised it)) old new
     → IsRaised (raised it) old new → at ≡ raised it
-    → IsSafe new k → k.history.entries ≡ [] → (k.history.start ≡ new.moment) × (k.at ≡ at) × (k.stopped ≡ false)
+    → IsSafe new k → HasBegun new at k
     → (IsTrue new.tells → IsSettled new → IsTrue (is_mountable new.now) → 0 < at.mount * 2 ^ 40 + first → IsBelow (at.mount * 2 ^ 40 + first) new.now
     → IsOpen new k [] (first_past new first))
     → IsMount found new first k
-begin-mount found old new it at first k is_old is_new disk past cells can spelled adds r same safe empty begun opens = record {
+begin-mount found old new it at first k is_old is_new disk past cells can spelled adds r same safe begun opens = record {
   safe = safe;
   disk = IsSameDisk-trans found old new disk adds.disk;
-  mounted = subst₂ (λ (n : ℕ) (q : SuperBlock). IsMounted found new n q) (sym begun.0) (sym (begun.1 ∙ same)) (record {
+  mounted = subst₂ (λ (n : ℕ) (q : SuperBlock). IsMounted found new n q) (sym begun.start) (sym (begun.at ∙ same)) (record {
     begun = r.moment ∙ ap (λ (n : ℕ). n + 4) cells.moment;
     base = r.was ∙ r.now ∙ ap (λ (X : Image). set X 0 (super_cell (raised it))) cells.now;
     before = λ m X from to left. on X (before-raised old new (raised it) is_old adds m X (let e = cells.moment in omega (arith, from, e)) to left);
     resting = λ e X p. on X (p.len ∙ adds.disk.blocks, λ b low. adds.cells b (cell_at X b) (p.each b (let n = adds.disk.blocks in omega (arith, low, n))));
   });
-  forms = subst₂ (λ (n : ℕ) (H : List Entry1). Forms n false H new.moment k.stopped) (sym begun.0) (sym empty) (refl, begun.2);
-  counted = subst (λ (H : List Entry1). min (found.faults + faults_in H) (2 ^ 64 - 1) ≤ new.faults) (sym empty) (let a = disk.faults in let b =
+  forms = subst₂ (λ (n : ℕ) (H : List Entry1). Forms n false H new.moment k.stopped) (sym begun.start) (sym begun.empty) (refl, begun.going);
+  counted = subst (λ (H : List Entry1). min (found.faults + faults_in H) (2 ^ 64 - 1) ≤ new.faults) (sym begun.empty) (let a = disk.faults in let b =
       adds.disk.faults in omega (arith, a, b));
   stands = λ q.
       let o : IsSoundDisk old = sound-on found old disk cells q in
@@ -220,11 +220,11 @@ begin-mount found old new it at first k is_old is_new disk past cells can spelle
       (subst (λ (s : SuperBlock). IsBelow (s.mount * 2 ^ 40 + first) new.now) (sym same) b.1) in
       record {
         past = first_past new first;
-        base = sym r.was ∙ ap new.was (sym begun.0);
+        base = sym r.was ∙ ap new.was (sym begun.start);
         serial = refl;
-        raised = begun.1 ∙ same ∙ ap raised (sym (super-of old.now (cell_at old.now 0) it refl sp)) ∙ ap (λ (X : Image). raised (super_at X)) cells.now;
-        now = subst (λ (H : List Entry1). IsOpen new k H (first_past new first) ⊎ IsStopped new k H (first_past new first)) (sym empty) (inl opened);
-        rests = subst (λ (H : List Entry1). (X : Image) → Picks new.may new.blocks X → IsAllowed new.now H new.moment X) (sym empty)
+        raised = begun.at ∙ same ∙ ap raised (sym (super-of old.now (cell_at old.now 0) it refl sp)) ∙ ap (λ (X : Image). raised (super_at X)) cells.now;
+        now = subst (λ (H : List Entry1). IsOpen new k H (first_past new first) ⊎ IsStopped new k H (first_past new first)) (sym begun.empty) (inl opened);
+        rests = subst (λ (H : List Entry1). (X : Image) → Picks new.may new.blocks X → IsAllowed new.now H new.moment X) (sym begun.empty)
             (rests-at new.now [] (first_past new first).mark (first_past new first).stamps k.history.start new refl tt opened.stage.lasts);
         sound = subst (λ (n : ℕ). Sounds n new) cells.moment (sounds-raised old new it is_old can adds o sp);
       };

@@ -37,15 +37,15 @@ invariant_of-result g c =
     begin-mount (S c.args.disk) old new c.in-Ok.it.old c.in-Ok-raise_mount.at c.args.first c.over.result.books (is c.prepare.new.disk)
     (is c.raise_mount.new.disk) e.disk e.past e.cells
     p.can p.spelled c.raise_mount.ensures.adds c.in-Ok-raise_mount.ensures.ends c.in-Ok-raise_mount.ensures.value
-    c.over.ensures.safe c.over.ensures.empty c.over.ensures.begun c.over.ensures.open in
+    c.over.ensures.safe c.over.ensures.begun c.over.ensures.open in
     let F : g.row.D.Denot → Type 0 = λ d. IsMount (S d) (S c.over.result.disk) c.args.first c.over.result.books in
     let G : g.row.D.Denot → Type 0 = λ d. IsMount (S c.args.disk) (S d) c.args.first c.over.result.books in
     let H : g.row.D.Denot → Type 0 = λ d. IsSafe (S d) c.over.result.books in
     record {
-      few = (let e = ap length c.over.ensures.empty in let b = p.can.geometry.most_blocks in let i = p.can.geometry.most_inodes in let nb =
+      few = (let e = ap length c.over.ensures.begun.empty in let b = p.can.geometry.most_blocks in let i = p.can.geometry.most_inodes in let nb =
           ap (λ (s : SuperBlock). s.blocks) c.in-Ok-raise_mount.ensures.value in
           let ni = ap (λ (s : SuperBlock). s.inodes) c.in-Ok-raise_mount.ensures.value in omega (arith, e, b, i, nb, ni));
-      room = c.over.ensures.spare;
+      room = c.over.ensures.begun.spare;
       safe = subst H (sym c.over.ensures.disk) c.over.ensures.safe;
       stands = ∣ subst F (sym c.of-found.ensures) (subst G (sym c.over.ensures.disk) m) ∣₁;
     }
@@ -60,7 +60,7 @@ returns-in-Err-raise_mount-clause-fault g c =
       past = KeepsPast-trans (g.D.Disk.state c.args.disk) (g.D.Disk.state c.prepare.new.disk) (g.D.Disk.state c.raise_mount.new.disk) (let m =
           e.cells.moment in omega (arith, m)) e.past a.past;
       refused = λ n. absurd (n c.in-Err-raise_mount.ensures.fault);
-      wrote = λ is. (let r = c.in-Err-raise_mount.ensures.cause in let f = e.disk.faults in omega (arith, r, f));
+      wrote = λ is. (let r = c.in-Err-raise_mount.ensures.stopped.cause in let f = e.disk.faults in omega (arith, r, f));
       sound = λ q.
           let o = sound-on (g.D.Disk.state c.args.disk) (g.D.Disk.state c.prepare.new.disk) e.disk e.cells q in
           subst (λ (n : ℕ). Sounds n (g.D.Disk.state c.raise_mount.new.disk)) e.cells.moment
