@@ -1,5 +1,6 @@
 -- What contracts see of a file of bytes, and what each of its calls does.
-use Rattle.std.specs.Prelude.{◌≡◌, ℕ, ◌+◌, ◌^◌, ◌<◌, ◌≤◌, nat_lt, if◌then◌else◌, max, Bool, IsTrue, List, length, take, drop, slice_index, Result, IfOk, OnOk, OnErr}
+use Rattle.std.specs.Prelude.{◌≡◌, ℕ, ◌+◌, ◌^◌, ◌<◌, ◌≤◌, nat_lt, if◌then◌else◌, max, Bool, IsTrue, List, length, take, drop, slice_index}
+use Rattle.std.specs.Prelude.{Result, IfOk, OnOk, OnErr}
 use Rattle.nofs_disk.specs.Disk.{Rose}
 use Rattle.nofs_disk.specs.declared.Failed.{Failed}
 
