@@ -27,6 +27,13 @@ FitsFront (front.Whole size) here = 4 + size ≤ here
 FitsFront front.Bad here = Unit {0}
 FitsFront (front.Short wanted) here = (here < wanted) × (wanted ≤ 1104)
 
+-- this stands in front of some bytes
+pub record HasFront (what : Front) (bytes : List ℕ) : Type 0 where
+  -- they begin so
+  pub is : front_of bytes ≡ what
+  -- a whole frame is all here; of a short one less is here than is wanted, and no more is wanted than a frame has
+  pub fits : FitsFront what (length bytes)
+
 -- the body of a whole frame in front, and what stands behind that frame
 abbrev pub body_of : ℕ → List ℕ → List ℕ
 body_of size bytes = take size (drop 4 bytes)

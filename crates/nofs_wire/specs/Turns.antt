@@ -1,7 +1,8 @@
 -- What one turn of the server does: it takes some bytes, or answers one frame, or ends.
-use Rattle.std.specs.Prelude.{◌≡◌, ℕ, ◌+◌, ◌*◌, ◌<◌, ◌≤◌, List, [], ◌∷◌, ◌++◌, length, take, map, option_to_list, Some, None, Result, Ok, Err}
+use Rattle.std.specs.Prelude.{◌≡◌, ℕ, ◌+◌, ◌*◌, ◌^◌, ◌<◌, ◌≤◌, List, [], ◌∷◌, ◌++◌, length, take, map, option_to_list, Some, None, Result, Ok, Err}
 use Rattle.std.specs.declared.option.Option.{Option}
 use Rattle.std.specs.Io.KnownBytes.{Consumes, Appends, IsAtEnd}
+use Rattle.nofs_io.specs.Calls.{Rose}
 use Rattle.nofs_machine.specs.Steps.{Made}
 use Rattle.nofs_machine.specs.declared.steps.Step.{Step}
 use Rattle.nofs_wire.specs.declared.answers.Answered.{Answered}
@@ -16,6 +17,22 @@ use Rattle.nofs_wire.specs.Serves.{made_step, replies_of}
 pub record InboxState : Type 0 where
   pub window : List ℕ
   pub taken : ℕ
+
+-- of a stream that may have so many bytes, those of an inbox came
+pub record MayTake (limit : ℕ) (inbox : InboxState) : Type 0 where
+  -- the limit is below 4 GiB, so that a count of bytes has room for it and a frame more
+  pub small : limit < 2 ^ 32
+  -- no more came than it may have
+  pub within : inbox.taken ≤ limit
+  -- those that weren't used are among those that came
+  pub order : length inbox.window ≤ inbox.taken
+
+-- the count of faults of a source or a sink, where an end may be its fault
+pub record FailsAt (end : Type 0) (before now : ℕ) : Type 0 where
+  -- it never falls
+  pub later : before ≤ now
+  -- it rose where that end came
+  pub fault : end → Rose before now
 
 -- a frame was given whole, or its first bytes
 abbrev pub GivesReply : Answered → List ℕ → Option (List ℕ) → Option (List ℕ) → Type 0

@@ -116,7 +116,8 @@ fn push_full(
     unverified: u64,
     next: u64,
 ) -> Result<(), AllocError>
-    ensures { OnOk result (out.new.items ≡ out.old.items ++ (number_bytes 8 needed ++ (number_bytes 8 free ++ (number_bytes 8 unverified ++ number_bytes 8 next)))) }
+    ensures { OnOk result (out.new.items ≡ out.old.items
+        ++ (number_bytes 8 needed ++ (number_bytes 8 free ++ (number_bytes 8 unverified ++ number_bytes 8 next)))) }
 {
     push_u64(out, needed)?;
     push_u64(out, free)?;
@@ -145,7 +146,8 @@ fn push_kept(out: &mut Vec<u8>, refusal: &Refusal) -> Result<(), AllocError>
 }
 
 fn push_found(out: &mut Vec<u8>, found: &Found) -> Result<(), AllocError>
-    ensures { OnOk result (out.new.items ≡ out.old.items ++ (number_bytes 4 found.now.inode ++ (number_bytes 8 found.now.generation ++ byte_of_kind found.now.kind ∷ []))) }
+    ensures { OnOk result (out.new.items ≡ out.old.items
+        ++ (number_bytes 4 found.now.inode ++ (number_bytes 8 found.now.generation ++ byte_of_kind found.now.kind ∷ []))) }
 {
     push_u32(out, found.inode)?;
     push_u64(out, found.generation)?;
@@ -185,7 +187,8 @@ fn push_content(out: &mut Vec<u8>, bytes: &[u8]) -> Result<(), AllocError>
 }
 
 fn push_stat(out: &mut Vec<u8>, stat: &Stat) -> Result<(), AllocError>
-    ensures { OnOk result (out.new.items ≡ out.old.items ++ (byte_of_kind stat.now.kind ∷ (number_bytes 8 stat.now.size ++ number_bytes 4 stat.now.links))) }
+    ensures { OnOk result (out.new.items ≡ out.old.items
+        ++ (byte_of_kind stat.now.kind ∷ (number_bytes 8 stat.now.size ++ number_bytes 4 stat.now.links))) }
 {
     push_byte(out, kind_byte(stat.kind))?;
     push_u64(out, stat.size)?;

@@ -193,7 +193,8 @@ fn rename(alloc: Global, old: &[u8], body: &[u8]) -> Result<Option<Step>, AllocE
 
 fn renamed(alloc: Global, old: &[u8], new: &[u8], body: &[u8]) -> Result<Option<Step>, AllocError>
     requires { 15 + length old.now + length new.now ≤ length body.now }
-    ensures { IfOk result (λ step. step ≡ where_ends (length body.now == 15 + length old.now + length new.now) (rename_step (inode_of body.now) (generation_of body.now) old.now new.now)) }
+    ensures { IfOk result (λ step. step ≡ where_ends (length body.now == 15 + length old.now + length new.now)
+        (rename_step (inode_of body.now) (generation_of body.now) old.now new.now)) }
 {
     if body.len() != NAME_AT + old.len() + 1 + new.len() {
         return Ok(None);

@@ -4,9 +4,9 @@
 //! taken. No frame is answered before it is whole, and none is made up where the source ends.
 ghost use Rattle.std.specs.Prelude.{◌≡◌, ◌+◌, ◌<◌, ◌≤◌, ◌^◌, [], IfSome, IfNone, List, None, Some, length, ℕ};
 ghost use Rattle.nofs_io.specs.Calls.{Rose};
-ghost use Rattle.nofs_wire.specs.Frames.{front_of as front_in, step_in};
+ghost use Rattle.nofs_wire.specs.Frames.{HasFront, front_of as front_in};
 ghost use Rattle.nofs_wire.specs.Serves.{Serves};
-ghost use Rattle.nofs_wire.specs.Turns.{GoesOn, Stops, StopsSo};
+ghost use Rattle.nofs_wire.specs.Turns.{FailsAt, GoesOn, MayTake, Stops, StopsSo};
 ghost use Rattle.nofs_wire.specs.declared.serving.WireEnd.TheVariants.{Bad as bad_end};
 ghost use Rattle.nofs_machine.specs.Steps.{Made};
 ghost use Rattle.std.specs.declared.option.Option.{Option};
@@ -54,7 +54,8 @@ pub fn serve<S: Steps, Q: Source, K: Sink>(
     source: &mut Q,
     sink: &mut K,
 ) -> WireEnd
-    ensures serves { Serves 16777216 result (Q.state source.old).left (Q.state source.new).left (K.state sink.old).given (K.state sink.new).given (S.made steps.old) (S.made steps.new) }
+    ensures serves { Serves 16777216 result (Q.state source.old).left (Q.state source.new).left
+        (K.state sink.old).given (K.state sink.new).given (S.made steps.old) (S.made steps.new) }
     ensures goes { S.goes steps.old steps.new }
     ensures source_fault { result ≡ WireEnd.SourceFault → Rose (Q.state source.old).faults (Q.state source.new).faults }
     ensures sink_fault { result ≡ WireEnd.SinkFault → Rose (K.state sink.old).faults (K.state sink.new).faults }
@@ -73,7 +74,8 @@ pub fn serve_up_to<S: Steps, Q: Source, K: Sink>(
     sink: &mut K,
 ) -> WireEnd
     requires { limit < 2 ^ 32 }
-    ensures serves { Serves limit result (Q.state source.old).left (Q.state source.new).left (K.state sink.old).given (K.state sink.new).given (S.made steps.old) (S.made steps.new) }
+    ensures serves { Serves limit result (Q.state source.old).left (Q.state source.new).left
+        (K.state sink.old).given (K.state sink.new).given (S.made steps.old) (S.made steps.new) }
     ensures goes { S.goes steps.old steps.new }
     ensures source_fault { result ≡ WireEnd.SourceFault → Rose (Q.state source.old).faults (Q.state source.new).faults }
     ensures sink_fault { result ≡ WireEnd.SinkFault → Rose (K.state sink.old).faults (K.state sink.new).faults }
@@ -104,17 +106,15 @@ fn turn<S: Steps, Q: Source, K: Sink>(
     inbox: &mut Inbox,
     out: &mut Vec<u8>,
 ) -> Option<WireEnd>
-    requires small { limit < 2 ^ 32 }
-    requires within { inbox.old.taken ≤ limit }
-    requires order { length inbox.old.window ≤ inbox.old.taken }
-    ensures on { IfNone result (GoesOn inbox.old inbox.new (Q.state source.old).left (Q.state source.new).left (K.state sink.old).given (K.state sink.new).given (S.made steps.old) (S.made steps.new)) }
+    requires may { MayTake limit inbox.old }
+    ensures on { IfNone result (GoesOn inbox.old inbox.new (Q.state source.old).left (Q.state source.new).left
+        (K.state sink.old).given (K.state sink.new).given (S.made steps.old) (S.made steps.new)) }
     ensures within { IfNone result (inbox.new.taken ≤ limit) }
-    ensures ends { IfSome result (λ end. Stops limit end inbox.old (Q.state source.old).left (Q.state source.new).left (K.state sink.old).given (K.state sink.new).given (S.made steps.old) (S.made steps.new)) }
+    ensures ends { IfSome result (λ end. Stops limit end inbox.old (Q.state source.old).left (Q.state source.new).left
+        (K.state sink.old).given (K.state sink.new).given (S.made steps.old) (S.made steps.new)) }
     ensures goes { S.goes steps.old steps.new }
-    ensures source_fault { result ≡ Some WireEnd.SourceFault → Rose (Q.state source.old).faults (Q.state source.new).faults }
-    ensures sink_fault { result ≡ Some WireEnd.SinkFault → Rose (K.state sink.old).faults (K.state sink.new).faults }
-    ensures source_later { (Q.state source.old).faults ≤ (Q.state source.new).faults }
-    ensures sink_later { (K.state sink.old).faults ≤ (K.state sink.new).faults }
+    ensures source { FailsAt (result ≡ Some WireEnd.SourceFault) (Q.state source.old).faults (Q.state source.new).faults }
+    ensures sink { FailsAt (result ≡ Some WireEnd.SinkFault) (K.state sink.old).faults (K.state sink.new).faults }
 {
     match front_of(inbox.window()) {
         Front::Bad => Some(bad_at(inbox)),
@@ -150,16 +150,16 @@ fn answer_front<S: Steps, K: Sink>(
     size: usize,
     out: &mut Vec<u8>,
 ) -> Option<WireEnd>
-    requires whole { front_in inbox.old.window ≡ whole_front size }
-    requires fits { 4 + size ≤ length inbox.old.window }
+    requires front { HasFront (whole_front size) inbox.old.window }
     requires order { length inbox.old.window ≤ inbox.old.taken }
-    ensures on { (left : Option (List ℕ)) → IfNone result (GoesOn inbox.old inbox.new left left (K.state sink.old).given (K.state sink.new).given (S.made steps.old) (S.made steps.new)) }
+    ensures on { (left : Option (List ℕ)) → IfNone result (GoesOn inbox.old inbox.new left left
+        (K.state sink.old).given (K.state sink.new).given (S.made steps.old) (S.made steps.new)) }
     ensures taken { inbox.new.taken ≡ inbox.old.taken }
-    ensures ends { (left : Option (List ℕ)) (most : ℕ) → IfSome result (λ end. Stops most end inbox.old left left (K.state sink.old).given (K.state sink.new).given (S.made steps.old) (S.made steps.new)) }
+    ensures ends { (left : Option (List ℕ)) (most : ℕ) → IfSome result (λ end. Stops most end inbox.old left left
+        (K.state sink.old).given (K.state sink.new).given (S.made steps.old) (S.made steps.new)) }
     ensures goes { S.goes steps.old steps.new }
-    ensures source_fault { result ≡ Some WireEnd.SourceFault → ⊥ }
-    ensures sink_fault { result ≡ Some WireEnd.SinkFault → Rose (K.state sink.old).faults (K.state sink.new).faults }
-    ensures later { (K.state sink.old).faults ≤ (K.state sink.new).faults }
+    ensures no_source_fault { result ≡ Some WireEnd.SourceFault → ⊥ }
+    ensures sink { FailsAt (result ≡ Some WireEnd.SinkFault) (K.state sink.old).faults (K.state sink.new).faults }
 {
     let body = front_body(inbox.window(), size);
     match answer(alloc, steps, sink, body, out) {
@@ -180,17 +180,15 @@ fn take_more<Q: Source>(
     wanted: usize,
     limit: u64,
 ) -> Option<WireEnd>
-    requires short { front_in inbox.old.window ≡ short_front wanted }
-    requires fits { (length inbox.old.window < wanted) × (wanted ≤ 1104) }
-    requires small { limit < 2 ^ 32 }
-    requires within { inbox.old.taken ≤ limit }
-    requires order { length inbox.old.window ≤ inbox.old.taken }
-    ensures on { (given : Option (List ℕ)) (made : List Made) → IfNone result (GoesOn inbox.old inbox.new (Q.state source.old).left (Q.state source.new).left given given made made) }
+    requires front { HasFront (short_front wanted) inbox.old.window }
+    requires may { MayTake limit inbox.old }
+    ensures on { (given : Option (List ℕ)) (made : List Made)
+        → IfNone result (GoesOn inbox.old inbox.new (Q.state source.old).left (Q.state source.new).left given given made made) }
     ensures within { IfNone result (inbox.new.taken ≤ limit) }
-    ensures ends { (given : Option (List ℕ)) (made : List Made) → IfSome result (λ end. Stops limit end inbox.old (Q.state source.old).left (Q.state source.new).left given given made made) }
-    ensures source_fault { result ≡ Some WireEnd.SourceFault → Rose (Q.state source.old).faults (Q.state source.new).faults }
-    ensures sink_fault { result ≡ Some WireEnd.SinkFault → ⊥ }
-    ensures later { (Q.state source.old).faults ≤ (Q.state source.new).faults }
+    ensures ends { (given : Option (List ℕ)) (made : List Made)
+        → IfSome result (λ end. Stops limit end inbox.old (Q.state source.old).left (Q.state source.new).left given given made made) }
+    ensures source { FailsAt (result ≡ Some WireEnd.SourceFault) (Q.state source.old).faults (Q.state source.new).faults }
+    ensures no_sink_fault { result ≡ Some WireEnd.SinkFault → ⊥ }
 {
     let left = limit - inbox.taken();
     if left == 0 {
@@ -210,10 +208,10 @@ fn take_past<Q: Source>(source: &mut Q, inbox: &mut Inbox) -> WireEnd
     requires room { length inbox.old.window < 1104 }
     requires small { inbox.old.taken < 2 ^ 32 }
     requires order { length inbox.old.window ≤ inbox.old.taken }
-    ensures ends { (given : Option (List ℕ)) (made : List Made) → Stops inbox.old.taken result inbox.old (Q.state source.old).left (Q.state source.new).left given given made made }
-    ensures source_fault { result ≡ WireEnd.SourceFault → Rose (Q.state source.old).faults (Q.state source.new).faults }
-    ensures sink_fault { result ≡ WireEnd.SinkFault → ⊥ }
-    ensures later { (Q.state source.old).faults ≤ (Q.state source.new).faults }
+    ensures ends { (given : Option (List ℕ)) (made : List Made)
+        → Stops inbox.old.taken result inbox.old (Q.state source.old).left (Q.state source.new).left given given made made }
+    ensures source { FailsAt (result ≡ WireEnd.SourceFault) (Q.state source.old).faults (Q.state source.new).faults }
+    ensures no_sink_fault { result ≡ WireEnd.SinkFault → ⊥ }
 {
     match inbox.fill(source, 1) {
         Err(_) => WireEnd::SourceFault,

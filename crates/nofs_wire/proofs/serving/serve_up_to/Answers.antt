@@ -19,6 +19,6 @@ loop-end-preserved g c =
       along-goes _ _ _ _ _ _ _ _ _ c.loop-end.inbox c.turn.new.inbox along c.in-None.ensures.on,
       c.in-None.ensures.within,
       g.met.S.Steps.goes_on _ _ _ goes c.turn.ensures.goes,
-      omega (arith, source, c.turn.ensures.source_later),
-      omega (arith, sink, c.turn.ensures.sink_later),
+      omega (arith, source, c.turn.ensures.source.later),
+      omega (arith, sink, c.turn.ensures.sink.later),
     )

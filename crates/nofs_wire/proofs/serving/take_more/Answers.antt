@@ -7,7 +7,7 @@ pub end_of-requires-clause-short : goal.end_of-requires-clause-short
 end_of-requires-clause-short g c =
     let none : c.in-Ok-eq0.field-0 ≡ 0 = grind arith in
     let same = unmoved c.in-Ok-eq0.field-0 _ c.args.inbox.now c.fill.new.self _ _ c.in-Ok-eq0.ensures.more none in
-    (c.args.wanted, ap (λ i. front_of i.window) same ∙ c.requires.short)
+    (c.args.wanted, ap (λ i. front_of i.window) same ∙ c.requires.front.is)
 
 pub returns-in-Ok-eq0-clause-ends : goal.returns-in-Ok-eq0-clause-ends
 returns-in-Ok-eq0-clause-ends g c =
