@@ -14,7 +14,7 @@ use Rattle.nofs_ptrs.specs.Paths.{slot_limit}
 use Rattle.nofs_machine.specs.Refusals.{rows, row, slots, too_large, stale, is_directory}
 use Rattle.nofs_machine.specs.Answers.{reply_of, found_reply, found_entry, found_file, stat_reply, stat_file, listed_reply, lines_in_slot, got_reply}
 use Rattle.nofs_machine.specs.Next.{Next, AfterFault, ByRow, Done, ByRead, ByWrite}
-use Rattle.nofs_machine.specs.Steps.{Made, Fits, with_made}
+use Rattle.nofs_machine.specs.Steps.{Made, with_made}
 use Rattle.nofs_machine.specs.declared.history.Claims.{Claims}
 use Rattle.nofs_machine.specs.declared.history.Entry1.{Entry1}
 use Rattle.nofs_machine.specs.declared.replies.Found.{Found}
@@ -27,7 +27,7 @@ use Rattle.nofs_machine.specs.declared.replies.Refusal.{Refusal}
 use Rattle.nofs_machine.specs.declared.replies.Refusal.TheVariants as refusal
 use Rattle.nofs_salvage.specs.Reads.{IsAccepted, found_by, size_by, listed_by, got_by}
 use Rattle.nofs_salvage.specs.Report.{inode_in, inode_at, inode_found}
-use Rattle.nofs_salvage.specs.Answered.{IsAnswered, AreAnswered, first_held, IsListedFrom, IsInFolder, IsGot}
+use Rattle.nofs_salvage.specs.Answered.{IsAnswered, AreAnswered, first_held, IsListedFrom, IsGot}
 use Rattle.nofs_salvage.proofs.Reading.{answered-one}
 
 pub clash : (b : Bool) → b ≡ true → b ≡ false → ⊥
@@ -99,12 +99,6 @@ size-is old new i g (reply.Stat x) is = λ W a.
 size-is old new i g _ is = tt
 
 -- List
-
-pub listed-below : (k : ℕ) (d g : ℕ) (r : Reply) → Fits (step.List d g k) r → IfOk (listed_by r) IsInFolder
-listed-below k d g (reply.Names l names) fits = fits.0
-listed-below k d g (reply.LostNames l) fits = fits
-listed-below k d g reply.NoMore fits = tt
-listed-below k d g _ fits = tt
 
 names-are : (F : Files) (d k l : ℕ) (names : _) (o : Option ℕ) → first_held F d k ≡ o → reply.Names l names ≡ listed_reply F d o
     → (first_held F d k ≡ Some l) × (is_lost (value_of F d l) ≡ false) × (names ≡ lines_in_slot F d l)

@@ -31,7 +31,7 @@ use Rattle.nofs_salvage.specs.Answered.{IsAnswered, AreAnswered}
 use Rattle.nofs_salvage.specs.Report.{inode_found}
 use Rattle.nofs_salvage.specs.Refusing.{is_there, HasRoots, LacksRoot, MayRefuse, IsFair, AreFair, MakesOne, MayAsk, LeadsTo}
 use Rattle.nofs_salvage.specs.Handles.{root_handle, label_handle}
-use Rattle.nofs_salvage.specs.Told.{AreNames}
+use Rattle.nofs_salvage.specs.Told.{IsFolderPart}
 use Rattle.nofs_salvage.proofs.Reading.{answered-both, answered-one}
 use Rattle.nofs_salvage.proofs.Answers.{clash, no-value, accepted-done}
 
@@ -338,11 +338,12 @@ listed-there old new i g k (reply.LostNames l) is = λ W a. list-there W old new
 listed-there old new i g k reply.NoMore is = λ W a. list-there W old new i g k reply.NoMore is a
 listed-there old new i g k _ is = tt
 
-pub listed-names : (k d g : ℕ) (r : Reply) → Fits (step.List d g k) r → IfOk (listed_by r) AreNames
-listed-names k d g (reply.Names l names) fits = fits.1.1
-listed-names k d g (reply.LostNames l) fits = tt
-listed-names k d g reply.NoMore fits = tt
-listed-names k d g _ fits = tt
+-- a slot of a directory, and its names
+pub listed-part : (k d g : ℕ) (r : Reply) → Fits (step.List d g k) r → IfOk (listed_by r) IsFolderPart
+listed-part k d g (reply.Names l names) fits = record { below = fits.0; names = fits.1.1 }
+listed-part k d g (reply.LostNames l) fits = record { below = fits; names = tt }
+listed-part k d g reply.NoMore fits = record { below = tt; names = tt }
+listed-part k d g _ fits = tt
 
 -- What may be asked
 

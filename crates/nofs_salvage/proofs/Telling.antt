@@ -21,7 +21,7 @@ use Rattle.nofs_machine.specs.Steps.{Made}
 use Rattle.nofs_machine.specs.declared.replies.NameLine.{NameLine}
 use Rattle.nofs_machine.specs.declared.replies.Refusal.{Refusal}
 use Rattle.nofs_salvage.specs.Report.{inode_in, inode_at, inode_found, is_doubled, lines_below}
-use Rattle.nofs_salvage.specs.Answered.{first_held, AreAnswered, IsInFolder, IsListedFrom}
+use Rattle.nofs_salvage.specs.Answered.{first_held, AreAnswered, IsListedFrom}
 use Rattle.nofs_salvage.specs.declared.findings.Findings.{Findings}
 use Rattle.nofs_salvage.specs.declared.seen.SeenNames.{SeenNames}
 use Rattle.nofs_salvage.specs.declared.steps.Listed.{Listed}
@@ -29,7 +29,7 @@ use Rattle.nofs_salvage.specs.declared.steps.Listed.TheVariants as list
 use Rattle.nofs_salvage.specs.Trees.{AreSeen, IsWalked}
 use Rattle.nofs_salvage.specs.Refusing.{LeadsTo, AreFair}
 use Rattle.nofs_salvage.specs.Reads.{Reads}
-use Rattle.nofs_salvage.specs.Told.{IsTold, AreTold, AreNames}
+use Rattle.nofs_salvage.specs.Told.{IsTold, AreTold, IsFolderPart}
 use Rattle.nofs_salvage.proofs.Reading.{all-last, answered-both}
 use Rattle.nofs_salvage.proofs.Refusing.{right-on}
 use Rattle.nofs_salvage.proofs.Walking.{walked-seen}
@@ -269,10 +269,10 @@ listed-told W picks d start k l lines now seen low names is w = (
 
 -- The lines that a list names: each is told, and to go through them is to ask what may be asked
 module _ (W : World) (picks : List ℕ → Bool) (d : ℕ) (start : Findings) (k l : ℕ) (lines : List NameLine) (now : Findings) (seen : SeenNames)
-    (listed : Listed) (is : listed ≡ list.Names l lines) (low : IsInFolder listed) (names : AreNames listed) (walked : IsWalked W picks d k start now seen)
+    (listed : Listed) (is : listed ≡ list.Names l lines) (part : IsFolderPart listed) (walked : IsWalked W picks d k start now seen)
   where
     pub names-told : IsListedFrom W.files d k listed → AreSeen seen (lines_below W.files d l) × AreTold W.files d (lines_below W.files d l) lines
-    names-told from = listed-told W picks d start k l lines now seen (rw is at low) (rw is at names) (rw is at from) walked
+    names-told from = listed-told W picks d start k l lines now seen (rw is at part.below) (rw is at part.names) (rw is at from) walked
 
     pub names-right : (old mid new : List Made) (a b : Option Refusal) → Reads old mid a → Reads mid new b → AreAnswered W old new
         → (AreAnswered W old mid → IsListedFrom W.files d k listed) → (AreAnswered W old mid → AreFair W.files old mid)

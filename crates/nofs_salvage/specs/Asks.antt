@@ -70,6 +70,10 @@ pub record HasReached (old now : List Made) (at : Handle) : Type 0 where
   pub more : now ≡ old ++ made
   pub met : IsReached made at.inode at.generation
 
+-- where it was, these steps ask on as a walk may
+abbrev pub AsksOn : List Made → List Made → Handle → Type 0
+AsksOn old new at = (first : List Made) → Asks first old → HasReached first old at → Asks first new
+
 -- this name of a directory was given
 pub record HasGiven (old now : List Made) (at : Handle) (name : List ℕ) : Type 0 where
   pub made : List Made

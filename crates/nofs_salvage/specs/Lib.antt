@@ -1,6 +1,7 @@
 pub mod Answered
 pub mod Asks
 pub mod Handles
+pub mod Noted
 pub mod Picks
 pub mod Reads
 pub mod Refusing

@@ -10,6 +10,7 @@ use Rattle.nofs_salvage.specs.declared.tree.Tree.{Tree}
 use Rattle.nofs_salvage.specs.Handles.{root_handle}
 use Rattle.nofs_salvage.specs.Report.{is_doubled}
 use Rattle.nofs_salvage.specs.Refusing.{is_there, MayAsk, LeadsTo}
+use Rattle.nofs_salvage.specs.Answered.{IsInFolder}
 
 -- a line of directory d that is neither dead nor doubled leads to what it says
 abbrev pub IsTold : Files → ℕ → List NameLine → NameLine → Type 0
@@ -24,6 +25,13 @@ abbrev pub AreNames : Listed → Type 0
 AreNames (listed.Names l names) = All (λ line. IsTrue (is_name line.name)) names
 AreNames (listed.LostNames l) = Unit {0}
 AreNames listed.NoMore = Unit {0}
+
+-- what a list gives is a part of a directory
+pub record IsFolderPart (listed : Listed) : Type 0 where
+  -- a slot that directories have, if any
+  pub below : IsInFolder listed
+  -- and its names are names
+  pub names : AreNames listed
 
 -- The handles of a list of directories
 

@@ -4,15 +4,13 @@
 ghost use Rattle.std.specs.Prelude.{◌≡◌, ◌+◌, ◌<◌, ◌≤◌, ℕ, Bool, true, List, IfOk, OnOk};
 ghost use Rattle.std.specs.Fn.{FnReturnsAt};
 ghost use Rattle.nofs_machine.specs.World.{World};
-ghost use Rattle.nofs_machine.specs.Steps.{Made};
 ghost use Rattle.nofs_salvage.specs.declared.findings.Findings.{Findings as Found};
 ghost use Rattle.nofs_salvage.specs.Reads.{Reads, refusal_by};
-ghost use Rattle.nofs_salvage.specs.Report.{losses_below, folders_below};
 ghost use Rattle.nofs_salvage.specs.Answered.{AreAnswered};
-ghost use Rattle.nofs_salvage.specs.Trees.{Adds, IsWalked};
-ghost use Rattle.nofs_salvage.specs.Refusing.{is_there, AreFair, MayAsk};
-ghost use Rattle.nofs_salvage.specs.Told.{AreFolders};
-ghost use Rattle.nofs_salvage.specs.Asks.{Asks, HasReached, AreReached};
+ghost use Rattle.nofs_salvage.specs.Trees.{IsWalked};
+ghost use Rattle.nofs_salvage.specs.Refusing.{AreFair, MayAsk};
+ghost use Rattle.nofs_salvage.specs.Noted.{SlotsNoted, FolderNoted};
+ghost use Rattle.nofs_salvage.specs.Asks.{AsksOn};
 
 use crate::fault::SalvageFault;
 use crate::filter::{NameFilter, NameRule};
@@ -51,17 +49,11 @@ fn note_next<S: Steps, P: Fn(&[u8]) -> bool, R: NameRule>(
     requires decides { (name : List ℕ) (yes : Bool) → FnReturnsAt P.Fn filter.now.keep name yes → yes ≡ R.picks filter.now.rule name }
     requires slot { slot < 72 }
     ensures reads { Reads (S.made steps.old) (S.made steps.new) (refusal_by result) }
-    ensures later { IfOk result (λ next. (slot < next) × (next ≤ 72)) }
-    ensures walked { IfOk result (λ next. (W : World) (start : Found) → IsWalked W (R.picks filter.now.rule) at.inode slot start findings.old seen.old
-        → AreAnswered W (S.made steps.old) (S.made steps.new) → IsWalked W (R.picks filter.now.rule) at.inode next start findings.new seen.new) }
-    ensures there { IfOk result (λ next. (W : World) → AreAnswered W (S.made steps.old) (S.made steps.new) → is_there W.files at.inode at.generation ≡ true) }
+    ensures slots { IfOk result (λ next. SlotsNoted (R.picks filter.now.rule) at slot next (S.made steps.old) (S.made steps.new)
+        findings.old findings.new seen.old seen.new) }
     ensures right { (W : World) (start : Found) → IsWalked W (R.picks filter.now.rule) at.inode slot start findings.old seen.old
         → AreAnswered W (S.made steps.old) (S.made steps.new) → MayAsk W.files true at → AreFair W.files (S.made steps.old) (S.made steps.new) }
-    ensures folders { IfOk result (λ next. (W : World) (start : Found) → IsWalked W (R.picks filter.now.rule) at.inode slot start findings.old seen.old
-        → AreAnswered W (S.made steps.old) (S.made steps.new) → AreFolders W.files findings.old.tree → AreFolders W.files findings.new.tree) }
-    ensures asks { (first : List Made) → Asks first (S.made steps.old) → HasReached first (S.made steps.old) at → Asks first (S.made steps.new) }
-    ensures met { IfOk result (λ next. (first : List Made) → Asks first (S.made steps.old) → HasReached first (S.made steps.old) at
-        → AreReached first (S.made steps.old) findings.old.tree → AreReached first (S.made steps.new) findings.new.tree) }
+    ensures asks { AsksOn (S.made steps.old) (S.made steps.new) at }
     ensures goes { S.goes steps.old steps.new }
 {
     let listed = list(steps, at, slot)?;
@@ -92,16 +84,10 @@ pub fn note_folder<S: Steps, P: Fn(&[u8]) -> bool, R: NameRule>(
     requires may { P.IsAlwaysCallable filter.now.keep }
     requires decides { (name : List ℕ) (yes : Bool) → FnReturnsAt P.Fn filter.now.keep name yes → yes ≡ R.picks filter.now.rule name }
     ensures reads { Reads (S.made steps.old) (S.made steps.new) (refusal_by result) }
-    ensures noted { OnOk result ((W : World) → AreAnswered W (S.made steps.old) (S.made steps.new)
-        → Adds (losses_below W (R.picks filter.now.rule) at.inode 72) (folders_below W.files at.inode 72) findings.old findings.new) }
-    ensures there { OnOk result ((W : World) → AreAnswered W (S.made steps.old) (S.made steps.new) → is_there W.files at.inode at.generation ≡ true) }
+    ensures folder { OnOk result (FolderNoted (R.picks filter.now.rule) at (S.made steps.old) (S.made steps.new) findings.old findings.new) }
     ensures right { (W : World) → AreAnswered W (S.made steps.old) (S.made steps.new) → MayAsk W.files true at
         → AreFair W.files (S.made steps.old) (S.made steps.new) }
-    ensures folders { OnOk result ((W : World) → AreAnswered W (S.made steps.old) (S.made steps.new)
-        → AreFolders W.files findings.old.tree → AreFolders W.files findings.new.tree) }
-    ensures asks { (first : List Made) → Asks first (S.made steps.old) → HasReached first (S.made steps.old) at → Asks first (S.made steps.new) }
-    ensures met { OnOk result ((first : List Made) → Asks first (S.made steps.old) → HasReached first (S.made steps.old) at
-        → AreReached first (S.made steps.old) findings.old.tree → AreReached first (S.made steps.new) findings.new.tree) }
+    ensures asks { AsksOn (S.made steps.old) (S.made steps.new) at }
     ensures goes { S.goes steps.old steps.new }
 {
     let mut seen = SeenNames::new(alloc);

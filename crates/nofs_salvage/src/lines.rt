@@ -8,12 +8,13 @@ ghost use Rattle.nofs_machine.specs.World.{World};
 ghost use Rattle.nofs_machine.specs.Steps.{Made};
 ghost use Rattle.nofs_machine.specs.declared.replies.NameLine.{NameLine as Line};
 ghost use Rattle.nofs_salvage.specs.Reads.{Reads, refusal_by};
-ghost use Rattle.nofs_salvage.specs.Report.{pair_losses, pair_folders, line_losses, line_folders, lines_losses, lines_folders};
+ghost use Rattle.nofs_salvage.specs.Report.{pair_losses, pair_folders, line_losses, line_folders};
 ghost use Rattle.nofs_salvage.specs.Answered.{AreAnswered};
 ghost use Rattle.nofs_salvage.specs.Trees.{AreSeen, Adds};
 ghost use Rattle.nofs_salvage.specs.Refusing.{AreFair, MayAsk, LeadsTo};
 ghost use Rattle.nofs_salvage.specs.Told.{IsTold, AreTold, AreFolders};
 ghost use Rattle.nofs_salvage.specs.Asks.{Asks, HasGiven, AreGiven, AreReached};
+ghost use Rattle.nofs_salvage.specs.Noted.{LinesNoted};
 
 use crate::fault::SalvageFault;
 use crate::filter::{NameFilter, NameRule};
@@ -125,17 +126,11 @@ pub fn note_lines<S: Steps, P: Fn(&[u8]) -> bool, R: NameRule>(
     requires may { P.IsAlwaysCallable filter.now.keep }
     requires decides { (name : List ℕ) (yes : Bool) → FnReturnsAt P.Fn filter.now.keep name yes → yes ≡ R.picks filter.now.rule name }
     ensures reads { Reads (S.made steps.old) (S.made steps.new) (refusal_by result) }
-    ensures names { OnOk result ((earlier : List Line) → AreSeen seen.old earlier → AreSeen seen.new (earlier ++ lines.now)) }
-    ensures noted { OnOk result ((W : World) (earlier : List Line) → AreSeen seen.old earlier → AreAnswered W (S.made steps.old) (S.made steps.new)
-        → Adds (lines_losses W (R.picks filter.now.rule) at.inode earlier lines.now)
-        (lines_folders W.files at.inode earlier lines.now) findings.old findings.new) }
+    ensures lines { OnOk result (LinesNoted (R.picks filter.now.rule) at lines.now (S.made steps.old) (S.made steps.new)
+        findings.old findings.new seen.old seen.new) }
     ensures right { (W : World) (earlier : List Line) → AreSeen seen.old earlier → AreAnswered W (S.made steps.old) (S.made steps.new) → MayAsk W.files true at
         → AreTold W.files at.inode earlier lines.now → AreFair W.files (S.made steps.old) (S.made steps.new) }
-    ensures folders { OnOk result ((W : World) (earlier : List Line) → AreSeen seen.old earlier → AreAnswered W (S.made steps.old) (S.made steps.new)
-        → AreTold W.files at.inode earlier lines.now → AreFolders W.files findings.old.tree → AreFolders W.files findings.new.tree) }
     ensures asks { (first : List Made) → Asks first (S.made steps.old) → AreGiven first (S.made steps.old) at lines.now → Asks first (S.made steps.new) }
-    ensures met { OnOk result ((first : List Made) → Asks first (S.made steps.old) → AreGiven first (S.made steps.old) at lines.now
-        → AreReached first (S.made steps.old) findings.old.tree → AreReached first (S.made steps.new) findings.new.tree) }
     ensures goes { S.goes steps.old steps.new }
 {
     for line in lines.as_slice() {

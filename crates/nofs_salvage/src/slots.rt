@@ -10,7 +10,7 @@ ghost use Rattle.nofs_salvage.specs.Reads.{Reads, refusal_by};
 ghost use Rattle.nofs_salvage.specs.Report.{lost_below, file_losses};
 ghost use Rattle.nofs_salvage.specs.Answered.{AreAnswered, IsNoted};
 ghost use Rattle.nofs_salvage.specs.Refusing.{is_there, AreFair, MayAsk};
-ghost use Rattle.nofs_salvage.specs.Asks.{Asks, HasReached, HasTold};
+ghost use Rattle.nofs_salvage.specs.Asks.{Asks, AsksOn, HasReached, HasTold};
 
 use crate::fault::SalvageFault;
 use crate::report::{Loss, Report};
@@ -90,7 +90,7 @@ pub fn note_file<S: Steps>(
     ensures there { OnOk result ((W : World) → AreAnswered W (S.made steps.old) (S.made steps.new) → is_there W.files at.inode at.generation ≡ true) }
     ensures right { (W : World) → AreAnswered W (S.made steps.old) (S.made steps.new) → MayAsk W.files false at
         → AreFair W.files (S.made steps.old) (S.made steps.new) }
-    ensures asks { (first : List Made) → Asks first (S.made steps.old) → HasReached first (S.made steps.old) at → Asks first (S.made steps.new) }
+    ensures asks { AsksOn (S.made steps.old) (S.made steps.new) at }
     ensures goes { S.goes steps.old steps.new }
 {
     let size = size_of(steps, at)?;

@@ -8,10 +8,10 @@ ghost use Rattle.nofs_machine.specs.Steps.{Made};
 ghost use Rattle.nofs_machine.specs.World.{World};
 ghost use Rattle.nofs_salvage.specs.Reads.{IsRead, is_get, Reads, IsAccepted, refusal_by, found_by, size_by, listed_by, got_by, is_too_large as too_large_by};
 ghost use Rattle.nofs_salvage.specs.Report.{inode_found};
-ghost use Rattle.nofs_salvage.specs.Answered.{AreAnswered, IsListedFrom, IsInFolder, IsGot};
+ghost use Rattle.nofs_salvage.specs.Answered.{AreAnswered, IsListedFrom, IsGot};
 ghost use Rattle.nofs_salvage.specs.Refusing.{is_there, AreFair, MakesOne, MayAsk, LeadsTo};
-ghost use Rattle.nofs_salvage.specs.Told.{AreNames};
-ghost use Rattle.nofs_salvage.specs.Asks.{Asks, HasReached, HasGiven, HasTold, ListGives, has_slot};
+ghost use Rattle.nofs_salvage.specs.Told.{IsFolderPart};
+ghost use Rattle.nofs_salvage.specs.Asks.{Asks, AsksOn, HasReached, HasGiven, HasTold, ListGives, has_slot};
 
 use crate::fault::{SalvageFault, fault_of};
 use nofs_lists::Name;
@@ -131,7 +131,7 @@ pub fn size_of<S: Steps>(steps: &mut S, at: Handle) -> Result<u64, SalvageFault>
     ensures goes { S.goes steps.old steps.new }
     ensures right { (W : World) (folder : Bool) → AreAnswered W (S.made steps.old) (S.made steps.new) → MayAsk W.files folder at
         → AreFair W.files (S.made steps.old) (S.made steps.new) }
-    ensures asks { (first : List Made) → Asks first (S.made steps.old) → HasReached first (S.made steps.old) at → Asks first (S.made steps.new) }
+    ensures asks { AsksOn (S.made steps.old) (S.made steps.new) at }
     ensures size { IfOk result (λ size. (W : World) → AreAnswered W (S.made steps.old) (S.made steps.new) → size_of_file W.files at.inode ≡ size) }
     ensures there { IfOk result (λ size. (W : World) → AreAnswered W (S.made steps.old) (S.made steps.new) → is_there W.files at.inode at.generation ≡ true) }
     ensures told { IfOk result (λ size. (first : List Made) → Asks first (S.made steps.old) → HasTold first (S.made steps.new) at size) }
@@ -162,9 +162,8 @@ pub fn list<S: Steps>(steps: &mut S, at: Handle, slot: u64) -> Result<Listed, Sa
     ensures goes { S.goes steps.old steps.new }
     ensures right { (W : World) → AreAnswered W (S.made steps.old) (S.made steps.new) → MayAsk W.files true at
         → AreFair W.files (S.made steps.old) (S.made steps.new) }
-    ensures asks { (first : List Made) → Asks first (S.made steps.old) → HasReached first (S.made steps.old) at → Asks first (S.made steps.new) }
-    ensures below { IfOk result IsInFolder }
-    ensures names { IfOk result AreNames }
+    ensures asks { AsksOn (S.made steps.old) (S.made steps.new) at }
+    ensures part { IfOk result IsFolderPart }
     ensures listed { IfOk result (λ listed. (W : World) → AreAnswered W (S.made steps.old) (S.made steps.new) → IsListedFrom W.files at.inode slot listed) }
     ensures there { IfOk result (λ listed. (W : World) → AreAnswered W (S.made steps.old) (S.made steps.new) → is_there W.files at.inode at.generation ≡ true) }
     ensures gives { IfOk result (λ listed. (first : List Made) → Asks first (S.made steps.old) → ListGives first (S.made steps.new) at listed) }

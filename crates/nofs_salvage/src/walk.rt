@@ -2,16 +2,17 @@
 //!
 //! Promise: it only reads, asks only of the two first files and of what it was told itself, ends with the refusal of any step but
 //! one for a slot beyond what a file can have, and else, where no file changed meanwhile, gives the report of the definition.
-ghost use Rattle.std.specs.Prelude.{◌≡◌, ◌++◌, ℕ, Bool, true, List, [], ◌∷◌, IfOk, OnOk, IfSome};
+ghost use Rattle.std.specs.Prelude.{◌≡◌, ℕ, Bool, true, List, [], ◌∷◌, IfOk, OnOk, IfSome};
 ghost use Rattle.std.specs.Fn.{FnReturnsAt};
 ghost use Rattle.nofs_machine.specs.World.{World};
 ghost use Rattle.nofs_machine.specs.Steps.{Made};
 ghost use Rattle.nofs_salvage.specs.Reads.{Reads, refusal_by};
-ghost use Rattle.nofs_salvage.specs.Report.{tree_losses, tree_of, report_of};
+ghost use Rattle.nofs_salvage.specs.Report.{report_of};
 ghost use Rattle.nofs_salvage.specs.Answered.{AreAnswered};
 ghost use Rattle.nofs_salvage.specs.Refusing.{is_there, HasRoots, MayRefuse, AreFair};
 ghost use Rattle.nofs_salvage.specs.Handles.{root_handle};
 ghost use Rattle.nofs_salvage.specs.Told.{handles_in};
+ghost use Rattle.nofs_salvage.specs.Noted.{TreeNoted};
 ghost use Rattle.nofs_salvage.specs.Asks.{Asks};
 
 use crate::fault::SalvageFault;
@@ -35,11 +36,9 @@ fn note_tree<S: Steps, P: Fn(&[u8]) -> bool, R: NameRule>(
     requires decides { (name : List ℕ) (yes : Bool) → FnReturnsAt P.Fn filter.now.keep name yes → yes ≡ R.picks filter.now.rule name }
     requires root { handles_in findings.old.tree ≡ root_handle ∷ [] }
     ensures reads { Reads (S.made steps.old) (S.made steps.new) (refusal_by result) }
-    ensures noted { OnOk result ((W : World) → AreAnswered W (S.made steps.old) (S.made steps.new)
-        → findings.new.report ≡ findings.old.report ++ tree_losses W (R.picks filter.now.rule) (tree_of W.files)) }
+    ensures tree { OnOk result (TreeNoted (R.picks filter.now.rule) (S.made steps.old) (S.made steps.new) findings.old.report findings.new.report) }
     ensures right { (W : World) → HasRoots W.files → AreAnswered W (S.made steps.old) (S.made steps.new)
         → AreFair W.files (S.made steps.old) (S.made steps.new) }
-    ensures there { OnOk result ((W : World) → AreAnswered W (S.made steps.old) (S.made steps.new) → is_there W.files 1 1 ≡ true) }
     ensures asks { (first : List Made) → Asks first (S.made steps.old) → Asks first (S.made steps.new) }
     ensures goes { S.goes steps.old steps.new }
 {

@@ -23,22 +23,22 @@ loop-slot-preserved g c =
     let inv = c.loop-slot.invariant in record {
       reads = reads-on _ _ _ _ inv.reads c.in_ok-slot.ensures.reads;
       goes = g.met.S.Steps.goes_on _ _ _ inv.goes c.note_next.ensures.goes;
-      below = c.in_ok-slot.ensures.later.1;
+      below = c.in_ok-slot.ensures.slots.later.1;
       walked = λ W a.
           let both = answered-both W _ _ _ _ _ inv.reads c.in_ok-slot.ensures.reads a in
-          c.in_ok-slot.ensures.walked W c.args.findings.now (inv.walked W both.0) both.1;
+          c.in_ok-slot.ensures.slots.walked W c.args.findings.now (inv.walked W both.0) both.1;
       there = λ W a low.
           let both = answered-both W _ _ _ _ _ inv.reads c.in_ok-slot.ensures.reads a in
-          c.in_ok-slot.ensures.there W both.1;
+          c.in_ok-slot.ensures.slots.there W both.1;
       right = λ W a ask.
           let both = answered-both W _ _ _ _ _ inv.reads c.in_ok-slot.ensures.reads a in
           right-on W _ _ _ _ _ inv.reads c.in_ok-slot.ensures.reads a (λ b. inv.right W b ask)
           (λ b. c.in_ok-slot.ensures.right W c.args.findings.now (inv.walked W both.0) b ask);
       folders = λ W a f.
           let both = answered-both W _ _ _ _ _ inv.reads c.in_ok-slot.ensures.reads a in
-          c.in_ok-slot.ensures.folders W c.args.findings.now (inv.walked W both.0) both.1 (inv.folders W both.0 f);
+          c.in_ok-slot.ensures.slots.folders W c.args.findings.now (inv.walked W both.0) both.1 (inv.folders W both.0 f);
       asks = λ first asks at. c.in_ok-slot.ensures.asks first (inv.asks first asks at) (met-on first _ _ _ c.args.at inv.reads at);
-      met = λ first asks at met. c.in_ok-slot.ensures.met first (inv.asks first asks at) (met-on first _ _ _ c.args.at inv.reads at)
+      met = λ first asks at met. c.in_ok-slot.ensures.slots.met first (inv.asks first asks at) (met-on first _ _ _ c.args.at inv.reads at)
           (inv.met first asks at met);
     }
 

@@ -55,7 +55,8 @@ returns-in_err-note_line-clause-right g c = λ W earlier h a ask told.
     let lines = c.args.lines.now in
     let i = c.loop-line.line-index in
     let inv = c.loop-line.invariant in
-    let here = is-at lines i c.line-item.result (rw c.as_slice-line-items.ensures at c.loop-line-test.true) (rw c.as_slice-line-items.ensures at c.line-item.is) in
+    let here = is-at lines i c.line-item.result (rw c.as_slice-line-items.ensures at c.loop-line-test.true)
+    (rw c.as_slice-line-items.ensures at c.line-item.is) in
     right-on W _ _ _ _ _ inv.reads c.note_line.ensures.reads a (λ b. inv.right W earlier h b ask told)
     (λ b. c.note_line.ensures.right W (earlier ++ take i lines) (inv.names earlier h) b ask
     (told-at W.files c.args.at.inode i earlier lines c.line-item.result here.front told))

@@ -30,7 +30,8 @@ pub returns-in_ok-file-in-File-clause-noted : goal.returns-in_ok-file-in-File-cl
 returns-in_ok-file-in-File-clause-noted g c = on-ok c.note_file.result (λ h W a.
     let both = answered-both W _ _ _ _ _ c.in_ok-file-in-File.ensures.reads c.note_file.ensures.reads a in
     pair-file W c.args.wanted c.args.at.inode c.args.line.now c.args.findings.now _ c.in-File.is c.if-wanted.true (record {
-      report = found-losses W c.args.at.inode c.in_ok-file-in-File.file.inode c.args.line.now.name _ _ (c.in_ok-file-in-File.ensures.found W both.0) (h W both.1);
+      report = found-losses W c.args.at.inode c.in_ok-file-in-File.file.inode c.args.line.now.name _ _ (c.in_ok-file-in-File.ensures.found W both.0)
+          (h W both.1);
       tree = refl;
     })) c.note_file.ensures.noted
 
@@ -45,4 +46,5 @@ returns-in_ok-file-in-File-clause-right g c = λ W a ask leads.
 
 pub returns-in_ok-file-in-File-clause-met : goal.returns-in_ok-file-in-File-clause-met
 returns-in_ok-file-in-File-clause-met g c = on-ok c.note_file.result (λ h first asks met.
-    all-met-on first _ _ _ c.args.findings.now.tree (reads-on _ _ _ _ c.in_ok-file-in-File.ensures.reads c.note_file.ensures.reads) met) c.note_file.ensures.noted
+    all-met-on first _ _ _ c.args.findings.now.tree (reads-on _ _ _ _ c.in_ok-file-in-File.ensures.reads c.note_file.ensures.reads) met)
+    c.note_file.ensures.noted

@@ -1,5 +1,5 @@
-use Rattle.nofs_salvage.proofs.Answers.{listed-is, listed-below}
-use Rattle.nofs_salvage.proofs.Refusing.{listed-there, listed-names, list-right}
+use Rattle.nofs_salvage.proofs.Answers.{listed-is}
+use Rattle.nofs_salvage.proofs.Refusing.{listed-there, listed-part, list-right}
 use Rattle.nofs_salvage.proofs.Asking.{asks-list, list-gives}
 use Rattle.nofs_salvage.proofs.steps.list.Goals as goal
 
@@ -7,13 +7,9 @@ pub returns-clause-listed : goal.returns-clause-listed
 returns-clause-listed g c = rw c.listed_in.ensures.is
     (listed-is _ _ c.args.at.inode c.args.at.generation c.args.slot c.in_ok-ask.field-0 c.in_ok-ask.ensures.accepted)
 
-pub returns-clause-below : goal.returns-clause-below
-returns-clause-below g c = rw c.listed_in.ensures.is
-    (listed-below c.args.slot c.args.at.inode c.args.at.generation c.in_ok-ask.field-0 c.in_ok-ask.ensures.accepted.fits)
-
-pub returns-clause-names : goal.returns-clause-names
-returns-clause-names g c = rw c.listed_in.ensures.is
-    (listed-names c.args.slot c.args.at.inode c.args.at.generation c.in_ok-ask.field-0 c.in_ok-ask.ensures.accepted.fits)
+pub returns-clause-part : goal.returns-clause-part
+returns-clause-part g c = rw c.listed_in.ensures.is
+    (listed-part c.args.slot c.args.at.inode c.args.at.generation c.in_ok-ask.field-0 c.in_ok-ask.ensures.accepted.fits)
 
 pub returns-clause-there : goal.returns-clause-there
 returns-clause-there g c = rw c.listed_in.ensures.is

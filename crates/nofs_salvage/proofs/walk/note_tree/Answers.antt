@@ -31,7 +31,7 @@ loop-directory-preserved g c =
           let both = answered-both W _ _ _ _ _ inv.reads c.in_ok-note_folder.ensures.reads a in
           grown-on W (g.R.NameRule.picks c.args.filter.now.rule) c.loop-directory.at c.in-Some.directory.inode c.args.findings.now.report
           c.loop-directory.findings c.note_folder.new.findings
-          (inv.grown W both.0) (sym c.in-Some.ensures.is) (c.in_ok-note_folder.ensures.noted W both.1);
+          (inv.grown W both.0) (sym c.in-Some.ensures.is) (c.in_ok-note_folder.ensures.folder.noted W both.1);
       right = λ W roots a.
           let both = answered-both W _ _ _ _ _ inv.reads c.in_ok-note_folder.ensures.reads a in
           right-on W _ _ _ _ _ inv.reads c.in_ok-note_folder.ensures.reads a (λ b. inv.right W roots b)
@@ -39,25 +39,27 @@ loop-directory-preserved g c =
           (sym c.in-Some.ensures.handle) (inv.folders W roots both.0)));
       folders = λ W roots a.
           let both = answered-both W _ _ _ _ _ inv.reads c.in_ok-note_folder.ensures.reads a in
-          c.in_ok-note_folder.ensures.folders W both.1 (inv.folders W roots both.0);
+          c.in_ok-note_folder.ensures.folder.folders W both.1 (inv.folders W roots both.0);
       rooted = λ W a.
           let both = answered-both W _ _ _ _ _ inv.reads c.in_ok-note_folder.ensures.reads a in
           rooted-on W.files c.loop-directory.at c.loop-directory.findings.tree c.note_folder.new.findings.tree c.in-Some.directory
-          (sym c.in-Some.ensures.handle) (c.in_ok-note_folder.ensures.there W both.1) (inv.rooted W both.0);
+          (sym c.in-Some.ensures.handle) (c.in_ok-note_folder.ensures.folder.there W both.1) (inv.rooted W both.0);
       asks = λ first asks. c.in_ok-note_folder.ensures.asks first (inv.asks first asks)
           (met-at first _ c.loop-directory.findings.tree c.loop-directory.at c.in-Some.directory (sym c.in-Some.ensures.handle) (inv.met first asks));
-      met = λ first asks. c.in_ok-note_folder.ensures.met first (inv.asks first asks)
+      met = λ first asks. c.in_ok-note_folder.ensures.folder.met first (inv.asks first asks)
           (met-at first _ c.loop-directory.findings.tree c.loop-directory.at c.in-Some.directory (sym c.in-Some.ensures.handle) (inv.met first asks))
           (inv.met first asks);
     }
 
-pub returns-clause-noted : goal.returns-clause-noted
-returns-clause-noted g c = λ W a.
+pub returns-clause-tree : goal.returns-clause-tree
+returns-clause-tree g c =
     let low : c.loop-directory.at ≤ 2 ^ 64 = omega arith in
     let none : c.get.result ≡ None = c.in_default.is in
-    grown-end W (g.R.NameRule.picks c.args.filter.now.rule) c.loop-directory.at c.args.findings.now.report c.loop-directory.findings low
-    (c.loop-directory.invariant.grown W a)
-    (none-left c.get.result inode_of _ c.get.ensures.is none)
+    let inv = c.loop-directory.invariant in record {
+      noted = λ W a. grown-end W (g.R.NameRule.picks c.args.filter.now.rule) c.loop-directory.at c.args.findings.now.report c.loop-directory.findings low
+          (inv.grown W a) (none-left c.get.result inode_of _ c.get.ensures.is none);
+      there = λ W a. rooted-end W.files c.loop-directory.at c.loop-directory.findings.tree (sym c.get.ensures.handle ∙ none) (inv.rooted W a);
+    }
 
 pub returns-in_err-note_folder-clause-right : goal.returns-in_err-note_folder-clause-right
 returns-in_err-note_folder-clause-right g c = λ W roots a.
@@ -66,11 +68,6 @@ returns-in_err-note_folder-clause-right g c = λ W roots a.
     right-on W _ _ _ _ _ inv.reads c.note_folder.ensures.reads a (λ b. inv.right W roots b)
     (λ b. c.note_folder.ensures.right W b (folder-at W.files c.loop-directory.findings.tree c.loop-directory.at c.in-Some.directory
     (sym c.in-Some.ensures.handle) (inv.folders W roots both.0)))
-
-pub returns-clause-there : goal.returns-clause-there
-returns-clause-there g c = λ W a.
-    let none : c.get.result ≡ None = c.in_default.is in
-    rooted-end W.files c.loop-directory.at c.loop-directory.findings.tree (sym c.get.ensures.handle ∙ none) (c.loop-directory.invariant.rooted W a)
 
 pub returns-in_err-note_folder-clause-asks : goal.returns-in_err-note_folder-clause-asks
 returns-in_err-note_folder-clause-asks g c = λ first asks.

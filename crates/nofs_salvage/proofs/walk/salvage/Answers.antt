@@ -19,7 +19,7 @@ pub returns-clause-report : goal.returns-clause-report
 returns-clause-report g c = λ W a.
     let both = answered-both W _ _ _ _ _ c.in_ok-note_file.ensures.reads c.in_ok-note_tree.ensures.reads a in
     report-is W (g.R.NameRule.picks c.args.filter.now.rule) c.in_ok-findings.findings.report c.note_file.new.report c.note_tree.new.findings.report
-    c.in_ok-findings.ensures.begins (c.in_ok-note_file.ensures.noted W both.0) (c.in_ok-note_tree.ensures.noted W both.1)
+    c.in_ok-findings.ensures.begins (c.in_ok-note_file.ensures.noted W both.0) (c.in_ok-note_tree.ensures.tree.noted W both.1)
 
 pub returns-in_err-note_file-clause-refused : goal.returns-in_err-note_file-clause-refused
 returns-in_err-note_file-clause-refused g c = λ W roots a.
@@ -38,7 +38,7 @@ returns-in_err-note_tree-clause-refused g c = λ W roots a.
 pub returns-clause-agreed : goal.returns-clause-agreed
 returns-clause-agreed g c = λ W a.
     let both = answered-both W _ _ _ _ _ c.in_ok-note_file.ensures.reads c.in_ok-note_tree.ensures.reads a in
-    (c.in_ok-note_tree.ensures.there W both.1, c.in_ok-note_file.ensures.there W both.0)
+    (c.in_ok-note_tree.ensures.tree.there W both.1, c.in_ok-note_file.ensures.there W both.0)
 
 pub returns-in_err-note_file-clause-asks : goal.returns-in_err-note_file-clause-asks
 returns-in_err-note_file-clause-asks g c = c.note_file.ensures.asks _ (asks-none _) (met-label _)
