@@ -1,5 +1,5 @@
 -- What a commit of an earlier verdict answers, and what it leaves in the maps.
-use Rattle.std.specs.Prelude.{◌≡◌, ℕ, ◌+◌, ◌≤◌, Bool, true, false, List, Some, length}
+use Rattle.std.specs.Prelude.{◌≡◌, ℕ, ◌+◌, ◌<◌, ◌≤◌, Bool, true, false, List, Some, length}
 use mathlib.Core.List.{IsPrefix}
 use Rattle.nofs_turn.specs.declared.view.View.{View}
 use Rattle.nofs_disk.specs.Disk.{DiskState}
@@ -12,8 +12,16 @@ use Rattle.nofs_machine.specs.declared.replies.Refusal.TheVariants as refusal
 use Rattle.nofs_state.specs.Books.{with_history}
 use Rattle.nofs_state.specs.Verdicts.{Settles}
 use Rattle.nofs_state.specs.declared.books.Books.{Books}
-use Rattle.nofs_scan.specs.Elements.{is_used, learned, verdict_of}
+use Rattle.nofs_scan.specs.Elements.{is_used, learned, verdict_at, verdict_of}
+use Rattle.nofs_scan.specs.declared.evidence.Verdict.{Verdict}
 use Rattle.nofs_shared.specs.Mounts.{IsMount, IsSoundDisk}
+
+-- this is the verdict at a place of those that were found
+pub record IsVerdict (found : List Verdict) (at : ℕ) (verdict : Bool) : Type 0 where
+  -- they have such a place
+  pub within : at < length found
+  -- and there the element is used, or free, just so
+  pub used : verdict ≡ (verdict_at found at).used
 
 -- the verdict that stands is seen: it stood before and nothing changed, or it is the one committed
 pub record SeesVerdict (k l : Books) (kind : ElementKind) (item : ℕ) (used : Bool) (r : Reply) : Type 0 where

@@ -3,6 +3,7 @@ pub mod Sees
 pub mod Mounts
 pub mod Earlier
 pub mod Added
+pub mod GoingOn
 pub mod StepCauses
 pub mod Batches
 pub mod Begins

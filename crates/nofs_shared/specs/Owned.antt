@@ -28,5 +28,7 @@ steps_by c es = map done_of (filter (is_by c) es)
 
 -- what a section tells: one step of the caller, whose reply fits
 pub record TellsStep (caller : ℕ) (s : Step) (H K : List Entry1) (r : Reply) : Type 0 where
+  -- its entry, or none where memory was wanting
   pub adds : AddsStep caller s r H K
+  -- the reply is one that such a step may have
   pub fits : Fits s r

@@ -1,16 +1,16 @@
 //! Several elements of a mount are looked at together, and their verdicts committed one by one.
-ghost use Rattle.std.specs.Prelude.{◌≡◌, ◌+◌, ◌-◌, ◌<◌, ◌≤◌, ℕ, true, false, All, IfOk, IfErr, length};
+ghost use Rattle.std.specs.Prelude.{◌≡◌, ◌≤◌, ℕ, true, false, All, IfOk, IfErr, length};
 ghost use Rattle.nofs_disk.specs.Disk.{StaysButFaults};
-ghost use Rattle.nofs_machine.specs.Steps.{Fits, is_out_of_memory};
-ghost use Rattle.nofs_state.specs.Books.{IsSafe};
+ghost use Rattle.nofs_machine.specs.Steps.{is_out_of_memory};
 ghost use Rattle.nofs_state.specs.Knowing.{with_agreement};
 ghost use Rattle.nofs_scan.specs.Elements.{HasElement, items_of, see_step, verdict_at};
-ghost use Rattle.nofs_shared.specs.Added.{AddsStep};
 ghost use Rattle.nofs_shared.specs.Batches as batches;
-ghost use Rattle.nofs_shared.specs.Commits.{IsCommit};
+ghost use Rattle.nofs_shared.specs.Commits.{IsCommit, IsVerdict};
 ghost use Rattle.nofs_shared.specs.Earlier.{IsEarlier, IsOfBooks};
+ghost use Rattle.nofs_shared.specs.GoingOn.{BooksGoOn, CanStep};
 ghost use Rattle.nofs_shared.specs.Mounts.{IsMount};
-ghost use Rattle.nofs_shared.specs.Sees.{is_of_sweep};
+ghost use Rattle.nofs_shared.specs.Owned.{TellsStep};
+ghost use Rattle.nofs_shared.specs.Sees.{TakesKept};
 
 use crate::mount::Mount;
 use crate::room::take_room;
@@ -55,18 +55,21 @@ fn commit_in<D: Disk + Drop>(
     at: u32,
     used: bool,
 ) -> Reply
-    requires safe { IsSafe (D.state core.old.disk) core.old.books }
-    requires room { 0 < core.old.books.history.spare }
+    requires can { CanStep (D.state core.old.disk) core.old.books }
     requires earlier { IsOfBooks evidence.now.core.value.books core.old.books }
-    requires within { at < length evidence.now.verdicts }
-    requires used { used ≡ (verdict_at evidence.now.verdicts at).used }
-    ensures keeps { (found : D) (first : ℕ) → IsMount (D.state found) (D.state evidence.now.core.value.disk) first evidence.now.core.value.books → IsMount (D.state found) (D.state core.old.disk) first core.old.books → IsMount (D.state found) (D.state core.new.disk) first core.new.books }
-    ensures commits { (found : D) (first : ℕ) → IsMount (D.state found) (D.state evidence.now.core.value.disk) first evidence.now.core.value.books → IsMount (D.state found) (D.state core.old.disk) first core.old.books → IsCommit (D.state found) (D.state core.old.disk) core.old.books core.new.books evidence.now.kind (verdict_at evidence.now.verdicts at).item used result }
-    ensures adds { AddsStep caller (see_step evidence.now.kind (verdict_at evidence.now.verdicts at).item) result core.old.books.history.entries core.new.books.history.entries }
-    ensures safe { IsSafe (D.state core.new.disk) core.new.books }
-    ensures same { (core.new.books.history.start ≡ core.old.books.history.start) × (core.new.books.at ≡ core.old.books.at) }
-    ensures room { core.old.books.history.spare ≤ core.new.books.history.spare + 1 }
-    ensures fits { Fits (see_step evidence.now.kind (verdict_at evidence.now.verdicts at).item) result }
+    requires verdict { IsVerdict evidence.now.verdicts at used }
+    ensures keeps { (found : D) (first : ℕ)
+        → IsMount (D.state found) (D.state evidence.now.core.value.disk) first evidence.now.core.value.books
+        → IsMount (D.state found) (D.state core.old.disk) first core.old.books
+        → IsMount (D.state found) (D.state core.new.disk) first core.new.books }
+    ensures commits { (found : D) (first : ℕ)
+        → IsMount (D.state found) (D.state evidence.now.core.value.disk) first evidence.now.core.value.books
+        → IsMount (D.state found) (D.state core.old.disk) first core.old.books
+        → IsCommit (D.state found) (D.state core.old.disk) core.old.books core.new.books evidence.now.kind
+        (verdict_at evidence.now.verdicts at).item used result }
+    ensures tells { TellsStep caller (see_step evidence.now.kind (verdict_at evidence.now.verdicts at).item)
+        core.old.books.history.entries core.new.books.history.entries result }
+    ensures goes_on { BooksGoOn (D.state core.new.disk) core.old.books core.new.books }
     ensures sees { is_out_of_memory result ≡ false }
 {
     let item = evidence.verdicts.item(at);
@@ -95,11 +98,13 @@ impl<D: Disk + Drop> Mount<D> {
         items: &[u64],
     ) -> Result<Evidence<D>, Refusal>
         requires count { (1 ≤ length items.now) × (length items.now ≤ 64) }
-        ensures same { (self.new.core.books ≡ with_agreement self.old.core.books self.new.core.books.agreement) × (self.new.found ≡ self.old.found) × (self.new.first ≡ self.old.first) × (self.new.kept ≡ self.old.kept) }
+        ensures same { (self.new.core.books ≡ with_agreement self.old.core.books self.new.core.books.agreement)
+            × (self.new.found ≡ self.old.found) × (self.new.first ≡ self.old.first) × (self.new.kept ≡ self.old.kept) }
         ensures stays { StaysButFaults (D.state self.old.core.disk) (D.state self.new.core.disk) }
         ensures refused { IfErr result (batches.BatchFails (D.state self.old.core.disk) self.old.core.books (D.state self.new.core.disk) kind items.now) }
         ensures asked { IfOk result (λ evidence. (evidence.kind ≡ kind) × (items_of evidence.verdicts ≡ items.now)) }
-        ensures own { IfOk result (λ evidence. IsEarlier (D.state self.new.found.value) (D.state evidence.core.value.disk) evidence.core.value.books self.new.first self.new.core.books.history.start self.new.core.books.at self.new.core.books.history.entries) }
+        ensures own { IfOk result (λ evidence. IsEarlier (D.state self.new.found.value) (D.state evidence.core.value.disk) evidence.core.value.books
+            self.new.first self.new.core.books.history.start self.new.core.books.at self.new.core.books.history.entries) }
     {
         if !are_elements(kind, &self.core.books.at, items) {
             return Err(Refusal::BadRange);
@@ -118,16 +123,19 @@ impl<D: Disk + Drop> Mount<D> {
         at: u32,
         used: bool,
     ) -> Reply
-        requires own { IsEarlier (D.state self.old.found.value) (D.state evidence.now.core.value.disk) evidence.now.core.value.books self.old.first self.old.core.books.history.start self.old.core.books.at self.old.core.books.history.entries }
-        requires within { at < length evidence.now.verdicts }
-        requires used { used ≡ (verdict_at evidence.now.verdicts at).used }
-        ensures commits { ∥ IsCommit (D.state self.old.found.value) (D.state self.old.core.disk) self.old.core.books self.new.core.books evidence.now.kind (verdict_at evidence.now.verdicts at).item used result ∥₁ }
-        ensures adds { AddsStep caller (see_step evidence.now.kind (verdict_at evidence.now.verdicts at).item) result self.old.core.books.history.entries self.new.core.books.history.entries }
-        ensures same { (self.new.found ≡ self.old.found) × (self.new.first ≡ self.old.first) × (self.new.core.books.history.start ≡ self.old.core.books.history.start) × (self.new.core.books.at ≡ self.old.core.books.at) }
-        ensures fits { Fits (see_step evidence.now.kind (verdict_at evidence.now.verdicts at).item) result }
-        ensures sweeps { is_of_sweep caller (see_step evidence.now.kind (verdict_at evidence.now.verdicts at).item) ≡ true → 0 < self.old.kept → (is_out_of_memory result ≡ false) × (self.new.kept ≡ self.old.kept - 1) }
-        ensures others { is_of_sweep caller (see_step evidence.now.kind (verdict_at evidence.now.verdicts at).item) ≡ false → self.new.kept ≡ self.old.kept }
-        ensures own { IsEarlier (D.state self.new.found.value) (D.state evidence.now.core.value.disk) evidence.now.core.value.books self.new.first self.new.core.books.history.start self.new.core.books.at self.new.core.books.history.entries }
+        requires own { IsEarlier (D.state self.old.found.value) (D.state evidence.now.core.value.disk) evidence.now.core.value.books
+            self.old.first self.old.core.books.history.start self.old.core.books.at self.old.core.books.history.entries }
+        requires verdict { IsVerdict evidence.now.verdicts at used }
+        ensures commits { ∥ IsCommit (D.state self.old.found.value) (D.state self.old.core.disk) self.old.core.books self.new.core.books
+            evidence.now.kind (verdict_at evidence.now.verdicts at).item used result ∥₁ }
+        ensures tells { TellsStep caller (see_step evidence.now.kind (verdict_at evidence.now.verdicts at).item)
+            self.old.core.books.history.entries self.new.core.books.history.entries result }
+        ensures same { (self.new.found ≡ self.old.found) × (self.new.first ≡ self.old.first)
+            × (self.new.core.books.history.start ≡ self.old.core.books.history.start)
+            × (self.new.core.books.at ≡ self.old.core.books.at) }
+        ensures kept { TakesKept caller (see_step evidence.now.kind (verdict_at evidence.now.verdicts at).item) result self.old.kept self.new.kept }
+        ensures own { IsEarlier (D.state self.new.found.value) (D.state evidence.now.core.value.disk) evidence.now.core.value.books
+            self.new.first self.new.core.books.history.start self.new.core.books.at self.new.core.books.history.entries }
     {
         let item = evidence.verdicts.item(at);
         let step = step_of(evidence.kind, item);

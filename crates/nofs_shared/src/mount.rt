@@ -16,18 +16,18 @@
 //!   may leave is allowed (`IsOpen`).
 //! - stopped: every such image is still allowed (`IsStopped`), but the maps may be wrong, so no step is served.
 //! - A write-out that failed is no step: the mount stays open.
-ghost use Rattle.std.specs.Prelude.{◌≡◌, ◌+◌, ◌-◌, ◌^◌, ◌<◌, ◌≤◌, true, false, [], length, IfOk, IfErr};
-ghost use Rattle.nofs_machine.specs.Steps.{Fits, is_out_of_memory};
+ghost use Rattle.std.specs.Prelude.{◌≡◌, ◌+◌, ◌^◌, ◌≤◌, false, [], length, IfOk, IfErr};
 ghost use Rattle.nofs_machine.specs.World.{World};
 ghost use Rattle.nofs_state.specs.Books.{IsSafe, Says};
 ghost use Rattle.nofs_state.specs.Counted as counted;
 ghost use Rattle.nofs_state.specs.WritingOut.{WroteOne};
 ghost use Rattle.nofs_scan.specs.Scanned.{AreExamined, IsFullScan};
-ghost use Rattle.nofs_shared.specs.Added.{AddsStep, Unowned};
+ghost use Rattle.nofs_shared.specs.Added.{Unowned};
 ghost use Rattle.nofs_shared.specs.Begins as begins;
 ghost use Rattle.nofs_shared.specs.Ends.{Ends};
 ghost use Rattle.nofs_shared.specs.Mounts.{IsMount, IsSoundDisk};
-ghost use Rattle.nofs_shared.specs.Sees.{is_of_sweep};
+ghost use Rattle.nofs_shared.specs.Owned.{TellsStep};
+ghost use Rattle.nofs_shared.specs.Sees.{TakesKept};
 ghost use Rattle.nofs_shared.specs.Settling.{Settles};
 ghost use Rattle.nofs_shared.specs.StepCauses.{StepCauses};
 
@@ -66,7 +66,8 @@ impl<D: Disk + Drop> Mount<D> {
     /// Mounts a disk: its mount number is then one higher, durably.
     pub fn begin(alloc: Global, disk: D, first: u64) -> Result<Mount<D>, BeginFault<D>>
         requires { first ≤ 2 ^ 40 }
-        ensures mount { IfOk result (λ m. (m.found.value ≡ disk) × (m.first ≡ first) × (m.core.books.history.entries ≡ []) × (m.kept ≡ m.core.books.at.inodes + m.core.books.at.blocks)) }
+        ensures mount { IfOk result (λ m. (m.found.value ≡ disk) × (m.first ≡ first)
+            × (m.core.books.history.entries ≡ []) × (m.kept ≡ m.core.books.at.inodes + m.core.books.at.blocks)) }
         ensures fault { IfErr result (λ e. begins.BeginFails (D.state disk) (D.state e.disk) e.cause) }
     {
         let found = Snapshot::of(&disk);
@@ -91,12 +92,13 @@ impl<D: Disk + Drop> Mount<D> {
     /// write fault only where it rose and a write or a flush was made, `Stopped` exactly where one of
     /// them failed before, and every other refusal leaves the cells.
     pub fn step(&mut self, alloc: Global, caller: u32, step: Step) -> Reply
-        ensures adds { AddsStep caller step result self.old.core.books.history.entries self.new.core.books.history.entries }
-        ensures claims { IsSoundDisk (D.state self.old.found.value) → ∥ Unowned (D.state self.old.core.disk).now self.old.core.books.history.entries self.new.core.books.history.entries ∥₁ }
-        ensures same { (self.new.found ≡ self.old.found) × (self.new.first ≡ self.old.first) × (self.new.core.books.history.start ≡ self.old.core.books.history.start) × (self.new.core.books.at ≡ self.old.core.books.at) }
-        ensures fits { Fits step result }
-        ensures sweeps { is_of_sweep caller step ≡ true → 0 < self.old.kept → (is_out_of_memory result ≡ false) × (self.new.kept ≡ self.old.kept - 1) }
-        ensures others { is_of_sweep caller step ≡ false → self.new.kept ≡ self.old.kept }
+        ensures tells { TellsStep caller step self.old.core.books.history.entries self.new.core.books.history.entries result }
+        ensures claims { IsSoundDisk (D.state self.old.found.value)
+            → ∥ Unowned (D.state self.old.core.disk).now self.old.core.books.history.entries self.new.core.books.history.entries ∥₁ }
+        ensures same { (self.new.found ≡ self.old.found) × (self.new.first ≡ self.old.first)
+            × (self.new.core.books.history.start ≡ self.old.core.books.history.start)
+            × (self.new.core.books.at ≡ self.old.core.books.at) }
+        ensures kept { TakesKept caller step result self.old.kept self.new.kept }
         ensures settled { Settles step result (D.state self.new.core.disk) }
         ensures causes { StepCauses (D.state self.old.core.disk) (D.state self.new.core.disk) self.old.core.books self.new.core.books result }
     {
@@ -117,7 +119,8 @@ impl<D: Disk + Drop> Mount<D> {
     ///
     /// `Failed` only where the device's count of faults rose; `OutOfMemory`.
     pub fn write_out(&mut self) -> Result<Option<u64>, OutFault>
-        ensures same { (self.new.core.books ≡ self.old.core.books) × (self.new.found ≡ self.old.found) × (self.new.first ≡ self.old.first) × (self.new.kept ≡ self.old.kept) }
+        ensures same { (self.new.core.books ≡ self.old.core.books) × (self.new.found ≡ self.old.found)
+            × (self.new.first ≡ self.old.first) × (self.new.kept ≡ self.old.kept) }
         ensures out { WroteOne (D.state self.old.core.disk) (D.state self.new.core.disk) result }
     {
         self.core.write_out()
@@ -130,7 +133,9 @@ impl<D: Disk + Drop> Mount<D> {
         ensures inodes { result.inodes_used + result.inodes_free + result.inodes_unchecked ≡ self.now.core.books.at.inodes }
         ensures blocks { result.blocks_used + result.blocks_free + result.blocks_unchecked ≡ self.now.core.books.at.blocks }
         ensures machine { (W : World) → Says self.now.core.books W → counted.CountsInodes W result × counted.CountsBlocks W result }
-        ensures scan { IsSoundDisk (D.state self.now.found.value) → self.now.core.books.stopped ≡ false → AreExamined self.now.core.books.history.entries self.now.core.books.at → ∥ IsFullScan (D.state self.now.core.disk).now self.now.core.books ∥₁ }
+        ensures scan { IsSoundDisk (D.state self.now.found.value) → self.now.core.books.stopped ≡ false
+            → AreExamined self.now.core.books.history.entries self.now.core.books.at
+            → ∥ IsFullScan (D.state self.now.core.disk).now self.now.core.books ∥₁ }
     {
         self.core.books.counts()
     }

@@ -1,9 +1,10 @@
 //! One step of a caller, and its entry.
-ghost use Rattle.std.specs.Prelude.{◌≡◌, ◌+◌, ◌<◌, ◌≤◌, ℕ, true, false};
-ghost use Rattle.nofs_machine.specs.Steps.{Fits, is_out_of_memory};
-ghost use Rattle.nofs_state.specs.Books.{IsSafe};
-ghost use Rattle.nofs_shared.specs.Added.{AddsStep, Unowned};
+ghost use Rattle.std.specs.Prelude.{◌≡◌, ℕ, true, false};
+ghost use Rattle.nofs_machine.specs.Steps.{is_out_of_memory};
+ghost use Rattle.nofs_shared.specs.Added.{Unowned};
+ghost use Rattle.nofs_shared.specs.GoingOn.{BooksGoOn, CanStep};
 ghost use Rattle.nofs_shared.specs.Mounts.{IsMount, IsSoundDisk};
+ghost use Rattle.nofs_shared.specs.Owned.{TellsStep};
 ghost use Rattle.nofs_shared.specs.Sees.{is_see};
 ghost use Rattle.nofs_shared.specs.Settling.{Settles};
 ghost use Rattle.nofs_shared.specs.StepCauses.{StepCauses};
@@ -29,19 +30,17 @@ pub(crate) fn step_in<D: Disk + Drop>(
     caller: u32,
     step: Step,
 ) -> Reply
-    requires safe { IsSafe (D.state core.old.disk) core.old.books }
-    requires room { 0 < core.old.books.history.spare }
-    ensures keeps { (found : D) (first : ℕ) → IsMount (D.state found) (D.state core.old.disk) first core.old.books → IsMount (D.state found) (D.state core.new.disk) first core.new.books }
-    ensures claims { (found : D) (first : ℕ) → IsMount (D.state found) (D.state core.old.disk) first core.old.books → IsSoundDisk (D.state found) → Unowned (D.state core.old.disk).now core.old.books.history.entries core.new.books.history.entries }
-    ensures adds { AddsStep caller step result core.old.books.history.entries core.new.books.history.entries }
-    ensures safe { IsSafe (D.state core.new.disk) core.new.books }
-    ensures same { (core.new.books.history.start ≡ core.old.books.history.start) × (core.new.books.at ≡ core.old.books.at) }
-    ensures room { core.old.books.history.spare ≤ core.new.books.history.spare + 1 }
-    ensures fits { Fits step result }
+    requires can { CanStep (D.state core.old.disk) core.old.books }
+    ensures keeps { (found : D) (first : ℕ) → IsMount (D.state found) (D.state core.old.disk) first core.old.books
+        → IsMount (D.state found) (D.state core.new.disk) first core.new.books }
+    ensures claims { (found : D) (first : ℕ) → IsMount (D.state found) (D.state core.old.disk) first core.old.books
+        → IsSoundDisk (D.state found)
+        → Unowned (D.state core.old.disk).now core.old.books.history.entries core.new.books.history.entries }
+    ensures tells { TellsStep caller step core.old.books.history.entries core.new.books.history.entries result }
+    ensures goes_on { BooksGoOn (D.state core.new.disk) core.old.books core.new.books }
     ensures sees { is_see step ≡ true → is_out_of_memory result ≡ false }
     ensures settled { Settles step result (D.state core.new.disk) }
     ensures causes { StepCauses (D.state core.old.disk) (D.state core.new.disk) core.old.books core.new.books result }
-    ensures stopped { core.old.books.stopped ≡ true → is_out_of_memory result ≡ false → result ≡ Reply.Refused Refusal.Stopped }
 {
     let from = core.disk.moment();
     let Acted {

@@ -1,4 +1,4 @@
-use Rattle.std.proofs.Common.{◌-◌, sym, ap, ◌∙◌, subst, subst₂}
+use Rattle.std.proofs.Common.{◌-◌, sym, ap, ◌∙◌, subst, subst₂, rules}
 use Rattle.nofs_disk.specs.Disk.{DiskState}
 use Rattle.nofs_state.specs.Books.{IsSafe}
 use Rattle.nofs_state.specs.declared.books.Books.{Books}
@@ -38,15 +38,21 @@ pub returns-then-core-clause-commits : goal.returns-then-core-clause-commits
 returns-then-core-clause-commits g c = λ found first then m.
     commit-stopped (g.D.Disk.state found) (g.D.Disk.state c.args.core.now.disk) c.args.core.now.books c.step_in.new.core.books c.args.evidence.now.kind
     (verdict_at c.args.evidence.now.verdicts c.args.at).item c.args.used c.step_in.result c.if-core.true
-    (c.step_in.ensures.stopped c.if-core.true (c.step_in.ensures.sees
+    (c.step_in.ensures.causes.stopped c.if-core.true (c.step_in.ensures.sees
     (ap is_see (c.step_of-step.ensures ∙ ap (see_step c.args.evidence.now.kind) c.item-item.ensures)
     ∙ see-is c.args.evidence.now.kind (verdict_at c.args.evidence.now.verdicts c.args.at).item)))
 
-pub returns-clause-safe : goal.returns-clause-safe
-returns-clause-safe g c =
-    subst₂ (λ (d : DiskState) (l : Books). IsSafe d l) (ap g.D.Disk.state (sym (c.keep_step.ensures.disk ∙ c.commit-stands.ensures.disk)))
-    (sym c.keep_step.ensures.books)
-    (safe-history c.commit-stands.new.core.books _ (g.D.Disk.state c.args.core.now.disk) c.commit-stands.ensures.commits.safe)
+pub returns-clause-goes_on : goal.returns-clause-goes_on
+returns-clause-goes_on g c = record {
+  safe = subst₂ (λ (d : DiskState) (l : Books). IsSafe d l) (ap g.D.Disk.state (sym (c.keep_step.ensures.disk ∙ c.commit-stands.ensures.disk)))
+      (sym c.keep_step.ensures.books)
+      (safe-history c.commit-stands.new.core.books _ (g.D.Disk.state c.args.core.now.disk) c.commit-stands.ensures.commits.safe);
+  same = search rules;
+  room = search rules;
+}
 
-pub returns-clause-fits : goal.returns-clause-fits
-returns-clause-fits g c = fits-seen c.args.evidence.now.kind (verdict_at c.args.evidence.now.verdicts c.args.at).item c.commit-stands.result
+pub returns-clause-tells : goal.returns-clause-tells
+returns-clause-tells g c = record {
+  adds = search rules;
+  fits = fits-seen c.args.evidence.now.kind (verdict_at c.args.evidence.now.verdicts c.args.at).item c.commit-stands.result;
+}

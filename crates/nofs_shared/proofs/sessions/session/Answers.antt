@@ -23,7 +23,7 @@ returns g c =
     let follow : AllFollow (two_users one two) c.serve_two-mount.result.1 h.entries =
     subst (AllFollow (two_users one two) c.serve_two-mount.result.1) (sym (ap (λ x. x.entries) c.end-disk.ensures.is.1))
     (all-follow (two_users one two) c.serve_two-mount.result.1 c.in-Ok.mount.core.books.history.entries c.serve_two-mount.result.0.core.books.history.entries
-    c.step.new.self.core.books.history.entries c.step.result c.in-Ok.ensures.mount.2 c.serve_two-mount.ensures.served c.step.ensures.adds) in
+    c.step.new.self.core.books.history.entries c.step.result c.in-Ok.ensures.mount.2 c.serve_two-mount.ensures.served c.step.ensures.tells.adds) in
     let E : g.row.D.Denot → ℕ → Type 0 = λ d n. Ends (S d) (S last) n h in
     record { headline = ∥∥₁_elim c.end-disk.ensures.ends ∥∥₁_prop (λ e. ∣ record { follows = follow; ends = subst₂ E found first e } ∣₁); unmounted = tt }
 

@@ -1,11 +1,11 @@
-use Rattle.std.proofs.Common.{◌+◌, ◌^◌, ◌≤◌, List, length, refl, sym, ap, ◌∙◌, subst, arith}
+use Rattle.std.proofs.Common.{List, refl, sym, ap, ◌∙◌, subst, arith}
 use Rattle.std.proofs.Math.Logic.{∥∥₁_elim, ∥∥₁_prop}
 use mathlib.Core.List.{IsPrefix}
 use Rattle.nofs_machine.specs.declared.history.Entry1.{Entry1}
 use Rattle.nofs_machine.specs.declared.steps.Step.{Step}
 use Rattle.nofs_scan.specs.Elements.{see_step, verdict_at}
 use Rattle.nofs_shared.specs.Sees.{is_of_sweep}
-use Rattle.nofs_shared.specs.Added.{AddsStep}
+use Rattle.nofs_shared.specs.Owned.{TellsStep}
 use Rattle.nofs_turn.proofs.Words.{prefix_self}
 use Rattle.nofs_shared.specs.Earlier.{earlier-on}
 use Rattle.nofs_shared.proofs.Owning.{adds-prefix}
@@ -31,10 +31,10 @@ invariant_of-self g c =
 pub invariant_of-self-in-Some : goal.invariant_of-self-in-Some
 invariant_of-self-in-Some g c = record {
   few = few-left c.args.caller (see_step c.args.evidence.now.kind (verdict_at c.args.evidence.now.verdicts c.args.at).item)
-      c.commit_in.result c.take_room.new.history.entries c.commit_in.new.core.books.history.entries c.in-Some.left c.commit_in.ensures.adds
+      c.commit_in.result c.take_room.new.history.entries c.commit_in.new.core.books.history.entries c.in-Some.left c.commit_in.ensures.tells.adds
       c.in-Some.ensures.few;
-  room = (let a = c.in-Some.ensures.room in let b = c.commit_in.ensures.room in omega (arith, a, b));
-  safe = c.commit_in.ensures.safe;
+  room = (let a = c.in-Some.ensures.room in let b = c.commit_in.ensures.goes_on.room in omega (arith, a, b));
+  safe = c.commit_in.ensures.goes_on.safe;
   stands = ∥∥₁_elim c.requires.own.stood ∥∥₁_prop (λ then. ∥∥₁_elim c.args.self.now.stands ∥∥₁_prop
       (λ m. ∣ c.commit_in.ensures.keeps c.args.self.now.found.value c.args.self.now.first then
       (mount-history (g.D.Disk.state c.args.self.now.found.value) (g.D.Disk.state c.args.self.now.core.disk)
@@ -54,31 +54,37 @@ returns-clause-commits g c = ∥∥₁_elim c.requires.own.stood ∥∥₁_prop 
     (mount-history (g.D.Disk.state c.args.self.now.found.value) (g.D.Disk.state c.args.self.now.core.disk)
     c.args.self.now.first c.args.self.now.core.books c.take_room.new.history c.take_room.ensures.stays.1 c.take_room.ensures.stays.0 m)) ∣₁))
 
-pub returns-in-None-clause-adds : goal.returns-in-None-clause-adds
-returns-in-None-clause-adds g c = adds-none c.args.caller (see_step c.args.evidence.now.kind (verdict_at c.args.evidence.now.verdicts c.args.at).item)
-    c.args.self.now.core.books.history.entries c.take_room.new.history.entries c.take_room.ensures.stays.0
+pub returns-in-None-clause-tells : goal.returns-in-None-clause-tells
+returns-in-None-clause-tells g c = record {
+  adds = adds-none c.args.caller (see_step c.args.evidence.now.kind (verdict_at c.args.evidence.now.verdicts c.args.at).item)
+      c.args.self.now.core.books.history.entries c.take_room.new.history.entries c.take_room.ensures.stays.0;
+  fits = tt;
+}
 
-pub returns-clause-adds : goal.returns-clause-adds
-returns-clause-adds g c = subst (λ (H : List Entry1). AddsStep c.args.caller
+pub returns-clause-tells : goal.returns-clause-tells
+returns-clause-tells g c = subst (λ (H : List Entry1). TellsStep c.args.caller
     (see_step c.args.evidence.now.kind (verdict_at c.args.evidence.now.verdicts c.args.at).item)
-    c.commit_in.result H c.commit_in.new.core.books.history.entries) c.take_room.ensures.stays.0 c.commit_in.ensures.adds
+    H c.commit_in.new.core.books.history.entries c.commit_in.result) c.take_room.ensures.stays.0 c.commit_in.ensures.tells
 
-pub returns-in-None-clause-sweeps : goal.returns-in-None-clause-sweeps
-returns-in-None-clause-sweeps g c = λ e some.
+pub returns-in-None-clause-kept : goal.returns-in-None-clause-kept
+returns-in-None-clause-kept g c =
     let same = c.step_of-step.ensures ∙ ap (see_step c.args.evidence.now.kind) c.item-item.ensures in
-    absurd (let t = c.take_room.ensures.sweep (ap (λ (s : Step). is_of_sweep c.args.caller s) same ∙ e) some in let n = c.in-None.is in cc (t, n))
+    record {
+      sweeps = λ e some.
+          absurd (let t = c.take_room.ensures.sweep (ap (λ (s : Step). is_of_sweep c.args.caller s) same ∙ e) some in let n = c.in-None.is in cc (t, n));
+      others = λ e. refl;
+    }
 
-pub returns-clause-sweeps : goal.returns-clause-sweeps
-returns-clause-sweeps g c =
+pub returns-clause-kept : goal.returns-clause-kept
+returns-clause-kept g c =
     let same = c.step_of-step.ensures ∙ ap (see_step c.args.evidence.now.kind) c.item-item.ensures in
-    sweep-served c.args.caller (see_step c.args.evidence.now.kind (verdict_at c.args.evidence.now.verdicts c.args.at).item)
-    c.commit_in.result c.args.self.now.kept c.in-Some.left
-    (λ e some. sym c.in-Some.is ∙ c.take_room.ensures.sweep (ap (λ (s : Step). is_of_sweep c.args.caller s) same ∙ e) some) (λ e. c.commit_in.ensures.sees)
-
-pub returns-clause-others : goal.returns-clause-others
-returns-clause-others g c = λ e.
-    let same = c.step_of-step.ensures ∙ ap (see_step c.args.evidence.now.kind) c.item-item.ensures in
-    c.in-Some.ensures.others (ap (λ (s : Step). is_of_sweep c.args.caller s) same ∙ e)
+    record {
+      sweeps = sweep-served c.args.caller (see_step c.args.evidence.now.kind (verdict_at c.args.evidence.now.verdicts c.args.at).item)
+          c.commit_in.result c.args.self.now.kept c.in-Some.left
+          (λ e some. sym c.in-Some.is ∙ c.take_room.ensures.sweep (ap (λ (s : Step). is_of_sweep c.args.caller s) same ∙ e) some)
+          (λ e. c.commit_in.ensures.sees);
+      others = λ e. c.in-Some.ensures.others (ap (λ (s : Step). is_of_sweep c.args.caller s) same ∙ e);
+    }
 
 pub returns-in-None-clause-own : goal.returns-in-None-clause-own
 returns-in-None-clause-own g c = earlier-on c.requires.own c.take_room.new.history.start c.args.self.now.core.books.at c.take_room.new.history.entries
@@ -89,7 +95,7 @@ returns-in-None-clause-own g c = earlier-on c.requires.own c.take_room.new.histo
 pub returns-clause-own : goal.returns-clause-own
 returns-clause-own g c = earlier-on c.requires.own c.commit_in.new.core.books.history.start c.commit_in.new.core.books.at
     c.commit_in.new.core.books.history.entries
-    (c.commit_in.ensures.same.0 ∙ c.take_room.ensures.stays.1) c.commit_in.ensures.same.1
+    (c.commit_in.ensures.goes_on.same.0 ∙ c.take_room.ensures.stays.1) c.commit_in.ensures.goes_on.same.1
     (subst (λ (H : List Entry1). IsPrefix H c.commit_in.new.core.books.history.entries) c.take_room.ensures.stays.0
     (adds-prefix c.args.caller (see_step c.args.evidence.now.kind (verdict_at c.args.evidence.now.verdicts c.args.at).item)
-    c.commit_in.result c.take_room.new.history.entries c.commit_in.new.core.books.history.entries c.commit_in.ensures.adds))
+    c.commit_in.result c.take_room.new.history.entries c.commit_in.new.core.books.history.entries c.commit_in.ensures.tells.adds))

@@ -11,7 +11,7 @@ returns-clause-tells g c =
     subst (λ (i : ℕ). TellsStep c.args.caller (see_step c.args.found.now.kind i)
     c.args.self.now.core.books.history.entries c.commit.new.self.core.books.history.entries c.commit.result)
     (sym (item-at c.args.found.now.verdicts c.args.at (items-length c.args.found.now.verdicts c.args.at c.requires.within)))
-    (record { adds = c.commit.ensures.adds; fits = c.commit.ensures.fits })
+    c.commit.ensures.tells
 
 pub returns-clause-commits : goal.returns-clause-commits
 returns-clause-commits g c = ∥∥₁_elim c.args.self.now.stands ∥∥₁_prop (λ m. ∥∥₁_elim c.commit.ensures.commits ∥∥₁_prop (λ q. ∣ record {
