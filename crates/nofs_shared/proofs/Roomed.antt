@@ -16,7 +16,8 @@ pub record IsRoomed (found d : DiskState) (first : ℕ) (k : Books) (h : History
   pub stands : ∥ IsMount found d first (with_history k h) ∥₁
 
 pub roomed : (found d : DiskState) (first : ℕ) (k : Books) (h : HistoryState) (kept : ℕ)
-    → (h.entries ≡ k.history.entries) × (h.start ≡ k.history.start) → length k.history.entries + kept ≤ 2 ^ 62 → IsSafe d k → ∥ IsMount found d first k ∥₁ → IsRoomed found d first k h kept
+    → (h.entries ≡ k.history.entries) × (h.start ≡ k.history.start) → length k.history.entries + kept ≤ 2 ^ 62
+    → IsSafe d k → ∥ IsMount found d first k ∥₁ → IsRoomed found d first k h kept
 roomed found d first k h kept (same, begun) few safe stands = record {
   few = subst (λ (H : List Entry1). length H + kept ≤ 2 ^ 62) (sym same) few;
   safe = safe-history k h d safe;

@@ -54,7 +54,8 @@ pub(crate) fn act_get<D: Disk + Drop>(
     slot: u64,
 ) -> Acted
     requires { IsSafe (D.state core.old.disk) core.old.books }
-    ensures goes { Goes (D.state core.old.disk) core.old.books (D.state core.new.disk) core.new.books (step.Get inode generation slot) result.claims result.reply }
+    ensures goes { Goes (D.state core.old.disk) core.old.books (D.state core.new.disk) core.new.books
+        (step.Get inode generation slot) result.claims result.reply }
     ensures same { result.kept ≡ result.reply }
     ensures fits { Fits (step.Get inode generation slot) result.reply }
 {
@@ -95,7 +96,8 @@ pub(crate) fn act_put<D: Disk + Drop>(
     bytes: &Content,
 ) -> Acted
     requires { IsSafe (D.state core.old.disk) core.old.books }
-    ensures goes { Goes (D.state core.old.disk) core.old.books (D.state core.new.disk) core.new.books (step.Put inode generation slot at bytes.now) result.claims result.reply }
+    ensures goes { Goes (D.state core.old.disk) core.old.books (D.state core.new.disk) core.new.books
+        (step.Put inode generation slot at bytes.now) result.claims result.reply }
     ensures same { result.kept ≡ result.reply }
     ensures fits { Fits (step.Put inode generation slot at bytes.now) result.reply }
 {
@@ -139,7 +141,8 @@ pub(crate) fn act_resize<D: Disk + Drop>(
     size: u64,
 ) -> Acted
     requires { IsSafe (D.state core.old.disk) core.old.books }
-    ensures goes { Goes (D.state core.old.disk) core.old.books (D.state core.new.disk) core.new.books (step.Resize inode generation size) result.claims result.reply }
+    ensures goes { Goes (D.state core.old.disk) core.old.books (D.state core.new.disk) core.new.books
+        (step.Resize inode generation size) result.claims result.reply }
     ensures same { result.kept ≡ result.reply }
     ensures fits { Fits (step.Resize inode generation size) result.reply }
 {

@@ -58,7 +58,8 @@ impl<V: Serves> Section<V> for Settle<'_, V> {
 
     ghost asks = { λ s f xs. V.is_of s.evidence.now f xs × (s.at < length (V.items_in s.evidence.now)) × (s.used ≡ V.verdict_in s.evidence.now s.at) };
 
-    ghost tells = { λ s f xs ys r. TellsStep s.caller (see_step (V.kind_of s.evidence.now) (get_or (V.items_in s.evidence.now) s.at 0)) xs ys r × V.commits s.evidence.now s.at f xs r };
+    ghost tells = { λ s f xs ys r. TellsStep s.caller (see_step (V.kind_of s.evidence.now) (get_or (V.items_in s.evidence.now) s.at 0)) xs ys r
+        × V.commits s.evidence.now s.at f xs r };
 
     ghost lasts = { λ s f xs ys asked. (V.is_of_more s.evidence.now f xs ys asked.0, asked.1, asked.2) };
 
@@ -71,7 +72,8 @@ impl<R: Wait, V: Serves> SharedPass<'_, R, V> {
     /// Looks at 1 to 64 elements, in one section. It makes no entry.
     pub fn look_batch(&mut self, kind: ElementKind, items: &[u64]) -> Result<V::Evidence, Refusal>
         requires count { (1 ≤ length items.now) × (length items.now ≤ 64) }
-        ensures same { (self.new.turn.now ≡ self.old.turn.now) × (self.new.caller ≡ self.old.caller) × SameSeat (view_of self.old.pass) (view_of self.new.pass) }
+        ensures same { (self.new.turn.now ≡ self.old.turn.now) × (self.new.caller ≡ self.old.caller)
+            × SameSeat (view_of self.old.pass) (view_of self.new.pass) }
         ensures made { own_steps (view_of self.new.pass).mine ≡ own_steps (view_of self.old.pass).mine }
         ensures asked { IfOk result (λ e. (V.kind_of e ≡ kind) × (V.items_in e ≡ items.now)) }
         ensures own { IfOk result (λ e. MayRun (V.is_of e) (view_of self.new.pass)) }
@@ -90,8 +92,10 @@ impl<R: Wait, V: Serves> SharedPass<'_, R, V> {
         requires own { MayRun (V.is_of evidence.now) (view_of self.old.pass) }
         requires within { at < length (V.items_in evidence.now) }
         requires used { used ≡ V.verdict_in evidence.now at }
-        ensures same { (self.new.turn.now ≡ self.old.turn.now) × (self.new.caller ≡ self.old.caller) × SameSeat (view_of self.old.pass) (view_of self.new.pass) }
-        ensures made { own_steps (view_of self.new.pass).mine ≡ with_made (own_steps (view_of self.old.pass).mine) (elements.see_step (V.kind_of evidence.now) (get_or (V.items_in evidence.now) at 0)) result }
+        ensures same { (self.new.turn.now ≡ self.old.turn.now) × (self.new.caller ≡ self.old.caller)
+            × SameSeat (view_of self.old.pass) (view_of self.new.pass) }
+        ensures made { own_steps (view_of self.new.pass).mine ≡ with_made (own_steps (view_of self.old.pass).mine)
+            (elements.see_step (V.kind_of evidence.now) (get_or (V.items_in evidence.now) at 0)) result }
         ensures fits { Fits (elements.see_step (V.kind_of evidence.now) (get_or (V.items_in evidence.now) at 0)) result }
         ensures own { MayRun (V.is_of evidence.now) (view_of self.new.pass) }
         ensures right { CommitRan (V.commits evidence.now at) (view_of self.old.pass) (view_of self.new.pass) result }

@@ -21,7 +21,8 @@ pub(crate) fn act_look<D: Disk + Drop>(
     name: &Name,
 ) -> Acted
     requires { IsSafe (D.state core.old.disk) core.old.books }
-    ensures goes { Goes (D.state core.old.disk) core.old.books (D.state core.new.disk) core.new.books (step.Look directory generation name.now) result.claims result.reply }
+    ensures goes { Goes (D.state core.old.disk) core.old.books (D.state core.new.disk) core.new.books
+        (step.Look directory generation name.now) result.claims result.reply }
     ensures same { result.kept ≡ result.reply }
     ensures fits { Fits (step.Look directory generation name.now) result.reply }
 {
@@ -44,7 +45,8 @@ pub(crate) fn act_rename<D: Disk + Drop>(
     new: &Name,
 ) -> Acted
     requires { IsSafe (D.state core.old.disk) core.old.books }
-    ensures goes { Goes (D.state core.old.disk) core.old.books (D.state core.new.disk) core.new.books (step.Rename directory generation old.now new.now) result.claims result.reply }
+    ensures goes { Goes (D.state core.old.disk) core.old.books (D.state core.new.disk) core.new.books
+        (step.Rename directory generation old.now new.now) result.claims result.reply }
     ensures same { result.kept ≡ result.reply }
     ensures fits { Fits (step.Rename directory generation old.now new.now) result.reply }
 {
@@ -93,7 +95,8 @@ pub(crate) fn act_list<D: Disk + Drop>(
     slot: u64,
 ) -> Acted
     requires { IsSafe (D.state core.old.disk) core.old.books }
-    ensures goes { Goes (D.state core.old.disk) core.old.books (D.state core.new.disk) core.new.books (step.List directory generation slot) result.claims result.reply }
+    ensures goes { Goes (D.state core.old.disk) core.old.books (D.state core.new.disk) core.new.books
+        (step.List directory generation slot) result.claims result.reply }
     ensures same { result.kept ≡ result.reply }
     ensures fits { Fits (step.List directory generation slot) result.reply }
 {
@@ -129,7 +132,8 @@ pub(crate) fn act_drop<D: Disk + Drop>(
     name: &Name,
 ) -> Acted
     requires { IsSafe (D.state core.old.disk) core.old.books }
-    ensures goes { Goes (D.state core.old.disk) core.old.books (D.state core.new.disk) core.new.books (step.Drop directory generation name.now) result.claims result.reply }
+    ensures goes { Goes (D.state core.old.disk) core.old.books (D.state core.new.disk) core.new.books
+        (step.Drop directory generation name.now) result.claims result.reply }
     ensures same { result.kept ≡ result.reply }
     ensures fits { Fits (step.Drop directory generation name.now) result.reply }
 {
@@ -153,7 +157,8 @@ pub(crate) fn act_link<D: Disk + Drop>(
     of: u64,
 ) -> Acted
     requires { IsSafe (D.state core.old.disk) core.old.books }
-    ensures goes { Goes (D.state core.old.disk) core.old.books (D.state core.new.disk) core.new.books (step.Link directory generation name.now inode of) result.claims result.reply }
+    ensures goes { Goes (D.state core.old.disk) core.old.books (D.state core.new.disk) core.new.books
+        (step.Link directory generation name.now inode of) result.claims result.reply }
     ensures same { result.kept ≡ result.reply }
     ensures fits { Fits (step.Link directory generation name.now inode of) result.reply }
 {
@@ -189,7 +194,8 @@ pub(crate) fn act_make<D: Disk + Drop>(
     kind: FileKind,
 ) -> Acted
     requires { IsSafe (D.state core.old.disk) core.old.books }
-    ensures goes { Goes (D.state core.old.disk) core.old.books (D.state core.new.disk) core.new.books (step.Make directory generation name.now kind) result.claims result.reply }
+    ensures goes { Goes (D.state core.old.disk) core.old.books (D.state core.new.disk) core.new.books
+        (step.Make directory generation name.now kind) result.claims result.reply }
     ensures same { result.kept ≡ result.reply }
     ensures fits { Fits (step.Make directory generation name.now kind) result.reply }
 {

@@ -44,7 +44,8 @@ impl<V: Serves> Section<V> for WriteOut<'_> {
 impl<R: Wait, V: Serves> SharedPass<'_, R, V> {
     // The same under the turn, whatever a write-out found before.
     fn take_out(&mut self) -> Result<Option<u64>, OutFault>
-        ensures same { (self.new.turn.now ≡ self.old.turn.now) × (self.new.caller ≡ self.old.caller) × SameSeat (view_of self.old.pass) (view_of self.new.pass) }
+        ensures same { (self.new.turn.now ≡ self.old.turn.now) × (self.new.caller ≡ self.old.caller)
+            × SameSeat (view_of self.old.pass) (view_of self.new.pass) }
         ensures made { own_steps (view_of self.new.pass).mine ≡ own_steps (view_of self.old.pass).mine }
         ensures looked { (view_of self.old.pass).looks < (view_of self.new.pass).looks }
     {
@@ -55,7 +56,8 @@ impl<R: Wait, V: Serves> SharedPass<'_, R, V> {
     /// Writes out one block that the device kept back, and names it; `None` where there is none. It makes no entry. It takes the turn
     /// once; but where a write-out found none and no step has begun since, it only looks at the turn, and answers `None`.
     pub fn write_out(&mut self) -> Result<Option<u64>, OutFault>
-        ensures same { (self.new.turn.now ≡ self.old.turn.now) × (self.new.caller ≡ self.old.caller) × SameSeat (view_of self.old.pass) (view_of self.new.pass) }
+        ensures same { (self.new.turn.now ≡ self.old.turn.now) × (self.new.caller ≡ self.old.caller)
+            × SameSeat (view_of self.old.pass) (view_of self.new.pass) }
         ensures made { own_steps (view_of self.new.pass).mine ≡ own_steps (view_of self.old.pass).mine }
         ensures looked { (view_of self.old.pass).looks < (view_of self.new.pass).looks }
     {

@@ -98,7 +98,8 @@ pub trait Serves: Kept<Entry = Entry1> + Drop {
         requires within { at < length (items_in evidence.now) }
         requires used { used ≡ verdict_in evidence.now at }
         ensures fixed { Self.fixed self.new ≡ Self.fixed self.old }
-        ensures tells { TellsStep caller (see_step (kind_of evidence.now) (get_or (items_in evidence.now) at 0)) (Self.entries self.old) (Self.entries self.new) result }
+        ensures tells { TellsStep caller (see_step (kind_of evidence.now) (get_or (items_in evidence.now) at 0))
+            (Self.entries self.old) (Self.entries self.new) result }
         ensures commits { commits evidence.now at (Self.fixed self.old) (Self.entries self.old) result };
 
     /// Writes out one block that the device kept back, and names it; `None` where there is none. It makes no entry.
