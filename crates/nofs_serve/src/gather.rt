@@ -58,8 +58,10 @@ pub fn gather_users<R: Wait, V: Serves, T: Gate + Drop>(
     ensures gathered { (v : View Entry1 V.Fixed) (scripts : List (List Command)) (count : ℕ) → v.stands ≡ 1
         → ((c : ℕ) → 1 ≤ c → c ≤ length scripts → made_by c (view_of begun.pass) ≡ [])
         → Gathers v (view_of begun.pass) count
-        → Stand (HasRun (λ c way. (way.pass.caller ≡ c) × SameSeat v (view_of way.pass.pass)) (λ way. own_steps (view_of way.pass.pass).mine)) 1 scripts users.entry.items
-        → Gathers v (view_of result.pass) (count + length scripts) × UsersGathered scripts begun.out_of_memory result.out_of_memory result.lines.items (view_of begun.pass) (view_of result.pass) }
+        → Stand (HasRun (λ c way. (way.pass.caller ≡ c) × SameSeat v (view_of way.pass.pass))
+        (λ way. own_steps (view_of way.pass.pass).mine)) 1 scripts users.entry.items
+        → Gathers v (view_of result.pass) (count + length scripts)
+        × UsersGathered scripts begun.out_of_memory result.out_of_memory result.lines.items (view_of begun.pass) (view_of result.pass) }
 {
     let (mut users, mut whole) = (users, begun);
     while let Some(user) = users.pop() {

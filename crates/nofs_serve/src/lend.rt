@@ -10,7 +10,8 @@ use std::thread::Threads;
 /// done its work once.
 pub fn work_all<R: Threads + Sync, W: Works + Send>(rt: &R, workers: &mut [W])
     ensures len { length workers.new ≡ length workers.old }
-    ensures each { (place : ℕ) (default : W) → place < length workers.old → W.worked (slice_index_or workers.old place default) (slice_index_or workers.new place default) }
+    ensures each { (place : ℕ) (default : W) → place < length workers.old
+        → W.worked (slice_index_or workers.old place default) (slice_index_or workers.new place default) }
 {
     let count = workers.len();
     if count == 0 {
@@ -35,7 +36,8 @@ pub fn work_team<
     F: Works + Send,
 >(rt: &R, users: &mut Vec<U>, inodes: &mut I, blocks: &mut B, flusher: &mut F)
     ensures len { length users.new.items ≡ length users.old.items }
-    ensures users { (place : ℕ) (default : U) → place < length users.old.items → U.worked (slice_index_or users.old.items place default) (slice_index_or users.new.items place default) }
+    ensures users { (place : ℕ) (default : U) → place < length users.old.items
+        → U.worked (slice_index_or users.old.items place default) (slice_index_or users.new.items place default) }
     ensures inodes { I.worked inodes.old inodes.new }
     ensures blocks { B.worked blocks.old blocks.new }
     ensures flusher { F.worked flusher.old flusher.new }

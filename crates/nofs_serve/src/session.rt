@@ -51,7 +51,8 @@ where
     requires few { vec_len plans ≤ 8 }
     requires formed { All (λ p. AreWellFormed p.commands) plans.items }
     ensures fixed { V.fixed result.mount ≡ V.fixed mount }
-    ensures served { TeamServed (map (λ p. p.commands) plans.items) sweeps.inodes sweeps.blocks result.out_of_memory result.lines.items (V.entries mount) (V.entries result.mount) }
+    ensures served { TeamServed (map (λ p. p.commands) plans.items) sweeps.inodes sweeps.blocks
+        result.out_of_memory result.lines.items (V.entries mount) (V.entries result.mount) }
 {
     let count = plans.len();
     let Ok(users) = Vec::with_capacity(alloc, count) else {

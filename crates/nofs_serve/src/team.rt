@@ -61,7 +61,8 @@ pub fn seat<'a, R, V: Serves>(
     requires some { 0 < vec_len passes.old }
     requires new { All (λ p. IsPassOf shared.now.turn p × ((view_of p).mine ≡ [])) passes.old.items }
     ensures way { (result.pass.turn.now ≡ shared.now.turn) × (result.pass.caller ≡ caller) }
-    ensures seen { (v : View Entry1 V.Fixed) → All (λ p. view_of p ≡ v) passes.old.items → (view_of result.pass.pass ≡ v) × All (λ p. view_of p ≡ v) passes.new.items }
+    ensures seen { (v : View Entry1 V.Fixed) → All (λ p. view_of p ≡ v) passes.old.items
+        → (view_of result.pass.pass ≡ v) × All (λ p. view_of p ≡ v) passes.new.items }
     ensures rest { (vec_len passes.new + 1 ≡ vec_len passes.old) × All (λ p. IsPassOf shared.now.turn p × ((view_of p).mine ≡ [])) passes.new.items }
 {
     let Some(pass) = passes.pop() else {
@@ -87,8 +88,11 @@ fn seat_users<'a, R: Wait, V: Serves, T: Gate + Drop>(
     requires room { (room.items ≡ []) × (vec_len plans ≤ vec_capacity room) }
     ensures len { vec_len result ≡ vec_len plans }
     ensures ways { All (λ w. w.client.steps.steps.pass.turn.now ≡ shared.now.turn) result.items }
-    ensures ready { (v : View Entry1 V.Fixed) → All (λ p. view_of p ≡ v) passes.old.items → Stand (IsReady (λ c way. (way.pass.caller ≡ c) × (view_of way.pass.pass ≡ v))) 1 (map (λ p. p.commands) plans.items) result.items × All (λ p. view_of p ≡ v) passes.new.items }
-    ensures rest { (vec_len passes.new + vec_len plans ≡ vec_len passes.old) × All (λ p. IsPassOf shared.now.turn p × ((view_of p).mine ≡ [])) passes.new.items }
+    ensures ready { (v : View Entry1 V.Fixed) → All (λ p. view_of p ≡ v) passes.old.items
+        → Stand (IsReady (λ c way. (way.pass.caller ≡ c) × (view_of way.pass.pass ≡ v))) 1 (map (λ p. p.commands) plans.items) result.items
+        × All (λ p. view_of p ≡ v) passes.new.items }
+    ensures rest { (vec_len passes.new + vec_len plans ≡ vec_len passes.old)
+        × All (λ p. IsPassOf shared.now.turn p × ((view_of p).mine ≡ [])) passes.new.items }
 {
     let (mut plans, mut users) = (plans, room);
     while !plans.is_empty() {
@@ -123,7 +127,9 @@ where
     requires users { (room.users.items ≡ []) × (vec_len plans ≤ vec_capacity room.users) }
     requires lines { (room.lines.items ≡ []) × (vec_len plans ≤ vec_capacity room.lines) }
     ensures of { IsPassOf shared.now.turn result.pass }
-    ensures gathered { (v : View Entry1 V.Fixed) → v.stands ≡ 1 → v.mine ≡ [] → All (λ p. view_of p ≡ v) passes.items → TeamGathered (map (λ p. p.commands) plans.items) sweeps.inodes sweeps.blocks result.out_of_memory result.lines.items v (view_of result.pass) }
+    ensures gathered { (v : View Entry1 V.Fixed) → v.stands ≡ 1 → v.mine ≡ [] → All (λ p. view_of p ≡ v) passes.items
+        → TeamGathered (map (λ p. p.commands) plans.items) sweeps.inodes sweeps.blocks
+        result.out_of_memory result.lines.items v (view_of result.pass) }
 {
     let (mut passes, TeamRoom { users, lines }) = (passes, room);
     let mut users = seat_users(rt, alloc, shared, plans, &mut passes, users);

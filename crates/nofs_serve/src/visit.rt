@@ -53,7 +53,8 @@ where
     requires small { sweeps.inodes < 2 ^ 32 }
     requires passes { (vec_len passes ≡ 4) × All (λ p. IsPassOf shared.now.turn p × ((view_of p).mine ≡ [])) passes.items }
     ensures of { IsPassOf shared.now.turn result.pass }
-    ensures gathered { (v : View Entry1 V.Fixed) → v.stands ≡ 1 → v.mine ≡ [] → All (λ p. view_of p ≡ v) passes.items → VisitGathered (G.visited visitor.old visitor.new []) sweeps.inodes sweeps.blocks result.out_of_memory v (view_of result.pass) }
+    ensures gathered { (v : View Entry1 V.Fixed) → v.stands ≡ 1 → v.mine ≡ [] → All (λ p. view_of p ≡ v) passes.items
+        → VisitGathered (G.visited visitor.old visitor.new []) sweeps.inodes sweeps.blocks result.out_of_memory v (view_of result.pass) }
 {
     let mut passes = passes;
     let mut visit = seat(rt, alloc, shared, VISITOR, &mut passes);
@@ -102,7 +103,8 @@ where
     requires ready { G.is_ready visitor.old }
     requires small { sweeps.inodes < 2 ^ 32 }
     ensures fixed { IfOk result (λ done. V.fixed done.mount ≡ V.fixed mount) }
-    ensures visited { IfOk result (λ done. VisitServed (G.visited visitor.old visitor.new []) sweeps.inodes sweeps.blocks done.out_of_memory (V.entries mount) (V.entries done.mount)) }
+    ensures visited { IfOk result (λ done. VisitServed (G.visited visitor.old visitor.new []) sweeps.inodes sweeps.blocks
+        done.out_of_memory (V.entries mount) (V.entries done.mount)) }
     ensures unvisited { IfErr result (λ same. (same ≡ mount) × (visitor.new ≡ visitor.old)) }
 {
     let (shared, passes) = match SharedMount::new(alloc, mount, 4) {

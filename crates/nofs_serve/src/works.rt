@@ -57,7 +57,9 @@ impl<S: Batches, O: Course, T: Gate> Works for Sweeper<S, O, T> {
     ghost use Rattle.std.specs.Prelude.{◌≡◌};
     ghost use Rattle.nofs_workers.specs.Sweeps.{Sweeps};
 
-    ghost worked = { λ old new. (new.elements ≡ old.elements) × Sweeps (O.has_item old.elements.order) old.elements.kind 0 (O.count_of old.elements.order) new.out_of_memory (S.made old.steps) (S.made new.steps) × S.goes old.steps new.steps };
+    ghost worked = { λ old new. (new.elements ≡ old.elements)
+        × Sweeps (O.has_item old.elements.order) old.elements.kind 0 (O.count_of old.elements.order) new.out_of_memory (S.made old.steps) (S.made new.steps)
+        × S.goes old.steps new.steps };
 
     fn work(&mut self) {
         Sweeper::work(self);
