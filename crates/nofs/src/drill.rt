@@ -73,7 +73,8 @@ fn line_of(
     history: &History,
 ) -> Result<Content, AllocError>
     requires { steps ≤ 4000 }
-    ensures { IfOk result (λ text. text ≡ drill_line start steps (sum_by (count_by is_refused_line) users.now) (sum_by size_told reads.now) (sum_by sum_told reads.now) (sum_by (wrong_told history.now.entries) reads.now)) }
+    ensures { IfOk result (λ text. text ≡ drill_line start steps (sum_by (count_by is_refused_line) users.now) (sum_by size_told reads.now)
+        (sum_by sum_told reads.now) (sum_by (wrong_told history.now.entries) reads.now)) }
 {
     let told = numbers_of(alloc, users, reads, history)?;
     drill_text(alloc, start, steps, &told)
@@ -89,7 +90,8 @@ fn read_and_close<D: Disk + Drop>(
     requires { steps ≤ 4000 }
     ensures ends { ∥ Finished (D.state served.mount.found.value) (D.state result.disk) served.mount.first result.history ∥₁ }
     ensures closed { IfSome result.text (λ _. IsClosed (D.state result.disk) result.history.entries) }
-    ensures out { IfSome result.text (λ text. (served.out_of_memory ≡ false) × IsReadOut start steps (sum_by (count_by is_refused_line) served.lines.items) served.mount.core.books.history.entries result.history.entries text) }
+    ensures out { IfSome result.text (λ text. (served.out_of_memory ≡ false)
+        × IsReadOut start steps (sum_by (count_by is_refused_line) served.lines.items) served.mount.core.books.history.entries result.history.entries text) }
     ensures follows { IsReadFollowed served.out_of_memory served.mount.core.books.history.entries result.text result.history.entries }
 {
     let Served {

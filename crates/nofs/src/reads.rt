@@ -82,7 +82,8 @@ fn read_slots<D: Disk + Drop>(
     found: Found,
     count: u64,
 ) -> Result<Vec<Reply>, AllocError>
-    ensures reads { ReadsBy (λ replies made. (length replies.items ≡ count) × (made ≡ gets_from found 0 replies.items)) result mount.old.core.books.history.entries mount.new.core.books.history.entries }
+    ensures reads { ReadsBy (λ replies made. (length replies.items ≡ count) × (made ≡ gets_from found 0 replies.items)) result
+        mount.old.core.books.history.entries mount.new.core.books.history.entries }
     ensures same { (mount.new.found ≡ mount.old.found) × (mount.new.first ≡ mount.old.first) }
 {
     let mut replies = Vec::new(alloc);
@@ -185,7 +186,9 @@ fn push_read<D: Disk + Drop>(
     reads: &mut Vec<Option<FileRead>>,
 ) -> Result<(), AllocError>
     requires { user ≤ 4 }
-    ensures reads { ReadsBy (λ _ made. (read : Option ReadOf) × (reads.new.items ≡ reads.old.items ++ read ∷ []) × IsFileRead user read made) result mount.old.core.books.history.entries mount.new.core.books.history.entries }
+    ensures reads { ReadsBy (λ _ made. (read : Option ReadOf) × (reads.new.items ≡ reads.old.items ++ read ∷ [])
+        × IsFileRead user read made)
+        result mount.old.core.books.history.entries mount.new.core.books.history.entries }
     ensures same { (mount.new.found ≡ mount.old.found) × (mount.new.first ≡ mount.old.first) }
 {
     reads.push(read_file(alloc, mount, user)?)?;

@@ -69,7 +69,8 @@ fn lines_text(alloc: Global, users: &[LineList]) -> Result<Content, AllocError>
 
 /// Makes all durable; false where memory was wanting.
 pub fn close<D: Disk + Drop>(alloc: Global, mount: &mut Mount<D>) -> bool
-    ensures adds { (reply : Reply) × AddsStep 0 (step.Flush 0 0) reply mount.old.core.books.history.entries mount.new.core.books.history.entries × (result ≡ not (is_out_of_memory reply)) }
+    ensures adds { (reply : Reply) × AddsStep 0 (step.Flush 0 0) reply mount.old.core.books.history.entries mount.new.core.books.history.entries
+        × (result ≡ not (is_out_of_memory reply)) }
     ensures closed { result ≡ true → IsClosed (D.state mount.new.core.disk) mount.new.core.books.history.entries }
     ensures same { (mount.new.found ≡ mount.old.found) × (mount.new.first ≡ mount.old.first) }
 {
@@ -140,7 +141,8 @@ pub fn serve_users<R: Threads + Wait + Sync, D: Disk + Drop + Send>(
     requires few { vec_len plans ≤ 8 }
     requires formed { All (λ p. AreWellFormed p.commands) plans.items }
     ensures same { (result.mount.found.value ≡ mount.found.value) × (result.mount.first ≡ mount.first) }
-    ensures served { TeamServed (map (λ p. p.commands) plans.items) mount.core.books.at.inodes mount.core.books.at.blocks result.out_of_memory result.lines.items mount.core.books.history.entries result.mount.core.books.history.entries }
+    ensures served { TeamServed (map (λ p. p.commands) plans.items) mount.core.books.at.inodes mount.core.books.at.blocks result.out_of_memory
+        result.lines.items mount.core.books.history.entries result.mount.core.books.history.entries }
 {
     let at = mount.numbers();
     let sweeps = Sweeps {
@@ -166,7 +168,8 @@ fn serve_and_close<R: Threads + Wait + Sync, D: Disk + Drop + Send>(
     requires few { vec_len plans ≤ 8 }
     requires formed { All (λ p. AreWellFormed p.commands) plans.items }
     ensures same { (result.mount.found.value ≡ mount.found.value) × (result.mount.first ≡ mount.first) }
-    ensures ran { IsSessionRun (map (λ p. p.commands) plans.items) mount.core.books.at.inodes mount.core.books.at.blocks result.out_of_memory result.lines.items result.mount.core.books.history.entries }
+    ensures ran { IsSessionRun (map (λ p. p.commands) plans.items) mount.core.books.at.inodes mount.core.books.at.blocks result.out_of_memory
+        result.lines.items result.mount.core.books.history.entries }
     ensures closed { result.out_of_memory ≡ false → IsClosed (D.state result.mount.core.disk) result.mount.core.books.history.entries }
 {
     let Served {
@@ -209,7 +212,9 @@ pub fn run_session<R: Threads + Wait + Sync, D: Disk + Drop + Send>(
     ensures ends { ∥ Finished (D.state mount.found.value) (D.state result.disk) mount.first result.history ∥₁ }
     ensures follows { IsFollowed session mount.core.books.at result.text result.history.entries }
     ensures closed { IfSome result.text (λ _. IsClosed (D.state result.disk) result.history.entries) }
-    ensures ran { IfSome result.text (λ text. (lines : List (List Line)) × IsSessionRun session mount.core.books.at.inodes mount.core.books.at.blocks false lines result.history.entries × (text ≡ session_text session result.history.entries)) }
+    ensures ran { IfSome result.text (λ text. (lines : List (List Line))
+        × IsSessionRun session mount.core.books.at.inodes mount.core.books.at.blocks false lines result.history.entries
+        × (text ≡ session_text session result.history.entries)) }
 {
     let Ok(plans) = plans_of(alloc, session) else {
         return ended(mount, None);

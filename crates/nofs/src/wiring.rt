@@ -79,9 +79,11 @@ fn run_wire<R: Threads + Wait + Sync, Q: Source, K: Sink, D: Disk + Drop + Send>
 ) -> Wired<D>
     requires { mount.core.books.history.entries ≡ [] }
     ensures ends { ∥ Finished (D.state mount.found.value) (D.state result.disk) mount.first result.history ∥₁ }
-    ensures ran { IsVisitRun (IsWired (Q.state source.old).left (Q.state source.new).left) mount.core.books.at.inodes mount.core.books.at.blocks result.out_of_memory result.history.entries }
+    ensures ran { IsVisitRun (IsWired (Q.state source.old).left (Q.state source.new).left) mount.core.books.at.inodes mount.core.books.at.blocks
+        result.out_of_memory result.history.entries }
     ensures closed { result.out_of_memory ≡ false → IsClosed (D.state result.disk) result.history.entries }
-    ensures served { Serves 16777216 result.end (Q.state source.old).left (Q.state source.new).left (K.state sink.old).given (K.state sink.new).given [] (steps_by 1 result.history.entries) }
+    ensures served { Serves 16777216 result.end (Q.state source.old).left (Q.state source.new).left (K.state sink.old).given (K.state sink.new).given
+        [] (steps_by 1 result.history.entries) }
     ensures source_fault { result.end ≡ WireEnd.SourceFault → Rose (Q.state source.old).faults (Q.state source.new).faults }
     ensures sink_fault { result.end ≡ WireEnd.SinkFault → Rose (K.state sink.old).faults (K.state sink.new).faults }
 {
@@ -147,8 +149,10 @@ fn mounted<R: Threads + Wait + Sync, Q: Source, K: Sink, D: Disk + Drop + Send>(
 ) -> Outcome<D>
     requires new { mount.core.books.history.entries ≡ [] }
     requires first { mount.first ≡ 0 }
-    ensures headline { IfSome result.history (λ h. ∥ IsHeadlineOf (FollowsVisit (IsWired (Q.state source.old).left (Q.state source.new).left)) (D.state mount.found.value) (D.state result.disk) result.status h ∥₁) }
-    ensures ends { WireEnds (D.state mount.found.value) (D.state result.disk) (Q.state source.old) (Q.state source.new) (K.state sink.old) (K.state sink.new) result.status result.history }
+    ensures headline { IfSome result.history (λ h. ∥ IsHeadlineOf (FollowsVisit (IsWired (Q.state source.old).left (Q.state source.new).left))
+        (D.state mount.found.value) (D.state result.disk) result.status h ∥₁) }
+    ensures ends { WireEnds (D.state mount.found.value) (D.state result.disk) (Q.state source.old) (Q.state source.new)
+        (K.state sink.old) (K.state sink.new) result.status result.history }
     ensures stood { result.history ≢ None }
 {
     let Wired {
@@ -173,8 +177,10 @@ pub fn wire_outcome<R: Threads + Wait + Sync, Q: Source, K: Sink, D: Disk + Drop
     sink: &mut K,
     disk: D,
 ) -> Outcome<D>
-    ensures headline { IfSome result.history (λ h. ∥ IsHeadlineOf (FollowsVisit (IsWired (Q.state source.old).left (Q.state source.new).left)) (D.state disk) (D.state result.disk) result.status h ∥₁) }
-    ensures ends { WireEnds (D.state disk) (D.state result.disk) (Q.state source.old) (Q.state source.new) (K.state sink.old) (K.state sink.new) result.status result.history }
+    ensures headline { IfSome result.history (λ h. ∥ IsHeadlineOf (FollowsVisit (IsWired (Q.state source.old).left (Q.state source.new).left))
+        (D.state disk) (D.state result.disk) result.status h ∥₁) }
+    ensures ends { WireEnds (D.state disk) (D.state result.disk) (Q.state source.old) (Q.state source.new) (K.state sink.old) (K.state sink.new)
+        result.status result.history }
     ensures unserved { result.history ≡ None → SaysCause (K.state sink.old) (K.state sink.new) result.status }
 {
     match mount(alloc, disk) {
