@@ -4,7 +4,7 @@ use Rattle.std.proofs.Common.{length-append, append-nil, take, Option, Some, Non
 use Rattle.std.specs.Prelude.{◌==◌, is_none, unwrap_or}
 use Rattle.std.specs.Io.KnownBytes.{Consumes, IsAtEnd}
 use Rattle.std.proofs.lemmas.Bool.{and_parts, le-ltb, lt-leb}
-use Rattle.nofs_disk.specs.Disk.{DiskState, Rose, cell_at}
+use Rattle.nofs_disk.specs.Disk.{DiskState, cell_at}
 use Rattle.nofs_super.specs.Geometry.{IsGeometry, on_device, is_geometry, is_geometry-from, is_geometry-parts}
 use Rattle.nofs_super.specs.Super.{check_rest, check_super, has_magic, is_super, is_version, rest_fault, super_in}
 use Rattle.nofs_super.specs.declared.superblock.SuperBlock.{SuperBlock}
@@ -20,7 +20,9 @@ use Rattle.nofs_upgrade.specs.Upgrades.{check_upgrade, check_version}
 use Rattle.nofs_upgrade.specs.declared.fault.UpgradeFault.TheVariants.{Already}
 use Rattle.nofs.specs.Upgrading.{UpgradeEnds}
 use Rattle.nofs.specs.Complete.{CanBeFormatted, CanBeMounted, HoldsSession, NoneRose}
-use Rattle.nofs.specs.Tool.{IsBad, IsFaulty, IsRefusedBy, IsFaultless, IsStatus, WithText}
+use Rattle.nofs.specs.declared.words.Request.TheVariants.{Run}
+use Rattle.nofs.specs.Statuses.{IsExplained}
+use Rattle.nofs.specs.Tool.{IsBad, IsRefusedBy, IsStatus, SessionEnds, WithText}
 
 -- all that was left was taken
 pub consumed : (old new : Option (List ℕ)) (text bytes : List ℕ) → old ≡ Some text → Consumes old new bytes → IsAtEnd new → bytes ≡ text
@@ -130,21 +132,24 @@ ready-not-refused (Some numbers) old new ready given =
     cc clash
 
 module _ (numbers : Option Numbers) (source_old source_new : SourceState) (limit : ℕ) (old new : DiskState) (sink_old sink_new : SinkState) (s : ℕ)
-    (h : Option HistoryState) (none : NoneRose source_old source_new old new sink_old sink_new) (ready : IsReadyFor numbers old)
-    (device : s ≡ 3 → IsFaulty h × Rose old.faults new.faults) (sink : s ≡ 5 → Rose sink_old.faults sink_new.faults × IsFaultless h)
-    (refused : s ≡ 4 → (h ≡ None) × IsRefusedBy numbers old new) where
-  pub session-completes : HoldsSession source_old limit → IsStatus s × (s ≢ 1) → (s ≡ 6 → Rose source_old.faults source_new.faults)
-      → (s ≡ 8 → TakesJust source_old source_new (limit + 1)) → (s ≡ 2 → WithText source_old source_new limit IsBad) → (s ≡ 0) ⊎ (s ≡ 7)
-  session-completes held named source long bad = completes s named.0 named.1 (λ e. held-not-bad source_old source_new limit held (bad e))
-      (λ e. none.disk (device e).1) (λ e. ready-not-refused numbers old new ready (refused e).1) (λ e. none.sink (sink e).0) (λ e. none.source (source e))
-      (λ e. held-not-long source_old source_new limit held (long e))
+    (h : Option HistoryState) (none : NoneRose source_old source_new old new sink_old sink_new) (ready : IsReadyFor numbers old) where
+  -- where the source holds a session
+  pub session-completes : HoldsSession source_old limit → s ≢ 1 → IsExplained (Some Run) source_old source_new limit sink_old sink_new old new s h
+      → (s ≡ 4 → (h ≡ None) × IsRefusedBy numbers old new) → (s ≡ 0) ⊎ (s ≡ 7)
+  session-completes held command x refused = completes s x.named command (λ e. held-not-bad source_old source_new limit held (x.script e))
+      (λ e. none.disk (x.device e).1) (λ e. ready-not-refused numbers old new ready (refused e).1) (λ e. none.sink (x.sink e).0)
+      (λ e. none.source (x.source e)) (λ e. held-not-long source_old source_new limit held (x.too_long e))
 
-  pub scan-completes : (s ≡ 0) ⊎ (s ≡ 3) ⊎ (s ≡ 4) ⊎ (s ≡ 5) ⊎ (s ≡ 7) → (s ≡ 0) ⊎ (s ≡ 7)
-  scan-completes (inl e) = inl e
-  scan-completes (inr (inl e)) = absurd (none.disk (device e).1)
-  scan-completes (inr (inr (inl e))) = absurd (ready-not-refused numbers old new ready (refused e).1)
-  scan-completes (inr (inr (inr (inl e)))) = absurd (none.sink (sink e).0)
-  scan-completes (inr (inr (inr (inr e)))) = inr e
+  -- where nothing is read of it
+  pub scan-completes : SessionEnds (IsRefusedBy numbers old new) old new sink_old sink_new s h → (s ≡ 0) ⊎ (s ≡ 7)
+  scan-completes ends = go ends.named
+    where
+      go : (s ≡ 0) ⊎ (s ≡ 3) ⊎ (s ≡ 4) ⊎ (s ≡ 5) ⊎ (s ≡ 7) → (s ≡ 0) ⊎ (s ≡ 7)
+      go (inl e) = inl e
+      go (inr (inl e)) = absurd (none.disk (ends.device e).1)
+      go (inr (inr (inl e))) = absurd (ready-not-refused numbers old new ready (ends.refused e).1)
+      go (inr (inr (inr (inl e)))) = absurd (none.sink (ends.sink e).0)
+      go (inr (inr (inr (inr e)))) = inr e
 
 -- an image of version 1 is upgraded
 pub upgrade-completes : (old new : DiskState) (sink_old sink_new : SinkState) (s : ℕ) (source_old source_new : SourceState)

@@ -1,11 +1,14 @@
 -- What a run ends with, by how it went.
-use Rattle.std.proofs.Common.{◌≡◌, ◌⊎◌, inl, inr, ℕ, ◌≤◌, true, false, Some, sym, subst, arith}
+use Rattle.std.proofs.Common.{◌≡◌, ◌⊎◌, inl, inr, ℕ, ◌≤◌, true, false, Some, None, sym, subst, arith}
 use Rattle.std.specs.declared.option.Option.{Option}
 use Rattle.nofs_disk.specs.Disk.{DiskState, Rose}
 use Rattle.nofs_io.specs.Calls.{SinkState}
 use Rattle.nofs_machine.specs.HistoryState.{HistoryState}
+use Rattle.nofs.specs.declared.words.Request.TheVariants.{Upgrade}
 use Rattle.nofs.specs.Entries.{has_fault}
+use Rattle.nofs.specs.Statuses.{KeepsDevice}
 use Rattle.nofs.specs.Tool.{MountEnds, SessionEnds}
+use Rattle.nofs.specs.Upgrading.{IsRefusedUpgrade, UpgradeEnds}
 use Rattle.nofs.specs.Whole.{Finished}
 use Rattle.nofs.proofs.Failing.{faults-rose}
 
@@ -79,3 +82,13 @@ module _ {D : Type 0} (state : D → DiskState) where
       mounted-ends (state old) (state old) (state last) sink_old sink_new status h (omega arith)
       (subst (λ f. MountEnds (state f) (state last) sink_old sink_new status h) was
       (run-ends found ran last sink_old sink_new first status history h same stood ends named device faulty sink))
+
+-- an upgrade has no history, and one that was refused leaves the device as it says
+pub upgrade-keeps : {D : Type 0} (state : D → DiskState) (disk last : D) (sink_old sink_new : SinkState) (status : ℕ) (h : Option HistoryState) → h ≡ None
+    → UpgradeEnds (state disk) (state last) sink_old sink_new status
+    → KeepsDevice (IsRefusedUpgrade (state disk) (state last)) (Some Upgrade) disk last status h
+upgrade-keeps state disk last sink_old sink_new status h none ends = let named = ends.named in record {
+  unmounted = λ e. absurd (omega (arith, e, named));
+  untouched = λ e. absurd (omega (arith, e, named));
+  refused = λ e. (none, ends.refused e);
+}

@@ -14,3 +14,4 @@ pub mod Complete
 pub mod Upgrading
 pub mod Lines
 pub mod Said
+pub mod Statuses

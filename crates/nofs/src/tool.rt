@@ -4,24 +4,21 @@
 //! the sink took the whole text of the session, as it follows from the replies in the history. Wherever there is a history, the
 //! headline holds of it.
 
-ghost use Rattle.std.specs.Prelude.{◌≡◌, ◌≢◌, ◌+◌, ◌≤◌, ◌↔◌, ◌⊎◌, [], None, Some, true, false, map, ℕ, List, IfOk, IfSome, IsTrue, OnErr, OnOk, string_bytes};
-ghost use Rattle.nofs_disk.specs.Disk.{KeepsCells, Rose};
-ghost use Rattle.nofs_io.specs.Texts.{AppendsAll, TakesJust};
+ghost use Rattle.std.specs.Prelude.{◌≡◌, ◌≢◌, ◌≤◌, ◌↔◌, ◌⊎◌, [], None, Some, true, false, map, ℕ, List, IfOk, IfSome, OnErr, OnOk, string_bytes};
+ghost use Rattle.nofs_disk.specs.Disk.{Rose};
+ghost use Rattle.nofs_io.specs.Texts.{AppendsAll};
 ghost use Rattle.nofs_script.specs.Sessions.{IsSession};
 ghost use Rattle.nofs.specs.Words.{picks_in, task_in};
-ghost use Rattle.nofs_upgrade.specs.Upgrades.{StaysOrUpgrades};
 ghost use Rattle.nofs.specs.Begin.{status_of as status_in};
 ghost use Rattle.nofs.specs.Salvaging.{AreReads, IsSalvaged};
 ghost use Rattle.nofs.specs.Visits.{FollowsVisit};
-ghost use Rattle.nofs.specs.Wiring.{WireEnds};
 ghost use Rattle.nofs.specs.Entries.{has_fault};
 ghost use Rattle.nofs.specs.Drill.{IsDrillDone};
-ghost use Rattle.nofs.specs.declared.faults.FixedLine.TheVariants as fixed;
-ghost use Rattle.nofs.specs.Lines.{fixed_line};
 ghost use Rattle.nofs.specs.Said.{Said, Says, SaysCause, SaysCounts, SaysDrill, SaysFault, SaysOrNot, SaysSession, SaysWalk};
 ghost use Rattle.nofs.specs.Headline.{HeadlineIn, HeadlineOf, IsDrillHeadline, IsHeadline, IsHeadlineOf};
 ghost use Rattle.nofs.specs.Complete.{IsReady, NoneRose};
-ghost use Rattle.nofs.specs.Tool.{HasFaultOf, HasSession, IsBad, IsDone, IsFaulty, IsRefusedBy, IsRefusedTask, IsScanned, IsAnswered, IsFaultless, IsFaultlessIn, IsStatus, MountEnds, SessionEnds, UnlessWire, WithSession, WithText};
+ghost use Rattle.nofs.specs.Statuses.{HoldsOfTask, IsExplained, KeepsDevice};
+ghost use Rattle.nofs.specs.Tool.{IsBad, IsDone, IsRefusedBy, IsRefusedTask, IsScanned, IsAnswered, MountEnds, SessionEnds, WithSession, WithText};
 
 use crate::begin::{Numbers, Refused, format_and_mount, mount, status_of};
 use crate::drill::run_drill;
@@ -115,7 +112,8 @@ fn written<K: Sink, D: Disk>(sink: &mut K, ran: Ran<D>) -> Outcome<D>
     ensures device { result.status ≡ 3 → has_fault ran.history.entries ≡ true }
     ensures faulty { has_fault ran.history.entries ≡ true → (result.status ≡ 3) ⊎ (result.status ≡ 7) }
     ensures sink { result.status ≡ 5 → Rose (K.state sink.old).faults (K.state sink.new).faults × (has_fault ran.history.entries ≡ false) }
-    ensures done { result.status ≡ 0 → (has_fault ran.history.entries ≡ false) × (ran.text ≢ None) × IfSome ran.text (AppendsAll (K.state sink.old) (K.state sink.new)) }
+    ensures done { result.status ≡ 0 → (has_fault ran.history.entries ≡ false) × (ran.text ≢ None)
+        × IfSome ran.text (AppendsAll (K.state sink.old) (K.state sink.new)) }
     ensures named { (result.status ≡ 0) ⊎ (result.status ≡ 3) ⊎ (result.status ≡ 5) ⊎ (result.status ≡ 7) }
     ensures unsaid { ran.text ≡ None → result.status ≡ 7 }
     ensures says { IfSome ran.text (Says (K.state sink.old) (K.state sink.new)) }
@@ -175,7 +173,8 @@ fn new_outcome<R: Threads + Wait + Sync, K: Sink, D: Disk + Drop + Send>(
 ) -> Outcome<D>
     requires { IsSession session }
     ensures headline { IfSome result.history (HeadlineOf D.state (Some numbers) session disk (D.state result.disk) result.status) }
-    ensures ends { SessionEnds (IsRefusedBy (Some numbers) (D.state disk) (D.state result.disk)) (D.state disk) (D.state result.disk) (K.state sink.old) (K.state sink.new) result.status result.history }
+    ensures ends { SessionEnds (IsRefusedBy (Some numbers) (D.state disk) (D.state result.disk)) (D.state disk) (D.state result.disk)
+        (K.state sink.old) (K.state sink.new) result.status result.history }
     ensures done { result.status ≡ 0 → IsAnswered session result.history (K.state sink.old) (K.state sink.new) }
     ensures unserved { result.history ≡ None → SaysCause (K.state sink.old) (K.state sink.new) result.status }
     ensures part { (result.status ≡ 3) ⊎ (result.status ≡ 5) → SaysSession (K.state sink.old) (K.state sink.new) session result.history }
@@ -196,7 +195,8 @@ fn run_outcome<R: Threads + Wait + Sync, K: Sink, D: Disk + Drop + Send>(
 ) -> Outcome<D>
     requires { IsSession session }
     ensures headline { IfSome result.history (HeadlineOf D.state None session disk (D.state result.disk) result.status) }
-    ensures ends { SessionEnds (IsRefusedBy None (D.state disk) (D.state result.disk)) (D.state disk) (D.state result.disk) (K.state sink.old) (K.state sink.new) result.status result.history }
+    ensures ends { SessionEnds (IsRefusedBy None (D.state disk) (D.state result.disk)) (D.state disk) (D.state result.disk)
+        (K.state sink.old) (K.state sink.new) result.status result.history }
     ensures done { result.status ≡ 0 → IsAnswered session result.history (K.state sink.old) (K.state sink.new) }
     ensures unserved { result.history ≡ None → SaysCause (K.state sink.old) (K.state sink.new) result.status }
     ensures part { (result.status ≡ 3) ⊎ (result.status ≡ 5) → SaysSession (K.state sink.old) (K.state sink.new) session result.history }
@@ -218,7 +218,8 @@ fn session_outcome<R: Threads + Wait + Sync, K: Sink, D: Disk + Drop + Send>(
 ) -> Outcome<D>
     requires { IsSession session }
     ensures headline { IfSome result.history (HeadlineOf D.state numbers session disk (D.state result.disk) result.status) }
-    ensures ends { SessionEnds (IsRefusedBy numbers (D.state disk) (D.state result.disk)) (D.state disk) (D.state result.disk) (K.state sink.old) (K.state sink.new) result.status result.history }
+    ensures ends { SessionEnds (IsRefusedBy numbers (D.state disk) (D.state result.disk)) (D.state disk) (D.state result.disk)
+        (K.state sink.old) (K.state sink.new) result.status result.history }
     ensures unserved { result.history ≡ None → SaysCause (K.state sink.old) (K.state sink.new) result.status }
     ensures done { result.status ≡ 0 → IsAnswered session result.history (K.state sink.old) (K.state sink.new) }
     ensures part { (result.status ≡ 3) ⊎ (result.status ≡ 5) → SaysSession (K.state sink.old) (K.state sink.new) session result.history }
@@ -238,14 +239,17 @@ fn text_outcome<R: Threads + Wait + Sync, K: Sink, D: Disk + Drop + Send>(
     numbers: Option<Numbers>,
     text: &[u8],
 ) -> Outcome<D>
-    ensures headline { IfSome result.history (λ h. WithSession text.now (λ session. HeadlineOf D.state numbers session disk (D.state result.disk) result.status h)) }
+    ensures headline { IfSome result.history (λ h. WithSession text.now (λ session.
+        HeadlineOf D.state numbers session disk (D.state result.disk) result.status h)) }
     ensures script { result.status ≡ 2 → IsBad text.now × (result.disk ≡ disk) × (result.history ≡ None) }
-    ensures ends { result.status ≢ 2 → SessionEnds (IsRefusedBy numbers (D.state disk) (D.state result.disk)) (D.state disk) (D.state result.disk) (K.state sink.old) (K.state sink.new) result.status result.history }
+    ensures ends { result.status ≢ 2 → SessionEnds (IsRefusedBy numbers (D.state disk) (D.state result.disk)) (D.state disk) (D.state result.disk)
+        (K.state sink.old) (K.state sink.new) result.status result.history }
     ensures session { (result.status ≡ 0) ⊎ (result.status ≡ 3) ⊎ (result.status ≡ 4) ⊎ (result.status ≡ 5) → WithSession text.now (λ _. Unit {0}) }
     ensures done { result.status ≡ 0 → WithSession text.now (λ session. IsAnswered session result.history (K.state sink.old) (K.state sink.new)) }
     ensures fault { result.status ≡ 2 → SaysFault (K.state sink.old) (K.state sink.new) text.now }
     ensures unserved { (result.status ≡ 3) ⊎ (result.status ≡ 4) → result.history ≡ None → SaysCause (K.state sink.old) (K.state sink.new) result.status }
-    ensures part { (result.status ≡ 3) ⊎ (result.status ≡ 5) → WithSession text.now (λ session. SaysSession (K.state sink.old) (K.state sink.new) session result.history) }
+    ensures part { (result.status ≡ 3) ⊎ (result.status ≡ 5)
+        → WithSession text.now (λ session. SaysSession (K.state sink.old) (K.state sink.new) session result.history) }
 {
     match parse(alloc, text) {
         Ok(session) => session_outcome(rt, alloc, sink, disk, numbers, session),
@@ -254,7 +258,8 @@ fn text_outcome<R: Threads + Wait + Sync, K: Sink, D: Disk + Drop + Send>(
     }
 }
 
-// What comes of a source.
+// What comes of a source. But for the headline and a refusal, what is promised is that of `run`, also where the device is
+// formatted first.
 fn source_outcome<R: Threads + Wait + Sync, S: Source, K: Sink, D: Disk + Drop + Send>(
     rt: &R,
     alloc: Global,
@@ -265,25 +270,15 @@ fn source_outcome<R: Threads + Wait + Sync, S: Source, K: Sink, D: Disk + Drop +
 ) -> Outcome<D>
     ensures headline { IfSome result.history (λ h. WithText (S.state source.old) (S.state source.new) TEXT_LIMIT (λ text.
         WithSession text (λ session. HeadlineOf D.state numbers session disk (D.state result.disk) result.status h))) }
-    ensures named { IsStatus result.status × (result.status ≢ 1) }
-    ensures source { result.status ≡ 6 → Rose (S.state source.old).faults (S.state source.new).faults }
-    ensures too_long { result.status ≡ 8 → TakesJust (S.state source.old) (S.state source.new) (TEXT_LIMIT + 1) }
-    ensures script { result.status ≡ 2 → WithText (S.state source.old) (S.state source.new) TEXT_LIMIT IsBad }
-    ensures session { (result.status ≡ 0) ⊎ (result.status ≡ 3) ⊎ (result.status ≡ 4) ⊎ (result.status ≡ 5) →
-        WithText (S.state source.old) (S.state source.new) TEXT_LIMIT (λ text. WithSession text (λ _. Unit {0})) }
-    ensures device { result.status ≡ 3 → IsFaulty result.history × Rose (D.state disk).faults (D.state result.disk).faults }
-    ensures faulty { HasFaultOf result.history → (result.status ≡ 3) ⊎ (result.status ≡ 7) }
-    ensures sink { result.status ≡ 5 → Rose (K.state sink.old).faults (K.state sink.new).faults × IsFaultless result.history }
+    ensures usage { result.status ≢ 1 }
+    ensures causes { IsExplained (Some Request.Run) (S.state source.old) (S.state source.new) TEXT_LIMIT (K.state sink.old) (K.state sink.new)
+        (D.state disk) (D.state result.disk) result.status result.history }
+    ensures kept { KeepsDevice (IsRefusedBy numbers (D.state disk) (D.state result.disk)) (Some Request.Run) disk result.disk result.status
+        result.history }
     ensures done { result.status ≡ 0 → WithText (S.state source.old) (S.state source.new) TEXT_LIMIT (λ text.
         WithSession text (λ session. IsAnswered session result.history (K.state sink.old) (K.state sink.new))) }
-    ensures untouched { (result.status ≡ 2) ⊎ (result.status ≡ 6) ⊎ (result.status ≡ 8) → (result.disk ≡ disk) × (result.history ≡ None) }
-    ensures refused { result.status ≡ 4 → (result.history ≡ None) × IsRefusedBy numbers (D.state disk) (D.state result.disk) }
-    ensures fault { result.status ≡ 6 → Says (K.state sink.old) (K.state sink.new) (fixed_line fixed.SourceFault) }
-    ensures long { result.status ≡ 8 → Says (K.state sink.old) (K.state sink.new) (fixed_line fixed.TooLong) }
-    ensures bad { result.status ≡ 2 → WithText (S.state source.old) (S.state source.new) TEXT_LIMIT (λ text. SaysFault (K.state sink.old) (K.state sink.new) text) }
-    ensures unserved { (result.status ≡ 3) ⊎ (result.status ≡ 4) → result.history ≡ None → SaysCause (K.state sink.old) (K.state sink.new) result.status }
-    ensures part { (result.status ≡ 3) ⊎ (result.status ≡ 5) → WithText (S.state source.old) (S.state source.new) TEXT_LIMIT (λ text.
-        WithSession text (λ session. SaysSession (K.state sink.old) (K.state sink.new) session result.history)) }
+    ensures said { Said (Some Request.Run) (S.state source.old) (S.state source.new) TEXT_LIMIT (K.state sink.old) (K.state sink.new) result.status
+        result.history }
 {
     match read_all(alloc, source, TEXT_LIMIT) {
         Ok(text) => text_outcome(rt, alloc, sink, disk, numbers, &text),
@@ -301,7 +296,8 @@ fn scan_outcome<R: Threads + Wait + Sync, K: Sink, D: Disk + Drop + Send>(
     disk: D,
 ) -> Outcome<D>
     ensures headline { IfSome result.history (HeadlineOf D.state None [] disk (D.state result.disk) result.status) }
-    ensures ends { SessionEnds (IsRefusedBy None (D.state disk) (D.state result.disk)) (D.state disk) (D.state result.disk) (K.state sink.old) (K.state sink.new) result.status result.history }
+    ensures ends { SessionEnds (IsRefusedBy None (D.state disk) (D.state result.disk)) (D.state disk) (D.state result.disk)
+        (K.state sink.old) (K.state sink.new) result.status result.history }
     ensures done { result.status ≡ 0 → IsScanned (D.state disk) (D.state result.disk) result.history (K.state sink.old) (K.state sink.new) }
     ensures unserved { result.history ≡ None → SaysCause (K.state sink.old) (K.state sink.new) result.status }
     ensures part { (result.status ≡ 3) ⊎ (result.status ≡ 5) → result.history ≢ None → SaysCounts (K.state sink.old) (K.state sink.new) }
@@ -321,7 +317,8 @@ fn salvage_outcome<R: Threads + Wait + Sync, K: Sink, D: Disk + Drop + Send>(
     words: &[String],
 ) -> Outcome<D>
     ensures headline { IfSome result.history (λ h. ∥ IsHeadlineOf (FollowsVisit AreReads) (D.state disk) (D.state result.disk) result.status h ∥₁) }
-    ensures ends { SessionEnds (IsRefusedBy None (D.state disk) (D.state result.disk)) (D.state disk) (D.state result.disk) (K.state sink.old) (K.state sink.new) result.status result.history }
+    ensures ends { SessionEnds (IsRefusedBy None (D.state disk) (D.state result.disk)) (D.state disk) (D.state result.disk)
+        (K.state sink.old) (K.state sink.new) result.status result.history }
     ensures done { result.status ≡ 0 → IsSalvaged (picks_in (map string_bytes words.now)) (D.state disk) result.history (K.state sink.old) (K.state sink.new) }
     ensures unserved { result.history ≡ None → SaysCause (K.state sink.old) (K.state sink.new) result.status }
     ensures part { (result.status ≡ 3) ⊎ (result.status ≡ 5) → result.history ≢ None → SaysWalk (K.state sink.old) (K.state sink.new) }
@@ -349,7 +346,8 @@ fn drill_outcome<R: Threads + Wait + Sync, K: Sink, D: Disk + Drop + Send>(
 ) -> Outcome<D>
     requires { steps ≤ 4000 }
     ensures headline { IfSome result.history (IsDrillHeadline D.state start steps disk (D.state result.disk) result.status) }
-    ensures ends { SessionEnds (IsRefusedBy (Some (record { blocks = 4096; inodes = 256 })) (D.state disk) (D.state result.disk)) (D.state disk) (D.state result.disk) (K.state sink.old) (K.state sink.new) result.status result.history }
+    ensures ends { SessionEnds (IsRefusedBy (Some (record { blocks = 4096; inodes = 256 })) (D.state disk) (D.state result.disk))
+        (D.state disk) (D.state result.disk) (K.state sink.old) (K.state sink.new) result.status result.history }
     ensures done { result.status ≡ 0 → IsDrillDone start steps result.history (K.state sink.old) (K.state sink.new) }
     ensures unserved { result.history ≡ None → SaysCause (K.state sink.old) (K.state sink.new) result.status }
     ensures part { (result.status ≡ 3) ⊎ (result.status ≡ 5) → SaysDrill (K.state sink.old) (K.state sink.new) start steps result.history }
@@ -368,13 +366,15 @@ fn drill_outcome<R: Threads + Wait + Sync, K: Sink, D: Disk + Drop + Send>(
 /// | 6 | only where the source failed |
 /// | 8 | only where the source of `new`, `run` or `wire` had more than 16,777,216 bytes |
 /// | 2 | only where the text is no session, or a frame is bad or cut |
-/// | 4 | only where format, mount or upgrade refused with another cause than the device or memory; no write was made but a format's. On a device that tells, by the table of the numbers or of the superblock's faults |
+/// | 4 | only where format, mount or upgrade refused with another cause than the device or memory |
 /// | 7 | where memory was wanting |
 /// | 3 | only where the device failed: in format, mount or upgrade, or in a step of the history; where a step has a fault, 3 or 7 |
 /// | 5 | only where the sink failed |
 /// | 0 | where none of these came |
 ///
-/// At status 1, and at 2, 6 and 8 but of `wire`, no call of the device was made. At 0, 3, 4 and 5 of `new` and `run` the text is a session.
+/// At status 1, and at 2, 6 and 8 but of `wire`, no call of the device was made; at 4 no write was made but a format's, and a device that
+/// tells was refused by the table of the numbers or of the superblock's faults (`KeepsDevice` in specs/Statuses.antt). At 0, 3, 4 and 5
+/// of `new` and `run` the text is a session. Each cause is a field of `IsExplained` there, by its name.
 ///
 /// What the sink was told at each status is in `Said` (specs/Said.antt): the line of that status, or the session's text, or a part of it.
 ///
@@ -396,25 +396,19 @@ pub fn tool<R: Threads + Wait + Sync, S: Source, K: Sink, D: Disk + Drop + Send>
     sink: &mut K,
     disk: D,
 ) -> Outcome<D>
-    ensures headline { IfSome result.history (HeadlineIn D.state (task_in (map string_bytes words.now)) (S.state source.old) (S.state source.new) TEXT_LIMIT disk (D.state result.disk) result.status) }
+    ensures headline { IfSome result.history (HeadlineIn D.state (task_in (map string_bytes words.now)) (S.state source.old) (S.state source.new)
+        TEXT_LIMIT disk (D.state result.disk) result.status) }
     ensures usage { result.status ≡ 1 ↔ task_in (map string_bytes words.now) ≡ None }
-    ensures named { IsStatus result.status }
-    ensures source { result.status ≡ 6 → Rose (S.state source.old).faults (S.state source.new).faults }
-    ensures too_long { result.status ≡ 8 → TakesJust (S.state source.old) (S.state source.new) (TEXT_LIMIT + 1) }
-    ensures script { result.status ≡ 2 → UnlessWire (task_in (map string_bytes words.now)) (WithText (S.state source.old) (S.state source.new) TEXT_LIMIT IsBad) }
-    ensures session { (result.status ≡ 0) ⊎ (result.status ≡ 3) ⊎ (result.status ≡ 4) ⊎ (result.status ≡ 5) →
-        HasSession (task_in (map string_bytes words.now)) (S.state source.old) (S.state source.new) TEXT_LIMIT }
-    ensures device { result.status ≡ 3 → IsFaulty result.history × Rose (D.state disk).faults (D.state result.disk).faults }
-    ensures faulty { HasFaultOf result.history → UnlessWire (task_in (map string_bytes words.now)) ((result.status ≡ 3) ⊎ (result.status ≡ 7)) }
-    ensures sink { result.status ≡ 5 → Rose (K.state sink.old).faults (K.state sink.new).faults × IsFaultlessIn (task_in (map string_bytes words.now)) result.history }
-    ensures done { result.status ≡ 0 → IsDone (task_in (map string_bytes words.now)) (S.state source.old) (S.state source.new) TEXT_LIMIT (K.state sink.old) (K.state sink.new) (D.state disk) (D.state result.disk) result.history }
-    ensures unmounted { result.status ≡ 1 → (result.disk ≡ disk) × (result.history ≡ None) }
-    ensures untouched { (result.status ≡ 2) ⊎ (result.status ≡ 6) ⊎ (result.status ≡ 8) → UnlessWire (task_in (map string_bytes words.now)) ((result.disk ≡ disk) × (result.history ≡ None)) }
-    ensures refused { result.status ≡ 4 → (result.history ≡ None) × IsRefusedTask (task_in (map string_bytes words.now)) (D.state disk) (D.state result.disk) }
-    ensures said { Said (task_in (map string_bytes words.now)) (S.state source.old) (S.state source.new) TEXT_LIMIT (K.state sink.old) (K.state sink.new) result.status result.history }
-    ensures upgrade { task_in (map string_bytes words.now) ≡ Some Request.Upgrade → IsTrue (D.state disk).tells → StaysOrUpgrades (D.state disk) (D.state result.disk) }
-    ensures salvage { task_in (map string_bytes words.now) ≡ Some Request.Salvage → result.status ≡ 0 → IsSalvaged (picks_in (map string_bytes words.now)) (D.state disk) result.history (K.state sink.old) (K.state sink.new) }
-    ensures wire { task_in (map string_bytes words.now) ≡ Some Request.Wire → WireEnds (D.state disk) (D.state result.disk) (S.state source.old) (S.state source.new) (K.state sink.old) (K.state sink.new) result.status result.history }
+    ensures causes { IsExplained (task_in (map string_bytes words.now)) (S.state source.old) (S.state source.new) TEXT_LIMIT (K.state sink.old)
+        (K.state sink.new) (D.state disk) (D.state result.disk) result.status result.history }
+    ensures kept { KeepsDevice (IsRefusedTask (task_in (map string_bytes words.now)) (D.state disk) (D.state result.disk))
+        (task_in (map string_bytes words.now)) disk result.disk result.status result.history }
+    ensures done { result.status ≡ 0 → IsDone (task_in (map string_bytes words.now)) (S.state source.old) (S.state source.new) TEXT_LIMIT
+        (K.state sink.old) (K.state sink.new) (D.state disk) (D.state result.disk) result.history }
+    ensures said { Said (task_in (map string_bytes words.now)) (S.state source.old) (S.state source.new) TEXT_LIMIT (K.state sink.old)
+        (K.state sink.new) result.status result.history }
+    ensures further { HoldsOfTask (task_in (map string_bytes words.now)) (picks_in (map string_bytes words.now)) (S.state source.old)
+        (S.state source.new) (K.state sink.old) (K.state sink.new) (D.state disk) (D.state result.disk) result.status result.history }
     ensures complete { IsReady (task_in (map string_bytes words.now)) (S.state source.old) TEXT_LIMIT (D.state disk)
         → NoneRose (S.state source.old) (S.state source.new) (D.state disk) (D.state result.disk) (K.state sink.old) (K.state sink.new)
         → (result.status ≡ 0) ⊎ (result.status ≡ 7) }

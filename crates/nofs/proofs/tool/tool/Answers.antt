@@ -4,10 +4,12 @@ use Rattle.nofs.specs.declared.words.Request.{Request}
 use Rattle.nofs.specs.declared.words.Request.TheVariants.{New, Run, Scan, Drill, Upgrade, Salvage, Wire}
 use Rattle.nofs.specs.Complete.{IsReady}
 use Rattle.nofs.specs.Said.{Said}
+use Rattle.nofs.specs.Statuses.{KeepsDevice}
 use Rattle.nofs.specs.Tool.{IsRefusedTask}
 use Rattle.nofs.specs.Words.{task_in}
 use Rattle.nofs.proofs.Complete.{scan-completes, session-completes, upgrade-completes}
 use Rattle.nofs.proofs.Frames.{wire-completes}
+use Rattle.nofs.proofs.Outcomes.{upgrade-keeps}
 use Rattle.nofs.proofs.tool.tool.Goals as goal
 
 pub returns-in-Some-Run-clause-complete : goal.returns-in-Some-Run-clause-complete
@@ -15,14 +17,14 @@ returns-in-Some-Run-clause-complete g c = λ ready none.
     let task : task_in (map string_bytes c.args.words.now) ≡ Some Run = sym c.task_of.ensures ∙ (c.in-Some-Run.is ∙ ap Some c.in-Some-Run.field-0-is) in
     let r = subst (λ (t : Option Request). IsReady t (g.S.Source.state c.args.source.now) TEXT_LIMIT (g.D.Disk.state c.args.disk)) task ready in
     let e = c.source_outcome-in-Some-Run.ensures in
-    session-completes None _ _ _ _ _ _ _ _ _ none r.1 e.device e.sink e.refused r.0 e.named e.source e.too_long e.script
+    session-completes None _ _ _ _ _ _ _ _ _ none r.1 r.0 e.usage e.causes e.kept.refused
 
 pub returns-in-Some-Scan-clause-complete : goal.returns-in-Some-Scan-clause-complete
 returns-in-Some-Scan-clause-complete g c = λ ready none.
     let task : task_in (map string_bytes c.args.words.now) ≡ Some Scan = sym c.task_of.ensures ∙ (c.in-Some-Scan.is ∙ ap Some c.in-Some-Scan.field-0-is) in
     let r = subst (λ (t : Option Request). IsReady t (g.S.Source.state c.args.source.now) TEXT_LIMIT (g.D.Disk.state c.args.disk)) task ready in
     let e = c.scan_outcome.ensures.ends in
-    scan-completes None _ _ TEXT_LIMIT _ _ _ _ _ _ none r e.device e.sink e.refused e.named
+    scan-completes None _ _ TEXT_LIMIT _ _ _ _ _ _ none r e
 
 pub returns-in-Some-Drill-clause-complete : goal.returns-in-Some-Drill-clause-complete
 returns-in-Some-Drill-clause-complete g c = λ ready none.
@@ -30,7 +32,7 @@ returns-in-Some-Drill-clause-complete g c = λ ready none.
     sym c.task_of.ensures ∙ (c.in-Some-Drill.is ∙ ap Some c.in-Some-Drill.field-0-is) in
     let r = subst (λ (t : Option Request). IsReady t (g.S.Source.state c.args.source.now) TEXT_LIMIT (g.D.Disk.state c.args.disk)) task ready in
     let e = c.drill_outcome.ensures.ends in
-    scan-completes (Some (record { blocks = 4096; inodes = 256 })) _ _ TEXT_LIMIT _ _ _ _ _ _ none r e.device e.sink e.refused e.named
+    scan-completes (Some (record { blocks = 4096; inodes = 256 })) _ _ TEXT_LIMIT _ _ _ _ _ _ none r e
 
 pub returns-in-Some-New-clause-complete : goal.returns-in-Some-New-clause-complete
 returns-in-Some-New-clause-complete g c = λ ready none.
@@ -38,8 +40,8 @@ returns-in-Some-New-clause-complete g c = λ ready none.
     sym c.task_of.ensures ∙ (c.in-Some-New.is ∙ ap Some c.in-Some-New.field-0-is) in
     let r = subst (λ (t : Option Request). IsReady t (g.S.Source.state c.args.source.now) TEXT_LIMIT (g.D.Disk.state c.args.disk)) task ready in
     let e = c.source_outcome.ensures in
-    session-completes (Some (record { blocks = c.in-Some-New.blocks; inodes = c.in-Some-New.inodes })) _ _ _ _ _ _ _ _ _ none r.1 e.device e.sink e.refused r.0
-    e.named e.source e.too_long e.script
+    session-completes (Some (record { blocks = c.in-Some-New.blocks; inodes = c.in-Some-New.inodes })) _ _ _ _ _ _ _ _ _ none r.1 r.0
+    e.usage e.causes e.kept.refused
 
 pub returns-in-Some-Upgrade-clause-complete : goal.returns-in-Some-Upgrade-clause-complete
 returns-in-Some-Upgrade-clause-complete g c = λ ready none.
@@ -48,14 +50,15 @@ returns-in-Some-Upgrade-clause-complete g c = λ ready none.
     let r = subst (λ (t : Option Request). IsReady t (g.S.Source.state c.args.source.now) TEXT_LIMIT (g.D.Disk.state c.args.disk)) task ready in
     upgrade-completes _ _ _ _ _ _ _ none r c.upgrade_outcome.ensures.ends
 
-pub returns-in-Some-Upgrade-clause-refused : goal.returns-in-Some-Upgrade-clause-refused
-returns-in-Some-Upgrade-clause-refused g c = λ e.
+pub returns-in-Some-Upgrade-clause-kept : goal.returns-in-Some-Upgrade-clause-kept
+returns-in-Some-Upgrade-clause-kept g c =
     let task : task_in (map string_bytes c.args.words.now) ≡ Some Upgrade =
-    sym c.task_of.ensures ∙ (c.in-Some-Upgrade.is ∙ ap Some c.in-Some-Upgrade.field-0-is) in (
-      c.upgrade_outcome.ensures.history,
-      subst (λ (t : Option Request). IsRefusedTask t (g.D.Disk.state c.args.disk) (g.D.Disk.state c.upgrade_outcome.result.disk)) (sym task)
-          (c.upgrade_outcome.ensures.ends.refused e),
-    )
+    sym c.task_of.ensures ∙ (c.in-Some-Upgrade.is ∙ ap Some c.in-Some-Upgrade.field-0-is) in
+    let S = g.D.Disk.state in
+    let K = g.K.Sink.state in
+    let u = c.upgrade_outcome in
+    subst (λ (t : Option Request). KeepsDevice (IsRefusedTask t (S c.args.disk) (S u.result.disk)) t c.args.disk u.result.disk u.result.status u.result.history)
+    (sym task) (upgrade-keeps S c.args.disk u.result.disk (K c.args.sink.now) (K u.new.sink) u.result.status u.result.history u.ensures.history u.ensures.ends)
 
 pub returns-in-Some-Salvage-clause-complete : goal.returns-in-Some-Salvage-clause-complete
 returns-in-Some-Salvage-clause-complete g c = λ ready none.
@@ -63,7 +66,7 @@ returns-in-Some-Salvage-clause-complete g c = λ ready none.
     sym c.task_of.ensures ∙ (c.in-Some-Salvage.is ∙ ap Some c.in-Some-Salvage.field-0-is) in
     let r = subst (λ (t : Option Request). IsReady t (g.S.Source.state c.args.source.now) TEXT_LIMIT (g.D.Disk.state c.args.disk)) task ready in
     let e = c.salvage_outcome.ensures.ends in
-    scan-completes None _ _ TEXT_LIMIT _ _ _ _ _ _ none r e.device e.sink e.refused e.named
+    scan-completes None _ _ TEXT_LIMIT _ _ _ _ _ _ none r e
 
 pub returns-in-Some-Wire-clause-complete : goal.returns-in-Some-Wire-clause-complete
 returns-in-Some-Wire-clause-complete g c = λ ready none.
