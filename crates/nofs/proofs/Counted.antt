@@ -22,8 +22,7 @@ use Rattle.nofs_state.specs.declared.books.Books.{Books}
 use Rattle.nofs_state.specs.declared.books.Counts.{Counts}
 use Rattle.nofs_state.proofs.Counting.{count-same}
 use Rattle.nofs_shared.specs.Mounts.{IsMount}
-use Rattle.nofs.specs.Counts.{CountsDisk, counts_line}
-use Rattle.nofs.specs.Tool.{IsScanned}
+use Rattle.nofs.specs.Counts.{CountsDisk, counts_line, IsScanned}
 use Rattle.nofs.specs.Entries.{has_fault}
 use Rattle.nofs.specs.Serving.{IsSessionRun}
 use Rattle.nofs.specs.Whole.{IsMet, IsWholeScan, ShowsDisk}

@@ -1,5 +1,5 @@
 -- What a drill leaves, put together.
-use Rattle.std.proofs.Common.{◌≡◌, ◌≢◌, ℕ, ◌≤◌, Bool, true, false, not, List, [], ◌∷◌, ◌++◌, length, map, drop, Result, Ok, Err, None, Some, refl, sym, ap}
+use Rattle.std.proofs.Common.{◌≡◌, ◌≢◌, ℕ, ◌≤◌, Bool, true, false, not, List, [], ◌∷◌, ◌++◌, length, map, drop, Result, Ok, Err, None, Some, refl, sym, ap, ◌-◌, subst, arith}
 use Rattle.std.proofs.Common.{◌∙◌, subst, arith}
 use Rattle.std.specs.Prelude.{IfOk, IfSome, count_by, sum_by}
 use Rattle.std.specs.Result.{result_ok}
@@ -21,9 +21,17 @@ use Rattle.nofs_script.specs.Sessions.{IsSession}
 use Rattle.nofs_gen.proofs.Drawing.{script-formed}
 use Rattle.nofs.specs.Entries.{has_fault}
 use Rattle.nofs.specs.declared.reads.FileRead.{FileRead}
-use Rattle.nofs.specs.Drill.{AddsOwn, AreRead, IsDrillDone, IsDrilled, IsReadOut, drill_line, drill_session, is_refused_line, size_told, sum_told, wrong_told}
+use Rattle.nofs.specs.Drill.{AddsOwn, AreRead, IsDrillDone, IsDrilled, IsReadOut, drill_line, drill_session, is_refused_line, size_told, sum_told, wrong_told, IsDrillRun}
 use Rattle.nofs.proofs.Sessions.{adds-others}
 use Rattle.nofs.proofs.Tallies.{refusals-from}
+use Rattle.nofs_model.specs.Cells.{SuperBlock}
+use Rattle.nofs_model.specs.Image.{Image}
+use Rattle.nofs_machine.specs.Next.{Run}
+use Rattle.nofs_machine.specs.World.{World, world_of}
+use Rattle.nofs_machine.specs.declared.steps.ElementKind.TheVariants.{Inode, Block}
+use Rattle.nofs_workers.specs.Sweeps.{Sweeps}
+use Rattle.nofs.specs.Whole.{IsWholeScan, ShowsDisk}
+use Rattle.nofs.proofs.Whole.{whole-by}
 
 twice : (b : Bool) → not (not b) ≡ false → b ≡ false
 twice true e = e
@@ -125,3 +133,12 @@ drill-session start steps = record {
     ),
   );
 }
+
+-- so it is in a drill, whose caller 0 then reads
+pub whole-drill : (start steps : ℕ) (at : SuperBlock) (H : List Entry1) (begun first : ℕ) (B : Image) (V : World) (X : Image)
+    → IsDrillRun start steps at.inodes at.blocks false H → Run begun (world_of B first) H V → has_fault H ≡ false → ShowsDisk at V X → IsWholeScan V X
+whole-drill start steps at H begun first B V X run = whole-by at run.seen H run.flush run.closes
+    (subst (λ (m : List Made). Sweeps (λ place item. item ≡ place) Inode 0 at.inodes false [] m) (sym (run.adds.others 9 (omega arith))) run.team.inodes_seen)
+    (subst (λ (m : List Made). Sweeps (λ place item. item ≡ at.blocks - 1 - place) Block 0 at.blocks false [] m) (sym (run.adds.others 10 (omega arith)))
+    run.team.blocks_seen)
+    begun first B V X

@@ -1,84 +1,34 @@
 -- What is promised of one history: from the parts of a run to the headline.
-use Rattle.std.proofs.Common.{◌≡◌, ℕ, ◌<◌, Bool, true, false, List, [], Option, Some, None, Result, Ok, Err, IsTrue, refl, sym, ap, ◌∙◌, subst, arith}
-use Rattle.std.specs.Prelude.{IfErr, IfOk, IfSome, is_none}
+use Rattle.std.proofs.Common.{◌≡◌, ℕ, Bool, true, false, List, Option, Some, None, Ok, IsTrue, refl, sym, subst, arith}
+use Rattle.std.specs.Prelude.{IfSome}
 use Rattle.std.proofs.Math.Logic.{∥∥₁_elim, ∥∥₁_prop}
-use Rattle.nofs_disk.specs.Adds.{Adds}
-use Rattle.nofs_disk.specs.Disk.{DiskState, cell_at}
-use Rattle.nofs_super.specs.Format.{IsFormatted, IsFreshCell, formatted_cell}
+use Rattle.nofs_disk.specs.Disk.{DiskState}
+use Rattle.nofs_super.specs.Format.{IsFormatted}
 use Rattle.nofs_super.specs.Raise.{raised}
-use Rattle.nofs_super.specs.Geometry.{IsGeometry, is_geometry, is_geometry-parts}
-use Rattle.nofs_super.specs.declared.geometry.FormatFault.{FormatFault}
 use Rattle.nofs_model.specs.Cells.{SuperBlock}
 use Rattle.nofs_model.specs.Image.{Image, super_at}
-use Rattle.nofs_model.proofs.Formatted.{formatted-law}
 use Rattle.nofs_io.specs.Calls.{SourceState}
 use Rattle.nofs_io.specs.Texts.{IsWhole}
 use Rattle.nofs_machine.specs.HistoryState.{HistoryState}
 use Rattle.nofs_machine.specs.Steps.{Made}
 use Rattle.nofs_machine.specs.declared.history.Entry1.{Entry1}
-use Rattle.nofs_machine.specs.declared.replies.Reply.TheVariants as reply
-use Rattle.nofs_machine.specs.declared.replies.Refusal.TheVariants as refusal
 use Rattle.nofs_client.specs.declared.commands.Command.{Command}
-use Rattle.nofs_client.specs.declared.lines.Line.{Line}
 use Rattle.nofs_script.specs.Sessions.{session_of}
 use Rattle.nofs_state.specs.declared.books.Books.{Books}
 use Rattle.nofs_shared.specs.Mounts.{IsMount}
-use Rattle.nofs_serve.proofs.Teaming.{team-unserved}
 use Rattle.nofs.specs.declared.begin.Numbers.{Numbers}
 use Rattle.nofs_machine.specs.Next.{Run}
 use Rattle.nofs_machine.specs.World.{World, world_of}
 use Rattle.nofs.specs.Drill.{IsDrillFollowed}
-use Rattle.nofs.specs.Headline.{FollowsDrill, FollowsScripts, HeadlineOf, IsDrillHeadline, IsFollowed, IsHeadline, IsHeadlineOf}
-use Rattle.nofs.specs.Serving.{IsClosed, IsSessionRun}
+use Rattle.nofs.specs.Headline.{FollowsDrill, HeadlineOf, IsDrillHeadline, IsHeadline, IsHeadlineOf}
+use Rattle.nofs.specs.Serving.{FollowsScripts, IsFollowed, IsClosed}
 use Rattle.nofs.specs.Tool.{WithSession, WithText}
 use Rattle.nofs.specs.Entries.{has_fault}
 use Rattle.nofs.specs.Visits.{FollowsVisit, IsVisitFollowed}
 use Rattle.nofs.specs.Whole.{Finished, IsMet, IsWholeScan, ShowsDisk}
-use Rattle.nofs.proofs.Sessions.{run-closed}
 use Rattle.nofs.proofs.Visits.{whole-visit}
-use Rattle.nofs.proofs.Whole.{settled-end, whole-drill, whole-scan}
-
--- a format leaves a disk on which the premises are met, where it tells
-pub formatted_met : (blocks inodes : ℕ) (old new : DiskState) → IsFormatted blocks inodes old new → Adds (IsFreshCell blocks inodes) old new
-    → (IsTrue old.tells → (b : ℕ) → b < blocks → cell_at new.now b ≡ formatted_cell blocks inodes b) → IsTrue old.tells → IsMet new
-unfolding is_geometry
-formatted_met blocks inodes old new f adds cells tells = record {
-  tells = subst IsTrue (sym adds.disk.tells) tells;
-  sound = λ X picks. formatted-law X blocks inodes (subst (λ n. IsGeometry n blocks inodes) (sym (picks.len ∙ adds.disk.blocks)) numbers)
-      (λ b low. (f.settled b (cell_at X b) (in_disk b low) (picks.each b (in_disk b low))) ∙ cells tells b low);
-}
-  where
-    numbers : IsGeometry old.blocks blocks inodes
-    numbers = is_geometry-parts old.blocks blocks inodes (ap (λ (o : Option FormatFault). is_none o) f.accepted)
-
-    in_disk : (b : ℕ) → b < blocks → b < new.blocks
-    in_disk b low = let e = adds.disk.blocks in let n = numbers.fits in omega (arith, low, e, n)
-
--- nobody was served, and nothing said
-pub unserved-follows : (scripts : List (List Command)) (at : SuperBlock) (text : Option (List ℕ)) (H : List Entry1) → H ≡ [] → text ≡ None
-    → IsFollowed scripts at text H
-unserved-follows scripts at text H none said = record {
-  short = true;
-  early = λ e. said;
-  follows = (
-    [],
-    run-closed scripts at.inodes at.blocks true false [] [] [] H (reply.Refused refusal.OutOfMemory) refl
-        (team-unserved scripts at.inodes at.blocks true [] [] [] refl refl) (record { none = λ e. none; one = λ e. cc }) refl,
-  );
-}
-
--- a team was served, and where memory was wanting nothing said
-pub served-follows : (session scripts : List (List Command)) (at : SuperBlock) (out : Bool) (lines : List (List Line)) (all H : List Entry1)
-    (text : Option (List ℕ)) → scripts ≡ session → H ≡ all → (out ≡ true → text ≡ None) → IsSessionRun scripts at.inodes at.blocks out lines all
-    → IsFollowed session at text H
-served-follows session scripts at out lines all H text same is said run =
-    let named : IsSessionRun session at.inodes at.blocks out lines all =
-    subst (λ (s : List (List Command)). IsSessionRun s at.inodes at.blocks out lines all) same run in
-    record {
-      short = out;
-      early = said;
-      follows = (lines, subst (λ (h : List Entry1). IsSessionRun session at.inodes at.blocks out lines h) (sym is) named);
-    }
+use Rattle.nofs.proofs.Whole.{settled-end, whole-scan}
+use Rattle.nofs.proofs.DrillEnds.{whole-drill}
 
 -- the headline of a mount, from its state before it served and what it gave at its end
 headline-any : (Follows : SuperBlock → Bool → List Entry1 → Type 0) (found before last : DiskState) (first status : ℕ) (k : Books) (text : Option (List ℕ))
@@ -180,12 +130,3 @@ pub in-text : (P : List ℕ → HistoryState → Type 0) (old new : SourceState)
     → IsWhole old new text limit → IfSome h (P text) → IfSome h (λ x. WithText old new limit (λ t. P t x))
 in-text P old new limit text None whole i = tt
 in-text P old new limit text (Some h) whole i = (text, whole, i)
-
--- what follows of a result's value
-pub if-ok : {T E : Type 0} (r : Result T E) (P Q : T → Type 0) → IfOk r P → ((t : T) → P t → Q t) → IfOk r Q
-if-ok (Ok t) P Q p f = f t p
-if-ok (Err e) P Q p f = tt
-
-pub if-err : {T E : Type 0} (r : Result T E) (P Q : E → Type 0) → IfErr r P → ((e : E) → P e → Q e) → IfErr r Q
-if-err (Ok t) P Q p f = tt
-if-err (Err e) P Q p f = f e p

@@ -5,6 +5,8 @@ pub mod Drills
 pub mod Tallies
 pub mod DrillEnds
 pub mod Tasks
+pub mod Follows
+pub mod Formatted
 pub mod Headlines
 pub mod Known
 pub mod Whole

@@ -47,8 +47,8 @@ use Rattle.nofs_salvage.specs.declared.fault.SalvageFault.{SalvageFault}
 use Rattle.nofs_salvage.specs.declared.fault.SalvageFault.TheVariants as fault
 use Rattle.nofs_salvage.proofs.Roots.{matched-roots}
 use Rattle.nofs.specs.Entries.{has_fault}
-use Rattle.nofs.specs.Said.{Says, SaysWalk}
-use Rattle.nofs.specs.Salvaging.{AreReads, IsSalvaged, IsWalk, IsWalkTold, found_world, has_both, losses_text, salvage_text, walk_text}
+use Rattle.nofs.specs.Salvaging.{SaysWalk, AreReads, IsSalvaged, IsWalk, IsWalkTold, found_world, has_both, losses_text, salvage_text, walk_text}
+use Rattle.nofs.specs.Says.{Says}
 use Rattle.nofs.specs.Visits.{IsVisitFollowed, IsVisitRun}
 use Rattle.nofs.specs.Whole.{Finished}
 use Rattle.nofs.specs.Words.{picks_in}

@@ -27,12 +27,10 @@ use Rattle.nofs_shared.proofs.Ending.{mount-ends}
 use Rattle.nofs_client.specs.declared.commands.Command.{Command}
 use Rattle.nofs_client.specs.declared.lines.Line.{Line}
 use Rattle.nofs.specs.Entries.{has_fault}
-use Rattle.nofs_machine.specs.Steps.{Made}
 use Rattle.nofs_machine.specs.declared.steps.ElementKind.TheVariants.{Inode, Block}
 use Rattle.nofs_shared.specs.Added.{AddsStep}
 use Rattle.nofs_shared.specs.Owned.{steps_by}
 use Rattle.nofs_workers.specs.Sweeps.{Sweeps}
-use Rattle.nofs.specs.Drill.{IsDrillRun}
 use Rattle.nofs.specs.Serving.{IsClosed, IsSessionRun}
 use Rattle.nofs.specs.Whole.{Finished, IsWholeScan, ShowsDisk}
 use Rattle.nofs.proofs.Known.{flushed-last, blocks-seen, has-added, inodes-seen, no-fault, run-goes}
@@ -154,15 +152,6 @@ pub whole-scan : (scripts : List (List Command)) (at : SuperBlock) (lines : List
     (X : Image)
     → IsSessionRun scripts at.inodes at.blocks false lines H → Run start (world_of B first) H V → has_fault H ≡ false → ShowsDisk at V X → IsWholeScan V X
 whole-scan scripts at lines H start first B V X run = whole-by at run.served H run.flush run.closes run.team.inodes_seen run.team.blocks_seen start first B V X
-
--- so it is in a drill, whose caller 0 then reads
-pub whole-drill : (start steps : ℕ) (at : SuperBlock) (H : List Entry1) (begun first : ℕ) (B : Image) (V : World) (X : Image)
-    → IsDrillRun start steps at.inodes at.blocks false H → Run begun (world_of B first) H V → has_fault H ≡ false → ShowsDisk at V X → IsWholeScan V X
-whole-drill start steps at H begun first B V X run = whole-by at run.seen H run.flush run.closes
-    (subst (λ (m : List Made). Sweeps (λ place item. item ≡ place) Inode 0 at.inodes false [] m) (sym (run.adds.others 9 (omega arith))) run.team.inodes_seen)
-    (subst (λ (m : List Made). Sweeps (λ place item. item ≡ at.blocks - 1 - place) Block 0 at.blocks false [] m) (sym (run.adds.others 10 (omega arith)))
-    run.team.blocks_seen)
-    begun first B V X
 
 -- the device is settled where the last flush was made, which is so where no call failed
 pub settled-end : (d : DiskState) (H : List Entry1) (start first : ℕ) (B : Image) (V : World) → IsClosed d H → Run start (world_of B first) H V

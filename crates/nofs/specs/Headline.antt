@@ -10,30 +10,17 @@ use Rattle.nofs_io.specs.Calls.{SourceState}
 use Rattle.nofs_machine.specs.HistoryState.{HistoryState}
 use Rattle.nofs_machine.specs.declared.history.Entry1.{Entry1}
 use Rattle.nofs_client.specs.declared.commands.Command.{Command}
-use Rattle.nofs_client.specs.declared.lines.Line.{Line}
 use Rattle.nofs_shared.specs.Ends.{Ends}
 use Rattle.nofs.specs.declared.begin.Numbers.{Numbers}
 use Rattle.nofs.specs.declared.words.Request.{Request}
 use Rattle.nofs.specs.declared.words.Request.TheVariants.{New, Run, Scan, Drill, Upgrade, Salvage, Wire}
 use Rattle.nofs.specs.Drill.{IsDrillRun}
-use Rattle.nofs.specs.Serving.{IsSessionRun}
 use Rattle.nofs.specs.Salvaging.{AreReads}
 use Rattle.nofs.specs.Tool.{WithText, WithSession}
 use Rattle.nofs.specs.Visits.{FollowsVisit}
 use Rattle.nofs.specs.Wiring.{IsWired}
 use Rattle.nofs.specs.Whole.{IsMet, IsWholeScan}
-
--- The entries of a history are just the steps that a session asks for: of each user those of its commands, in order, by the replies
--- before; of the sweeps one for each element, the inodes upwards and the blocks downwards; then caller 0's flush of the
--- whole disk; and no other caller has any. Where memory was wanting (`short`), each may have ended early
-abbrev pub FollowsScripts : List (List Command) → SuperBlock → Bool → List Entry1 → Type 0
-FollowsScripts scripts at short H = (lines : List (List Line)) × IsSessionRun scripts at.inodes at.blocks short lines H
-
--- What a serving leaves: its history, and whether there is a text of it
-pub record IsFollowed (scripts : List (List Command)) (at : SuperBlock) (text : Option (List ℕ)) (H : List Entry1) : Type 0 where
-  pub short : Bool
-  pub early : short ≡ true → text ≡ None
-  pub follows : FollowsScripts scripts at short H
+use Rattle.nofs.specs.Serving.{FollowsScripts}
 
 -- THE HEADLINE, of one history over the disk that the mount found. Its entries follow what was asked for (`Follows`, by the numbers of
 -- the mount, and whether memory was wanting, which is so at status 7 alone). Where the premises are met, `Ends` says further: the

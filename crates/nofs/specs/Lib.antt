@@ -13,5 +13,6 @@ pub mod Headline
 pub mod Complete
 pub mod Upgrading
 pub mod Lines
+pub mod Says
 pub mod Said
 pub mod Statuses

@@ -1,15 +1,11 @@
 -- What a sink was told, by the status of the run.
-use Rattle.std.specs.Prelude.{◌≡◌, ◌⊎◌, ℕ, List, [], Result, Err, IfSome, Some, None}
+use Rattle.std.specs.Prelude.{◌≡◌, ◌⊎◌, ℕ, List, Err, IfSome, Some, None}
 use Rattle.std.specs.declared.option.Option.{Option}
-use Rattle.nofs_disk.specs.Disk.{Rose}
 use Rattle.nofs_io.specs.Calls.{SourceState, SinkState}
-use Rattle.nofs_io.specs.Texts.{AppendsAll, AppendsPart}
 use Rattle.nofs_machine.specs.HistoryState.{HistoryState}
 use Rattle.nofs_client.specs.declared.commands.Command.{Command}
 use Rattle.nofs_script.specs.Sessions.{session_of}
 use Rattle.nofs_script.specs.declared.faults.ScriptFault.{ScriptFault}
-use Rattle.nofs_salvage.specs.declared.report.Loss.{Loss}
-use Rattle.nofs_salvage.specs.declared.fault.SalvageFault.{SalvageFault}
 use Rattle.nofs_state.specs.declared.books.Counts.{Counts}
 use Rattle.nofs_upgrade.specs.declared.fault.UpgradeFault.{UpgradeFault}
 use Rattle.nofs.specs.declared.begin.Cause.{Cause}
@@ -21,17 +17,10 @@ use Rattle.nofs.specs.Drill.{IsDrilled}
 use Rattle.nofs.specs.Entries.{session_text}
 use Rattle.nofs.specs.Lines.{cause_line, fixed_line, script_line, upgrade_line}
 use Rattle.nofs.specs.declared.faults.FixedLine.TheVariants as fixed
-use Rattle.nofs.specs.Salvaging.{walk_text}
 use Rattle.nofs.specs.Tool.{UnlessWire, WithSession, WithText}
 use Rattle.nofs.specs.Upgrading.{upgrade_status}
-
--- the sink took this text, or a part of it where it failed
-abbrev pub Says : SinkState → SinkState → List ℕ → Type 0
-Says old new text = AppendsAll old new text ⊎ (AppendsPart old new text × Rose old.faults new.faults)
-
--- or nothing, where there was no memory for it
-abbrev pub SaysOrNot : SinkState → SinkState → List ℕ → Type 0
-SaysOrNot old new text = Says old new text ⊎ Says old new []
+use Rattle.nofs.specs.Says.{Says, SaysOrNot}
+use Rattle.nofs.specs.Salvaging.{SaysWalk}
 
 -- the line of a text that is no session: its first bad line
 abbrev pub SaysFault : SinkState → SinkState → List ℕ → Type 0
@@ -57,10 +46,6 @@ SaysCounts old new = (c : Counts) × Says old new (counts_line c)
 -- the line of a drill
 abbrev pub SaysDrill : SinkState → SinkState → ℕ → ℕ → Option HistoryState → Type 0
 SaysDrill old new start steps h = IfSome h (λ x. (text : List ℕ) × IsDrilled start steps x.entries text × Says old new text)
-
--- the text of a walk
-abbrev pub SaysWalk : SinkState → SinkState → Type 0
-SaysWalk old new = (result : Result (List Loss) SalvageFault) × Says old new (walk_text result)
 
 -- why nothing was served, where no mount stood
 abbrev pub SaysRefusal : Option Request → SinkState → SinkState → ℕ → Type 0

@@ -1,5 +1,5 @@
 -- What a salvage tells: a line for each loss, by the machine's world as the mount found it.
-use Rattle.std.specs.Prelude.{◌≡◌, ℕ, Bool, true, false, ◌&&◌, List, [], ◌++◌, All, IfOk, IfSome, flat_map, codes, slice_set}
+use Rattle.std.specs.Prelude.{◌≡◌, ℕ, Bool, true, false, ◌&&◌, List, [], ◌++◌, All, IfOk, IfSome, flat_map, codes, slice_set, Result}
 use Rattle.std.specs.Prelude.{Result, Ok, Err, if◌then◌else◌, None, Some}
 use Rattle.std.proofs.Common.{refl, sym, subst, append-nil}
 use Rattle.std.proofs.lemmas.List.Elements.{All-nil}
@@ -28,6 +28,7 @@ use Rattle.nofs_salvage.specs.declared.fault.SalvageFault.{SalvageFault}
 use Rattle.nofs_salvage.specs.declared.fault.SalvageFault.TheVariants as fault
 use Rattle.nofs.specs.Entries.{has_fault}
 use Rattle.nofs.specs.Whole.{IsMet}
+use Rattle.nofs.specs.Says.{Says}
 
 -- the line of a loss
 abbrev pub loss_line : Loss → List ℕ
@@ -89,3 +90,7 @@ pub record IsWalkTold (picks : List ℕ → Bool) (found : DiskState) (h : Histo
 abbrev pub IsSalvaged : (List ℕ → Bool) → DiskState → Option HistoryState → SinkState → SinkState → Type 0
 IsSalvaged picks found None old new = ⊥
 IsSalvaged picks found (Some h) old new = (has_fault h.entries ≡ false) × ((text : List ℕ) × IsWalkTold picks found h text × AppendsAll old new text)
+
+-- the text of a walk
+abbrev pub SaysWalk : SinkState → SinkState → Type 0
+SaysWalk old new = (result : Result (List Loss) SalvageFault) × Says old new (walk_text result)

@@ -14,14 +14,12 @@ use Rattle.nofs.specs.declared.words.Request.TheVariants.{New, Run, Scan, Drill,
 use Rattle.nofs.specs.declared.begin.Numbers.{Numbers}
 use Rattle.nofs.specs.Begin.{IsMountRefusal, IsRefusedFormat}
 use Rattle.nofs.specs.Entries.{session_text, has_fault}
-use Rattle.nofs_state.specs.declared.books.Counts.{Counts}
-use Rattle.nofs.specs.Counts.{CountsDisk, counts_line}
 use Rattle.nofs_upgrade.specs.Upgrades.{IsUpgraded}
 use Rattle.nofs.specs.Lines.{fixed_line}
 use Rattle.nofs.specs.declared.faults.FixedLine.TheVariants as fixed
 use Rattle.nofs.specs.Upgrading.{IsRefusedUpgrade}
-use Rattle.nofs.specs.Whole.{IsMet}
 use Rattle.nofs.specs.Drill.{IsDrillDone}
+use Rattle.nofs.specs.Counts.{IsScanned}
 
 -- all that the source had left was read, within the limit, and it has P
 abbrev pub WithText : SourceState → SourceState → ℕ → (List ℕ → Type 0) → Type 0
@@ -113,13 +111,6 @@ IsRefusedTask (Some Upgrade) old new = IsRefusedUpgrade old new
 IsRefusedTask (Some Salvage) old new = IsRefusedBy None old new
 IsRefusedTask (Some Wire) old new = IsRefusedBy None old new
 IsRefusedTask (Some (Drill start steps)) old new = IsRefusedBy (Some (record { blocks = 4096; inodes = 256 })) old new
-
--- a scan was made: no call of the device failed, and the sink took the line of these counts. Where the premises are met, they are
--- those of the full scan of the disk handed back
-abbrev pub IsScanned : DiskState → DiskState → Option HistoryState → SinkState → SinkState → Type 0
-IsScanned found last None old new = ⊥
-IsScanned found last (Some h) old new = (has_fault h.entries ≡ false) ×
-    ((c : Counts) × AppendsAll old new (counts_line c) × ∥ (IsMet found → CountsDisk last.now c) ∥₁)
 
 -- a session was read and served, or the device was scanned, or upgraded; what is said of a salvage and of frames has clauses of its own
 abbrev pub IsDone : Option Request → SourceState → SourceState → ℕ → SinkState → SinkState → DiskState → DiskState → Option HistoryState → Type 0

@@ -19,8 +19,7 @@ ghost use Rattle.nofs_shared.specs.Forms.{is_fault as is_fault_in};
 ghost use Rattle.nofs_state.specs.declared.books.Counts.{Counts};
 ghost use Rattle.nofs.specs.Entries.{has_fault, session_text};
 ghost use Rattle.nofs.specs.Counts.{CountsDisk, counts_line};
-ghost use Rattle.nofs.specs.Headline.{IsFollowed};
-ghost use Rattle.nofs.specs.Serving.{IsClosed, IsSessionRun};
+ghost use Rattle.nofs.specs.Serving.{IsFollowed, IsClosed, IsSessionRun};
 ghost use Rattle.nofs.specs.Whole.{Finished, IsMet};
 
 use crate::scan::counts_text;

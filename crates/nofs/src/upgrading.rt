@@ -7,7 +7,8 @@ ghost use Rattle.nofs_disk.specs.Disk.{Rose};
 ghost use Rattle.nofs_io.specs.Texts.{AppendsAll};
 ghost use Rattle.nofs.specs.Lines.{fixed_line};
 ghost use Rattle.nofs.specs.declared.faults.FixedLine.TheVariants as fixed;
-ghost use Rattle.nofs.specs.Said.{Says, SaysUpgrade};
+ghost use Rattle.nofs.specs.Said.{SaysUpgrade};
+ghost use Rattle.nofs.specs.Says.{Says};
 ghost use Rattle.nofs.specs.Upgrading.{UpgradeEnds, upgrade_status as status_in};
 
 use crate::faults::{FixedLine, fixed_text, upgrade_text};

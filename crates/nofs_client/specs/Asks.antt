@@ -1,19 +1,23 @@
--- The next step of a command, as if there were always room.
-use Rattle.std.specs.Prelude.{ℕ, List, ◌≡◌, ◌+◌, ◌-◌, ◌/◌, ◌%◌, length, take, drop, min, Some, None}
+-- The next step of a command, as if there were always room, and what answers it.
+use Rattle.std.specs.Prelude.{ℕ, List, false, ◌≡◌, ◌+◌, ◌-◌, ◌/◌, ◌%◌, length, take, drop, min, Some, None}
 use Rattle.std.specs.declared.option.Option.{Option}
 use Rattle.nofs_inode.specs.declared.inode.FileKind.TheVariants as kind
+use Rattle.nofs_machine.specs.Steps.{Fits, is_out_of_memory}
+use Rattle.nofs_machine.specs.declared.replies.Reply.{Reply}
 use Rattle.nofs_machine.specs.declared.steps.Step.{Step}
 use Rattle.nofs_machine.specs.declared.steps.Step.TheVariants as step
 use Rattle.nofs_client.specs.declared.commands.Command.{Command}
 use Rattle.nofs_client.specs.declared.commands.Command.TheVariants as command
-use Rattle.nofs_client.specs.declared.driver.Next.{Next}
-use Rattle.nofs_client.specs.declared.driver.Next.TheVariants.{Do, Say}
+use Rattle.nofs_client.specs.declared.next.Next.{Next}
+use Rattle.nofs_client.specs.declared.next.Next.TheVariants.{Do, Say}
 use Rattle.nofs_client.specs.declared.places.Handle.{Handle}
 use Rattle.nofs_client.specs.declared.places.Location.{Location}
 use Rattle.nofs_client.specs.declared.task.Stage.{Stage}
 use Rattle.nofs_client.specs.declared.task.Stage.TheVariants as stage
 use Rattle.nofs_client.specs.declared.task.Task.{Task}
 use Rattle.nofs_client.specs.declared.task.Task.TheVariants as task
+use Rattle.nofs_client.specs.Commands.{IsWellFormed}
+use Rattle.nofs_client.specs.Task.{TaskStands}
 use Rattle.nofs_client.specs.Places.{command_path, new_path_of, name_at, last_name}
 
 -- a name is looked up in a directory
@@ -76,3 +80,14 @@ IsSaid (Say line) = Unit {0}
 abbrev pub IsAsked : Next → Option Step → Type 0
 IsAsked next (Some s) = next ≡ Do s
 IsAsked next None = IsSaid next
+
+-- a reply answers what was asked
+abbrev pub Answers : Next → Reply → Type 0
+Answers (Do s) r = Fits s r × (is_out_of_memory r ≡ false)
+Answers (Say line) r = ⊥
+
+-- a well formed command, its task and the reply to the task's step
+pub record IsAnswered (c : Command) (t : Task) (r : Reply) : Type 0 where
+  pub formed : IsWellFormed c
+  pub stands : TaskStands c t
+  pub fits : Answers (task_asks c t) r

@@ -9,15 +9,15 @@ use Rattle.nofs_machine.specs.declared.replies.Reply.TheVariants as reply
 use Rattle.nofs_machine.specs.declared.steps.Step.{Step}
 use Rattle.nofs_machine.specs.declared.steps.Step.TheVariants as step
 use Rattle.nofs_client.specs.declared.commands.Command.{Command}
-use Rattle.nofs_client.specs.declared.driver.Next.{Next}
-use Rattle.nofs_client.specs.declared.driver.Next.TheVariants.{Do, Say}
+use Rattle.nofs_client.specs.declared.next.Next.{Next}
+use Rattle.nofs_client.specs.declared.next.Next.TheVariants.{Do, Say}
 use Rattle.nofs_client.specs.declared.progress.Progress.{Progress}
 use Rattle.nofs_client.specs.declared.progress.See.{See}
 use Rattle.nofs_client.specs.declared.progress.See.TheVariants as see
 use Rattle.nofs_client.specs.declared.task.Task.{Task}
 use Rattle.nofs_client.specs.declared.task.Task.TheVariants as task
 use Rattle.nofs_client.specs.Task.{TaskStands, first_task, refused}
-use Rattle.nofs_client.specs.Asks.{task_asks}
+use Rattle.nofs_client.specs.Asks.{Answers, task_asks}
 use Rattle.nofs_client.specs.Answers.{task_after}
 use Rattle.nofs_client.specs.Commands.{IsWellFormed}
 
@@ -99,17 +99,6 @@ progress c replies = fold (progress_after c) (start_of c) replies
 -- the next step of a command after these replies, or its line
 unfoldable pub drive_of : Command → List Reply → Next
 drive_of c replies = asks c (progress c replies)
-
--- a reply answers what was asked
-abbrev pub Answers : Next → Reply → Type 0
-Answers (Do s) r = Fits s r × (is_out_of_memory r ≡ false)
-Answers (Say line) r = ⊥
-
--- a well formed command, its task and the reply to the task's step
-pub record IsAnswered (c : Command) (t : Task) (r : Reply) : Type 0 where
-  pub formed : IsWellFormed c
-  pub stands : TaskStands c t
-  pub fits : Answers (task_asks c t) r
 
 -- where a command stands next is this, and its task stands
 pub record StandsAs (c : Command) (wanted next : Progress) : Type 0 where

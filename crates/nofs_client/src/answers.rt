@@ -7,9 +7,8 @@ ghost use Rattle.nofs_client.specs.declared.lines.ListPart.TheVariants.{Name as 
 ghost use Rattle.nofs_client.specs.Commands.{IsWellFormed};
 ghost use Rattle.nofs_client.specs.Places.{looks, new_looks};
 ghost use Rattle.nofs_client.specs.Task.{TaskStands, IsActing, IsPutting, IsLinking, HasTwoPaths};
-ghost use Rattle.nofs_client.specs.Asks.{act_of, link_step, put_at, within_slot, task_asks};
+ghost use Rattle.nofs_client.specs.Asks.{act_of, link_step, put_at, within_slot, task_asks, Answers, IsAnswered};
 ghost use Rattle.nofs_client.specs.Answers.{handle_of as handle_in, looked as looked_by, looked_new as looked_new_by, getting as getting_from, task_after_stat as sized_by, acted as acted_by, next_stage as stage_after, linked as linked_by, stored as stored_of, after_put as put_after, after_get as get_after, got_here, listing as listing_from, after_list as list_after, task_after as after_task};
-ghost use Rattle.nofs_client.specs.Drive.{Answers, IsAnswered};
 
 use crate::commands::Command;
 use crate::lines::{GotPart, GotParts, Line, ListPart, ListParts};

@@ -6,7 +6,8 @@ ghost use Rattle.std.specs.Prelude.{◌≡◌, IfOk, OnOk, not};
 ghost use Rattle.nofs_machine.specs.Steps.{is_out_of_memory};
 ghost use Rattle.nofs_client.specs.Commands.{IsWellFormed, AreWellFormed};
 ghost use Rattle.nofs_client.specs.Task.{TaskStands};
-ghost use Rattle.nofs_client.specs.Drive.{Answers, asks, progress_after as after_of};
+ghost use Rattle.nofs_client.specs.Drive.{asks, progress_after as after_of};
+ghost use Rattle.nofs_client.specs.Asks.{Answers};
 ghost use Rattle.nofs_client.specs.Runs.{RunsTo, RunsPartly, RunsAll, RunsSome, LinesFollow};
 
 use crate::commands::{Command, CommandList};

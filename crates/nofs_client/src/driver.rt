@@ -6,23 +6,15 @@ ghost use Rattle.nofs_client.specs.Commands.{IsWellFormed};
 ghost use Rattle.nofs_client.specs.Task.{TaskStands};
 ghost use Rattle.nofs_client.specs.Asks.{IsSaid, task_asks};
 ghost use Rattle.nofs_client.specs.Drive.{AllAnswer, start_of, asks, drive_of};
-ghost use Rattle.nofs_client.specs.declared.driver.Next.TheVariants.{Say};
+ghost use Rattle.nofs_client.specs.declared.next.Next.TheVariants.{Say};
 
 use crate::commands::Command;
 use crate::lines::Line;
+use crate::next::Next;
 use crate::progress::{Progress, after, next_step, start};
 use crate::task::Task;
-use nofs_machine::{Reply, Step};
+use nofs_machine::Reply;
 use std::alloc::{AllocError, Global};
-
-/// What a command does next.
-#[derive(Drop)]
-pub enum Next {
-    /// It makes this step.
-    Do(Step),
-    /// It ends with this line.
-    Say(Line),
-}
 
 fn line_of_task(command: &Command, task: Task) -> Line
     requires { IsSaid (task_asks command.now task) }

@@ -8,6 +8,7 @@ mod client;
 mod commands;
 mod driver;
 mod lines;
+mod next;
 mod places;
 mod progress;
 mod steps;
@@ -17,6 +18,7 @@ mod tests;
 
 pub use client::Client;
 pub use commands::{Command, CommandList, Path};
-pub use driver::{Next, drive};
+pub use driver::drive;
 pub use lines::{GotPart, GotParts, Line, LineList, ListPart, ListParts};
+pub use next::Next;
 pub use nofs_lists::PathNames;

@@ -11,8 +11,8 @@ use Rattle.nofs_machine.specs.declared.replies.Refusal.TheVariants as refusal
 use Rattle.nofs_client.specs.declared.commands.Command.{Command}
 use Rattle.nofs_client.specs.declared.commands.Command.TheVariants as command
 use Rattle.nofs_client.specs.declared.commands.Path.{Path}
-use Rattle.nofs_client.specs.declared.driver.Next.{Next}
-use Rattle.nofs_client.specs.declared.driver.Next.TheVariants.{Do, Say}
+use Rattle.nofs_client.specs.declared.next.Next.{Next}
+use Rattle.nofs_client.specs.declared.next.Next.TheVariants.{Do, Say}
 use Rattle.nofs_client.specs.declared.lines.Line.{Line}
 use Rattle.nofs_client.specs.declared.lines.Line.TheVariants as line
 use Rattle.nofs_client.specs.declared.progress.Progress.{Progress}

@@ -3,7 +3,7 @@ use Rattle.std.proofs.Common.{◌≡◌, ℕ, zero, suc, List, [], ◌∷◌, �
 use Rattle.std.specs.Prelude.{slice_get}
 use Rattle.nofs_machine.specs.Steps.{Made}
 use Rattle.nofs_client.specs.declared.commands.Command.{Command}
-use Rattle.nofs_client.specs.declared.driver.Next.TheVariants.{Say}
+use Rattle.nofs_client.specs.declared.next.Next.TheVariants.{Say}
 use Rattle.nofs_client.specs.declared.lines.Line.{Line}
 use Rattle.nofs_client.specs.Drive.{start_of}
 use Rattle.nofs_client.specs.Runs.{Asked, IsCommandRun, IsDriven, IsBegun}

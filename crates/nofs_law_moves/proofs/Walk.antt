@@ -10,7 +10,7 @@ use Rattle.nofs_machine.specs.declared.replies.Reply.TheVariants as reply
 use Rattle.nofs_machine.specs.declared.replies.Refusal.{Refusal}
 use Rattle.nofs_client.specs.declared.commands.Command.TheVariants as command
 use Rattle.nofs_client.specs.declared.commands.Path.{Path}
-use Rattle.nofs_client.specs.declared.driver.Next.TheVariants.{Do}
+use Rattle.nofs_client.specs.declared.next.Next.TheVariants.{Do}
 use Rattle.nofs_client.specs.declared.lines.Line.TheVariants as line
 use Rattle.nofs_client.specs.declared.places.Handle.{Handle}
 use Rattle.nofs_client.specs.declared.places.Location.{Location}

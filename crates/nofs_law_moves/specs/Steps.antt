@@ -9,7 +9,7 @@ use Rattle.nofs_machine.specs.declared.replies.Reply.TheVariants as reply
 use Rattle.nofs_client.specs.declared.commands.Command.{Command}
 use Rattle.nofs_client.specs.declared.commands.Command.TheVariants as command
 use Rattle.nofs_client.specs.declared.commands.Path.{Path}
-use Rattle.nofs_client.specs.declared.driver.Next.TheVariants.{Say}
+use Rattle.nofs_client.specs.declared.next.Next.TheVariants.{Say}
 use Rattle.nofs_client.specs.declared.lines.Line.{Line}
 use Rattle.nofs_client.specs.declared.lines.Line.TheVariants as line
 use Rattle.nofs_client.specs.Commands.{HasName}

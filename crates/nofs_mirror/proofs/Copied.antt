@@ -7,7 +7,7 @@ use Rattle.nofs_disk.specs.declared.Failed.{Failed}
 use Rattle.nofs_disk.specs.declared.tag.Cell.{Cell}
 use Rattle.nofs_disk.specs.Chains.{IsSameDisk-trans, KeepsPast-trans, StaysButFaults-refl, StaysButFaults-trans}
 use Rattle.nofs_disk.specs.Disk.{DiskState, Flushes, IsDisk, IsSettled, StaysButFaults, cell_at, no_cell}
-use Rattle.nofs_mirror.specs.declared.mirror.MirrorStart.{MirrorStart}
+use Rattle.nofs_mirror.specs.declared.opening.MirrorStart.{MirrorStart}
 use Rattle.nofs_mirror.specs.declared.past.MirrorCall.{MirrorCall}
 use Rattle.nofs_mirror.specs.declared.past.Span.{Span}
 use Rattle.nofs_mirror.specs.Copying.{Copies, HasCopied}

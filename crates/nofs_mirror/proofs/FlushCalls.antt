@@ -11,7 +11,7 @@ use Rattle.nofs_disk.specs.Cells.{Contains-known, Picks-known}
 use Rattle.nofs_disk.specs.Disk.{DiskState, Flushes, IsDisk, Picks, cell_at, no_cell}
 use Rattle.nofs_mirror.specs.declared.asking.SideCall.{SideCall}
 use Rattle.nofs_mirror.specs.declared.mirror.Mirror.{Mirror}
-use Rattle.nofs_mirror.specs.declared.mirror.MirrorStart.{MirrorStart}
+use Rattle.nofs_mirror.specs.declared.opening.MirrorStart.{MirrorStart}
 use Rattle.nofs_mirror.specs.declared.past.MirrorCall.{MirrorCall}
 use Rattle.nofs_mirror.specs.declared.past.Effect.TheVariants.{Settle, Nothing}
 use Rattle.nofs_mirror.specs.Asking.{SideFlushes, any_done, call_of, counted_if, flush_effect, is_asked, lead_stays}

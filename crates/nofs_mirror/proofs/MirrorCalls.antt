@@ -10,7 +10,7 @@ use Rattle.nofs_disk.specs.Disk.{DiskState, IsDisk, IsSameDisk, Picks, Rose}
 use Rattle.nofs_mirror.specs.declared.asking.SideCall.{SideCall}
 use Rattle.nofs_mirror.specs.declared.log.Sides.{Sides}
 use Rattle.nofs_mirror.specs.declared.mirror.Mirror.{Mirror}
-use Rattle.nofs_mirror.specs.declared.mirror.MirrorStart.{MirrorStart}
+use Rattle.nofs_mirror.specs.declared.opening.MirrorStart.{MirrorStart}
 use Rattle.nofs_mirror.specs.declared.past.Effect.{Effect}
 use Rattle.nofs_mirror.specs.declared.past.MirrorCall.{MirrorCall}
 use Rattle.nofs_mirror.specs.declared.past.Span.{Span}

@@ -13,7 +13,7 @@ use Rattle.nofs_disk.specs.Moments.{AtEach, AtEach-flushes, AtEach-writes}
 use Rattle.nofs_mirror.specs.declared.asking.SideAnswer.{SideAnswer}
 use Rattle.nofs_mirror.specs.declared.asking.SideAnswer.TheVariants.{Out, Done, Fault}
 use Rattle.nofs_mirror.specs.declared.log.Sides.{Sides}
-use Rattle.nofs_mirror.specs.declared.mirror.MirrorStart.{MirrorStart}
+use Rattle.nofs_mirror.specs.declared.opening.MirrorStart.{MirrorStart}
 use Rattle.nofs_mirror.specs.declared.past.MirrorCall.{MirrorCall}
 use Rattle.nofs_mirror.specs.declared.past.Span.{Span}
 use Rattle.nofs_mirror.specs.Asking.{SideFlushes, SideWrites, is_asked, is_done, lead_stays, other_stays}

@@ -4,7 +4,7 @@ use Rattle.std.specs.Prelude.{eqb}
 use Rattle.std.proofs.lemmas.Bool.{eq-eqb, ne_eqb}
 use Rattle.nofs_disk.specs.declared.tag.Cell.{Cell}
 use Rattle.nofs_disk.specs.Disk.{DiskState, IsSameDisk, KeepsPast}
-use Rattle.nofs_mirror.specs.declared.mirror.MirrorStart.{MirrorStart}
+use Rattle.nofs_mirror.specs.declared.opening.MirrorStart.{MirrorStart}
 use Rattle.nofs_mirror.specs.declared.past.MirrorCall.{MirrorCall}
 use Rattle.nofs_mirror.specs.declared.past.Effect.{Effect}
 use Rattle.nofs_mirror.specs.declared.past.Effect.TheVariants.{Write, Settle, Nothing}

@@ -11,7 +11,7 @@ use Rattle.nofs_disk.specs.Cells.{Picks-known}
 use Rattle.nofs_disk.specs.Disk.{DiskState, IsDisk, IsSizedCell, Writes}
 use Rattle.nofs_mirror.specs.declared.asking.SideCall.{SideCall}
 use Rattle.nofs_mirror.specs.declared.mirror.Mirror.{Mirror}
-use Rattle.nofs_mirror.specs.declared.mirror.MirrorStart.{MirrorStart}
+use Rattle.nofs_mirror.specs.declared.opening.MirrorStart.{MirrorStart}
 use Rattle.nofs_mirror.specs.declared.past.MirrorCall.{MirrorCall}
 use Rattle.nofs_mirror.specs.declared.past.Effect.TheVariants.{Write}
 use Rattle.nofs_mirror.specs.Asking.{SideWrites, any_done, call_of, counted_if, is_asked, lead_stays}

@@ -5,9 +5,9 @@ use Rattle.nofs_disk.specs.declared.Failed.{Failed}
 use Rattle.nofs_disk.specs.declared.tag.Cell.{Cell}
 use Rattle.nofs_disk.specs.Disk.{DiskState, IsSameDisk, IsSizedCell, KeepsCells, KeepsPast, Rose, StaysButFaults, cell_at}
 use Rattle.nofs_mirror.specs.declared.log.Sides.{Sides}
-use Rattle.nofs_mirror.specs.declared.mirror.MirrorCause.{MirrorCause}
-use Rattle.nofs_mirror.specs.declared.mirror.MirrorCause.TheVariants.{TooSmall, ReadFault, OutOfMemory}
-use Rattle.nofs_mirror.specs.declared.mirror.MirrorStart.{MirrorStart}
+use Rattle.nofs_mirror.specs.declared.opening.MirrorCause.{MirrorCause}
+use Rattle.nofs_mirror.specs.declared.opening.MirrorCause.TheVariants.{TooSmall, ReadFault, OutOfMemory}
+use Rattle.nofs_mirror.specs.declared.opening.MirrorStart.{MirrorStart}
 use Rattle.nofs_mirror.specs.declared.past.MirrorCall.{MirrorCall}
 use Rattle.nofs_mirror.specs.declared.past.Effect.{Effect}
 use Rattle.nofs_mirror.specs.declared.past.Effect.TheVariants.{Write, Settle, Nothing}

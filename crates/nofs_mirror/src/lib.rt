@@ -9,7 +9,9 @@ mod asking;
 mod copying;
 mod log;
 mod mirror;
+mod opening;
 mod past;
 
 pub use log::Sides;
-pub use mirror::{Mirror, MirrorCause, MirrorFault};
+pub use mirror::{Mirror, MirrorFault};
+pub use opening::MirrorCause;

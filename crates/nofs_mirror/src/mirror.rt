@@ -27,18 +27,11 @@ ghost use Rattle.nofs_mirror.specs.Past.{past_calls};
 use crate::asking::{SideAnswer, flush_side, read_side, write_side};
 use crate::copying::{CopyFault, copy_and_flush};
 use crate::log::{Log, Sides, flush_effect};
+use crate::opening::{MirrorCause, MirrorStart};
 use crate::past::{Effect, Span};
 use nofs_disk::{Cell, Disk, Failed};
 use std::alloc::AllocError;
 use std::snapshot::Snapshot;
-
-/// How many blocks a mirror has, and the moments of both sides at its opening.
-#[derive(Clone, Copy)]
-pub struct MirrorStart {
-    blocks: u64,
-    lead: Span,
-    other: Span,
-}
 
 /// Two disks as one, of which one may fail for good. Its moments and its count of faults are its
 /// own. It keeps no write back: where a side does, the mirror's flush makes it write them out.
@@ -56,17 +49,6 @@ pub struct Mirror<A: Disk + Drop, B: Disk + Drop> {
     ghost other_in: { log.sides.other_in ≡ (last_span (λ c. c.other) opening.other (past_calls log.past.value)).is_in },
     ghost some_in: { IsTrue (log.sides.lead_in || log.sides.other_in) },
     ghost kept: { ∥ MirrorKeeps (A.state lead) (B.state other) (A.state first.value) opening (past_calls log.past.value) ∥₁ },
-}
-
-/// Why a mirror was not opened.
-#[derive(Clone, Copy, Debug, PartialEq, Eq)]
-pub enum MirrorCause {
-    /// A side has fewer blocks than the mirror is to have: so many has each.
-    TooSmall { lead: u64, other: u64 },
-    /// The lead could not be read. Part of the copy may stand on the other.
-    ReadFault,
-    /// There is no memory for the calls of the other.
-    OutOfMemory,
 }
 
 /// A mirror was not opened. Both disks come back.

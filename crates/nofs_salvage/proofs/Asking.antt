@@ -14,12 +14,12 @@ use Rattle.nofs_machine.specs.declared.replies.Reply.TheVariants as reply
 use Rattle.nofs_machine.specs.declared.replies.Refusal.{Refusal}
 use Rattle.nofs_machine.specs.declared.replies.Refusal.TheVariants as refusal
 use Rattle.nofs_machine.specs.declared.replies.NameLine.{NameLine}
-use Rattle.nofs_salvage.specs.declared.steps.Handle.{Handle}
+use Rattle.nofs_salvage.specs.declared.answers.Handle.{Handle}
 use Rattle.nofs_salvage.specs.declared.tree.Tree.{Tree}
 use Rattle.nofs_salvage.specs.Reads.{Reads, IsAccepted, found_by, size_by, listed_by, got_by}
 use Rattle.nofs_salvage.specs.Refusing.{MakesOne}
 use Rattle.nofs_salvage.specs.Handles.{root_handle, label_handle, with_handle}
-use Rattle.nofs_salvage.specs.Told.{handles_in}
+use Rattle.nofs_salvage.specs.InHand.{handles_in}
 use Rattle.nofs_salvage.specs.Asks.{IsGiven, IsReached, Root, Label, Looked, IsGotten, IsBelowSize, MayBeAsked, Asks}
 use Rattle.nofs_salvage.specs.Asks.{HasReached, HasGiven, HasTold, AreGiven, ListGives, has_slot, AreReached}
 

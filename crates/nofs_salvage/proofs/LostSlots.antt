@@ -9,7 +9,7 @@ use Rattle.nofs_machine.specs.World.{World}
 use Rattle.nofs_salvage.specs.declared.report.Loss.{Loss}
 use Rattle.nofs_salvage.specs.declared.report.Loss.TheVariants as loss
 use Rattle.std.specs.Prelude.{OnOk}
-use Rattle.nofs_salvage.specs.declared.steps.Got.TheVariants as got
+use Rattle.nofs_salvage.specs.declared.answers.Got.TheVariants as got
 use Rattle.nofs_salvage.specs.Answered.{IsGot, IsNoted}
 use Rattle.nofs_salvage.specs.Report.{if_so, lost_below, file_losses}
 

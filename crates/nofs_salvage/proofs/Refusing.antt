@@ -25,7 +25,7 @@ use Rattle.nofs_machine.specs.declared.replies.Reply.{Reply}
 use Rattle.nofs_machine.specs.declared.replies.Reply.TheVariants as reply
 use Rattle.nofs_machine.specs.declared.replies.Refusal.{Refusal}
 use Rattle.nofs_machine.specs.declared.replies.Refusal.TheVariants as refusal
-use Rattle.nofs_salvage.specs.declared.steps.Handle.{Handle}
+use Rattle.nofs_salvage.specs.declared.answers.Handle.{Handle}
 use Rattle.nofs_salvage.specs.Reads.{Reads, IsAccepted, refusal_of, first_refusal, is_too_large, found_by, size_by, listed_by}
 use Rattle.nofs_salvage.specs.Answered.{IsAnswered, AreAnswered}
 use Rattle.nofs_salvage.specs.Report.{inode_found}

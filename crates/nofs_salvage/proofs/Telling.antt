@@ -24,8 +24,8 @@ use Rattle.nofs_salvage.specs.Report.{inode_in, inode_at, inode_found, is_double
 use Rattle.nofs_salvage.specs.Answered.{first_held, AreAnswered, IsListedFrom}
 use Rattle.nofs_salvage.specs.declared.findings.Findings.{Findings}
 use Rattle.nofs_salvage.specs.declared.seen.SeenNames.{SeenNames}
-use Rattle.nofs_salvage.specs.declared.steps.Listed.{Listed}
-use Rattle.nofs_salvage.specs.declared.steps.Listed.TheVariants as list
+use Rattle.nofs_salvage.specs.declared.answers.Listed.{Listed}
+use Rattle.nofs_salvage.specs.declared.answers.Listed.TheVariants as list
 use Rattle.nofs_salvage.specs.Trees.{AreSeen, IsWalked}
 use Rattle.nofs_salvage.specs.Refusing.{LeadsTo, AreFair}
 use Rattle.nofs_salvage.specs.Reads.{Reads}

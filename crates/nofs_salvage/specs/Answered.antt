@@ -11,10 +11,10 @@ use Rattle.nofs_machine.specs.Steps.{Made}
 use Rattle.nofs_machine.specs.declared.history.Entry1.{Entry1}
 use Rattle.nofs_salvage.specs.declared.report.Loss.{Loss}
 use Rattle.nofs_salvage.specs.declared.report.Loss.TheVariants as loss
-use Rattle.nofs_salvage.specs.declared.steps.Got.{Got}
-use Rattle.nofs_salvage.specs.declared.steps.Got.TheVariants as got
-use Rattle.nofs_salvage.specs.declared.steps.Listed.{Listed}
-use Rattle.nofs_salvage.specs.declared.steps.Listed.TheVariants as listed
+use Rattle.nofs_salvage.specs.declared.answers.Got.{Got}
+use Rattle.nofs_salvage.specs.declared.answers.Got.TheVariants as got
+use Rattle.nofs_salvage.specs.declared.answers.Listed.{Listed}
+use Rattle.nofs_salvage.specs.declared.answers.Listed.TheVariants as listed
 use Rattle.nofs_salvage.specs.Report.{if_so}
 
 -- the machine answers a step so in a world with the files of W

@@ -8,13 +8,13 @@ use Rattle.nofs_machine.specs.declared.replies.Reply.TheVariants as reply
 use Rattle.nofs_machine.specs.declared.replies.NameLine.{NameLine}
 use Rattle.nofs_machine.specs.declared.replies.Found.{Found}
 use Rattle.nofs_machine.specs.declared.replies.Stat.{Stat}
-use Rattle.nofs_salvage.specs.declared.steps.Handle.{Handle}
-use Rattle.nofs_salvage.specs.declared.steps.Got.{Got}
-use Rattle.nofs_salvage.specs.declared.steps.Got.TheVariants as got
-use Rattle.nofs_salvage.specs.declared.steps.Listed.{Listed}
-use Rattle.nofs_salvage.specs.declared.steps.Listed.TheVariants as listed
+use Rattle.nofs_salvage.specs.declared.answers.Handle.{Handle}
+use Rattle.nofs_salvage.specs.declared.answers.Got.{Got}
+use Rattle.nofs_salvage.specs.declared.answers.Got.TheVariants as got
+use Rattle.nofs_salvage.specs.declared.answers.Listed.{Listed}
+use Rattle.nofs_salvage.specs.declared.answers.Listed.TheVariants as listed
 use Rattle.nofs_salvage.specs.declared.tree.Tree.{Tree}
-use Rattle.nofs_salvage.specs.Told.{handles_in}
+use Rattle.nofs_salvage.specs.InHand.{handles_in}
 
 -- one of these steps listed directory (d, g), and gave this name as not dead
 pub record IsGiven (before : List Made) (d g : ℕ) (name : List ℕ) : Type 0 where

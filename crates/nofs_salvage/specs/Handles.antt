@@ -1,7 +1,7 @@
 -- The inodes of directories, and lists of them.
 use Rattle.std.specs.Prelude.{ℕ, List, [], ◌∷◌, ◌++◌, map, if◌then◌else◌, ◌==◌}
 use Rattle.std.specs.List.{list_any}
-use Rattle.nofs_salvage.specs.declared.steps.Handle.{Handle}
+use Rattle.nofs_salvage.specs.declared.answers.Handle.{Handle}
 
 abbrev pub inode_of : Handle → ℕ
 inode_of directory = directory.inode

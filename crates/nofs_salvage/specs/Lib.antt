@@ -6,5 +6,6 @@ pub mod Picks
 pub mod Reads
 pub mod Refusing
 pub mod Report
+pub mod InHand
 pub mod Told
 pub mod Trees

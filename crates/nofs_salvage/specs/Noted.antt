@@ -4,7 +4,7 @@ use Rattle.std.specs.Prelude.{◌≡◌, ℕ, ◌<◌, ◌≤◌, Bool, true, Li
 use Rattle.nofs_machine.specs.World.{World}
 use Rattle.nofs_machine.specs.Steps.{Made}
 use Rattle.nofs_machine.specs.declared.replies.NameLine.{NameLine}
-use Rattle.nofs_salvage.specs.declared.steps.Handle.{Handle}
+use Rattle.nofs_salvage.specs.declared.answers.Handle.{Handle}
 use Rattle.nofs_salvage.specs.declared.report.Loss.{Loss}
 use Rattle.nofs_salvage.specs.declared.findings.Findings.{Findings}
 use Rattle.nofs_salvage.specs.declared.seen.SeenNames.{SeenNames}

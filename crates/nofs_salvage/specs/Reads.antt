@@ -9,11 +9,11 @@ use Rattle.nofs_machine.specs.declared.replies.Reply.{Reply}
 use Rattle.nofs_machine.specs.declared.replies.Reply.TheVariants as reply
 use Rattle.nofs_machine.specs.declared.replies.Refusal.{Refusal}
 use Rattle.nofs_machine.specs.declared.replies.Refusal.TheVariants as refusal
-use Rattle.nofs_salvage.specs.declared.steps.Handle.{Handle}
-use Rattle.nofs_salvage.specs.declared.steps.Listed.{Listed}
-use Rattle.nofs_salvage.specs.declared.steps.Listed.TheVariants as listed
-use Rattle.nofs_salvage.specs.declared.steps.Got.{Got}
-use Rattle.nofs_salvage.specs.declared.steps.Got.TheVariants as got
+use Rattle.nofs_salvage.specs.declared.answers.Handle.{Handle}
+use Rattle.nofs_salvage.specs.declared.answers.Listed.{Listed}
+use Rattle.nofs_salvage.specs.declared.answers.Listed.TheVariants as listed
+use Rattle.nofs_salvage.specs.declared.answers.Got.{Got}
+use Rattle.nofs_salvage.specs.declared.answers.Got.TheVariants as got
 use Rattle.nofs_salvage.specs.declared.fault.SalvageFault.{SalvageFault}
 use Rattle.nofs_salvage.specs.declared.fault.SalvageFault.TheVariants as fault
 

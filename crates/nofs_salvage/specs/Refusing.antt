@@ -8,7 +8,7 @@ use Rattle.nofs_machine.specs.declared.steps.Step.{Step}
 use Rattle.nofs_machine.specs.declared.replies.Reply.{Reply}
 use Rattle.nofs_machine.specs.declared.replies.Refusal.{Refusal}
 use Rattle.nofs_machine.specs.declared.replies.Refusal.TheVariants as refusal
-use Rattle.nofs_salvage.specs.declared.steps.Handle.{Handle}
+use Rattle.nofs_salvage.specs.declared.answers.Handle.{Handle}
 use Rattle.nofs_salvage.specs.Reads.{refusal_of}
 use Rattle.nofs_salvage.specs.Report.{inode_found}
 

@@ -3,14 +3,14 @@ use Rattle.std.specs.Prelude.{◌≡◌, ℕ, ◌⊎◌, true, false, List, [], 
 use Rattle.nofs_dirent.specs.Names.{is_name}
 use Rattle.nofs_model.specs.Image.{Files, is_folder}
 use Rattle.nofs_machine.specs.declared.replies.NameLine.{NameLine}
-use Rattle.nofs_salvage.specs.declared.steps.Handle.{Handle}
-use Rattle.nofs_salvage.specs.declared.steps.Listed.{Listed}
-use Rattle.nofs_salvage.specs.declared.steps.Listed.TheVariants as listed
+use Rattle.nofs_salvage.specs.declared.answers.Listed.{Listed}
+use Rattle.nofs_salvage.specs.declared.answers.Listed.TheVariants as listed
 use Rattle.nofs_salvage.specs.declared.tree.Tree.{Tree}
 use Rattle.nofs_salvage.specs.Handles.{root_handle}
 use Rattle.nofs_salvage.specs.Report.{is_doubled}
 use Rattle.nofs_salvage.specs.Refusing.{is_there, MayAsk, LeadsTo}
 use Rattle.nofs_salvage.specs.Answered.{IsInFolder}
+use Rattle.nofs_salvage.specs.InHand.{handles_in}
 
 -- a line of directory d that is neither dead nor doubled leads to what it says
 abbrev pub IsTold : Files → ℕ → List NameLine → NameLine → Type 0
@@ -34,9 +34,6 @@ pub record IsFolderPart (listed : Listed) : Type 0 where
   pub names : AreNames listed
 
 -- The handles of a list of directories
-
-abbrev pub handles_in : Tree → List Handle
-handles_in tree = tree.list.items
 
 -- all are directories
 abbrev pub AreFolders : Files → Tree → Type 0

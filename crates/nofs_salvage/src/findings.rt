@@ -4,10 +4,10 @@
 ghost use Rattle.std.specs.Prelude.{◌≡◌, ◌++◌, [], ◌∷◌, IfOk, OnOk};
 ghost use Rattle.nofs_salvage.specs.Report.{if_so, name_loss};
 ghost use Rattle.nofs_salvage.specs.Handles.{root_handle};
-ghost use Rattle.nofs_salvage.specs.Told.{handles_in};
+ghost use Rattle.nofs_salvage.specs.InHand.{handles_in};
 
+use crate::answers::Handle;
 use crate::report::{Loss, Report};
-use crate::steps::Handle;
 use crate::tree::Tree;
 use nofs_lists::Name;
 use std::alloc::{AllocError, Global};

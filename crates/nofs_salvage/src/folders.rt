@@ -12,13 +12,14 @@ ghost use Rattle.nofs_salvage.specs.Refusing.{AreFair, MayAsk};
 ghost use Rattle.nofs_salvage.specs.Noted.{SlotsNoted, FolderNoted};
 ghost use Rattle.nofs_salvage.specs.Asks.{AsksOn};
 
+use crate::answers::{Handle, Listed};
 use crate::fault::SalvageFault;
 use crate::filter::{NameFilter, NameRule};
 use crate::findings::Findings;
 use crate::lines::note_lines;
 use crate::report::Loss;
 use crate::seen::SeenNames;
-use crate::steps::{Handle, Listed, list};
+use crate::steps::list;
 use nofs_machine::Steps;
 use std::alloc::Global;
 

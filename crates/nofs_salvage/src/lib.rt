@@ -4,6 +4,7 @@
 //! Promise: where nobody changes files meanwhile, the report is that of the definition. The walk only reads.
 #![tactic(auto)]
 
+mod answers;
 mod fault;
 mod filter;
 mod findings;

@@ -16,12 +16,13 @@ ghost use Rattle.nofs_salvage.specs.Told.{IsTold, AreTold, AreFolders};
 ghost use Rattle.nofs_salvage.specs.Asks.{Asks, HasGiven, AreGiven, AreReached};
 ghost use Rattle.nofs_salvage.specs.Noted.{LinesNoted};
 
+use crate::answers::Handle;
 use crate::fault::SalvageFault;
 use crate::filter::{NameFilter, NameRule};
 use crate::findings::{Findings, NameFlaw, note_name};
 use crate::seen::SeenNames;
 use crate::slots::note_file;
-use crate::steps::{Handle, find};
+use crate::steps::find;
 use nofs_machine::{FileKind, NameLine, NameList, Steps};
 use std::alloc::Global;
 

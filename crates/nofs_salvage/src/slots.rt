@@ -12,9 +12,10 @@ ghost use Rattle.nofs_salvage.specs.Answered.{AreAnswered, IsNoted};
 ghost use Rattle.nofs_salvage.specs.Refusing.{is_there, AreFair, MayAsk};
 ghost use Rattle.nofs_salvage.specs.Asks.{Asks, AsksOn, HasReached, HasTold};
 
+use crate::answers::{Got, Handle};
 use crate::fault::SalvageFault;
 use crate::report::{Loss, Report};
-use crate::steps::{Got, Handle, get, size_of};
+use crate::steps::{get, size_of};
 use nofs_machine::Steps;
 
 // How many slots a size reaches into.

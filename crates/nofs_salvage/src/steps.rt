@@ -13,35 +13,11 @@ ghost use Rattle.nofs_salvage.specs.Refusing.{is_there, AreFair, MakesOne, MayAs
 ghost use Rattle.nofs_salvage.specs.Told.{IsFolderPart};
 ghost use Rattle.nofs_salvage.specs.Asks.{Asks, AsksOn, HasReached, HasGiven, HasTold, ListGives, has_slot};
 
+use crate::answers::{Got, Handle, Listed};
 use crate::fault::{SalvageFault, fault_of};
 use nofs_lists::Name;
-use nofs_machine::{NameList, Refusal, Reply, Step, Steps};
+use nofs_machine::{Refusal, Reply, Step, Steps};
 use std::alloc::Global;
-
-/// A file or a directory: its inode, with the generation that tells it from an earlier one.
-#[derive(Clone, Copy, Debug, PartialEq, Eq)]
-pub struct Handle {
-    pub inode: u32,
-    pub generation: u64,
-}
-
-/// What a list gives of a directory: its next slot that isn't a hole.
-#[derive(Drop)]
-pub enum Listed {
-    Names(u64, NameList),
-    LostNames(u64),
-    NoMore,
-}
-
-/// What a slot has, as far as a report wants to know.
-#[derive(Clone, Copy, Debug, PartialEq, Eq)]
-pub enum Got {
-    /// Content, or nothing was ever put there.
-    Kept,
-    Lost,
-    /// No file has such a slot.
-    NoSlot,
-}
 
 // Makes a step that reads.
 fn ask<S: Steps>(steps: &mut S, step: Step) -> Result<Reply, SalvageFault>

@@ -8,7 +8,7 @@ ghost use Rattle.std.specs.BTreeSet.{contains};
 ghost use Rattle.nofs_salvage.specs.Report.{with_one};
 ghost use Rattle.nofs_salvage.specs.Handles.{inode_of, with_handle};
 
-use crate::steps::Handle;
+use crate::answers::Handle;
 use std::alloc::{AllocError, Global};
 use std::collections::BTreeSet;
 

@@ -11,17 +11,17 @@ ghost use Rattle.nofs_salvage.specs.Report.{report_of};
 ghost use Rattle.nofs_salvage.specs.Answered.{AreAnswered};
 ghost use Rattle.nofs_salvage.specs.Refusing.{is_there, HasRoots, MayRefuse, AreFair};
 ghost use Rattle.nofs_salvage.specs.Handles.{root_handle};
-ghost use Rattle.nofs_salvage.specs.Told.{handles_in};
+ghost use Rattle.nofs_salvage.specs.InHand.{handles_in};
 ghost use Rattle.nofs_salvage.specs.Noted.{TreeNoted};
 ghost use Rattle.nofs_salvage.specs.Asks.{Asks};
 
+use crate::answers::Handle;
 use crate::fault::SalvageFault;
 use crate::filter::{NameFilter, NameRule};
 use crate::findings::Findings;
 use crate::folders::note_folder;
 use crate::report::Report;
 use crate::slots::note_file;
-use crate::steps::Handle;
 use nofs_machine::Steps;
 use std::alloc::Global;
 

@@ -13,7 +13,8 @@ use Rattle.nofs_wire.specs.declared.serving.WireEnd.{WireEnd}
 use Rattle.nofs_wire.specs.declared.serving.WireEnd.TheVariants as ended
 use Rattle.nofs_wire.specs.Frames.{front_of, step_in, split_of, frames_of, rest_of, IsBad, IsBadBy, IsCut, IsCutBy}
 use Rattle.nofs_wire.specs.Serves.{made_step, made_bytes, replies_of, IsServed, IsServedInPart, IsRestAt, EndsSo, Serves}
-use Rattle.nofs_wire.specs.Turns.{InboxState, IsFramed, GoesOn, HasNone, IsInPart, StopsSo, Stops}
+use Rattle.nofs_wire.specs.Turns.{IsFramed, GoesOn, HasNone, IsInPart, StopsSo, Stops}
+use Rattle.nofs_wire.specs.Inbox.{InboxState}
 use Rattle.nofs_wire.proofs.Splitting.{framed-none, framed-more, none-split, first-split}
 
 -- the frames so far are answered, and behind them stands what wasn't used yet

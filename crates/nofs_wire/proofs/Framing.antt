@@ -1,12 +1,9 @@
 -- The length of a frame stands before its body.
 use Rattle.std.proofs.Common.{◌≡◌, ℕ, ◌+◌, List, ◌++◌, length, drop, length-append, ap, ◌∙◌}
 use Rattle.std.proofs.lemmas.List.{drop_at}
-use Rattle.byteorder.specs.Numbers.{length-bytes_low_first}
-use Rattle.nofs_wire.specs.Replies.{number_bytes, frame_bytes}
-
-pub length-number_bytes : (n x : ℕ) → length (number_bytes n x) ≡ n
-unfolding number_bytes
-length-number_bytes n x = length-bytes_low_first 0 n x
+use Rattle.nofs_wire.specs.Replies.{frame_bytes}
+use Rattle.nofs_wire.specs.Fields.{number_bytes}
+use Rattle.nofs_wire.proofs.Fields.{length-number_bytes}
 
 -- four bytes and a body
 pub length_behind : (x : ℕ) (items body : List ℕ) → items ≡ number_bytes 4 x ++ body → length items ≡ 4 + length body

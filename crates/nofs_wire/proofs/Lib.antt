@@ -1,3 +1,4 @@
+pub mod Fields
 pub mod Framing
 pub mod Splitting
 pub mod Answering

@@ -11,12 +11,12 @@ use Rattle.nofs_inode.specs.declared.inode.FileKind.{FileKind}
 use Rattle.nofs_inode.specs.declared.inode.FileKind.TheVariants.{File, Directory}
 use Rattle.nofs_machine.specs.declared.steps.Step.{Step}
 use Rattle.nofs_machine.specs.declared.steps.Step.TheVariants as step
-use Rattle.nofs_wire.specs.Replies.{number_bytes, kind_byte, name_bytes}
+use Rattle.nofs_wire.specs.Fields.{number_bytes, kind_byte, name_bytes}
 use Rattle.nofs_wire.specs.Requests.{◌>>=◌, where_ends, name_length, name_at, kind_of, inode_of, generation_of, look_of, make_of, link_of, drop_of, rename_of}
 use Rattle.nofs_wire.specs.Requests.{list_of, get_of, put_of, resize_of, stat_of, flush_of, see_inode_of, see_block_of, named_of, handled_of, step_by}
 use Rattle.nofs_wire.specs.Requests.{step_of}
 use Rattle.nofs_wire.specs.Spelled.{head_bytes, request_bytes, IsHandle, FitsBody}
-use Rattle.nofs_wire.proofs.Framing.{length-number_bytes}
+use Rattle.nofs_wire.proofs.Fields.{length-number_bytes}
 
 where-true : (b : Bool) (x s : Step) → b ≡ true → x ≡ s → where_ends b x ≡ Some s
 where-true b x s e same = ap (λ c. where_ends c x) e ∙ ap Some same

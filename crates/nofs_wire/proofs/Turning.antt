@@ -13,7 +13,8 @@ use Rattle.nofs_wire.specs.Frames.{front_of, step_in, body_of, IsBad, IsBadBy, I
 use Rattle.nofs_wire.specs.Requests.{step_of}
 use Rattle.nofs_wire.specs.Replies.{reply_bytes}
 use Rattle.nofs_wire.specs.Serves.{made_step, replies_of}
-use Rattle.nofs_wire.specs.Turns.{InboxState, AnswersInPart, AnswersNone, AnswersWhole, GoesOn, Stops, StopsSo, TakesCount}
+use Rattle.nofs_wire.specs.Turns.{AnswersInPart, AnswersNone, AnswersWhole, GoesOn, Stops, StopsSo}
+use Rattle.nofs_wire.specs.Inbox.{InboxState, TakesCount}
 use Rattle.nofs_wire.proofs.Along.{short-none}
 use Rattle.nofs_wire.proofs.Splitting.{framed-none, framed-one}
 

@@ -2,7 +2,7 @@
 use Rattle.std.specs.Prelude.{ℕ, ◌^◌, ◌<◌, List, [], ◌∷◌, ◌++◌}
 use Rattle.nofs_machine.specs.declared.steps.Step.{Step}
 use Rattle.nofs_machine.specs.declared.steps.Step.TheVariants as step
-use Rattle.nofs_wire.specs.Replies.{number_bytes, kind_byte, name_bytes}
+use Rattle.nofs_wire.specs.Fields.{number_bytes, kind_byte, name_bytes}
 
 -- the first byte, an inode number and its generation, and the rest
 abbrev pub head_bytes : ℕ → ℕ → ℕ → List ℕ → List ℕ

@@ -3,7 +3,7 @@
 //! Promise: bytes are kept in the order in which they came, none lost and none twice.
 ghost use Rattle.std.specs.Prelude.{◌≡◌, ◌+◌, ◌-◌, ◌<◌, ◌≤◌, ◌^◌, ◌++◌, [], IfOk, IsErr, OnErr, drop, length, take, vec_len};
 ghost use Rattle.nofs_io.specs.Calls.{HasCause};
-ghost use Rattle.nofs_wire.specs.Turns.{InboxState, TakesInto, TakesMore};
+ghost use Rattle.nofs_wire.specs.Inbox.{InboxState, TakesInto, TakesMore};
 
 use crate::frames::FRAME_LIMIT;
 use nofs_io::{Failed, Source};
@@ -20,7 +20,7 @@ pub struct Inbox {
 
 impl Model for Inbox {
     ghost use Rattle.std.specs.Prelude.{◌≡◌, ◌≤◌, take, vec_len};
-    ghost use Rattle.nofs_wire.specs.Turns.{InboxState};
+    ghost use Rattle.nofs_wire.specs.Inbox.{InboxState};
 
     ghost Value = { InboxState };
 

@@ -2,14 +2,15 @@
 //!
 //! Promise: the bytes are those of the reply, behind what stood there, and nothing else.
 ghost use Rattle.std.specs.Prelude.{◌≡◌, ◌<◌, ◌≤◌, ◌^◌, ◌∷◌, ◌++◌, [], All, OnOk, drop, flat_map, length, vec_len};
-ghost use Rattle.nofs_wire.specs.Replies.{HasSpelling, IsShort, body_bytes, field_bytes, first_byte as byte_of_reply, kept_bytes, kind_byte as byte_of_kind, line_bytes, name_bytes, number_bytes, refusal_byte as byte_of_refusal, reply_bytes, truth_byte};
+ghost use Rattle.nofs_wire.specs.Replies.{HasSpelling, IsShort, body_bytes, field_bytes, first_byte as byte_of_reply, kept_bytes, line_bytes, refusal_byte as byte_of_refusal, reply_bytes};
+ghost use Rattle.nofs_wire.specs.Fields.{kind_byte as byte_of_kind, name_bytes, number_bytes, truth_byte};
 
 use crate::frames::LENGTH_BYTES;
 use byteorder::{ByteOrder, LittleEndian};
 use nofs_machine::{FileKind, Found, NameLine, NameList, Refusal, Reply, Stat};
 use std::alloc::AllocError;
 
-#[tactic(auto, unfolding(crate::specs::Replies::number_bytes))]
+#[tactic(auto, unfolding(crate::specs::Fields::number_bytes))]
 fn push_u32(out: &mut Vec<u8>, number: u32) -> Result<(), AllocError>
     ensures { OnOk result (out.new.items ≡ out.old.items ++ number_bytes 4 number) }
 {
@@ -18,7 +19,7 @@ fn push_u32(out: &mut Vec<u8>, number: u32) -> Result<(), AllocError>
     out.extend_from_slice(&bytes)
 }
 
-#[tactic(auto, unfolding(crate::specs::Replies::number_bytes))]
+#[tactic(auto, unfolding(crate::specs::Fields::number_bytes))]
 fn push_u64(out: &mut Vec<u8>, number: u64) -> Result<(), AllocError>
     ensures { OnOk result (out.new.items ≡ out.old.items ++ number_bytes 8 number) }
 {
@@ -236,7 +237,7 @@ fn push_body(out: &mut Vec<u8>, reply: &Reply) -> Result<(), AllocError>
 }
 
 // Puts a length into the first four bytes.
-#[tactic(auto, unfolding(crate::specs::Replies::number_bytes))]
+#[tactic(auto, unfolding(crate::specs::Fields::number_bytes))]
 fn put_length(out: &mut [u8], size: u32)
     requires { 4 ≤ length out.old }
     ensures { out.new ≡ number_bytes 4 size ++ drop 4 out.old }

@@ -6,7 +6,8 @@ ghost use Rattle.std.specs.Prelude.{◌≡◌, ◌+◌, ◌<◌, ◌≤◌, ◌^
 ghost use Rattle.nofs_io.specs.Calls.{Rose};
 ghost use Rattle.nofs_wire.specs.Frames.{HasFront, front_of as front_in};
 ghost use Rattle.nofs_wire.specs.Serves.{Serves};
-ghost use Rattle.nofs_wire.specs.Turns.{FailsAt, GoesOn, MayTake, Stops, StopsSo};
+ghost use Rattle.nofs_wire.specs.Turns.{FailsAt, GoesOn, Stops, StopsSo};
+ghost use Rattle.nofs_wire.specs.Inbox.{MayTake};
 ghost use Rattle.nofs_wire.specs.declared.serving.WireEnd.TheVariants.{Bad as bad_end};
 ghost use Rattle.nofs_machine.specs.Steps.{Made};
 ghost use Rattle.std.specs.declared.option.Option.{Option};

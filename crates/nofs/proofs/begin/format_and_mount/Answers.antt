@@ -3,7 +3,7 @@ use Rattle.nofs.specs.declared.begin.Cause.{Cause}
 use Rattle.nofs.specs.Begin.{IsUnformatted, IsUnmounted}
 use Rattle.nofs.specs.Whole.{IsMet}
 use Rattle.nofs.proofs.Causes.{refused-later, unformatted-by}
-use Rattle.nofs.proofs.Headlines.{formatted_met, if-err, if-ok}
+use Rattle.nofs.proofs.Formatted.{formatted_met, if-err, if-ok}
 use Rattle.nofs.proofs.begin.format_and_mount.Goals as goal
 
 pub returns-in-Ok-clause-met : goal.returns-in-Ok-clause-met

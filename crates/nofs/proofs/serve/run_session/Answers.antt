@@ -1,7 +1,7 @@
 use Rattle.std.proofs.Common.{◌∙◌, map, ap}
 use Rattle.nofs_machine.specs.HistoryState.{HistoryState}
 use Rattle.nofs_client.proofs.Runs.{lines-follow}
-use Rattle.nofs.proofs.Headlines.{unserved-follows}
+use Rattle.nofs.proofs.Follows.{unserved-follows}
 use Rattle.nofs.proofs.Sessions.{session-ends}
 use Rattle.nofs.proofs.serve.run_session.Goals as goal
 

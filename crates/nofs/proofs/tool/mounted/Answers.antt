@@ -1,7 +1,7 @@
 use Rattle.std.proofs.Common.{◌≡◌, ℕ, List, false, sym, subst}
 use Rattle.nofs_client.specs.declared.lines.Line.{Line}
 use Rattle.nofs.specs.Entries.{session_text}
-use Rattle.nofs.specs.Said.{Says}
+use Rattle.nofs.specs.Says.{Says}
 use Rattle.nofs.specs.Serving.{IsSessionRun}
 use Rattle.nofs.proofs.Saying.{told-text}
 use Rattle.std.specs.Prelude.{IfSome}

@@ -1,6 +1,6 @@
 use Rattle.std.proofs.Common.{refl, sym, subst, ◌≡◌, true, List}
 use Rattle.std.proofs.lemmas.Bool.{or_left}
-use Rattle.nofs_mirror.specs.declared.mirror.MirrorStart.{MirrorStart}
+use Rattle.nofs_mirror.specs.declared.opening.MirrorStart.{MirrorStart}
 use Rattle.nofs_mirror.specs.declared.past.MirrorCall.{MirrorCall}
 use Rattle.nofs_mirror.specs.Mirror.{last_span}
 use Rattle.nofs_mirror.specs.Past.{past_calls}
