@@ -10,17 +10,17 @@ use Rattle.nofs_super.specs.Super.{check_rest, check_super, has_magic, is_super,
 use Rattle.nofs_super.specs.declared.superblock.SuperBlock.{SuperBlock}
 use Rattle.nofs_super.specs.declared.superblock.MountFault.{MountFault}
 use Rattle.nofs_super.specs.declared.superblock.MountFault.TheVariants as fault
-use Rattle.nofs_model.specs.Image.{super_at}
+use Rattle.nofs_image.specs.Image.{super_at}
 use Rattle.nofs_io.specs.Calls.{SourceState, SinkState}
 use Rattle.nofs_io.specs.Texts.{TakesJust}
 use Rattle.nofs_script.specs.Sessions.{session_of}
 use Rattle.nofs_machine.specs.HistoryState.{HistoryState}
-use Rattle.nofs.specs.declared.begin.Numbers.{Numbers}
+use Rattle.nofs_sessions.specs.declared.begin.Numbers.{Numbers}
 use Rattle.nofs_upgrade.specs.Upgrades.{check_upgrade, check_version}
 use Rattle.nofs_upgrade.specs.declared.fault.UpgradeFault.TheVariants.{Already}
 use Rattle.nofs.specs.Upgrading.{UpgradeEnds}
 use Rattle.nofs.specs.Complete.{CanBeFormatted, CanBeMounted, HoldsSession, NoneRose}
-use Rattle.nofs.specs.declared.words.Request.TheVariants.{Run}
+use Rattle.nofs_sessions.specs.declared.words.Request.TheVariants.{Run}
 use Rattle.nofs.specs.Statuses.{IsExplained}
 use Rattle.nofs.specs.Tool.{IsBad, IsRefusedBy, IsStatus, SessionEnds, WithText}
 

@@ -12,20 +12,20 @@ use Rattle.nofs_machine.specs.declared.steps.Step.{Step}
 use Rattle.nofs_shared.specs.Mounts.{IsMount}
 use Rattle.nofs_shared.specs.Owned.{steps_by}
 use Rattle.nofs_state.specs.declared.books.Books.{Books}
-use Rattle.nofs_wire.specs.Frames.{frames_of, front_of, rest_of, IsBad, IsCut}
+use Rattle.nofs_stream.specs.Frames.{frames_of, front_of, rest_of, IsBad, IsCut}
 use Rattle.nofs_wire.specs.Serves.{Serves, EndsSo, IsServed, IsServedInPart, made_step}
 use Rattle.nofs_wire.specs.declared.serving.WireEnd.{WireEnd}
 use Rattle.nofs_wire.specs.declared.serving.WireEnd.TheVariants as ended
 use Rattle.nofs.specs.Complete.{CanBeMounted, HoldsFrames, NoneRose}
-use Rattle.nofs.specs.Entries.{has_fault}
+use Rattle.nofs_sessions.specs.Entries.{has_fault}
 use Rattle.nofs.specs.Headline.{IsHeadlineOf}
-use Rattle.nofs.specs.Serving.{IsClosed}
+use Rattle.nofs_sessions.specs.Serving.{IsClosed}
 use Rattle.nofs.specs.Tool.{HasFaultOf, IsFaulty, IsFaultless, IsRefusedBy, IsStatus}
-use Rattle.nofs.specs.Visits.{FollowsVisit, IsVisitRun}
-use Rattle.nofs.specs.Whole.{Finished}
+use Rattle.nofs_walks.specs.Visits.{FollowsVisit, IsVisitRun}
+use Rattle.nofs_sessions.specs.Whole.{Finished}
 use Rattle.nofs.specs.Wiring.{IsWireRun, IsWired, WireEnds, end_status, wire_status}
 use Rattle.nofs.proofs.Complete.{completes, consumed, consumed-front, consumed-most, ready-not-refused}
-use Rattle.nofs.proofs.Failing.{faults-rose}
+use Rattle.nofs_sessions.proofs.Failing.{faults-rose}
 use Rattle.nofs.proofs.Headlines.{visit-of}
 
 not-cut : IsCut [] → ⊥

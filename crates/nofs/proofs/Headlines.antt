@@ -5,30 +5,30 @@ use Rattle.std.proofs.Math.Logic.{∥∥₁_elim, ∥∥₁_prop}
 use Rattle.nofs_disk.specs.Disk.{DiskState}
 use Rattle.nofs_super.specs.Format.{IsFormatted}
 use Rattle.nofs_super.specs.Raise.{raised}
-use Rattle.nofs_model.specs.Cells.{SuperBlock}
-use Rattle.nofs_model.specs.Image.{Image, super_at}
+use Rattle.nofs_image.specs.Cells.{SuperBlock}
+use Rattle.nofs_image.specs.Image.{Image, super_at}
 use Rattle.nofs_io.specs.Calls.{SourceState}
 use Rattle.nofs_io.specs.Texts.{IsWhole}
 use Rattle.nofs_machine.specs.HistoryState.{HistoryState}
 use Rattle.nofs_machine.specs.Steps.{Made}
 use Rattle.nofs_machine.specs.declared.history.Entry1.{Entry1}
-use Rattle.nofs_client.specs.declared.commands.Command.{Command}
+use Rattle.nofs_task.specs.declared.commands.Command.{Command}
 use Rattle.nofs_script.specs.Sessions.{session_of}
 use Rattle.nofs_state.specs.declared.books.Books.{Books}
 use Rattle.nofs_shared.specs.Mounts.{IsMount}
-use Rattle.nofs.specs.declared.begin.Numbers.{Numbers}
+use Rattle.nofs_sessions.specs.declared.begin.Numbers.{Numbers}
 use Rattle.nofs_machine.specs.Next.{Run}
 use Rattle.nofs_machine.specs.World.{World, world_of}
-use Rattle.nofs.specs.Drill.{IsDrillFollowed}
+use Rattle.nofs_drills.specs.Drill.{IsDrillFollowed}
 use Rattle.nofs.specs.Headline.{FollowsDrill, HeadlineOf, IsDrillHeadline, IsHeadline, IsHeadlineOf}
-use Rattle.nofs.specs.Serving.{FollowsScripts, IsFollowed, IsClosed}
+use Rattle.nofs_sessions.specs.Serving.{FollowsScripts, IsFollowed, IsClosed}
 use Rattle.nofs.specs.Tool.{WithSession, WithText}
-use Rattle.nofs.specs.Entries.{has_fault}
-use Rattle.nofs.specs.Visits.{FollowsVisit, IsVisitFollowed}
-use Rattle.nofs.specs.Whole.{Finished, IsMet, IsWholeScan, ShowsDisk}
-use Rattle.nofs.proofs.Visits.{whole-visit}
-use Rattle.nofs.proofs.Whole.{settled-end, whole-scan}
-use Rattle.nofs.proofs.DrillEnds.{whole-drill}
+use Rattle.nofs_sessions.specs.Entries.{has_fault}
+use Rattle.nofs_walks.specs.Visits.{FollowsVisit, IsVisitFollowed}
+use Rattle.nofs_sessions.specs.Whole.{Finished, IsMet, IsWholeScan, ShowsDisk}
+use Rattle.nofs_walks.proofs.Visits.{whole-visit}
+use Rattle.nofs_sessions.proofs.Whole.{settled-end, whole-scan}
+use Rattle.nofs_drills.proofs.DrillEnds.{whole-drill}
 
 -- the headline of a mount, from its state before it served and what it gave at its end
 headline-any : (Follows : SuperBlock → Bool → List Entry1 → Type 0) (found before last : DiskState) (first status : ℕ) (k : Books) (text : Option (List ℕ))

@@ -4,13 +4,13 @@ use Rattle.std.specs.declared.option.Option.{Option}
 use Rattle.nofs_disk.specs.Disk.{DiskState, Rose}
 use Rattle.nofs_io.specs.Calls.{SinkState}
 use Rattle.nofs_machine.specs.HistoryState.{HistoryState}
-use Rattle.nofs.specs.declared.words.Request.TheVariants.{Upgrade}
-use Rattle.nofs.specs.Entries.{has_fault}
+use Rattle.nofs_sessions.specs.declared.words.Request.TheVariants.{Upgrade}
+use Rattle.nofs_sessions.specs.Entries.{has_fault}
 use Rattle.nofs.specs.Statuses.{KeepsDevice}
 use Rattle.nofs.specs.Tool.{MountEnds, SessionEnds}
 use Rattle.nofs.specs.Upgrading.{IsRefusedUpgrade, UpgradeEnds}
-use Rattle.nofs.specs.Whole.{Finished}
-use Rattle.nofs.proofs.Failing.{faults-rose}
+use Rattle.nofs_sessions.specs.Whole.{Finished}
+use Rattle.nofs_sessions.proofs.Failing.{faults-rose}
 
 -- a mount that served, and whose text was written
 pub written-ends : (found new : DiskState) (sink_old sink_new : SinkState) (first status : ℕ) (ran : HistoryState) (h : Option HistoryState)

@@ -3,7 +3,7 @@ use Rattle.std.proofs.Common.{◌≡◌, ◌⊎◌, inl, inr, ℕ, List, Option,
 use Rattle.std.specs.Prelude.{IfSome}
 use Rattle.nofs_io.specs.Calls.{SinkState}
 use Rattle.nofs_machine.specs.HistoryState.{HistoryState}
-use Rattle.nofs.specs.Says.{Says}
+use Rattle.nofs_sessions.specs.Says.{Says}
 
 -- a text was told at status 3 and 5, and it is this one of the history
 pub told-text : (old new : SinkState) (P : List ℕ → Type 0) (T : HistoryState → Type 0) (text : Option (List ℕ)) (ran : HistoryState)

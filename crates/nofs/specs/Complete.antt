@@ -3,13 +3,13 @@ use Rattle.std.specs.Prelude.{◌≡◌, ◌-◌, ◌^◌, ◌<◌, ◌≤◌, �
 use Rattle.std.specs.declared.option.Option.{Option}
 use Rattle.nofs_disk.specs.Disk.{DiskState, Rose}
 use Rattle.nofs_super.specs.Geometry.{format_fault}
-use Rattle.nofs_model.specs.Image.{is_mountable, super_at}
+use Rattle.nofs_image.specs.Image.{is_mountable, super_at}
 use Rattle.nofs_io.specs.Calls.{SourceState, SinkState}
-use Rattle.nofs_client.specs.declared.commands.Command.{Command}
+use Rattle.nofs_task.specs.declared.commands.Command.{Command}
 use Rattle.nofs_script.specs.Sessions.{session_of}
-use Rattle.nofs_wire.specs.Frames.{IsBad, rest_of}
-use Rattle.nofs.specs.declared.words.Request.{Request}
-use Rattle.nofs.specs.declared.words.Request.TheVariants.{New, Run, Scan, Drill, Upgrade, Salvage, Wire}
+use Rattle.nofs_stream.specs.Frames.{IsBad, rest_of}
+use Rattle.nofs_sessions.specs.declared.words.Request.{Request}
+use Rattle.nofs_sessions.specs.declared.words.Request.TheVariants.{New, Run, Scan, Drill, Upgrade, Salvage, Wire}
 
 -- the source tells what it has left: a session, within the limit
 pub record HoldsSession (source : SourceState) (limit : ℕ) : Type 0 where

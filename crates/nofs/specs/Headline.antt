@@ -4,23 +4,23 @@ use Rattle.std.specs.declared.option.Option.{Option}
 use Rattle.nofs_disk.specs.Disk.{DiskState, IsSettled}
 use Rattle.nofs_super.specs.Format.{IsFormatted}
 use Rattle.nofs_super.specs.Raise.{raised}
-use Rattle.nofs_model.specs.Cells.{SuperBlock}
-use Rattle.nofs_model.specs.Image.{super_at}
+use Rattle.nofs_image.specs.Cells.{SuperBlock}
+use Rattle.nofs_image.specs.Image.{super_at}
 use Rattle.nofs_io.specs.Calls.{SourceState}
 use Rattle.nofs_machine.specs.HistoryState.{HistoryState}
 use Rattle.nofs_machine.specs.declared.history.Entry1.{Entry1}
-use Rattle.nofs_client.specs.declared.commands.Command.{Command}
+use Rattle.nofs_task.specs.declared.commands.Command.{Command}
 use Rattle.nofs_shared.specs.Ends.{Ends}
-use Rattle.nofs.specs.declared.begin.Numbers.{Numbers}
-use Rattle.nofs.specs.declared.words.Request.{Request}
-use Rattle.nofs.specs.declared.words.Request.TheVariants.{New, Run, Scan, Drill, Upgrade, Salvage, Wire}
-use Rattle.nofs.specs.Drill.{IsDrillRun}
-use Rattle.nofs.specs.Salvaging.{AreReads}
+use Rattle.nofs_sessions.specs.declared.begin.Numbers.{Numbers}
+use Rattle.nofs_sessions.specs.declared.words.Request.{Request}
+use Rattle.nofs_sessions.specs.declared.words.Request.TheVariants.{New, Run, Scan, Drill, Upgrade, Salvage, Wire}
+use Rattle.nofs_drills.specs.Drill.{IsDrillRun}
+use Rattle.nofs_walks.specs.Salvaging.{AreReads}
 use Rattle.nofs.specs.Tool.{WithText, WithSession}
-use Rattle.nofs.specs.Visits.{FollowsVisit}
+use Rattle.nofs_walks.specs.Visits.{FollowsVisit}
 use Rattle.nofs.specs.Wiring.{IsWired}
-use Rattle.nofs.specs.Whole.{IsMet, IsWholeScan}
-use Rattle.nofs.specs.Serving.{FollowsScripts}
+use Rattle.nofs_sessions.specs.Whole.{IsMet, IsWholeScan}
+use Rattle.nofs_sessions.specs.Serving.{FollowsScripts}
 
 -- THE HEADLINE, of one history over the disk that the mount found. Its entries follow what was asked for (`Follows`, by the numbers of
 -- the mount, and whether memory was wanting, which is so at status 7 alone). Where the premises are met, `Ends` says further: the

@@ -3,24 +3,24 @@ use Rattle.std.specs.Prelude.{◌≡◌, ◌⊎◌, ℕ, List, Err, IfSome, Some
 use Rattle.std.specs.declared.option.Option.{Option}
 use Rattle.nofs_io.specs.Calls.{SourceState, SinkState}
 use Rattle.nofs_machine.specs.HistoryState.{HistoryState}
-use Rattle.nofs_client.specs.declared.commands.Command.{Command}
+use Rattle.nofs_task.specs.declared.commands.Command.{Command}
 use Rattle.nofs_script.specs.Sessions.{session_of}
 use Rattle.nofs_script.specs.declared.faults.ScriptFault.{ScriptFault}
 use Rattle.nofs_state.specs.declared.books.Counts.{Counts}
 use Rattle.nofs_upgrade.specs.declared.fault.UpgradeFault.{UpgradeFault}
-use Rattle.nofs.specs.declared.begin.Cause.{Cause}
-use Rattle.nofs.specs.declared.words.Request.{Request}
-use Rattle.nofs.specs.declared.words.Request.TheVariants.{New, Run, Scan, Drill, Upgrade, Salvage, Wire}
-use Rattle.nofs.specs.Begin.{status_of}
-use Rattle.nofs.specs.Counts.{counts_line}
-use Rattle.nofs.specs.Drill.{IsDrilled}
-use Rattle.nofs.specs.Entries.{session_text}
-use Rattle.nofs.specs.Lines.{cause_line, fixed_line, script_line, upgrade_line}
-use Rattle.nofs.specs.declared.faults.FixedLine.TheVariants as fixed
+use Rattle.nofs_sessions.specs.declared.begin.Cause.{Cause}
+use Rattle.nofs_sessions.specs.declared.words.Request.{Request}
+use Rattle.nofs_sessions.specs.declared.words.Request.TheVariants.{New, Run, Scan, Drill, Upgrade, Salvage, Wire}
+use Rattle.nofs_sessions.specs.Begin.{status_of}
+use Rattle.nofs_sessions.specs.Counts.{counts_line}
+use Rattle.nofs_drills.specs.Drill.{IsDrilled}
+use Rattle.nofs_sessions.specs.Entries.{session_text}
+use Rattle.nofs_sessions.specs.Lines.{cause_line, fixed_line, script_line, upgrade_line}
+use Rattle.nofs_sessions.specs.declared.faults.FixedLine.TheVariants as fixed
 use Rattle.nofs.specs.Tool.{UnlessWire, WithSession, WithText}
 use Rattle.nofs.specs.Upgrading.{upgrade_status}
-use Rattle.nofs.specs.Says.{Says, SaysOrNot}
-use Rattle.nofs.specs.Salvaging.{SaysWalk}
+use Rattle.nofs_sessions.specs.Says.{Says, SaysOrNot}
+use Rattle.nofs_walks.specs.Salvaging.{SaysWalk}
 
 -- the line of a text that is no session: its first bad line
 abbrev pub SaysFault : SinkState → SinkState → List ℕ → Type 0

@@ -6,9 +6,9 @@ use Rattle.nofs_io.specs.Calls.{SourceState, SinkState}
 use Rattle.nofs_io.specs.Texts.{TakesJust}
 use Rattle.nofs_machine.specs.HistoryState.{HistoryState}
 use Rattle.nofs_upgrade.specs.Upgrades.{StaysOrUpgrades}
-use Rattle.nofs.specs.declared.words.Request.{Request}
-use Rattle.nofs.specs.declared.words.Request.TheVariants.{Upgrade, Salvage, Wire}
-use Rattle.nofs.specs.Salvaging.{IsSalvaged}
+use Rattle.nofs_sessions.specs.declared.words.Request.{Request}
+use Rattle.nofs_sessions.specs.declared.words.Request.TheVariants.{Upgrade, Salvage, Wire}
+use Rattle.nofs_walks.specs.Salvaging.{IsSalvaged}
 use Rattle.nofs.specs.Tool.{HasFaultOf, HasSession, IsBad, IsFaulty, IsFaultlessIn, IsStatus, UnlessWire, WithText}
 use Rattle.nofs.specs.Wiring.{WireEnds}
 

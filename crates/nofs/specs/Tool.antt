@@ -6,20 +6,20 @@ use Rattle.nofs_super.specs.declared.superblock.MountFault.{MountFault}
 use Rattle.nofs_io.specs.Calls.{SourceState, SinkState}
 use Rattle.nofs_io.specs.Texts.{IsWhole, AppendsAll}
 use Rattle.nofs_machine.specs.HistoryState.{HistoryState}
-use Rattle.nofs_client.specs.declared.commands.Command.{Command}
+use Rattle.nofs_task.specs.declared.commands.Command.{Command}
 use Rattle.nofs_script.specs.declared.faults.ScriptFault.{ScriptFault}
 use Rattle.nofs_script.specs.Sessions.{session_of}
-use Rattle.nofs.specs.declared.words.Request.{Request}
-use Rattle.nofs.specs.declared.words.Request.TheVariants.{New, Run, Scan, Drill, Upgrade, Salvage, Wire}
-use Rattle.nofs.specs.declared.begin.Numbers.{Numbers}
-use Rattle.nofs.specs.Begin.{IsMountRefusal, IsRefusedFormat}
-use Rattle.nofs.specs.Entries.{session_text, has_fault}
+use Rattle.nofs_sessions.specs.declared.words.Request.{Request}
+use Rattle.nofs_sessions.specs.declared.words.Request.TheVariants.{New, Run, Scan, Drill, Upgrade, Salvage, Wire}
+use Rattle.nofs_sessions.specs.declared.begin.Numbers.{Numbers}
+use Rattle.nofs_sessions.specs.Begin.{IsMountRefusal, IsRefusedFormat}
+use Rattle.nofs_sessions.specs.Entries.{session_text, has_fault}
 use Rattle.nofs_upgrade.specs.Upgrades.{IsUpgraded}
-use Rattle.nofs.specs.Lines.{fixed_line}
-use Rattle.nofs.specs.declared.faults.FixedLine.TheVariants as fixed
+use Rattle.nofs_sessions.specs.Lines.{fixed_line}
+use Rattle.nofs_sessions.specs.declared.faults.FixedLine.TheVariants as fixed
 use Rattle.nofs.specs.Upgrading.{IsRefusedUpgrade}
-use Rattle.nofs.specs.Drill.{IsDrillDone}
-use Rattle.nofs.specs.Counts.{IsScanned}
+use Rattle.nofs_drills.specs.Drill.{IsDrillDone}
+use Rattle.nofs_sessions.specs.Counts.{IsScanned}
 
 -- all that the source had left was read, within the limit, and it has P
 abbrev pub WithText : SourceState → SourceState → ℕ → (List ℕ → Type 0) → Type 0

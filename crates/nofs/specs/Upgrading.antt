@@ -4,8 +4,8 @@ use Rattle.nofs_disk.specs.Disk.{DiskState, KeepsCells, Rose, cell_at}
 use Rattle.nofs_super.specs.declared.superblock.MountFault.TheVariants as fault
 use Rattle.nofs_io.specs.Calls.{SinkState}
 use Rattle.nofs_io.specs.Texts.{AppendsAll}
-use Rattle.nofs.specs.Lines.{fixed_line}
-use Rattle.nofs.specs.declared.faults.FixedLine.TheVariants as fixed
+use Rattle.nofs_sessions.specs.Lines.{fixed_line}
+use Rattle.nofs_sessions.specs.declared.faults.FixedLine.TheVariants as fixed
 use Rattle.nofs_upgrade.specs.Upgrades.{IsUpgraded, StaysOrUpgrades, check_upgrade}
 use Rattle.nofs_upgrade.specs.declared.fault.UpgradeFault.{UpgradeFault}
 use Rattle.nofs_upgrade.specs.declared.fault.UpgradeFault.TheVariants as why

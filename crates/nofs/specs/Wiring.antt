@@ -10,12 +10,12 @@ use Rattle.nofs_machine.specs.HistoryState.{HistoryState}
 use Rattle.nofs_machine.specs.Steps.{Made}
 use Rattle.nofs_machine.specs.declared.steps.Step.{Step}
 use Rattle.nofs_shared.specs.Owned.{steps_by}
-use Rattle.nofs_wire.specs.Frames.{frames_of}
+use Rattle.nofs_stream.specs.Frames.{frames_of}
 use Rattle.nofs_wire.specs.Serves.{Serves, made_step}
 use Rattle.nofs_wire.specs.declared.serving.WireEnd.{WireEnd}
 use Rattle.nofs_wire.specs.declared.serving.WireEnd.TheVariants as ended
 use Rattle.nofs_wire.proofs.Along.{serves-nothing}
-use Rattle.nofs.specs.Entries.{has_fault}
+use Rattle.nofs_sessions.specs.Entries.{has_fault}
 use Rattle.nofs.specs.Tool.{IsFaultless, IsFaulty, IsRefusedBy, IsStatus}
 
 -- These are the first steps of the frames of what was taken; the rest of it has further ones, or is cut or bad

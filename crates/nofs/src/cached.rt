@@ -4,7 +4,7 @@
 
 ghost use Rattle.std.specs.Prelude.{IfSome, map, string_bytes};
 ghost use Rattle.nofs.specs.Headline.{HeadlineIn};
-ghost use Rattle.nofs.specs.Words.{task_in};
+ghost use Rattle.nofs_sessions.specs.Words.{task_in};
 
 use crate::tool::{Outcome, tool};
 use nofs_cache::Cached;

@@ -2,7 +2,7 @@
 
 ghost use Rattle.std.specs.Prelude.{IfOk};
 ghost use Rattle.nofs_memdisk.specs.Parts.{memory_state};
-ghost use Rattle.nofs.specs.Whole.{IsMet};
+ghost use Rattle.nofs_sessions.specs.Whole.{IsMet};
 
 use crate::tests::run_on;
 use nofs_memdisk::MemDisk;

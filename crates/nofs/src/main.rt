@@ -4,37 +4,27 @@
 //! write-back cache before it, hands over standard input and output, and ends with the status. Nothing goes to standard error.
 #![tactic(auto)]
 
-mod begin;
 mod cached;
-mod drill;
-mod faults;
 mod image;
 #[cfg(test)]
 mod instance;
-mod reads;
-mod salvaging;
-mod scan;
-mod serve;
-mod tally;
 #[cfg(test)]
 mod tests;
 mod tool;
 mod upgrading;
-mod visiting;
 mod wiring;
-mod words;
 
 use crate::cached::{tool_cached, tool_mirrored};
-use crate::faults::{FixedLine, fixed_text};
 use crate::image::{Image, image_of};
 use crate::tool::Outcome;
-use crate::words::task_of;
 use nofs_cache::Cached;
 use nofs_disk::Disk;
 use nofs_filedisk::{FileDisk, HostFile};
 use nofs_io::{ReadSource, Sink, Source, WriteSink, write_all};
 use nofs_memdisk::MemDisk;
-use nofs_mirror::{Mirror, MirrorCause, MirrorFault};
+use nofs_mirror::{Mirror, MirrorFault};
+use nofs_sessions::{FixedLine, fixed_text, task_of};
+use nofs_sides::MirrorCause;
 use std::alloc::Global;
 use std::fs::File;
 use std::process::ExitCode;

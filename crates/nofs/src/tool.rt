@@ -8,34 +8,34 @@ ghost use Rattle.std.specs.Prelude.{◌≡◌, ◌≢◌, ◌≤◌, ◌↔◌, 
 ghost use Rattle.nofs_disk.specs.Disk.{Rose};
 ghost use Rattle.nofs_io.specs.Texts.{AppendsAll};
 ghost use Rattle.nofs_script.specs.Sessions.{IsSession};
-ghost use Rattle.nofs.specs.Words.{picks_in, task_in};
-ghost use Rattle.nofs.specs.Begin.{status_of as status_in};
-ghost use Rattle.nofs.specs.Salvaging.{AreReads, IsSalvaged, SaysWalk};
-ghost use Rattle.nofs.specs.Visits.{FollowsVisit};
-ghost use Rattle.nofs.specs.Entries.{has_fault};
-ghost use Rattle.nofs.specs.Drill.{IsDrillDone};
+ghost use Rattle.nofs_sessions.specs.Words.{picks_in, task_in};
+ghost use Rattle.nofs_sessions.specs.Begin.{status_of as status_in};
+ghost use Rattle.nofs_walks.specs.Salvaging.{AreReads, IsSalvaged, SaysWalk};
+ghost use Rattle.nofs_walks.specs.Visits.{FollowsVisit};
+ghost use Rattle.nofs_sessions.specs.Entries.{has_fault};
+ghost use Rattle.nofs_drills.specs.Drill.{IsDrillDone};
 ghost use Rattle.nofs.specs.Said.{Said, SaysCause, SaysCounts, SaysDrill, SaysFault, SaysSession};
-ghost use Rattle.nofs.specs.Says.{Says, SaysOrNot};
+ghost use Rattle.nofs_sessions.specs.Says.{Says, SaysOrNot};
 ghost use Rattle.nofs.specs.Headline.{HeadlineIn, HeadlineOf, IsDrillHeadline, IsHeadline, IsHeadlineOf};
 ghost use Rattle.nofs.specs.Complete.{IsReady, NoneRose};
 ghost use Rattle.nofs.specs.Statuses.{HoldsOfTask, IsExplained, KeepsDevice};
 ghost use Rattle.nofs.specs.Tool.{IsBad, IsDone, IsRefusedBy, IsRefusedTask, IsAnswered, MountEnds, SessionEnds, WithSession, WithText};
-ghost use Rattle.nofs.specs.Counts.{IsScanned};
+ghost use Rattle.nofs_sessions.specs.Counts.{IsScanned};
 
-use crate::begin::{Numbers, Refused, format_and_mount, mount, status_of};
-use crate::drill::run_drill;
-use crate::faults::{FixedLine, cause_text, fixed_text, script_text};
-use crate::salvaging::run_salvage;
-use crate::serve::{Ran, has_fault_in, run_scan, run_session};
 use crate::upgrading::upgrade_outcome;
 use crate::wiring::wire_outcome;
-use crate::words::{Request, task_of};
 use nofs_disk::Disk;
+use nofs_drills::run_drill;
 use nofs_io::{Failed, ReadFault, Sink, Source, TEXT_LIMIT, read_all, write_all};
 use nofs_lists::Content;
 use nofs_machine::History;
 use nofs_script::{ParseFault, Session, parse};
+use nofs_sessions::{
+    FixedLine, Numbers, Ran, Refused, Request, cause_text, fixed_text, format_and_mount,
+    has_fault_in, mount, run_scan, run_session, script_text, status_of, task_of,
+};
 use nofs_shared::Mount;
+use nofs_walks::run_salvage;
 use std::alloc::{AllocError, Global};
 use std::sync::Wait;
 use std::thread::Threads;

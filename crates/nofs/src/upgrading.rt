@@ -5,16 +5,16 @@
 ghost use Rattle.std.specs.Prelude.{◌≡◌, ◌⊎◌, None};
 ghost use Rattle.nofs_disk.specs.Disk.{Rose};
 ghost use Rattle.nofs_io.specs.Texts.{AppendsAll};
-ghost use Rattle.nofs.specs.Lines.{fixed_line};
-ghost use Rattle.nofs.specs.declared.faults.FixedLine.TheVariants as fixed;
+ghost use Rattle.nofs_sessions.specs.Lines.{fixed_line};
+ghost use Rattle.nofs_sessions.specs.declared.faults.FixedLine.TheVariants as fixed;
 ghost use Rattle.nofs.specs.Said.{SaysUpgrade};
-ghost use Rattle.nofs.specs.Says.{Says};
+ghost use Rattle.nofs_sessions.specs.Says.{Says};
 ghost use Rattle.nofs.specs.Upgrading.{UpgradeEnds, upgrade_status as status_in};
 
-use crate::faults::{FixedLine, fixed_text, upgrade_text};
 use crate::tool::{Outcome, say, told_text};
 use nofs_disk::Disk;
 use nofs_io::Sink;
+use nofs_sessions::{FixedLine, fixed_text, upgrade_text};
 use nofs_super::MountFault;
 use nofs_upgrade::{UpgradeFault, upgrade};
 use std::alloc::Global;

@@ -1,6 +1,3 @@
-pub mod WritesBack
-pub mod Settling
-pub mod Reordering
 pub mod CacheCalls
 pub mod CacheWrites
 pub mod CacheFlushes

@@ -1,5 +1,1 @@
-pub mod DirtyEntries
-pub mod DirtyBlocks
-pub mod Past
-pub mod Cache
 pub mod Laws

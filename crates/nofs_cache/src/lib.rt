@@ -6,8 +6,5 @@
 #![tactic(auto)]
 
 mod cached;
-mod dirty;
-mod past;
-mod writing;
 
 pub use cached::{CacheFault, Cached};

@@ -3,12 +3,12 @@ use Rattle.std.proofs.Math.Logic.{∥∥₁_map}
 use Rattle.std.proofs.Common.{◌≡◌, ℕ, inl, refl, sym, ap, ◌∙◌, subst, arith}
 use Rattle.std.specs.Prelude.{codes}
 use Rattle.nofs_disk.specs.Disk.{IsDisk, IsSettled}
-use Rattle.nofs_model.specs.Image.{Image}
-use Rattle.nofs_memdisk.specs.MemoryLaws.{state_of-is}
+use Rattle.nofs_image.specs.Image.{Image}
+use Rattle.nofs_versions.specs.MemoryLaws.{state_of-is}
 use Rattle.nofs_memdisk.specs.Parts.{Parts, fresh_parts, memory_state, parts_of}
 use Rattle.nofs_memdisk.specs.declared.memory.MemDisk.{MemDisk}
-use Rattle.nofs_memdisk.proofs.Held.{after_none}
-use Rattle.nofs_memdisk.proofs.Leaves.{leaves_rest}
+use Rattle.nofs_versions.proofs.Held.{after_none}
+use Rattle.nofs_versions.proofs.Leaves.{leaves_rest}
 use Rattle.nofs_machine.specs.HistoryState.{HistoryState}
 use Rattle.nofs_shared.specs.Ends.{Ends}
 use Rattle.nofs_shared.specs.Mounts.{IsSoundDisk}

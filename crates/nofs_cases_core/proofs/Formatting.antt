@@ -5,7 +5,7 @@ use Rattle.nofs_disk.specs.Disk.{DiskState, IsSameDisk, cell_at}
 use Rattle.nofs_super.specs.Geometry.{IsGeometry, is_geometry, is_geometry-parts, format_fault}
 use Rattle.nofs_super.specs.Format.{FormatEnds, formatted_cell}
 use Rattle.nofs_super.specs.declared.geometry.FormatFault.{FormatFault}
-use Rattle.nofs_model.specs.Sound.{LawFormatted}
+use Rattle.nofs_image.specs.Sound.{LawFormatted}
 use Rattle.nofs_shared.specs.Mounts.{IsSoundDisk}
 use Rattle.nofs_law_mounts.specs.Mounts.{IsBlankDisk, LawFirstDisk}
 

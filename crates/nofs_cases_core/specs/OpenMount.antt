@@ -3,7 +3,7 @@ use Rattle.std.specs.Prelude.{◌≡◌, ℕ, ◌-◌}
 use Rattle.nofs_bits.specs.Bits.{is_set}
 use Rattle.nofs_disk.specs.Disk.{DiskState}
 use Rattle.nofs_super.specs.Raise.{raised}
-use Rattle.nofs_model.specs.Image.{Image, super_at}
+use Rattle.nofs_image.specs.Image.{Image, super_at}
 use Rattle.nofs_machine.specs.World.{World}
 use Rattle.nofs_machine.specs.Good.{IsGood}
 use Rattle.nofs_state.specs.Books.{knows_block, knows_inode}

@@ -10,11 +10,11 @@ ghost use Rattle.nofs_cases_core.specs.Replies.{AddsOne, SeesAndPuts, tells_free
 
 use nofs_disk::Disk;
 use nofs_law_maps::law_homes;
+use nofs_law_model::law_formatted;
 use nofs_law_mounts::law_mounts;
 use nofs_lists::Content;
 use nofs_machine::{Reply, Step};
 use nofs_memdisk::MemDisk;
-use nofs_model::law_formatted;
 use nofs_shared::{BeginFault, Mount};
 use nofs_super::{FormatFault, MountFault, format};
 use std::alloc::Global;

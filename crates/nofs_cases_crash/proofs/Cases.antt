@@ -1,8 +1,8 @@
 -- The instances.
 use Rattle.std.proofs.Common.{◌≡◌, ℕ, zero, suc, ◌<◌, ◌≤◌, inl, inr, Bool, true, false, cond, leb, ◌&&◌, [], ◌∷◌, refl, sym, ap, ◌∙◌, subst, arith}
 use Rattle.std.proofs.lemmas.Bool.{cases_lt}
-use Rattle.nofs_model.specs.Cells.{Record, free_record, null, is_null, number_at, record_of, record_at, fields_in, link_in, pointer_in}
-use Rattle.nofs_model.specs.Image.{Image, is_mountable, super_in, is_super, is_geometry, super_at, inode, is_inode, record_pointer}
+use Rattle.nofs_image.specs.Cells.{Record, free_record, null, is_null, number_at, record_of, record_at, fields_in, link_in, pointer_in}
+use Rattle.nofs_image.specs.Image.{Image, is_mountable, super_in, is_super, is_geometry, super_at, inode, is_inode, record_pointer}
 use Rattle.nofs_super.specs.Geometry.{format_fault}
 use Rattle.nofs_machine.specs.History.{mark, is_flushed}
 use Rattle.nofs_machine.specs.World.{World, world_of}

@@ -8,12 +8,12 @@ use Rattle.std.proofs.lemmas.List.{get_or-replicate}
 use Rattle.nofs_disk.specs.Disk.{IsDisk, IsSettled, IsSizedCell, Picks}
 use Rattle.nofs_disk.specs.Adds.{WasOr}
 use Rattle.nofs_inode.specs.declared.inode.FileKind.TheVariants.{File}
-use Rattle.nofs_model.specs.Cells.{Cell, Pointer, Record, record_at, is_live, is_null, null, free_record}
-use Rattle.nofs_model.specs.Image.{Image, cell_at, inode, Path, InRecord, path_of, find, leaf, IsSlot, node_in, record_pointer, file_from, value, FileState}
-use Rattle.nofs_model.specs.Image.{Files, CellBelow}
-use Rattle.nofs_model.specs.declared.path.PathAnswer.TheVariants as answer
-use Rattle.nofs_model.specs.declared.value.Value.TheVariants.{Hole, Bytes}
-use Rattle.nofs_model.proofs.Find.{and-both}
+use Rattle.nofs_image.specs.Cells.{Cell, Pointer, Record, record_at, is_live, is_null, null, free_record}
+use Rattle.nofs_image.specs.Image.{Image, cell_at, inode, Path, InRecord, path_of, find, leaf, IsSlot, node_in, record_pointer, file_from, value, FileState}
+use Rattle.nofs_image.specs.Image.{Files, CellBelow}
+use Rattle.nofs_image.specs.declared.path.PathAnswer.TheVariants as answer
+use Rattle.nofs_image.specs.declared.value.Value.TheVariants.{Hole, Bytes}
+use Rattle.nofs_image.proofs.Find.{and-both}
 use Rattle.nofs_machine.specs.Meta.{Meta, meta_of, Is}
 use Rattle.nofs_machine.specs.Machine.{gives, files_by, meta_with, put_content, value_of, size_of}
 use Rattle.nofs_machine.specs.History.{agreed_files, SameFile}

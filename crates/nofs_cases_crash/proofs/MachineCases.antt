@@ -1,10 +1,10 @@
 -- The Put of one byte as a step of the machine.
 use Rattle.std.proofs.Common.{◌≡◌, ℕ, Bool, true, false, cond, eqb, Option, Some, None, refl, ap, ◌∙◌, arith}
 use Rattle.nofs_inode.specs.declared.inode.FileKind.TheVariants.{File}
-use Rattle.nofs_model.specs.Cells.{Record}
-use Rattle.nofs_model.specs.Image.{FileState}
-use Rattle.nofs_model.specs.declared.value.Value.{Value}
-use Rattle.nofs_model.specs.declared.value.Value.TheVariants.{Hole}
+use Rattle.nofs_image.specs.Cells.{Record}
+use Rattle.nofs_image.specs.Image.{FileState}
+use Rattle.nofs_image.specs.declared.value.Value.{Value}
+use Rattle.nofs_image.specs.declared.value.Value.TheVariants.{Hole}
 use Rattle.nofs_machine.specs.Machine.{value_of, files_by}
 use Rattle.nofs_machine.specs.History.{agreed_files, SameFile}
 use Rattle.nofs_cases_steps.specs.Images.{first_image, put_image}

@@ -1,8 +1,8 @@
 -- Instances of the laws of a crash, by the formatted disk and a Put of one byte.
 use Rattle.std.specs.Prelude.{◌≡◌, ℕ, zero, suc, ◌+◌, ◌^◌, true, false, List, [], ◌∷◌, length, IsTrue, if◌then◌else◌, nat_lt, ◌==◌, Contains}
 use Rattle.nofs_disk.specs.Disk.{DiskState, IsDisk, Picks, StaysButFaults}
-use Rattle.nofs_model.specs.Cells.{Cell}
-use Rattle.nofs_model.specs.Image.{Image, cell_at, inode, leaf, path_of}
+use Rattle.nofs_image.specs.Cells.{Cell}
+use Rattle.nofs_image.specs.Image.{Image, cell_at, inode, leaf, path_of}
 use Rattle.nofs_machine.specs.Marks.{Mark}
 use Rattle.nofs_machine.specs.Machine.{Given, given_by, files_by}
 use Rattle.nofs_machine.specs.History.{agreed_files, mark, mark_at}

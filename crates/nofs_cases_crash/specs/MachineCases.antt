@@ -1,6 +1,6 @@
 -- Instances of the laws of the machine.
 use Rattle.std.specs.Prelude.{◌≡◌, [], ◌∷◌, Some}
-use Rattle.nofs_model.specs.Image.{FileState}
+use Rattle.nofs_image.specs.Image.{FileState}
 use Rattle.nofs_machine.specs.History.{agreed_files, files_along, NoWriteFault}
 use Rattle.nofs_machine.specs.Next.{Next}
 use Rattle.nofs_law_machine.specs.Laws.{IsSizedWorld}

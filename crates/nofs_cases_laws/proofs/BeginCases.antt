@@ -1,7 +1,7 @@
 -- The formatted disk, raised and upgraded.
 use Rattle.std.proofs.Common.{◌≡◌, ◌≢◌, ℕ, zero, suc, ◌+◌, ◌*◌, ◌^◌, refl, sym, ap, ◌∙◌, arith}
-use Rattle.nofs_model.specs.Cells.{SuperBlock, number_at}
-use Rattle.nofs_model.specs.Image.{cell_at, super_at, super_in, is_super, IsSound}
+use Rattle.nofs_image.specs.Cells.{SuperBlock, number_at}
+use Rattle.nofs_image.specs.Image.{cell_at, super_at, super_in, is_super, IsSound}
 use Rattle.nofs_law_lives.specs.Lives.{OnlySuper, HasSuperCell}
 use Rattle.nofs_cases_steps.specs.Images.{blank, first_table, first_image}
 use Rattle.nofs_cases_steps.proofs.Images.{numbers-are, mountable, super-tag}

@@ -3,14 +3,14 @@ use Rattle.std.proofs.Common.{◌≡◌, ◌≢◌, ℕ, zero, suc, ◌+◌, ◌
 use Rattle.std.proofs.Common.{None, is_some, refl, sym, ap, ◌∙◌, subst, arith}
 use Rattle.nofs_disk.specs.Adds.{Adds}
 use Rattle.nofs_inode.specs.declared.inode.FileKind.TheVariants.{File, Directory}
-use Rattle.nofs_model.specs.Cells.{Record, SuperBlock, number_at, is_null, is_live}
-use Rattle.nofs_model.specs.Image.{cell_at, super_at, super_in, inode, Path, InRecord, Under, path_of, record_pointer, find, value, value_in, node_in, Absent}
-use Rattle.nofs_model.specs.Image.{is_special, Files, FileState, owner}
-use Rattle.nofs_model.specs.declared.path.PathAnswer.{PathAnswer}
-use Rattle.nofs_model.specs.declared.path.PathAnswer.TheVariants as answer
-use Rattle.nofs_model.specs.declared.value.Value.{Value}
-use Rattle.nofs_model.specs.declared.value.Value.TheVariants.{Hole, Bytes}
-use Rattle.nofs_model.proofs.Find.{judged-built-null}
+use Rattle.nofs_image.specs.Cells.{Record, SuperBlock, number_at, is_null, is_live}
+use Rattle.nofs_image.specs.Image.{cell_at, super_at, super_in, inode, Path, InRecord, Under, path_of, record_pointer, find, value, value_in, node_in, Absent}
+use Rattle.nofs_image.specs.Image.{is_special, Files, FileState, owner}
+use Rattle.nofs_image.specs.declared.path.PathAnswer.{PathAnswer}
+use Rattle.nofs_image.specs.declared.path.PathAnswer.TheVariants as answer
+use Rattle.nofs_image.specs.declared.value.Value.{Value}
+use Rattle.nofs_image.specs.declared.value.Value.TheVariants.{Hole, Bytes}
+use Rattle.nofs_image.proofs.Find.{judged-built-null}
 use Rattle.nofs_machine.specs.Meta.{Is}
 use Rattle.nofs_machine.specs.Marks.{Mark}
 use Rattle.nofs_machine.specs.Machine.{gives, given_by, put_given, files_by, file_after, filled, after_meta, is_at, meta_with}

@@ -7,15 +7,15 @@ use Rattle.nofs_disk.specs.Disk.{IsSizedCell}
 use Rattle.nofs_disk.specs.Number.{put_number, put_bytes, zeros}
 use Rattle.nofs_dirent.specs.Names.{is_name}
 use Rattle.nofs_inode.specs.declared.inode.FileKind.TheVariants.{File, Directory as Folder}
-use Rattle.nofs_model.specs.Cells.{FileKind, Pointer, Record, SuperBlock, number_at, entry_of, entry_fields, spelled_entry, null}
-use Rattle.nofs_model.specs.Image.{super_at, inode, InRecord, Under, child, path_of, slot_of, record_pointer, find, value, value_in, node_in, FileState}
-use Rattle.nofs_model.specs.Image.{Files, files_in, agreed, owner, Home, is_pair, is_special, IsBelow}
-use Rattle.nofs_model.specs.declared.path.PathAnswer.{PathAnswer}
-use Rattle.nofs_model.specs.declared.path.PathAnswer.TheVariants as answer
-use Rattle.nofs_model.specs.declared.value.Value.{Value}
-use Rattle.nofs_model.specs.declared.value.Value.TheVariants.{Hole, Bytes}
-use Rattle.nofs_model.proofs.Find.{judged-built-null}
-use Rattle.nofs_model.proofs.Paths.{path_of-slot, slot_of-path_of}
+use Rattle.nofs_image.specs.Cells.{FileKind, Pointer, Record, SuperBlock, number_at, entry_of, entry_fields, spelled_entry, null}
+use Rattle.nofs_image.specs.Image.{super_at, inode, InRecord, Under, child, path_of, slot_of, record_pointer, find, value, value_in, node_in, FileState}
+use Rattle.nofs_image.specs.Image.{Files, files_in, agreed, owner, Home, is_pair, is_special, IsBelow}
+use Rattle.nofs_image.specs.declared.path.PathAnswer.{PathAnswer}
+use Rattle.nofs_image.specs.declared.path.PathAnswer.TheVariants as answer
+use Rattle.nofs_image.specs.declared.value.Value.{Value}
+use Rattle.nofs_image.specs.declared.value.Value.TheVariants.{Hole, Bytes}
+use Rattle.nofs_image.proofs.Find.{judged-built-null}
+use Rattle.nofs_image.proofs.Paths.{path_of-slot, slot_of-path_of}
 use Rattle.nofs_machine.specs.Search.{first_of, least_from}
 use Rattle.nofs_machine.specs.Machine.{gives, link_given, found, first_dead, place_for, link_place, with_entry, link_to, files_after}
 use Rattle.nofs_machine.specs.History.{agreed_files}

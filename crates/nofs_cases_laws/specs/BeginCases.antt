@@ -1,7 +1,7 @@
 -- Instances of the laws of a mount's beginning: the formatted disk, raised and upgraded.
 use Rattle.std.specs.Prelude.{ℕ, ◌^◌, ◌<◌, ◌∷◌, ◌++◌, replicate}
-use Rattle.nofs_model.specs.Cells.{Cell}
-use Rattle.nofs_model.specs.Image.{Image, super_at, IsSound}
+use Rattle.nofs_image.specs.Cells.{Cell}
+use Rattle.nofs_image.specs.Image.{Image, super_at, IsSound}
 use Rattle.nofs_law_lives.specs.Lives.{Raised, Upgraded, HasSuperCell}
 use Rattle.nofs_cases_steps.specs.Images.{z, blank, first_table, first_image}
 

@@ -1,7 +1,7 @@
 -- An instance of the law of lives with contents: a Put, a crash, and the next mount.
 use Rattle.std.specs.Prelude.{◌≡◌, true, ◌||◌, [], ◌∷◌, replicate, nat_le, ◌==◌}
-use Rattle.nofs_model.specs.Image.{Image, is_special, value}
-use Rattle.nofs_model.specs.declared.value.Value.TheVariants.{Bytes}
+use Rattle.nofs_image.specs.Image.{Image, is_special, value}
+use Rattle.nofs_image.specs.declared.value.Value.TheVariants.{Bytes}
 use Rattle.nofs_machine.specs.History.{is_generation}
 use Rattle.nofs_machine.specs.World.{World, world_of}
 use Rattle.nofs_law_lives.specs.Lives.{Lives}

@@ -1,8 +1,8 @@
 -- An image that no crash may leave: a slot with the bytes of another file.
 use Rattle.std.specs.Prelude.{◌≡◌, ℕ, ◌+◌, ◌^◌, List, [], ◌∷◌, ◌++◌}
-use Rattle.nofs_model.specs.Cells.{Cell, Pointer}
-use Rattle.nofs_model.specs.Image.{Image, value}
-use Rattle.nofs_model.specs.declared.value.Value.TheVariants.{Bytes}
+use Rattle.nofs_image.specs.Cells.{Cell, Pointer}
+use Rattle.nofs_image.specs.Image.{Image, value}
+use Rattle.nofs_image.specs.declared.value.Value.TheVariants.{Bytes}
 use Rattle.nofs_machine.specs.Allowed.{IsAllowed}
 use Rattle.nofs_cases_steps.specs.Images.{z, image_of, root_bytes, label_bytes, pointer_bytes, stamp_bytes, table_of}
 use Rattle.nofs_cases_names.specs.Names.{short_entry_bytes, link_bytes, file_bytes, root_block}

@@ -3,10 +3,10 @@ use Rattle.std.proofs.Common.{◌≡◌, ◌≢◌, ℕ, zero, suc, ◌+◌, ◌
 use Rattle.nofs_disk.specs.Number.{put_number, put_bytes, zeros}
 use Rattle.nofs_dirent.specs.EntryLaws.{Spells}
 use Rattle.nofs_dirent.specs.Names.{is_name}
-use Rattle.nofs_model.specs.Cells.{Entry, Tag, Pointer, Record, tag_of, null, number_at, entry_of, entry_fields, spelled_entry, free_record}
-use Rattle.nofs_model.specs.Image.{cell_at, inode, Path, InRecord, path_of, find, record_pointer, agreed, IsFree}
-use Rattle.nofs_model.specs.declared.path.PathAnswer.TheVariants as answer
-use Rattle.nofs_model.specs.declared.value.Value.TheVariants.{Hole, Bytes}
+use Rattle.nofs_image.specs.Cells.{Entry, Tag, Pointer, Record, tag_of, null, number_at, entry_of, entry_fields, spelled_entry, free_record}
+use Rattle.nofs_image.specs.Image.{cell_at, inode, Path, InRecord, path_of, find, record_pointer, agreed, IsFree}
+use Rattle.nofs_image.specs.declared.path.PathAnswer.TheVariants as answer
+use Rattle.nofs_image.specs.declared.value.Value.TheVariants.{Hole, Bytes}
 use Rattle.nofs_machine.specs.Machine.{with_entry, is_paired}
 use Rattle.nofs_machine.specs.History.{FilesMatch}
 use Rattle.nofs_machine.specs.Claims.{no_claims, NoInode, Unclaimed}

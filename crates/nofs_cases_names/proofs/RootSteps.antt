@@ -3,10 +3,10 @@ use Rattle.std.proofs.Common.{◌≡◌, ◌≢◌, ℕ, ◌/◌, ◌^◌, ◌<�
 use Rattle.nofs_dirent.specs.Entries.{entry_limit}
 use Rattle.nofs_dirent.specs.EntryLaws.{Spells}
 use Rattle.nofs_inode.specs.declared.inode.FileKind.TheVariants.{File}
-use Rattle.nofs_model.specs.Cells.{Cell, BackLink, Pointer, Record, spelled_entry, null, is_null}
-use Rattle.nofs_model.specs.Image.{Image, cell_at, is_data_block, inode, InRecord, path_of, find, record_pointer, Files, entry_at}
-use Rattle.nofs_model.specs.declared.value.Value.{Value}
-use Rattle.nofs_model.specs.declared.value.Value.TheVariants.{Bytes}
+use Rattle.nofs_image.specs.Cells.{Cell, BackLink, Pointer, Record, spelled_entry, null, is_null}
+use Rattle.nofs_image.specs.Image.{Image, cell_at, is_data_block, inode, InRecord, path_of, find, record_pointer, Files, entry_at}
+use Rattle.nofs_image.specs.declared.value.Value.{Value}
+use Rattle.nofs_image.specs.declared.value.Value.TheVariants.{Bytes}
 use Rattle.nofs_machine.specs.Machine.{zeros, with_entry, is_paired, link_to, set_link}
 use Rattle.nofs_machine.specs.History.{FilesMatch}
 use Rattle.nofs_law_untouched.specs.Frames.{OldPointers}

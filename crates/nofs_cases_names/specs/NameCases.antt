@@ -1,10 +1,10 @@
 -- Instances of the laws of steps on names.
 use Rattle.std.specs.Prelude.{◌≡◌, ℕ, ◌+◌, ◌^◌, ◌<◌, List, [], ◌∷◌, ◌++◌, length, None, IfSome}
 use Rattle.nofs_inode.specs.declared.inode.FileKind.TheVariants.{File}
-use Rattle.nofs_model.specs.Cells.{Entry, null, spelled_entry, entry_of, entry_in}
-use Rattle.nofs_model.specs.Image.{inode, Path, IsSlot, find}
-use Rattle.nofs_model.specs.declared.path.PathAnswer.TheVariants as answer
-use Rattle.nofs_model.specs.declared.value.Value.TheVariants.{Hole, Bytes}
+use Rattle.nofs_image.specs.Cells.{Entry, null, spelled_entry, entry_of, entry_in}
+use Rattle.nofs_image.specs.Image.{inode, Path, IsSlot, find}
+use Rattle.nofs_image.specs.declared.path.PathAnswer.TheVariants as answer
+use Rattle.nofs_image.specs.declared.value.Value.TheVariants.{Hole, Bytes}
 use Rattle.nofs_machine.specs.Meta.{Gone, Is}
 use Rattle.nofs_machine.specs.Machine.{drop_meta, link_to, without_link, rename_given, bytes_in, with_entry}
 use Rattle.nofs_machine.specs.Claims.{no_claims}

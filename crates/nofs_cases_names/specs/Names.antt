@@ -1,9 +1,9 @@
 -- Disks with names: the root has block 2, in which the entries of inode 3 stand.
 use Rattle.std.specs.Prelude.{◌^◌, ℕ, List, [], ◌∷◌, ◌++◌, Some, None}
 use Rattle.nofs_inode.specs.declared.inode.FileKind.TheVariants.{File}
-use Rattle.nofs_model.specs.Cells.{Cell, BackLink, no_link}
-use Rattle.nofs_model.specs.Image.{Image, Absent, FileState, Files}
-use Rattle.nofs_model.specs.declared.value.Value.TheVariants.{Hole, Bytes}
+use Rattle.nofs_image.specs.Cells.{Cell, BackLink, no_link}
+use Rattle.nofs_image.specs.Image.{Image, Absent, FileState, Files}
+use Rattle.nofs_image.specs.declared.value.Value.TheVariants.{Hole, Bytes}
 use Rattle.nofs_machine.specs.Machine.{link_to}
 use Rattle.nofs_machine.specs.World.{World}
 use Rattle.nofs_cases_steps.specs.Images.{z, blank, image_of, table_of, root_bytes, label_bytes, pointer_bytes, stamp_bytes}

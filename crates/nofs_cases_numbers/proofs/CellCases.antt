@@ -1,9 +1,9 @@
 -- The numbers in the cells that a Put, a Make, a Link and a Drop write.
 use Rattle.std.proofs.Common.{◌≡◌, ℕ, zero, suc, ◌+◌, ◌-◌, ◌%◌, ◌^◌, ◌<◌, ◌≤◌, inl, true, List, [], ◌∷◌, ◌++◌, Option, Some, IfSome}
 use Rattle.std.proofs.Common.{Contains, refl, sym, ap, ◌∙◌, subst, arith}
-use Rattle.nofs_model.specs.Cells.{Cell, Entry, Pointer, BackLink, Record, record_at}
-use Rattle.nofs_model.specs.Cells.{tag_of, null, is_live, free_record}
-use Rattle.nofs_model.specs.Image.{Image, inode, InRecord, is_inode, tag_for, kind_in, pointer, record_pointer}
+use Rattle.nofs_image.specs.Cells.{Cell, Entry, Pointer, BackLink, Record, record_at}
+use Rattle.nofs_image.specs.Cells.{tag_of, null, is_live, free_record}
+use Rattle.nofs_image.specs.Image.{Image, inode, InRecord, is_inode, tag_for, kind_in, pointer, record_pointer}
 use Rattle.nofs_machine.specs.World.{World}
 use Rattle.nofs_machine.specs.Claims.{no_claims}
 use Rattle.nofs_machine.specs.declared.history.Claims.{Claims}

@@ -1,9 +1,9 @@
 -- A Resize to the size 0.
 use Rattle.std.proofs.Common.{◌∷◌, ℕ, ◌+◌, ◌^◌, ◌<◌, refl, ap, arith}
-use Rattle.nofs_model.specs.Cells.{SuperBlock, free_record, null}
-use Rattle.nofs_model.specs.Image.{cell_at, CellBelow, IsBelow}
+use Rattle.nofs_image.specs.Cells.{SuperBlock, free_record, null}
+use Rattle.nofs_image.specs.Image.{cell_at, CellBelow, IsBelow}
 use Rattle.nofs_machine.specs.Claims.{NoInode, Unclaimed}
-use Rattle.nofs_model.specs.declared.value.Value.TheVariants.{Bytes}
+use Rattle.nofs_image.specs.declared.value.Value.TheVariants.{Bytes}
 use Rattle.nofs_cases_steps.specs.Images.{z, blank, first_table, put_table, put_block, put_image}
 use Rattle.nofs_cases_steps.specs.Worlds.{put_files, block_two}
 use Rattle.nofs_cases_steps.proofs.Images.{root_record, label_record, first-records, put-records, numbers-are, mountable, put-tag}

@@ -2,10 +2,10 @@
 use Rattle.std.proofs.Common.{◌≡◌, ◌≢◌, ℕ, ◌+◌, ◌^◌, ◌∷◌, [], ◌++◌, Some, refl, sym, ap, ◌∙◌, arith}
 use Rattle.nofs_disk.specs.Number.{put_number, put_bytes, zeros}
 use Rattle.nofs_inode.specs.declared.inode.FileKind.TheVariants.{Directory as Folder}
-use Rattle.nofs_model.specs.Cells.{Directory, Leaf, Record, tag_of, number_at, null, pointer_at, pointer_in, record_of, record_at, fields_in, link_in}
-use Rattle.nofs_model.specs.Cells.{spelled_entry, free_record}
-use Rattle.nofs_model.specs.Image.{cell_at, inode, Under, leaf, path_of, slot_of, tag_for, record_pointer}
-use Rattle.nofs_model.specs.declared.value.Value.TheVariants.{Hole, Bytes}
+use Rattle.nofs_image.specs.Cells.{Directory, Leaf, Record, tag_of, number_at, null, pointer_at, pointer_in, record_of, record_at, fields_in, link_in}
+use Rattle.nofs_image.specs.Cells.{spelled_entry, free_record}
+use Rattle.nofs_image.specs.Image.{cell_at, inode, Under, leaf, path_of, slot_of, tag_for, record_pointer}
+use Rattle.nofs_image.specs.declared.value.Value.TheVariants.{Hole, Bytes}
 use Rattle.nofs_machine.specs.Machine.{with_entry}
 use Rattle.nofs_law_new_names.specs.Holes.{HoleWithLeaf, WithLeaf, first_links}
 use Rattle.nofs_cases_steps.specs.Images.{z, blank, first_table, first_image}

@@ -1,6 +1,6 @@
 -- A Get that is refused.
 use Rattle.std.proofs.Common.{◌≡◌, inl, inr, eqb, refl}
-use Rattle.nofs_model.specs.Image.{is_special}
+use Rattle.nofs_image.specs.Image.{is_special}
 use Rattle.nofs_machine.specs.Next.{Keeps, ByRow}
 use Rattle.nofs_machine.specs.declared.replies.Refusal.TheVariants as refusal
 use Rattle.nofs_law_maps.proofs.Homes.{law-good}

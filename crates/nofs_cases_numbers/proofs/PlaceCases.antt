@@ -5,11 +5,11 @@ use Rattle.nofs_disk.specs.Number.{put_number, put_bytes, zeros}
 use Rattle.nofs_dirent.specs.EntryLaws.{Spells}
 use Rattle.nofs_dirent.specs.Names.{is_name}
 use Rattle.nofs_inode.specs.declared.inode.FileKind.TheVariants.{File, Directory as Folder}
-use Rattle.nofs_model.specs.Cells.{Directory, Entry, Record, tag_of, null, free_record, number_at}
-use Rattle.nofs_model.specs.Cells.{entry_in, entry_of, entry_fields, spelled_entry, record_of, record_at, fields_in, link_in, pointer_in}
-use Rattle.nofs_model.specs.Image.{cell_at, inode, Path, InRecord, path_of, slot_of, tag_for, find, record_pointer, IsFree}
-use Rattle.nofs_model.specs.declared.path.PathAnswer.TheVariants as answer
-use Rattle.nofs_model.specs.declared.value.Value.TheVariants.{Hole, Bytes}
+use Rattle.nofs_image.specs.Cells.{Directory, Entry, Record, tag_of, null, free_record, number_at}
+use Rattle.nofs_image.specs.Cells.{entry_in, entry_of, entry_fields, spelled_entry, record_of, record_at, fields_in, link_in, pointer_in}
+use Rattle.nofs_image.specs.Image.{cell_at, inode, Path, InRecord, path_of, slot_of, tag_for, find, record_pointer, IsFree}
+use Rattle.nofs_image.specs.declared.path.PathAnswer.TheVariants as answer
+use Rattle.nofs_image.specs.declared.value.Value.TheVariants.{Hole, Bytes}
 use Rattle.nofs_machine.specs.Search.{least_from}
 use Rattle.nofs_machine.specs.Machine.{first_dead, place_for, with_entry, is_paired}
 use Rattle.nofs_machine.specs.History.{FilesMatch}

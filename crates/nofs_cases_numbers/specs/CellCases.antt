@@ -1,8 +1,8 @@
 -- Instances of the laws of the numbers in one written cell: content, a directory's cell, and a table.
 use Rattle.std.specs.Prelude.{◌≡◌, ℕ, ◌+◌, ◌-◌, ◌/◌, ◌%◌, ◌^◌, true, ◌++◌, Some}
-use Rattle.nofs_model.specs.Cells.{Content, Directory, record_at, spelled_entry, tag_of}
-use Rattle.nofs_model.specs.Image.{InRecord, is_inode, inode, kind_in}
-use Rattle.nofs_model.specs.declared.value.Value.TheVariants.{Hole, Bytes}
+use Rattle.nofs_image.specs.Cells.{Content, Directory, record_at, spelled_entry, tag_of}
+use Rattle.nofs_image.specs.Image.{InRecord, is_inode, inode, kind_in}
+use Rattle.nofs_image.specs.declared.value.Value.TheVariants.{Hole, Bytes}
 use Rattle.nofs_machine.specs.Claims.{no_claims}
 use Rattle.nofs_law_numbers.specs.Cells.{OldNumbers, CellFor, EntryWritten, RecordWritten, table_tag}
 use Rattle.nofs_cases_steps.specs.Images.{z, first_image, put_table, put_block}

@@ -1,9 +1,9 @@
 -- An instance of the laws of a Resize that cuts: the file of one block gets the size 0.
 use Rattle.std.specs.Prelude.{◌≡◌, ◌+◌, ◌^◌, true, ◌∷◌, Some, None, if◌then◌else◌, ◌==◌}
-use Rattle.nofs_model.specs.Cells.{is_null}
-use Rattle.nofs_model.specs.Image.{Image, InRecord, find, inode, record_pointer, home_at}
-use Rattle.nofs_model.specs.declared.path.PathAnswer.TheVariants as answer
-use Rattle.nofs_model.specs.declared.value.Value.TheVariants.{Bytes}
+use Rattle.nofs_image.specs.Cells.{is_null}
+use Rattle.nofs_image.specs.Image.{Image, InRecord, find, inode, record_pointer, home_at}
+use Rattle.nofs_image.specs.declared.path.PathAnswer.TheVariants as answer
+use Rattle.nofs_image.specs.declared.value.Value.TheVariants.{Bytes}
 use Rattle.nofs_machine.specs.World.{World}
 use Rattle.nofs_machine.specs.Claims.{IsClaim, no_claims}
 use Rattle.nofs_machine.specs.declared.steps.Step.TheVariants as step

@@ -1,9 +1,9 @@
 -- An instance of the law of Make in a hole under a leaf, which is claimed with the cell.
 use Rattle.std.specs.Prelude.{◌+◌, ◌^◌, ◌∷◌, ◌++◌}
 use Rattle.nofs_inode.specs.declared.inode.FileKind.TheVariants.{File}
-use Rattle.nofs_model.specs.Cells.{Cell, Pointer, null, spelled_entry}
-use Rattle.nofs_model.specs.Image.{Image}
-use Rattle.nofs_model.specs.declared.value.Value.TheVariants.{Hole}
+use Rattle.nofs_image.specs.Cells.{Cell, Pointer, null, spelled_entry}
+use Rattle.nofs_image.specs.Image.{Image}
+use Rattle.nofs_image.specs.declared.value.Value.TheVariants.{Hole}
 use Rattle.nofs_machine.specs.declared.history.Claims.{Claims}
 use Rattle.nofs_law_new_names.specs.Holes.{MakeLies, EntryInHole}
 use Rattle.nofs_cases_steps.specs.Images.{z, image_of, first_image, label_bytes, pointer_bytes, stamp_bytes, table_of}

@@ -2,9 +2,9 @@
 -- premises of the laws of its homes and of its numbers.
 use Rattle.std.specs.Prelude.{◌≡◌, ℕ, zero, suc, ◌+◌, ◌^◌, List, [], ◌∷◌, ◌++◌, Some, None}
 use Rattle.nofs_inode.specs.declared.inode.FileKind.TheVariants.{File}
-use Rattle.nofs_model.specs.Cells.{Cell, BackLink, Pointer, no_link, null, spelled_entry}
-use Rattle.nofs_model.specs.Image.{Image, Files}
-use Rattle.nofs_model.specs.declared.value.Value.TheVariants.{Hole, Bytes}
+use Rattle.nofs_image.specs.Cells.{Cell, BackLink, Pointer, no_link, null, spelled_entry}
+use Rattle.nofs_image.specs.Image.{Image, Files}
+use Rattle.nofs_image.specs.declared.value.Value.TheVariants.{Hole, Bytes}
 use Rattle.nofs_machine.specs.Machine.{link_to, place_for}
 use Rattle.nofs_machine.specs.World.{World}
 use Rattle.nofs_machine.specs.Claims.{IsClaim}

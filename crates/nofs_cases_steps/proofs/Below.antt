@@ -1,9 +1,9 @@
 -- Every number on these images is below a bound.
 use Rattle.std.proofs.Common.{◌≡◌, ◌≢◌, ℕ, zero, suc, ◌-◌, ◌%◌, ◌<◌, ◌≤◌, true, leb, Option, Some, IfSome, All, refl, sym, ap, ◌∙◌, subst, arith, leb-true}
 use Rattle.std.proofs.lemmas.List.{get_or-replicate}
-use Rattle.nofs_model.specs.Cells.{Cell, Directory, Leaf, Tag, Pointer, Record, SuperBlock, tag_of, pointer_at, record_at, entry_in, free_record, null}
-use Rattle.nofs_model.specs.Image.{cell_at, super_at, is_inode, record_pointer, TagBelow, RecordBelow, CellBelow}
-use Rattle.nofs_model.proofs.Find.{and-both}
+use Rattle.nofs_image.specs.Cells.{Cell, Directory, Leaf, Tag, Pointer, Record, SuperBlock, tag_of, pointer_at, record_at, entry_in, free_record, null}
+use Rattle.nofs_image.specs.Image.{cell_at, super_at, is_inode, record_pointer, TagBelow, RecordBelow, CellBelow}
+use Rattle.nofs_image.proofs.Find.{and-both}
 use Rattle.nofs_cases_steps.specs.Images.{blank, super_block, image_of, first_table}
 use Rattle.nofs_cases_steps.specs.Worlds.{no_links}
 use Rattle.nofs_cases_steps.proofs.Images.{HasRecords, numbers-are, blank-tag, super-tag, table-tag}

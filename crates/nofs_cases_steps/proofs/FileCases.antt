@@ -3,12 +3,12 @@ use Rattle.std.proofs.Common.{max, ◌≡◌, ◌≢◌, ℕ, zero, suc, ◌+◌
 use Rattle.std.proofs.Common.{arith, le-leb}
 use Rattle.nofs_disk.specs.Number.{put_bytes}
 use Rattle.nofs_inode.specs.declared.inode.FileKind.TheVariants.{File, Directory}
-use Rattle.nofs_model.specs.Cells.{Cell, Pointer, Record, tag_of, null, is_null, is_live, free_record}
-use Rattle.nofs_model.specs.Image.{cell_at, inode, Path, InRecord, Under, path_of, IsSlot, tag_for, record_pointer, find, files_in, agreed, IsFree, Files}
-use Rattle.nofs_model.specs.Image.{FileState, is_folder}
-use Rattle.nofs_model.specs.declared.path.PathAnswer.TheVariants as answer
-use Rattle.nofs_model.specs.declared.value.Value.{Value}
-use Rattle.nofs_model.specs.declared.value.Value.TheVariants.{Hole, Bytes}
+use Rattle.nofs_image.specs.Cells.{Cell, Pointer, Record, tag_of, null, is_null, is_live, free_record}
+use Rattle.nofs_image.specs.Image.{cell_at, inode, Path, InRecord, Under, path_of, IsSlot, tag_for, record_pointer, find, files_in, agreed, IsFree, Files}
+use Rattle.nofs_image.specs.Image.{FileState, is_folder}
+use Rattle.nofs_image.specs.declared.path.PathAnswer.TheVariants as answer
+use Rattle.nofs_image.specs.declared.value.Value.{Value}
+use Rattle.nofs_image.specs.declared.value.Value.TheVariants.{Hole, Bytes}
 use Rattle.nofs_machine.specs.Machine.{put_content, trimmed}
 use Rattle.nofs_machine.specs.History.{FilesMatch}
 use Rattle.nofs_machine.specs.Claims.{IsClaim, NoInode, Claimed, Unclaimed}

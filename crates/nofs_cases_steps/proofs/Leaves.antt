@@ -2,7 +2,7 @@
 use Rattle.std.proofs.Common.{◌≡◌, ◌≢◌, ℕ, zero, suc, ◌+◌, ◌*◌, ◌≤◌, inl, inr, true, List, ◌++◌, length, refl, arith}
 use Rattle.std.proofs.lemmas.Bool.{cases_lt}
 use Rattle.std.proofs.lemmas.List.{drop_all}
-use Rattle.nofs_model.specs.Cells.{number_at, is_null, pointer_at, pointer_in}
+use Rattle.nofs_image.specs.Cells.{number_at, is_null, pointer_at, pointer_in}
 use Rattle.nofs_cases_steps.specs.Images.{z, pointer_bytes}
 use Rattle.nofs_cases_steps.proofs.Numbers.{all_below, each-below}
 

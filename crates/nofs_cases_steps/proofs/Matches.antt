@@ -2,17 +2,17 @@
 use Rattle.std.proofs.Common.{◌≡◌, ℕ, zero, suc, ◌<◌, inl, inr, Bool, true, false, cond, eqb, Option, Some, None, refl, sym, ap, ◌∙◌, subst, arith}
 use Rattle.nofs_ptrs.specs.Paths.{slot_limit}
 use Rattle.nofs_inode.specs.declared.inode.FileKind.TheVariants.{File, Directory}
-use Rattle.nofs_model.specs.Cells.{FileKind, Pointer, Record, tag_of, null, is_null, is_live}
-use Rattle.nofs_model.specs.Image.{Image, cell_at, is_data_block, inode, Path, InRecord, path_of, slot_of, is_pointer_slot, IsSlot, kind_in, tag_for}
-use Rattle.nofs_model.specs.Image.{record_pointer, find, value, value_in, node_in, Absent, FileState, files_in, file_from, agreed}
-use Rattle.nofs_model.specs.Definitions.{the_root, the_label}
-use Rattle.nofs_model.specs.declared.path.PathAnswer.{PathAnswer}
-use Rattle.nofs_model.specs.declared.path.PathAnswer.TheVariants as answer
-use Rattle.nofs_model.specs.declared.value.Value.{Value}
-use Rattle.nofs_model.specs.declared.value.Value.TheVariants.{Hole, Bytes}
-use Rattle.nofs_model.proofs.Find.{agrees-built, find-built}
-use Rattle.nofs_model.proofs.NameMeanings.{fact-agreed}
-use Rattle.nofs_model.proofs.Paths.{path_of-slot, slot_of-path_of}
+use Rattle.nofs_image.specs.Cells.{FileKind, Pointer, Record, tag_of, null, is_null, is_live}
+use Rattle.nofs_image.specs.Image.{Image, cell_at, is_data_block, inode, Path, InRecord, path_of, slot_of, is_pointer_slot, IsSlot, kind_in, tag_for}
+use Rattle.nofs_image.specs.Image.{record_pointer, find, value, value_in, node_in, Absent, FileState, files_in, file_from, agreed}
+use Rattle.nofs_law_model.specs.Definitions.{the_root, the_label}
+use Rattle.nofs_image.specs.declared.path.PathAnswer.{PathAnswer}
+use Rattle.nofs_image.specs.declared.path.PathAnswer.TheVariants as answer
+use Rattle.nofs_image.specs.declared.value.Value.{Value}
+use Rattle.nofs_image.specs.declared.value.Value.TheVariants.{Hole, Bytes}
+use Rattle.nofs_image.proofs.Find.{agrees-built, find-built}
+use Rattle.nofs_law_model.proofs.NameMeanings.{fact-agreed}
+use Rattle.nofs_image.proofs.Paths.{path_of-slot, slot_of-path_of}
 use Rattle.nofs_machine.specs.History.{SameFile, FilesMatch, agreed_files}
 use Rattle.nofs_law_untouched.proofs.Matching.{agreed-files-is}
 use Rattle.nofs_cases_steps.specs.Worlds.{first_slot, three_files}

@@ -1,7 +1,7 @@
 -- What holds of numbers, shown number by number.
 use Rattle.std.proofs.Common.{◌≡◌, ℕ, zero, suc, ◌<◌, inl, inr, Bool, true, ◌&&◌, [], ap, ◌∙◌, arith, Contains}
 use Rattle.std.proofs.lemmas.Bool.{cases_eq}
-use Rattle.nofs_model.proofs.Find.{and-both}
+use Rattle.nofs_image.proofs.Find.{and-both}
 
 -- the first four, and those behind them
 pub each-number : (P : ℕ → Type 0) → P 0 → P 1 → P 2 → P 3 → ((n : ℕ) → P (suc (suc (suc (suc n))))) → (n : ℕ) → P n

@@ -1,15 +1,15 @@
 -- Inodes with one pointer at most, in slot 0: what their slots hold.
 use Rattle.std.proofs.Common.{◌≡◌, ℕ, zero, suc, ◌<◌, ◌⊎◌, inl, inr, true, false, eqb, Option, Some, None, refl, sym, ap, ◌∙◌, subst, arith}
 use Rattle.nofs_ptrs.specs.Paths.{slot_limit}
-use Rattle.nofs_model.specs.Cells.{Cell, Pointer, Record, null, is_null}
-use Rattle.nofs_model.specs.Image.{Image, inode, Path, InRecord, Under, path_of, is_pointer_slot, IsSlot, record_pointer, judged, find, pointer, value}
-use Rattle.nofs_model.specs.Image.{value_in, agreed, IsFree, owner, Home}
-use Rattle.nofs_model.specs.declared.path.PathAnswer.{PathAnswer}
-use Rattle.nofs_model.specs.declared.path.PathAnswer.TheVariants as answer
-use Rattle.nofs_model.specs.declared.value.Value.TheVariants.{Hole}
-use Rattle.nofs_model.proofs.Find.{judged-held, judged-built-null}
-use Rattle.nofs_model.proofs.Owners.{owner-holds, owner-slot}
-use Rattle.nofs_model.proofs.Paths.{path_of-slot, path_of-number}
+use Rattle.nofs_image.specs.Cells.{Cell, Pointer, Record, null, is_null}
+use Rattle.nofs_image.specs.Image.{Image, inode, Path, InRecord, Under, path_of, is_pointer_slot, IsSlot, record_pointer, judged, find, pointer, value}
+use Rattle.nofs_image.specs.Image.{value_in, agreed, IsFree, owner, Home}
+use Rattle.nofs_image.specs.declared.path.PathAnswer.{PathAnswer}
+use Rattle.nofs_image.specs.declared.path.PathAnswer.TheVariants as answer
+use Rattle.nofs_image.specs.declared.value.Value.TheVariants.{Hole}
+use Rattle.nofs_image.proofs.Find.{judged-held, judged-built-null}
+use Rattle.nofs_image.proofs.Owners.{owner-holds, owner-slot}
+use Rattle.nofs_image.proofs.Paths.{path_of-slot, path_of-number}
 use Rattle.nofs_law_untouched.specs.Frames.{OldPointers}
 use Rattle.nofs_cases_steps.specs.Images.{image_of}
 use Rattle.nofs_cases_steps.proofs.Numbers.{one_of, each-number}

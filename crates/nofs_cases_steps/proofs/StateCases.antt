@@ -1,15 +1,15 @@
 -- The maps and the stamps over a Put of one byte.
 use Rattle.std.proofs.Common.{◌≡◌, ℕ, zero, suc, ◌-◌, ◌%◌, ◌^◌, ◌<◌, ◌≤◌, ◌⊎◌, inl, inr, true, false, eqb, [], ◌∷◌, Option, Some, None, refl, sym, ap, ◌∙◌}
 use Rattle.std.proofs.Common.{subst, arith, eqb-true, is_some, All, Contains}
-use Rattle.nofs_model.specs.Cells.{Content, Table, Pointer, Record, SuperBlock, record_at, is_live, free_record, null, FileKind}
-use Rattle.nofs_model.proofs.Chains.{agreed-holds}
+use Rattle.nofs_image.specs.Cells.{Content, Table, Pointer, Record, SuperBlock, record_at, is_live, free_record, null, FileKind}
+use Rattle.nofs_image.proofs.Chains.{agreed-holds}
 use Rattle.nofs_law_untouched.proofs.Alike.{agreed-some}
 use Rattle.nofs_law_maps.proofs.Fresh.{sole-is}
 use Rattle.nofs_machine.specs.Good.{MatchesSuper, IsFresh}
-use Rattle.nofs_model.specs.Image.{file_from, Image, cell_at, inode, Path, InRecord, path_of, IsSlot, find, files_in, agreed, Home, home_at, CellBelow}
-use Rattle.nofs_model.specs.Image.{IsBelow, record_pointer}
-use Rattle.nofs_model.specs.declared.path.PathAnswer.TheVariants as answer
-use Rattle.nofs_model.specs.declared.value.Value.TheVariants.{Hole}
+use Rattle.nofs_image.specs.Image.{file_from, Image, cell_at, inode, Path, InRecord, path_of, IsSlot, find, files_in, agreed, Home, home_at, CellBelow}
+use Rattle.nofs_image.specs.Image.{IsBelow, record_pointer}
+use Rattle.nofs_image.specs.declared.path.PathAnswer.TheVariants as answer
+use Rattle.nofs_image.specs.declared.value.Value.TheVariants.{Hole}
 use Rattle.nofs_machine.specs.Machine.{gives}
 use Rattle.nofs_machine.specs.Claims.{cell_slot, is_claimed}
 use Rattle.nofs_machine.specs.Search.{count_below}

@@ -1,8 +1,8 @@
 -- What a step leaves of these disks: its blocks and records, each compared with what stood there.
 use Rattle.std.proofs.Common.{◌≡◌, ◌≢◌, ℕ, suc, ◌+◌, ◌/◌, ◌≤◌, ◌⊎◌, inl, Bool, true, false, leb, ltb, eqb, ◌&&◌, Some, refl, sym, ap, ◌∙◌, subst, arith}
-use Rattle.nofs_model.specs.Cells.{Cell, Tag, Pointer, Record, SuperBlock, tag_of, free_record, null}
-use Rattle.nofs_model.specs.Image.{Image, cell_at, is_data_block, inode, Path, find, record_pointer, kind_in, slot_of, tag_for, IsFree}
-use Rattle.nofs_model.specs.declared.path.PathAnswer.TheVariants as answer
+use Rattle.nofs_image.specs.Cells.{Cell, Tag, Pointer, Record, SuperBlock, tag_of, free_record, null}
+use Rattle.nofs_image.specs.Image.{Image, cell_at, is_data_block, inode, Path, find, record_pointer, kind_in, slot_of, tag_for, IsFree}
+use Rattle.nofs_image.specs.declared.path.PathAnswer.TheVariants as answer
 use Rattle.nofs_law_untouched.specs.Frames.{Touches, SameNames, SameMeta}
 use Rattle.nofs_cases_steps.specs.Images.{image_of}
 use Rattle.nofs_cases_steps.proofs.Images.{nth, root_record, HasRecords, inode-is, numbers-are, not-data-one}

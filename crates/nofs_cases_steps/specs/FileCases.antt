@@ -1,8 +1,8 @@
 -- Instances of the laws of steps on files.
 use Rattle.std.specs.Prelude.{◌≡◌, ◌+◌, ◌^◌, true, [], ◌∷◌, ◌==◌}
-use Rattle.nofs_model.specs.Image.{Path, agreed, files_in, path_of, inode}
-use Rattle.nofs_model.specs.Cells.{is_live, Pointer}
-use Rattle.nofs_model.specs.declared.value.Value.TheVariants.{Hole, Bytes}
+use Rattle.nofs_image.specs.Image.{Path, agreed, files_in, path_of, inode}
+use Rattle.nofs_image.specs.Cells.{is_live, Pointer}
+use Rattle.nofs_image.specs.declared.value.Value.TheVariants.{Hole, Bytes}
 use Rattle.nofs_machine.specs.Claims.{IsClaim, no_claims}
 use Rattle.nofs_machine.specs.declared.steps.Step.{Step}
 use Rattle.nofs_machine.specs.declared.steps.Step.TheVariants as step

@@ -1,8 +1,8 @@
 -- An instance of the laws of a Put at depth: to slot 8 of the empty label file, with its leaf.
 use Rattle.std.specs.Prelude.{◌+◌, ◌^◌, [], ◌∷◌, ◌++◌}
-use Rattle.nofs_model.specs.Cells.{Cell, Pointer, null}
-use Rattle.nofs_model.specs.Image.{Image, Path, InRecord, Under}
-use Rattle.nofs_model.specs.declared.value.Value.TheVariants.{Hole}
+use Rattle.nofs_image.specs.Cells.{Cell, Pointer, null}
+use Rattle.nofs_image.specs.Image.{Image, Path, InRecord, Under}
+use Rattle.nofs_image.specs.declared.value.Value.TheVariants.{Hole}
 use Rattle.nofs_machine.specs.Claims.{IsClaim}
 use Rattle.nofs_machine.specs.declared.history.Claims.{Claims}
 use Rattle.nofs_machine.specs.declared.steps.Step.{Step}

@@ -1,9 +1,9 @@
 -- Instances of the laws of the maps and of the stamps, by the Put of one byte.
 use Rattle.std.specs.Prelude.{◌≡◌, ◌==◌, ℕ, ◌%◌, ◌^◌, ◌≤◌, ◌<◌, ◌⊎◌, true, false, List, [], ◌∷◌, Some, Contains}
-use Rattle.nofs_model.specs.Cells.{Cell, is_live, Pointer}
-use Rattle.nofs_model.specs.Image.{Image, cell_at, super_at, is_mountable, inode, InRecord, path_of, files_in, agreed, find, Path, IsSlot, IsAbove, Home}
-use Rattle.nofs_model.specs.Image.{IsBelow}
-use Rattle.nofs_model.specs.declared.path.PathAnswer.TheVariants as answer
+use Rattle.nofs_image.specs.Cells.{Cell, is_live, Pointer}
+use Rattle.nofs_image.specs.Image.{Image, cell_at, super_at, is_mountable, inode, InRecord, path_of, files_in, agreed, find, Path, IsSlot, IsAbove, Home}
+use Rattle.nofs_image.specs.Image.{IsBelow}
+use Rattle.nofs_image.specs.declared.path.PathAnswer.TheVariants as answer
 use Rattle.nofs_machine.specs.declared.history.Entry1.{Entry1}
 use Rattle.nofs_machine.specs.declared.replies.Reply.TheVariants as reply
 use Rattle.nofs_machine.specs.Machine.{is_write_fault}

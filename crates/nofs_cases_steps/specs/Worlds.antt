@@ -1,10 +1,10 @@
 -- The machine's files and worlds on these images.
 use Rattle.std.specs.Prelude.{ℕ, Bool, true, false, List, [], ◌∷◌, ◌+◌, ◌^◌, Option, Some, None, if◌then◌else◌, ◌==◌}
 use Rattle.nofs_inode.specs.declared.inode.FileKind.TheVariants.{File, Directory}
-use Rattle.nofs_model.specs.Cells.{BackLink, Pointer, no_link, null}
-use Rattle.nofs_model.specs.Image.{Absent, FileState, Files, Home}
-use Rattle.nofs_model.specs.declared.value.Value.{Value}
-use Rattle.nofs_model.specs.declared.value.Value.TheVariants.{Hole, Bytes}
+use Rattle.nofs_image.specs.Cells.{BackLink, Pointer, no_link, null}
+use Rattle.nofs_image.specs.Image.{Absent, FileState, Files, Home}
+use Rattle.nofs_image.specs.declared.value.Value.{Value}
+use Rattle.nofs_image.specs.declared.value.Value.TheVariants.{Hole, Bytes}
 use Rattle.nofs_machine.specs.Machine.{gives, files_after}
 use Rattle.nofs_machine.specs.World.{World, inodes_needed, blocks_needed}
 use Rattle.nofs_machine.specs.Claims.{homes_after}

@@ -5,13 +5,13 @@ use Rattle.nofs_machine.specs.declared.replies.Reply.{Reply}
 use Rattle.nofs_machine.specs.declared.replies.Reply.TheVariants as reply
 use Rattle.nofs_machine.specs.declared.replies.Refusal.{Refusal}
 use Rattle.nofs_machine.specs.declared.replies.Refusal.TheVariants as refusal
-use Rattle.nofs_client.specs.declared.commands.Command.{Command}
-use Rattle.nofs_client.specs.declared.next.Next.{Next}
-use Rattle.nofs_client.specs.declared.next.Next.TheVariants.{Do, Say}
+use Rattle.nofs_task.specs.declared.commands.Command.{Command}
+use Rattle.nofs_task.specs.declared.next.Next.{Next}
+use Rattle.nofs_task.specs.declared.next.Next.TheVariants.{Do, Say}
 use Rattle.nofs_client.specs.declared.progress.Progress.{Progress}
 use Rattle.nofs_client.specs.declared.progress.See.{See}
-use Rattle.nofs_client.specs.Task.{TaskStands}
-use Rattle.nofs_client.specs.Asks.{task_asks, Answers}
+use Rattle.nofs_task.specs.Task.{TaskStands}
+use Rattle.nofs_task.specs.Asks.{task_asks, Answers}
 use Rattle.nofs_client.specs.Drive.{asks, goes_on, step_answered, examines_block, examines_inode, stored_by, progress_after, after_refused}
 use Rattle.nofs_client.specs.Drive.{after_step, after_see, after_beside, asks_beside}
 use Rattle.nofs_client.proofs.TaskRank.{task_rank, task-falls, refused-rank}

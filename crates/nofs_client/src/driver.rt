@@ -2,18 +2,15 @@
 //!
 //! Promise: the answer is that of the definition, for every command and all replies that fit.
 ghost use Rattle.std.specs.Prelude.{◌≡◌, IfOk};
-ghost use Rattle.nofs_client.specs.Commands.{IsWellFormed};
-ghost use Rattle.nofs_client.specs.Task.{TaskStands};
-ghost use Rattle.nofs_client.specs.Asks.{IsSaid, task_asks};
+ghost use Rattle.nofs_task.specs.Commands.{IsWellFormed};
+ghost use Rattle.nofs_task.specs.Task.{TaskStands};
+ghost use Rattle.nofs_task.specs.Asks.{IsSaid, task_asks};
 ghost use Rattle.nofs_client.specs.Drive.{AllAnswer, start_of, asks, drive_of};
-ghost use Rattle.nofs_client.specs.declared.next.Next.TheVariants.{Say};
+ghost use Rattle.nofs_task.specs.declared.next.Next.TheVariants.{Say};
 
-use crate::commands::Command;
-use crate::lines::Line;
-use crate::next::Next;
 use crate::progress::{Progress, after, next_step, start};
-use crate::task::Task;
 use nofs_machine::Reply;
+use nofs_task::{Command, Line, Next, Task};
 use std::alloc::{AllocError, Global};
 
 fn line_of_task(command: &Command, task: Task) -> Line

@@ -11,8 +11,9 @@ use crate::tests::answer::Answer::{
 use crate::tests::answer::reply;
 use crate::tests::asked::{Asked, command};
 use crate::tests::text::{AskedSteps, note_line};
-use crate::{Client, Command, CommandList, Line, LineList, Next, Path, drive};
+use crate::{Client, drive};
 use nofs_machine::{FileKind, Refusal, Reply, Stat, Step};
+use nofs_task::{Command, CommandList, Line, LineList, Next, Path};
 use nofs_told::{InTurn, Notepad, Told};
 use std::alloc::{AllocError, Global};
 use std::process::Abort;

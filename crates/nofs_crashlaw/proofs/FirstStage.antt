@@ -5,9 +5,9 @@ use Rattle.nofs_disk.specs.Disk.{DiskState, cell_at}
 use Rattle.nofs_disk.specs.Moments.{AtEach}
 use Rattle.nofs_disk.specs.Chains.{settled_image}
 use Rattle.nofs_super.specs.Geometry.{IsGeometry}
-use Rattle.nofs_model.specs.Cells.{Cell}
-use Rattle.nofs_model.specs.Image.{Image, super_at, CellBelow}
-use Rattle.nofs_model.proofs.Sound.{mountable-law}
+use Rattle.nofs_image.specs.Cells.{Cell}
+use Rattle.nofs_image.specs.Image.{Image, super_at, CellBelow}
+use Rattle.nofs_image.proofs.Sound.{mountable-law}
 use Rattle.nofs_machine.specs.History.{mark_at, new_mark}
 use Rattle.nofs_machine.specs.Allowed.{IsAllowed}
 use Rattle.nofs_machine.specs.Steady.{SteadyRest}

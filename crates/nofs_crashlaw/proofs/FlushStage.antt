@@ -4,9 +4,9 @@ use Rattle.std.proofs.Common.{◌≡◌, ℕ, suc, ◌+◌, ◌%◌, ◌<◌, �
 use Rattle.std.proofs.Common.{◌++◌, length, Option, Some, None, IsTrue, Ok, refl, sym, ap, ◌∙◌, subst, arith, le_refl}
 use Rattle.std.proofs.lemmas.Bool.{cases_lt}
 use Rattle.nofs_disk.specs.Disk.{DiskState, IsDisk, IsSettled, Flushes, Picks, cell_at}
-use Rattle.nofs_model.specs.Cells.{SuperBlock}
-use Rattle.nofs_model.specs.Image.{Image, super_at, is_mountable, inode, value, Files, FileState, CellBelow}
-use Rattle.nofs_model.proofs.Sound.{supers, mountable-law}
+use Rattle.nofs_image.specs.Cells.{SuperBlock}
+use Rattle.nofs_image.specs.Image.{Image, super_at, is_mountable, inode, value, Files, FileState, CellBelow}
+use Rattle.nofs_image.proofs.Sound.{supers, mountable-law}
 use Rattle.nofs_law_images.specs.Reasons.{IsMark}
 use Rattle.nofs_law_images.specs.Moments.{AllExplained}
 use Rattle.nofs_law_images.proofs.Moments.{law-images, law-flush}

@@ -12,8 +12,8 @@ use Rattle.nofs_machine.specs.declared.history.Entry1.{Entry1}
 use Rattle.nofs_machine.specs.Machine.{generation_of}
 use Rattle.nofs_machine.specs.History.{agreed_files, files_along, values_given, metas_given, accepted_of, accepted_meta_of, last_in, begun, mark_from, mark}
 use Rattle.nofs_machine.specs.History.{before_mark, since_mark, since, since_meta, stands, is_flushed}
-use Rattle.nofs_model.specs.Image.{Image, inode, value}
-use Rattle.nofs_model.specs.declared.value.Value.{Value}
+use Rattle.nofs_image.specs.Image.{Image, inode, value}
+use Rattle.nofs_image.specs.declared.value.Value.{Value}
 
 later-leb : (a m : ℕ) → m < a → leb a m ≡ false
 later-leb a m h = grind (arith, nat_tests)

@@ -7,7 +7,7 @@ use Rattle.nofs_machine.specs.declared.history.Entry1.{Entry1}
 use Rattle.nofs_machine.specs.Machine.{generation_of}
 use Rattle.nofs_machine.specs.History.{agreed_files, files_along, values_given, metas_given, accepted_of, accepted_meta_of, last_in, begun, mark, before_mark}
 use Rattle.nofs_machine.specs.History.{since_mark, since, since_meta, stands, mark_at, new_mark}
-use Rattle.nofs_model.specs.Image.{Image}
+use Rattle.nofs_image.specs.Image.{Image}
 
 and-true : (a b : Bool) → (a && (b && true)) ≡ (a && b)
 and-true true true = refl

@@ -11,9 +11,9 @@ use Rattle.nofs_machine.specs.declared.history.Entry1.{Entry1}
 use Rattle.nofs_machine.specs.Machine.{given_by}
 use Rattle.nofs_machine.specs.History.{agreed_files, files_along, values_given, metas_given, FilesMatch}
 use Rattle.nofs_machine.specs.Steady.{Untouched, SteadyRest}
-use Rattle.nofs_model.specs.Cells.{Record, is_live}
-use Rattle.nofs_model.specs.Image.{Image, inode, value, FileState, Files, files_in, agreed}
-use Rattle.nofs_model.specs.declared.value.Value.TheVariants.{Lost}
+use Rattle.nofs_image.specs.Cells.{Record, is_live}
+use Rattle.nofs_image.specs.Image.{Image, inode, value, FileState, Files, files_in, agreed}
+use Rattle.nofs_image.specs.declared.value.Value.TheVariants.{Lost}
 
 -- F are the machine's files before the entry, and E after it
 pub rest-stays : (B : Image) (H : List Entry1) (e : Entry1) (s : ℕ) (touched : ℕ → Bool) (X Y : Image) (E : Files)

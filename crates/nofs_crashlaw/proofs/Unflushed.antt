@@ -5,7 +5,7 @@ use Rattle.std.specs.List.{list_any}
 use Rattle.std.proofs.lemmas.List.Elements.{Contains-append_left}
 use Rattle.nofs_crashlaw.specs.Laws.{LawUnflushed}
 use Rattle.nofs_machine.proofs.Names.{names-stay}
-use Rattle.nofs_model.proofs.Find.{and-both}
+use Rattle.nofs_image.proofs.Find.{and-both}
 use Rattle.nofs_law_untouched.proofs.Matching.{matched-file, gen-of}
 use Rattle.nofs_machine.specs.Meta.{Meta, meta_of, is_bytes, is_gone}
 use Rattle.nofs_machine.specs.declared.history.Entry1.{Entry1}
@@ -14,10 +14,10 @@ use Rattle.nofs_machine.specs.History.{SameFile, FilesMatch, agreed_files, files
 use Rattle.nofs_machine.specs.History.{before_mark, since_mark, files_at_mark, values_given, metas_given, since, since_meta, stands}
 use Rattle.nofs_machine.specs.Since.{IsSure}
 use Rattle.nofs_machine.specs.Allowed.{HasVersions}
-use Rattle.nofs_model.specs.Cells.{is_live}
-use Rattle.nofs_model.specs.Image.{Image, inode, value, FileState, Files}
-use Rattle.nofs_model.specs.declared.value.Value.{Value}
-use Rattle.nofs_model.specs.declared.value.Value.TheVariants.{Lost}
+use Rattle.nofs_image.specs.Cells.{is_live}
+use Rattle.nofs_image.specs.Image.{Image, inode, value, FileState, Files}
+use Rattle.nofs_image.specs.declared.value.Value.{Value}
+use Rattle.nofs_image.specs.declared.value.Value.TheVariants.{Lost}
 
 same-itself : (o : Option FileState) → SameFile o o
 same-itself None = tt

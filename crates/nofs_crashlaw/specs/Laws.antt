@@ -10,8 +10,8 @@ use Rattle.nofs_machine.specs.History.{agreed_files, files_along, mark, mark_at,
 use Rattle.nofs_machine.specs.Allowed.{HasVersions, NamesStay, IsAllowed}
 use Rattle.nofs_machine.specs.Steady.{SteadyPointers, SteadyRest}
 use Rattle.nofs_machine.specs.Marks.{IsUnderWay}
-use Rattle.nofs_model.specs.Cells.{Cell, is_live}
-use Rattle.nofs_model.specs.Image.{Image, cell_at, inode, Files}
+use Rattle.nofs_image.specs.Cells.{Cell, is_live}
+use Rattle.nofs_image.specs.Image.{Image, cell_at, inode, Files}
 
 -- A step that begins at image X, a pick of what a crash may leave at moment l, with its reasons; and what may be left at moment m of it
 pub record StepUnderWay (B : Image) (H : List Entry1) (e : Entry1) (l m : ℕ) (image : Image) (stamps : ℕ) (before after : ℕ → List Cell) (X : Image)

@@ -3,8 +3,8 @@ use Rattle.std.specs.Prelude.{◌≡◌, ℕ, ◌+◌, ◌<◌, ◌≤◌, true,
 use Rattle.nofs_disk.specs.Disk.{DiskState, IsDisk, IsSettled, StaysButFaults, Flushes, cell_at}
 use Rattle.nofs_disk.specs.Moments.{AtEach}
 use Rattle.nofs_disk.specs.Adds.{Adds}
-use Rattle.nofs_model.specs.Cells.{Cell}
-use Rattle.nofs_model.specs.Image.{Image, super_at, is_mountable, Files, CellBelow, IsBelow}
+use Rattle.nofs_image.specs.Cells.{Cell}
+use Rattle.nofs_image.specs.Image.{Image, super_at, is_mountable, Files, CellBelow, IsBelow}
 use Rattle.nofs_machine.specs.Marks.{Mark}
 use Rattle.nofs_machine.specs.Machine.{given_by, files_by}
 use Rattle.nofs_machine.specs.History.{FilesMatch, NoWriteFault, agreed_files, files_along, is_flushed, mark_at}

@@ -9,7 +9,7 @@ ghost use Rattle.nofs_crashlaw.specs.Stage.{LawFirstStage, LawFlushStage, LawIdl
 
 use nofs_disk::Disk;
 pub use nofs_law_images::{law_flush, law_images, law_moment};
-pub use nofs_model::law_sound;
+pub use nofs_law_model::law_sound;
 
 /// A step whose writes are proper leaves only images that are allowed with its entry under way, and
 /// in which the pointers of what is sure are the same.

@@ -4,7 +4,8 @@ ghost use Rattle.std.specs.Prelude.{◌<◌};
 
 use crate::*;
 use nofs_disk::Cell;
-use nofs_model::{Value, agreed, full_scan, is_mountable, owner_of, value_of};
+use nofs_image::Value;
+use nofs_model::{agreed, full_scan, is_mountable, owner_of, value_of};
 use std::alloc::{AllocError, Global};
 use std::process::Abort;
 use std::test::Fail;

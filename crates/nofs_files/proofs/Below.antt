@@ -2,10 +2,10 @@
 use Rattle.std.proofs.Common.{◌≡◌, ℕ, ◌+◌, ◌*◌, ◌<◌, max, inl, inr, Bool, true, false, cond, List, [], ◌∷◌, length, Some, IsTrue, Result, refl, sym, ap}
 use Rattle.std.proofs.Common.{◌∙◌, subst, subst₂, arith}
 use Rattle.nofs_disk.specs.Disk.{DiskState, IsDisk, StaysButFaults, cell_at}
-use Rattle.nofs_model.specs.Cells.{Cell, Pointer, Record, pointer_at, tag_of}
-use Rattle.nofs_model.specs.Image.{Image, Path, InRecord, Under, tag_for, find, pointer, IsAbove}
-use Rattle.nofs_model.specs.declared.path.PathAnswer.TheVariants as answer
-use Rattle.nofs_model.proofs.Paths.{above-refl}
+use Rattle.nofs_image.specs.Cells.{Cell, Pointer, Record, pointer_at, tag_of}
+use Rattle.nofs_image.specs.Image.{Image, Path, InRecord, Under, tag_for, find, pointer, IsAbove}
+use Rattle.nofs_image.specs.declared.path.PathAnswer.TheVariants as answer
+use Rattle.nofs_image.proofs.Paths.{above-refl}
 use Rattle.nofs_machine.specs.Machine.{same_path}
 use Rattle.nofs_machine.specs.Claims.{is_claimed}
 use Rattle.nofs_machine.specs.declared.history.Claims.{Claims}

@@ -2,8 +2,8 @@
 use Rattle.std.proofs.Common.{◌≡◌, ℕ, Bool, true, false, List}
 use Rattle.std.proofs.Common.{IsTrue, Result, Ok, Err, refl, sym, ap, ◌∙◌, subst, subst₂}
 use Rattle.nofs_disk.specs.Disk.{DiskState, IsDisk, StaysButFaults}
-use Rattle.nofs_model.specs.Cells.{Cell, Pointer, Record}
-use Rattle.nofs_model.specs.Image.{Image, Path, agreed, files_in}
+use Rattle.nofs_image.specs.Cells.{Cell, Pointer, Record}
+use Rattle.nofs_image.specs.Image.{Image, Path, agreed, files_in}
 use Rattle.nofs_machine.specs.Machine.{gives}
 use Rattle.nofs_machine.specs.World.{blocks_for}
 use Rattle.nofs_machine.specs.Claims.{IsClaim}

@@ -9,15 +9,15 @@ use Rattle.nofs_disk.specs.Adds.{Adds}
 use Rattle.nofs_bits.specs.Bits.{is_set}
 use Rattle.nofs_super.specs.Geometry.{IsGeometry}
 use Rattle.nofs_inode.specs.declared.inode.FileKind.TheVariants.{File}
-use Rattle.nofs_model.specs.Cells.{Cell, Pointer, Record, SuperBlock, Tag, is_null, pointer_at, tag_of, is_live}
-use Rattle.nofs_model.specs.Image.{Image, super_at, file_from, value, is_data_block, inode, Path, InRecord, Under, path_of, is_pointer_slot}
-use Rattle.nofs_model.specs.Image.{tag_for, find, pointer, record_pointer, files_in, agreed, is_special, Files, is_folder, Home, IsAbove, IsSlot, IsFree}
-use Rattle.nofs_model.specs.Image.{IsBelow}
-use Rattle.nofs_model.specs.declared.path.PathAnswer.TheVariants as answer
-use Rattle.nofs_model.specs.declared.value.Value.TheVariants.{Bytes}
-use Rattle.nofs_model.proofs.Find.{and-both, find-held}
-use Rattle.nofs_model.proofs.Paths.{path_of-slot, path_of-slot_of, path_of-content, above-refl, above-up, above-slot}
-use Rattle.nofs_model.proofs.Sound.{mountable-law, supers}
+use Rattle.nofs_image.specs.Cells.{Cell, Pointer, Record, SuperBlock, Tag, is_null, pointer_at, tag_of, is_live}
+use Rattle.nofs_image.specs.Image.{Image, super_at, file_from, value, is_data_block, inode, Path, InRecord, Under, path_of, is_pointer_slot}
+use Rattle.nofs_image.specs.Image.{tag_for, find, pointer, record_pointer, files_in, agreed, is_special, Files, is_folder, Home, IsAbove, IsSlot, IsFree}
+use Rattle.nofs_image.specs.Image.{IsBelow}
+use Rattle.nofs_image.specs.declared.path.PathAnswer.TheVariants as answer
+use Rattle.nofs_image.specs.declared.value.Value.TheVariants.{Bytes}
+use Rattle.nofs_image.proofs.Find.{and-both, find-held}
+use Rattle.nofs_image.proofs.Paths.{path_of-slot, path_of-slot_of, path_of-content, above-refl, above-up, above-slot}
+use Rattle.nofs_image.proofs.Sound.{mountable-law, supers}
 use Rattle.nofs_law_images.specs.Proper.{Proper, OfTable, RecordProper, Unchanged}
 use Rattle.nofs_law_images.specs.Moments.{during}
 use Rattle.nofs_law_images.specs.Reasons.{ReadsSince}

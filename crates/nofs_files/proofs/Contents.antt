@@ -3,11 +3,11 @@ use Rattle.std.proofs.Common.{◌≡◌, ◌≢◌, ℕ, ◌<◌, ◌≤◌, tru
 use Rattle.nofs_ptrs.specs.Paths.{slot_limit}
 use Rattle.nofs_disk.specs.Disk.{DiskState, cell_at}
 use Rattle.nofs_inode.specs.declared.inode.FileKind.TheVariants.{File}
-use Rattle.nofs_model.specs.Cells.{Cell, Content, Leaf, Pointer, Record, pointer_at, record_of, tag_of}
-use Rattle.nofs_model.specs.Image.{Image, inode, value, value_in, Path, path_of, slot_of, kind_in, tag_for, find, files_in, agreed, is_pointer_slot}
-use Rattle.nofs_model.specs.declared.path.PathAnswer.{PathAnswer}
-use Rattle.nofs_model.specs.declared.path.PathAnswer.TheVariants as answer
-use Rattle.nofs_model.proofs.Paths.{slot_of-path_of, path_of-content}
+use Rattle.nofs_image.specs.Cells.{Cell, Content, Leaf, Pointer, Record, pointer_at, record_of, tag_of}
+use Rattle.nofs_image.specs.Image.{Image, inode, value, value_in, Path, path_of, slot_of, kind_in, tag_for, find, files_in, agreed, is_pointer_slot}
+use Rattle.nofs_image.specs.declared.path.PathAnswer.{PathAnswer}
+use Rattle.nofs_image.specs.declared.path.PathAnswer.TheVariants as answer
+use Rattle.nofs_image.proofs.Paths.{slot_of-path_of, path_of-content}
 use Rattle.nofs_machine.specs.Meta.{is_bytes}
 use Rattle.nofs_machine.specs.Machine.{put_content}
 use Rattle.nofs_crashlaw.proofs.Below.{live-stands}

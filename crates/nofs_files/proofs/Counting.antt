@@ -7,8 +7,8 @@ use Rattle.std.proofs.lemmas.List.Sums.{sum_by-cons}
 use Rattle.nofs_disk.specs.Disk.{DiskState, IsDisk, StaysButFaults}
 use Rattle.nofs_disk.specs.Chains.{StaysButFaults-refl, StaysButFaults-trans, Rose-within}
 use Rattle.nofs_disk.specs.declared.Failed.{Failed}
-use Rattle.nofs_model.specs.Cells.{BackLink, FileKind, Record, SuperBlock, no_link}
-use Rattle.nofs_model.specs.Image.{Image, inode, files_in, file_from, agreed, FileState, Files, is_pair}
+use Rattle.nofs_image.specs.Cells.{BackLink, FileKind, Record, SuperBlock, no_link}
+use Rattle.nofs_image.specs.Image.{Image, inode, files_in, file_from, agreed, FileState, Files, is_pair}
 use Rattle.nofs_machine.specs.Search.{first_of}
 use Rattle.nofs_machine.specs.World.{World}
 use Rattle.nofs_machine.specs.Refusals.{rows, stale}

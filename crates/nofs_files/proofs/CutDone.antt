@@ -5,13 +5,13 @@ use Rattle.std.proofs.lemmas.Bool.{cases_lt}
 use Rattle.nofs_ptrs.specs.Paths.{slot_limit}
 use Rattle.nofs_disk.specs.Disk.{DiskState, IsDisk, cell_at, Picks}
 use Rattle.nofs_disk.specs.Adds.{Adds}
-use Rattle.nofs_model.specs.Cells.{Cell, Leaf, Pointer, Record, SuperBlock, is_null, pointer_at, tag_of}
-use Rattle.nofs_model.specs.Image.{Image, super_at, is_data_block, inode, Path, InRecord, Under, path_of, IsSlot, kind_in, tag_for, find, pointer}
-use Rattle.nofs_model.specs.Image.{record_pointer, FileState, Files}
-use Rattle.nofs_model.specs.declared.path.PathAnswer.TheVariants as answer
-use Rattle.nofs_model.specs.declared.value.Value.TheVariants.{Bytes}
-use Rattle.nofs_model.proofs.Find.{HoldsAt, find-held}
-use Rattle.nofs_model.proofs.Sound.{supers}
+use Rattle.nofs_image.specs.Cells.{Cell, Leaf, Pointer, Record, SuperBlock, is_null, pointer_at, tag_of}
+use Rattle.nofs_image.specs.Image.{Image, super_at, is_data_block, inode, Path, InRecord, Under, path_of, IsSlot, kind_in, tag_for, find, pointer}
+use Rattle.nofs_image.specs.Image.{record_pointer, FileState, Files}
+use Rattle.nofs_image.specs.declared.path.PathAnswer.TheVariants as answer
+use Rattle.nofs_image.specs.declared.value.Value.TheVariants.{Bytes}
+use Rattle.nofs_image.proofs.Find.{HoldsAt, find-held}
+use Rattle.nofs_image.proofs.Sound.{supers}
 use Rattle.nofs_law_images.specs.Proper.{Proper, OfPointers, OfTable, PointerProper, Same, Cut, RecordProper, Unchanged}
 use Rattle.nofs_law_images.specs.Moments.{during}
 use Rattle.nofs_law_images.specs.Reasons.{ReadsSince, Holes}

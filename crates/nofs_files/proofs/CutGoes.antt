@@ -5,8 +5,8 @@ use Rattle.std.specs.Prelude.{IfSome}
 use Rattle.nofs_ptrs.specs.Paths.{slot_limit}
 use Rattle.nofs_disk.specs.Disk.{DiskState, IsDisk, Rose, StaysButFaults, cell_at}
 use Rattle.nofs_inode.specs.InodeRecords.{largest_size}
-use Rattle.nofs_model.specs.Cells.{Cell, Record, SuperBlock, tag_of}
-use Rattle.nofs_model.specs.Image.{Image, files_in, agreed, find, path_of}
+use Rattle.nofs_image.specs.Cells.{Cell, Record, SuperBlock, tag_of}
+use Rattle.nofs_image.specs.Image.{Image, files_in, agreed, find, path_of}
 use Rattle.nofs_machine.specs.Machine.{gives}
 use Rattle.nofs_machine.specs.Claims.{no_claims}
 use Rattle.nofs_machine.specs.declared.history.Entry1.{Entry1}

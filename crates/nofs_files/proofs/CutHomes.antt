@@ -7,14 +7,14 @@ use Rattle.std.proofs.lemmas.List.{get_or_past}
 use Rattle.nofs_ptrs.specs.Paths.{slot_limit}
 use Rattle.nofs_bits.specs.Bits.{is_set}
 use Rattle.nofs_disk.specs.Disk.{DiskState, IsDisk}
-use Rattle.nofs_model.specs.Cells.{Cell, Pointer, Record}
-use Rattle.nofs_model.specs.Image.{Image, Path, path_of, is_pointer_slot, is_slot, IsSlot, find, value_in, node_in, FileState, Files, Absent, Home, home_at}
-use Rattle.nofs_model.specs.Image.{owner}
-use Rattle.nofs_model.specs.declared.path.PathAnswer.{PathAnswer}
-use Rattle.nofs_model.specs.declared.path.PathAnswer.TheVariants as answer
-use Rattle.nofs_model.specs.declared.value.Value.TheVariants.{Hole}
-use Rattle.nofs_model.proofs.Owners.{owner-of, owner-holds, owner-slot}
-use Rattle.nofs_model.proofs.Paths.{path_of-number, path-record, path-child}
+use Rattle.nofs_image.specs.Cells.{Cell, Pointer, Record}
+use Rattle.nofs_image.specs.Image.{Image, Path, path_of, is_pointer_slot, is_slot, IsSlot, find, value_in, node_in, FileState, Files, Absent, Home, home_at}
+use Rattle.nofs_image.specs.Image.{owner}
+use Rattle.nofs_image.specs.declared.path.PathAnswer.{PathAnswer}
+use Rattle.nofs_image.specs.declared.path.PathAnswer.TheVariants as answer
+use Rattle.nofs_image.specs.declared.value.Value.TheVariants.{Hole}
+use Rattle.nofs_image.proofs.Owners.{owner-of, owner-holds, owner-slot}
+use Rattle.nofs_image.proofs.Paths.{path_of-number, path-record, path-child}
 use Rattle.nofs_machine.specs.Meta.{is_bytes}
 use Rattle.nofs_machine.specs.Machine.{resize_given, files_after}
 use Rattle.nofs_machine.specs.World.{is_fixed}

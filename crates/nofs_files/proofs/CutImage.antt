@@ -7,16 +7,16 @@ use Rattle.nofs_ptrs.specs.Paths.{slot_limit}
 use Rattle.nofs_disk.specs.Disk.{DiskState, IsDisk, cell_at}
 use Rattle.nofs_super.specs.Geometry.{IsGeometry}
 use Rattle.nofs_inode.specs.declared.inode.FileKind.TheVariants.{File}
-use Rattle.nofs_model.specs.Cells.{Cell, Pointer, Record, is_null, pointer_at, tag_of, is_live}
-use Rattle.nofs_model.specs.Image.{Image, super_at, file_from, value_in, is_data_block, inode, Path, InRecord, Under, path_of, slot_of, is_pointer_slot}
-use Rattle.nofs_model.specs.Image.{IsSlot, find, record_pointer, Files, is_folder, IsBelow}
-use Rattle.nofs_model.specs.declared.path.PathAnswer.{PathAnswer}
-use Rattle.nofs_model.specs.declared.path.PathAnswer.TheVariants as answer
-use Rattle.nofs_model.specs.declared.value.Value.{Value}
-use Rattle.nofs_model.specs.declared.value.Value.TheVariants.{Hole, Bytes}
-use Rattle.nofs_model.proofs.Find.{and-both, find-held}
-use Rattle.nofs_model.proofs.Paths.{path_of-slot, path_of-content, slot_of-path_of}
-use Rattle.nofs_model.proofs.Sound.{mountable-law}
+use Rattle.nofs_image.specs.Cells.{Cell, Pointer, Record, is_null, pointer_at, tag_of, is_live}
+use Rattle.nofs_image.specs.Image.{Image, super_at, file_from, value_in, is_data_block, inode, Path, InRecord, Under, path_of, slot_of, is_pointer_slot}
+use Rattle.nofs_image.specs.Image.{IsSlot, find, record_pointer, Files, is_folder, IsBelow}
+use Rattle.nofs_image.specs.declared.path.PathAnswer.{PathAnswer}
+use Rattle.nofs_image.specs.declared.path.PathAnswer.TheVariants as answer
+use Rattle.nofs_image.specs.declared.value.Value.{Value}
+use Rattle.nofs_image.specs.declared.value.Value.TheVariants.{Hole, Bytes}
+use Rattle.nofs_image.proofs.Find.{and-both, find-held}
+use Rattle.nofs_image.proofs.Paths.{path_of-slot, path_of-content, slot_of-path_of}
+use Rattle.nofs_image.proofs.Sound.{mountable-law}
 use Rattle.nofs_machine.specs.Meta.{is_bytes}
 use Rattle.nofs_machine.specs.Machine.{bytes_in, resize_slot, size_of, slots_in, trimmed, value_of, zeros}
 use Rattle.nofs_machine.specs.World.{World}

@@ -7,8 +7,8 @@ use Rattle.std.proofs.lemmas.Bool.Decides.{nat_tests}
 use Rattle.std.proofs.Math.Bool.{or-false, or-true}
 use Rattle.std.proofs.lemmas.List.{get_or_past}
 use Rattle.nofs_bits.specs.Bits.{is_set}
-use Rattle.nofs_model.specs.Cells.{SuperBlock}
-use Rattle.nofs_model.specs.Image.{is_special}
+use Rattle.nofs_image.specs.Cells.{SuperBlock}
+use Rattle.nofs_image.specs.Image.{is_special}
 use Rattle.nofs_machine.specs.World.{World, is_fixed, uses_inode, uses_block, is_free_block}
 use Rattle.nofs_machine.specs.Next.{Learns, sees_inode, sees_block}
 use Rattle.nofs_machine.specs.declared.steps.Step.{Step}

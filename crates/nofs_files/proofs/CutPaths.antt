@@ -4,8 +4,8 @@ use Rattle.std.proofs.Common.{◌∙◌, arith}
 use Rattle.std.proofs.lemmas.Bool.{cases_lt, le-leb}
 use Rattle.std.proofs.lemmas.Bool.Decides.{nat_tests}
 use Rattle.nofs_ptrs.specs.Paths.{slot_limit}
-use Rattle.nofs_model.specs.Image.{Path, InRecord, Under, path_of, IsSlot}
-use Rattle.nofs_model.proofs.Paths.{path-record, path-child}
+use Rattle.nofs_image.specs.Image.{Path, InRecord, Under, path_of, IsSlot}
+use Rattle.nofs_image.proofs.Paths.{path-record, path-child}
 use Rattle.nofs_law_files.specs.Resizes.{is_cut}
 use Rattle.nofs_files.specs.Resizing.{first_cut, last_child}
 

@@ -6,8 +6,8 @@ use Rattle.std.proofs.lemmas.Bool.Decides.{nat_tests}
 use Rattle.std.proofs.lemmas.List.{get_or_append_left, get_or-append_right, get_or-take, get_or-replicate, get_or_past, length-take-le, length-append}
 use Rattle.std.proofs.lemmas.List.{length-replicate}
 use Rattle.nofs_disk.specs.Pointer.{null, is_null}
-use Rattle.nofs_model.specs.Cells.{Pointer, Record}
-use Rattle.nofs_model.specs.Image.{InRecord, record_pointer}
+use Rattle.nofs_image.specs.Cells.{Pointer, Record}
+use Rattle.nofs_image.specs.Image.{InRecord, record_pointer}
 use Rattle.nofs_law_files.specs.Resizes.{is_cut}
 use Rattle.nofs_files.specs.Resizing.{cut_record, kept_pointer}
 use Rattle.nofs_files.proofs.CutPaths.{leb-lt}

@@ -5,11 +5,11 @@ use Rattle.std.proofs.lemmas.Bool.Decides.{nat_tests}
 use Rattle.nofs_ptrs.specs.Paths.{slot_limit}
 use Rattle.nofs_disk.specs.Disk.{DiskState, IsDisk, StaysButFaults}
 use Rattle.nofs_inode.specs.declared.inode.FileKind.TheVariants.{Directory}
-use Rattle.nofs_model.specs.Cells.{Record, SuperBlock}
-use Rattle.nofs_model.specs.Image.{Image, Path, InRecord, Under, is_pointer_slot, IsSlot, find, node_in, files_in, agreed, Files}
-use Rattle.nofs_model.specs.Files.{is_kind}
-use Rattle.nofs_model.specs.declared.path.PathAnswer.{PathAnswer}
-use Rattle.nofs_model.specs.declared.path.PathAnswer.TheVariants as answer
+use Rattle.nofs_image.specs.Cells.{Record, SuperBlock}
+use Rattle.nofs_image.specs.Image.{Image, Path, InRecord, Under, is_pointer_slot, IsSlot, find, node_in, files_in, agreed, Files}
+use Rattle.nofs_image.specs.Files.{is_kind}
+use Rattle.nofs_image.specs.declared.path.PathAnswer.{PathAnswer}
+use Rattle.nofs_image.specs.declared.path.PathAnswer.TheVariants as answer
 use Rattle.nofs_machine.specs.Search.{first_of}
 use Rattle.nofs_machine.specs.Machine.{is_folder_at, node_of, size_of}
 use Rattle.nofs_machine.specs.World.{World}

@@ -6,11 +6,11 @@ use Rattle.nofs_ptrs.specs.Paths.{slot_limit}
 use Rattle.nofs_disk.specs.Disk.{cell_at}
 use Rattle.nofs_inode.specs.InodeRecords.{largest_size}
 use Rattle.nofs_inode.specs.declared.inode.FileKind.TheVariants.{File}
-use Rattle.nofs_model.specs.Cells.{Cell, Pointer, Record, tag_of}
-use Rattle.nofs_model.specs.Image.{Image, inode, Path, InRecord, Under, path_of, is_pointer_slot, IsSlot, find, files_in, agreed}
-use Rattle.nofs_model.specs.declared.path.PathAnswer.{PathAnswer}
-use Rattle.nofs_model.specs.declared.path.PathAnswer.TheVariants as answer
-use Rattle.nofs_model.proofs.Paths.{path_of-slot, path_of-slot_of, path_of-content}
+use Rattle.nofs_image.specs.Cells.{Cell, Pointer, Record, tag_of}
+use Rattle.nofs_image.specs.Image.{Image, inode, Path, InRecord, Under, path_of, is_pointer_slot, IsSlot, find, files_in, agreed}
+use Rattle.nofs_image.specs.declared.path.PathAnswer.{PathAnswer}
+use Rattle.nofs_image.specs.declared.path.PathAnswer.TheVariants as answer
+use Rattle.nofs_image.proofs.Paths.{path_of-slot, path_of-slot_of, path_of-content}
 use Rattle.nofs_machine.specs.Machine.{trimmed}
 use Rattle.nofs_law_untouched.proofs.Touching.{one-owner}
 use Rattle.nofs_law_numbers.specs.Cells.{table_tag}

@@ -2,13 +2,13 @@
 use Rattle.std.proofs.Common.{◌≡◌, ℕ, ◌+◌, ◌-◌, ◌/◌, ◌%◌, ◌^◌, ◌<◌, ◌≤◌, Bool, true, false, ltb, List, [], ◌∷◌, IsTrue, Err, inr, refl, sym, ap, ◌∙◌, subst, arith}
 use Rattle.nofs_ptrs.specs.Paths.{slot_limit}
 use Rattle.nofs_disk.specs.Disk.{DiskState, IsDisk, StaysButFaults, Rose}
-use Rattle.nofs_model.specs.Cells.{Pointer, Record}
-use Rattle.nofs_model.specs.Image.{Image, Path, InRecord, Under, path_of, find, files_in, agreed, Files, NodeState, Absent, Present}
-use Rattle.nofs_model.specs.Image.{Damaged, node_in, IsSlot}
-use Rattle.nofs_model.specs.declared.path.PathAnswer.{PathAnswer}
-use Rattle.nofs_model.specs.declared.path.PathAnswer.TheVariants as answer
-use Rattle.nofs_model.proofs.Find.{find-held}
-use Rattle.nofs_model.proofs.Paths.{path-direct, path-far, path-leaf, path_of-slot, below-null}
+use Rattle.nofs_image.specs.Cells.{Pointer, Record}
+use Rattle.nofs_image.specs.Image.{Image, Path, InRecord, Under, path_of, find, files_in, agreed, Files, NodeState, Absent, Present}
+use Rattle.nofs_image.specs.Image.{Damaged, node_in, IsSlot}
+use Rattle.nofs_image.specs.declared.path.PathAnswer.{PathAnswer}
+use Rattle.nofs_image.specs.declared.path.PathAnswer.TheVariants as answer
+use Rattle.nofs_image.proofs.Find.{find-held}
+use Rattle.nofs_image.proofs.Paths.{path-direct, path-far, path-leaf, path_of-slot, below-null}
 use Rattle.nofs_machine.specs.Search.{first_of}
 use Rattle.nofs_machine.specs.Machine.{node_of}
 use Rattle.nofs_machine.specs.World.{World, blocks_for, damaged_above, free_blocks, unverified_blocks, next_block}

@@ -4,10 +4,10 @@ use Rattle.std.proofs.Common.{ap, ◌∙◌, subst, arith}
 use Rattle.std.proofs.lemmas.Bool.Decides.{nat_tests}
 use Rattle.nofs_ptrs.specs.Paths.{slot_limit}
 use Rattle.nofs_disk.specs.Disk.{DiskState, IsDisk}
-use Rattle.nofs_model.specs.Cells.{FileKind, Record, SuperBlock}
+use Rattle.nofs_image.specs.Cells.{FileKind, Record, SuperBlock}
 use Rattle.nofs_inode.specs.declared.inode.FileKind.TheVariants.{File, Directory}
-use Rattle.nofs_model.specs.Image.{Image, inode, files_in, file_from, agreed, FileState, Files, is_folder, value}
-use Rattle.nofs_model.specs.Files.{is_kind}
+use Rattle.nofs_image.specs.Image.{Image, inode, files_in, file_from, agreed, FileState, Files, is_folder, value}
+use Rattle.nofs_image.specs.Files.{is_kind}
 use Rattle.nofs_machine.specs.Search.{first_of}
 use Rattle.nofs_machine.specs.Machine.{is_folder_at, value_of}
 use Rattle.nofs_machine.specs.World.{World}

@@ -3,7 +3,7 @@ use Rattle.std.proofs.Common.{◌≡◌, ℕ, Bool, true, false, cond, not, eqb,
 use Rattle.std.proofs.Common.{sym, ap, ◌∙◌, subst, subst₂}
 use Rattle.std.specs.Prelude.{OnOk}
 use Rattle.nofs_disk.specs.Disk.{DiskState, IsDisk, IsSettled}
-use Rattle.nofs_model.specs.Image.{Image}
+use Rattle.nofs_image.specs.Image.{Image}
 use Rattle.nofs_agree.specs.Chains.{AreTrue}
 use Rattle.nofs_machine.specs.Search.{first_of}
 use Rattle.nofs_machine.specs.Machine.{generation_of}

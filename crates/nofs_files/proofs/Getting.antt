@@ -4,12 +4,12 @@ use Rattle.std.proofs.Common.{le_refl}
 use Rattle.nofs_disk.specs.Disk.{DiskState, IsDisk, StaysButFaults, cell_at}
 use Rattle.nofs_disk.specs.Chains.{StaysButFaults-refl, StaysButFaults-trans, Rose-within}
 use Rattle.nofs_disk.specs.declared.Failed.{Failed}
-use Rattle.nofs_model.specs.Cells.{Cell, Pointer, Record, SuperBlock}
-use Rattle.nofs_model.specs.Image.{Image, inode, path_of, find, value_in}
-use Rattle.nofs_model.specs.Files.{is_kind}
+use Rattle.nofs_image.specs.Cells.{Cell, Pointer, Record, SuperBlock}
+use Rattle.nofs_image.specs.Image.{Image, inode, path_of, find, value_in}
+use Rattle.nofs_image.specs.Files.{is_kind}
 use Rattle.nofs_inode.specs.declared.inode.FileKind.TheVariants.{File, Directory}
-use Rattle.nofs_model.specs.declared.path.PathAnswer.{PathAnswer}
-use Rattle.nofs_model.specs.declared.path.PathAnswer.TheVariants as answer
+use Rattle.nofs_image.specs.declared.path.PathAnswer.{PathAnswer}
+use Rattle.nofs_image.specs.declared.path.PathAnswer.TheVariants as answer
 use Rattle.nofs_machine.specs.Search.{first_of}
 use Rattle.nofs_machine.specs.Machine.{gives, generation_of, is_folder_at, is_refused}
 use Rattle.nofs_machine.specs.Claims.{no_claims}

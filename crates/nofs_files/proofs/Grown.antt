@@ -2,9 +2,9 @@
 use Rattle.std.proofs.Common.{◌≡◌, ◌≢◌, ℕ, ◌+◌, ◌*◌, ◌<◌, ◌⊎◌, max, inl, inr, true, false, eqb, ne_eqb, List, [], ◌∷◌, length, Some, IsTrue, Result}
 use Rattle.std.proofs.Common.{refl, sym, ap, ◌∙◌, subst, arith}
 use Rattle.nofs_disk.specs.Disk.{DiskState, IsDisk, StaysButFaults, cell_at}
-use Rattle.nofs_model.specs.Cells.{Cell, Pointer, Record, is_null, pointer_at, tag_of}
-use Rattle.nofs_model.specs.Image.{Image, Path, InRecord, Under, find, inode, is_pointer_slot, record_pointer, tag_for}
-use Rattle.nofs_model.specs.declared.path.PathAnswer.TheVariants as answer
+use Rattle.nofs_image.specs.Cells.{Cell, Pointer, Record, is_null, pointer_at, tag_of}
+use Rattle.nofs_image.specs.Image.{Image, Path, InRecord, Under, find, inode, is_pointer_slot, record_pointer, tag_for}
+use Rattle.nofs_image.specs.declared.path.PathAnswer.TheVariants as answer
 use Rattle.nofs_machine.specs.Claims.{is_claimed}
 use Rattle.nofs_machine.specs.declared.history.Claims.{Claims}
 use Rattle.nofs_machine.specs.declared.replies.Refusal.{Refusal}

@@ -2,12 +2,12 @@
 use Rattle.std.proofs.Common.{◌≡◌, ◌≢◌, ℕ, zero, suc, ◌+◌, ◌<◌, ◌⊎◌, inl, inr, Bool, true, false, cond, ltb, List, [], ◌∷◌}
 use Rattle.std.proofs.Common.{◌++◌, refl, sym, ap, ◌∙◌, subst, arith, Contains}
 use Rattle.nofs_ptrs.specs.Paths.{slot_limit}
-use Rattle.nofs_model.specs.Cells.{Pointer, null}
-use Rattle.nofs_model.specs.Image.{Image, value, Path, InRecord, Under, path_of, is_pointer_slot, find, pointer, files_in, agreed, Files}
-use Rattle.nofs_model.specs.Image.{NodeState, Absent, Present, Damaged, node_in, IsAbove, IsSlot}
-use Rattle.nofs_model.specs.declared.path.PathAnswer.TheVariants as answer
-use Rattle.nofs_model.proofs.Find.{find-held}
-use Rattle.nofs_model.proofs.Paths.{above-refl, path_of-slot}
+use Rattle.nofs_image.specs.Cells.{Pointer, null}
+use Rattle.nofs_image.specs.Image.{Image, value, Path, InRecord, Under, path_of, is_pointer_slot, find, pointer, files_in, agreed, Files}
+use Rattle.nofs_image.specs.Image.{NodeState, Absent, Present, Damaged, node_in, IsAbove, IsSlot}
+use Rattle.nofs_image.specs.declared.path.PathAnswer.TheVariants as answer
+use Rattle.nofs_image.proofs.Find.{find-held}
+use Rattle.nofs_image.proofs.Paths.{above-refl, path_of-slot}
 use Rattle.nofs_machine.specs.Meta.{is_bytes}
 use Rattle.nofs_machine.specs.Machine.{value_of, node_of}
 use Rattle.nofs_machine.specs.World.{World, absent_above, blocks_for, is_free_block}

@@ -1,7 +1,7 @@
 -- The parts of the claim of a Put: their stamps are new, and they have their homes.
 use Rattle.std.proofs.Common.{◌≡◌, ◌≢◌, ℕ, ◌≤◌, ◌⊎◌, true, List, None, is_some, refl}
-use Rattle.nofs_model.specs.Cells.{Pointer}
-use Rattle.nofs_model.specs.Image.{Files, home_at}
+use Rattle.nofs_image.specs.Cells.{Pointer}
+use Rattle.nofs_image.specs.Image.{Files, home_at}
 use Rattle.nofs_machine.specs.World.{World}
 use Rattle.nofs_machine.specs.Claims.{IsClaim, claimed_home, next_stamp}
 use Rattle.nofs_machine.specs.declared.history.Claims.{Claims}

@@ -7,11 +7,11 @@ use Rattle.nofs_disk.specs.Disk.{DiskState, IsDisk, StaysButFaults}
 use Rattle.nofs_disk.specs.Chains.{StaysButFaults-refl, StaysButFaults-trans, Rose-within}
 use Rattle.nofs_disk.specs.declared.Failed.{Failed}
 use Rattle.nofs_inode.specs.declared.inode.FileKind.TheVariants.{Directory}
-use Rattle.nofs_model.specs.Cells.{Pointer, Record}
-use Rattle.nofs_model.specs.Image.{Image, inode, path_of, find, value_in, agreed, files_in}
-use Rattle.nofs_model.specs.Files.{is_kind}
-use Rattle.nofs_model.specs.declared.path.PathAnswer.{PathAnswer}
-use Rattle.nofs_model.specs.declared.path.PathAnswer.TheVariants as answer
+use Rattle.nofs_image.specs.Cells.{Pointer, Record}
+use Rattle.nofs_image.specs.Image.{Image, inode, path_of, find, value_in, agreed, files_in}
+use Rattle.nofs_image.specs.Files.{is_kind}
+use Rattle.nofs_image.specs.declared.path.PathAnswer.{PathAnswer}
+use Rattle.nofs_image.specs.declared.path.PathAnswer.TheVariants as answer
 use Rattle.nofs_machine.specs.Search.{first_of}
 use Rattle.nofs_machine.specs.Machine.{size_of, value_of, generation_of, is_folder_at, is_lost}
 use Rattle.nofs_machine.specs.World.{World, blocks_for, damaged_above, free_blocks, unverified_blocks, next_block}
@@ -44,7 +44,7 @@ use Rattle.nofs_files.specs.Putting.{RowsReach, is_bad_range, is_past_end, is_lo
 use Rattle.nofs_state.specs.Owing.{RowsPass}
 use Rattle.nofs_files.proofs.Damage.{held-sound}
 use Rattle.nofs_files.proofs.FileRows.{current-agreed, folder-is, goes-unfiled, large-none, large-some, slots-most, value-is}
-use Rattle.nofs_model.proofs.Paths.{path_of-slot}
+use Rattle.nofs_image.proofs.Paths.{path_of-slot}
 
 skip2 : (a b : Option Refusal) (os : List (Option Refusal)) → a ≡ None → b ≡ None → first_of (a ∷ b ∷ os) ≡ first_of os
 skip2 a b os ea eb = rw (ea, eb) refl

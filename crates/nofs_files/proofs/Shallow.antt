@@ -6,13 +6,13 @@ use Rattle.std.proofs.lemmas.List.{get_or-set_same, get_or-set_other}
 use Rattle.std.specs.Prelude.{slice_set}
 use Rattle.nofs_ptrs.specs.Paths.{slot_limit}
 use Rattle.nofs_disk.specs.Disk.{DiskState, IsDisk, StaysButFaults, cell_at}
-use Rattle.nofs_model.specs.Cells.{Cell, Pointer, Record, null, tag_of}
-use Rattle.nofs_model.specs.Image.{Image, value_in, Path, InRecord, Under, path_of, tag_for, find, pointer, record_pointer, IsAbove}
-use Rattle.nofs_model.specs.declared.path.PathAnswer.{PathAnswer}
-use Rattle.nofs_model.specs.declared.path.PathAnswer.TheVariants as answer
-use Rattle.nofs_model.specs.declared.value.Value.{Value}
-use Rattle.nofs_model.specs.declared.value.Value.TheVariants.{Bytes}
-use Rattle.nofs_model.proofs.Paths.{path-direct}
+use Rattle.nofs_image.specs.Cells.{Cell, Pointer, Record, null, tag_of}
+use Rattle.nofs_image.specs.Image.{Image, value_in, Path, InRecord, Under, path_of, tag_for, find, pointer, record_pointer, IsAbove}
+use Rattle.nofs_image.specs.declared.path.PathAnswer.{PathAnswer}
+use Rattle.nofs_image.specs.declared.path.PathAnswer.TheVariants as answer
+use Rattle.nofs_image.specs.declared.value.Value.{Value}
+use Rattle.nofs_image.specs.declared.value.Value.TheVariants.{Bytes}
+use Rattle.nofs_image.proofs.Paths.{path-direct}
 use Rattle.nofs_machine.specs.Machine.{put_content, same_path, value_of}
 use Rattle.nofs_machine.specs.Meta.{is_bytes}
 use Rattle.nofs_machine.specs.World.{World, blocks_for}

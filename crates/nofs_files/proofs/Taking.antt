@@ -4,7 +4,7 @@ use Rattle.std.proofs.Common.{arith}
 use Rattle.std.specs.Prelude.{slice_set}
 use Rattle.nofs_bits.specs.Bits.{is_set}
 use Rattle.nofs_disk.specs.Disk.{DiskState}
-use Rattle.nofs_model.specs.Cells.{Pointer, null}
+use Rattle.nofs_image.specs.Cells.{Pointer, null}
 use Rattle.nofs_machine.specs.World.{blocks_for}
 use Rattle.nofs_machine.specs.Claims.{IsClaim, is_claimed, next_stamp}
 use Rattle.nofs_machine.specs.declared.history.Claims.{Claims}

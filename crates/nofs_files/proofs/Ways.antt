@@ -4,9 +4,9 @@ use Rattle.std.specs.Prelude.{slice_set}
 use Rattle.std.proofs.lemmas.Bool.{cases_eq}
 use Rattle.std.proofs.lemmas.List.{get_or-set_same, get_or-set_other, length-set}
 use Rattle.nofs_disk.specs.Disk.{cell_at, no_cell}
-use Rattle.nofs_model.specs.Cells.{Cell, Pointer}
-use Rattle.nofs_model.specs.Image.{Image, Path, InRecord, Under, IsAbove}
-use Rattle.nofs_model.proofs.Paths.{above-refl, above-up}
+use Rattle.nofs_image.specs.Cells.{Cell, Pointer}
+use Rattle.nofs_image.specs.Image.{Image, Path, InRecord, Under, IsAbove}
+use Rattle.nofs_image.proofs.Paths.{above-refl, above-up}
 use Rattle.nofs_state.specs.Writing.{OneOf, IsApart, image_after}
 
 -- so many slots of a way, counted from below, get a block

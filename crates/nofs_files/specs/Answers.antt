@@ -4,10 +4,10 @@ use Rattle.std.specs.Prelude.{◌≡◌, ℕ, Bool, true, List, Option, Some, if
 use Rattle.nofs_ptrs.specs.Paths.{slot_limit}
 use Rattle.nofs_disk.specs.declared.Failed.{Failed}
 use Rattle.nofs_disk.specs.Disk.{DiskState, Flushes, StaysButFaults, Rose}
-use Rattle.nofs_model.specs.Cells.{Record, SuperBlock}
+use Rattle.nofs_image.specs.Cells.{Record, SuperBlock}
 use Rattle.nofs_inode.specs.declared.inode.FileKind.TheVariants as kind
-use Rattle.nofs_model.specs.Image.{Image, inode, files_in}
-use Rattle.nofs_model.specs.Files.{is_kind}
+use Rattle.nofs_image.specs.Image.{Image, inode, files_in}
+use Rattle.nofs_image.specs.Files.{is_kind}
 use Rattle.nofs_machine.specs.Refusals.{row}
 use Rattle.nofs_machine.specs.Steps.{InRange}
 use Rattle.nofs_machine.specs.declared.replies.Refusal.TheVariants as refusal

@@ -6,10 +6,10 @@ use Rattle.nofs_disk.specs.Number.{zeros}
 use Rattle.nofs_ptrs.specs.Paths.{slot_limit}
 use Rattle.nofs_bits.specs.Bits.{NoneSet, count_set, is_set}
 use Rattle.nofs_inode.specs.InodeRecords.{largest_size}
-use Rattle.nofs_model.specs.Cells.{Cell, Content, Leaf, Pointer, Record, is_null, pointer_at, tag_of}
-use Rattle.nofs_model.specs.Image.{Path, InRecord, Under, find, path_of, slot_of, value}
-use Rattle.nofs_model.specs.declared.path.PathAnswer.TheVariants as answer
-use Rattle.nofs_model.specs.declared.value.Value.TheVariants.{Bytes}
+use Rattle.nofs_image.specs.Cells.{Cell, Content, Leaf, Pointer, Record, is_null, pointer_at, tag_of}
+use Rattle.nofs_image.specs.Image.{Path, InRecord, Under, find, path_of, slot_of, value}
+use Rattle.nofs_image.specs.declared.path.PathAnswer.TheVariants as answer
+use Rattle.nofs_image.specs.declared.value.Value.TheVariants.{Bytes}
 use Rattle.nofs_machine.specs.Meta.{is_bytes}
 use Rattle.nofs_machine.specs.Search.{first_of}
 use Rattle.nofs_machine.specs.World.{World, damaged_above, next_block}

@@ -8,10 +8,10 @@ use Rattle.nofs_disk.specs.declared.Failed.{Failed}
 use Rattle.nofs_disk.specs.Disk.{DiskState, StaysButFaults, Rose, cell_at}
 use Rattle.nofs_disk.specs.Pointer.{null, is_null}
 use Rattle.nofs_ptrs.specs.Cells.{pointer_at}
-use Rattle.nofs_model.specs.Cells.{Cell, Pointer, Record, SuperBlock}
-use Rattle.nofs_model.specs.Image.{Image, Path, InRecord, Under, path_of, find}
-use Rattle.nofs_model.specs.declared.path.PathAnswer.{PathAnswer}
-use Rattle.nofs_model.specs.declared.path.PathAnswer.TheVariants as answer
+use Rattle.nofs_image.specs.Cells.{Cell, Pointer, Record, SuperBlock}
+use Rattle.nofs_image.specs.Image.{Image, Path, InRecord, Under, path_of, find}
+use Rattle.nofs_image.specs.declared.path.PathAnswer.{PathAnswer}
+use Rattle.nofs_image.specs.declared.path.PathAnswer.TheVariants as answer
 use Rattle.nofs_machine.specs.Claims.{no_claims}
 use Rattle.nofs_machine.specs.Machine.{slots_in, trimmed}
 use Rattle.nofs_machine.specs.declared.steps.Step.TheVariants as step

@@ -2,7 +2,7 @@
 ghost use Rattle.std.specs.Prelude.{◌≡◌, ◌+◌, ◌≤◌, ◌<◌, length};
 ghost use Rattle.nofs_ptrs.specs.Paths.{slot_limit};
 ghost use Rattle.nofs_machine.specs.Machine as machine;
-ghost use Rattle.nofs_model.specs.declared.value.Value.TheVariants as value;
+ghost use Rattle.nofs_image.specs.declared.value.Value.TheVariants as value;
 
 use nofs_disk::write_bytes_at;
 

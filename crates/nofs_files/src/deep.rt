@@ -1,7 +1,7 @@
 //! A Put into a slot that has no block.
 ghost use Rattle.std.specs.Prelude.{◌≡◌, ◌<◌, length};
-ghost use Rattle.nofs_model.specs.Places.{place_path};
-ghost use Rattle.nofs_model.specs.Slots as slots;
+ghost use Rattle.nofs_image.specs.Places.{place_path};
+ghost use Rattle.nofs_image.specs.Slots as slots;
 ghost use Rattle.nofs_files.specs.Putting.{HeldAt, IsEmptySlot, IsFar, IsHole, IsUnder, MayPut, PutGoes, RowsLead};
 ghost use Rattle.nofs_files.specs.Putting.{pointed, rooted, step_of_put};
 
@@ -12,9 +12,9 @@ use crate::puts::{
 };
 use nofs_agree::{LastRead, read_block};
 use nofs_disk::{Disk, Pointer};
+use nofs_image::Place;
 use nofs_inode::Record;
 use nofs_machine::Refusal;
-use nofs_model::Place;
 use nofs_ptrs::write_pointer;
 use nofs_state::{Core, write_four, write_three, write_two};
 

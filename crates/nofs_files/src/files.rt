@@ -2,8 +2,8 @@
 ghost use Rattle.std.specs.Prelude.{◌≡◌, ◌<◌, ◌≤◌, Some, length};
 ghost use Rattle.nofs_ptrs.specs.Paths.{slot_limit};
 ghost use Rattle.nofs_inode.specs.InodeRecords.{HasRecordSpelling, largest_size};
-ghost use Rattle.nofs_model.specs.Slots as slots;
-ghost use Rattle.nofs_model.specs.Files.{is_folder};
+ghost use Rattle.nofs_image.specs.Slots as slots;
+ghost use Rattle.nofs_image.specs.Files.{is_folder};
 ghost use Rattle.nofs_agree.specs.Reading.{IsLast, KnowsInode};
 ghost use Rattle.nofs_agree.specs.Finding.{FindsSlot};
 ghost use Rattle.nofs_state.specs.Books.{IsSafe};
@@ -11,9 +11,9 @@ ghost use Rattle.nofs_files.specs.Answers.{OpensFile, slots_of};
 
 use nofs_agree::{LastRead, PathAnswer, find_slot};
 use nofs_disk::{Disk, Failed};
+use nofs_image::place_of;
 use nofs_inode::{FileKind, Record};
 use nofs_machine::Refusal;
-use nofs_model::place_of;
 use nofs_ptrs::SLOT_LIMIT;
 use nofs_state::{Books, open_inode};
 use nofs_super::SuperBlock;

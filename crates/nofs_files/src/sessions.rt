@@ -1,6 +1,6 @@
 //! A step as a mount takes it: with its entry.
 ghost use Rattle.std.specs.Prelude.{◌≡◌, ℕ, ◌<◌, IsTrue};
-ghost use Rattle.nofs_model.specs.Image.{Image};
+ghost use Rattle.nofs_image.specs.Image.{Image};
 ghost use Rattle.nofs_machine.specs.Steps as kinds;
 ghost use Rattle.nofs_state.specs.Books.{IsSafe};
 ghost use Rattle.nofs_state.specs.Standing.{Stands};

@@ -2,7 +2,7 @@
 ghost use Rattle.std.specs.Prelude.{◌≡◌, ◌<◌, ◌≤◌, ◌^◌};
 ghost use Rattle.nofs_ptrs.specs.Paths.{slot_limit};
 ghost use Rattle.nofs_inode.specs.InodeRecords.{largest_size};
-ghost use Rattle.nofs_model.specs.Slots as slots;
+ghost use Rattle.nofs_image.specs.Slots as slots;
 ghost use Rattle.nofs_machine.specs.declared.steps.Step.TheVariants as step;
 ghost use Rattle.nofs_state.specs.Books.{IsSafe};
 ghost use Rattle.nofs_state.specs.Steps.{Goes};
@@ -15,9 +15,9 @@ use crate::files::{find_content, note_file, open_file, slots_of};
 use crate::puts::{Ended, Put, put_in_place, refused};
 use nofs_agree::{LastRead, PathAnswer, find_slot};
 use nofs_disk::{Disk, Pointer};
+use nofs_image::Place;
 use nofs_inode::Record;
 use nofs_machine::Refusal;
-use nofs_model::Place;
 use nofs_state::Core;
 
 fn is_bad_range(at: u32, len: usize) -> bool

@@ -3,9 +3,9 @@ use Rattle.std.proofs.Common.{◌≡◌, ℕ, zero, suc, ◌+◌, ◌-◌, ◌/�
 use Rattle.std.proofs.Common.{ap, ◌∙◌, subst, append_assoc, arith}
 use Rattle.std.specs.List.{AllByRecursion}
 use Rattle.std.proofs.lemmas.List.{length-replicate}
-use Rattle.nofs_client.specs.declared.commands.Command.{Command}
-use Rattle.nofs_client.specs.declared.commands.Command.TheVariants as command
-use Rattle.nofs_client.specs.Commands.{IsWellFormed, AreWellFormed}
+use Rattle.nofs_task.specs.declared.commands.Command.{Command}
+use Rattle.nofs_task.specs.declared.commands.Command.TheVariants as command
+use Rattle.nofs_task.specs.Commands.{IsWellFormed, AreWellFormed}
 use Rattle.nofs_gen.specs.Script.{directory_of, user_path, first_number, next_number, drawn_command, drawn, script_of}
 
 -- one more command was drawn

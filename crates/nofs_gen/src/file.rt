@@ -3,12 +3,12 @@
 //! Promise: each step changes the file as the definition says.
 ghost use Rattle.std.specs.Prelude.{◌≡◌, ◌<◌, ◌≤◌, ◌+◌, ◌/◌, IfOk, OnOk, length, map, slice_set};
 ghost use Rattle.nofs_machine.specs.Machine as machine;
-ghost use Rattle.nofs_model.specs.declared.value.Value.TheVariants as value;
+ghost use Rattle.nofs_image.specs.declared.value.Value.TheVariants as value;
 ghost use Rattle.nofs_gen.specs.Replay.{ended, empty_file, is_put as is_put_in, replayed_file, kept_value, padded, put_file, resized_file, trimmed_value, slot_value};
 
 use nofs_disk::{clear, write_bytes_at};
+use nofs_image::Value;
 use nofs_lists::Content;
-use nofs_model::Value;
 use std::alloc::{AllocError, Global};
 
 // How many slots are replayed.

@@ -6,9 +6,9 @@ ghost use Rattle.nofs_machine.specs.Machine as machine;
 ghost use Rattle.nofs_gen.specs.Replay.{after_entry as entry_after, file_with_step as step_after, empty_file, replayed_file, replay_of};
 
 use crate::file::Replayed;
+use nofs_image::Value;
 use nofs_lists::ListOf;
 use nofs_machine::{Entry1, History, Reply, Step};
-use nofs_model::Value;
 use std::alloc::{AllocError, Global};
 
 /// Values of slots, in order.

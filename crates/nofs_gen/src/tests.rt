@@ -2,10 +2,10 @@
 ghost use Rattle.std.specs.Prelude.{◌≤◌};
 
 use crate::{ValueList, replay, script_of};
-use nofs_client::{Command, Path};
+use nofs_image::Value;
 use nofs_lists::Content;
 use nofs_machine::{Entry1, History, NO_CLAIMS, Refusal, Reply, Step};
-use nofs_model::Value;
+use nofs_task::{Command, Path};
 use std::alloc::{AllocError, Global};
 use std::test::Fail;
 

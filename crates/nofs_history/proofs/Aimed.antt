@@ -1,7 +1,7 @@
 -- Files after what is given to one inode of one generation.
 use Rattle.std.proofs.Common.{◌≡◌, ℕ, Bool, true, false, ◌&&◌, cond, eqb, Option, Some, None, unwrap_or, refl, sym, ap, ◌∙◌, eqb-true, eq-eqb, ne_eqb}
-use Rattle.nofs_model.specs.Files.{FileState, Files}
-use Rattle.nofs_model.specs.declared.value.Value.{Value}
+use Rattle.nofs_image.specs.Files.{FileState, Files}
+use Rattle.nofs_image.specs.declared.value.Value.{Value}
 use Rattle.nofs_machine.specs.Meta.{Meta, Gone, Is}
 use Rattle.nofs_machine.specs.Machine.{Given, is_at, cell_given, meta_given, no_meta, resize_given, filled, after_meta, file_after, born_file, files_after}
 use Rattle.nofs_history.specs.Kept.{kept_file, kept_files, with_file, has_generation, metas_alone}

@@ -9,15 +9,15 @@ use Rattle.std.proofs.lemmas.Option.{slice_get_past}
 use Rattle.std.proofs.lemmas.Bool.{cases_lt, lt-leb}
 use Rattle.std.proofs.lemmas.Bool.Decides.{nat_tests}
 use Rattle.nofs_ptrs.specs.Paths.{slot_limit}
-use Rattle.nofs_model.proofs.Paths.{path-leaf, path-far}
-use Rattle.nofs_model.proofs.Find.{and-both, find-held}
-use Rattle.nofs_model.specs.Cells.{FileKind, null}
-use Rattle.nofs_model.specs.Geometry.{inodes_of, blocks_of, first_data, IsMountable, IsSized, cell_at}
-use Rattle.nofs_model.specs.Image.{Image, inode, is_inode, file_from, files_in, agreed, value, value_in as value_found, Path, Under, path_of, find, leaf}
-use Rattle.nofs_model.specs.Image.{top, child}
-use Rattle.nofs_model.specs.declared.path.PathAnswer.{PathAnswer}
-use Rattle.nofs_model.specs.declared.path.PathAnswer.TheVariants as answer
-use Rattle.nofs_model.specs.declared.value.Value.TheVariants.{Hole, Bytes}
+use Rattle.nofs_image.proofs.Paths.{path-leaf, path-far}
+use Rattle.nofs_image.proofs.Find.{and-both, find-held}
+use Rattle.nofs_image.specs.Cells.{FileKind, null}
+use Rattle.nofs_image.specs.Geometry.{inodes_of, blocks_of, first_data, IsMountable, IsSized, cell_at}
+use Rattle.nofs_image.specs.Image.{Image, inode, is_inode, file_from, files_in, agreed, value, value_in as value_found, Path, Under, path_of, find, leaf}
+use Rattle.nofs_image.specs.Image.{top, child}
+use Rattle.nofs_image.specs.declared.path.PathAnswer.{PathAnswer}
+use Rattle.nofs_image.specs.declared.path.PathAnswer.TheVariants as answer
+use Rattle.nofs_image.specs.declared.value.Value.TheVariants.{Hole, Bytes}
 use Rattle.nofs_machine.specs.History.{agreed_files}
 use Rattle.nofs_history.specs.Kept.{file_at, kept_files_of, kept_file, kept_files}
 use Rattle.nofs_history.specs.BaseFiles.{AreFiles}

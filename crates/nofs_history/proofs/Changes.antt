@@ -1,8 +1,8 @@
 -- One file that is taken out, changed and put back: what a step's gift makes of it.
 use Rattle.std.proofs.Common.{◌≡◌, ℕ, Bool, true, false, ◌&&◌, cond, eqb, Option, Some, None, unwrap_or, refl, sym, ap}
 use Rattle.std.proofs.Common.{◌∙◌, eq-eqb}
-use Rattle.nofs_model.specs.Files.{FileState, Files}
-use Rattle.nofs_model.specs.declared.value.Value.{Value}
+use Rattle.nofs_image.specs.Files.{FileState, Files}
+use Rattle.nofs_image.specs.declared.value.Value.{Value}
 use Rattle.nofs_machine.specs.Meta.{Meta, Is}
 use Rattle.nofs_machine.specs.Machine.{Given, is_at, value_of, size_of, cell_given, meta_given, no_meta, meta_with, resize_slot, resize_given}
 use Rattle.nofs_machine.specs.Machine.{with_meta, after_meta, file_after, files_after}

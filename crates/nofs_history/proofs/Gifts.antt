@@ -4,10 +4,10 @@ use Rattle.std.proofs.Common.{None, unwrap_or, refl, sym, ap, ◌∙◌, arith, 
 use Rattle.std.specs.List.{list_any}
 use Rattle.nofs_ptrs.specs.Paths.{slot_limit}
 use Rattle.nofs_dirent.specs.Entries.{spelled_entry}
-use Rattle.nofs_model.specs.Cells.{FileKind, BackLink, Entry}
-use Rattle.nofs_model.specs.Files.{Absent, FileState, Files, entry_at, is_pair, is_special}
-use Rattle.nofs_model.specs.declared.value.Value.{Value}
-use Rattle.nofs_model.specs.declared.value.Value.TheVariants.{Hole, Bytes}
+use Rattle.nofs_image.specs.Cells.{FileKind, BackLink, Entry}
+use Rattle.nofs_image.specs.Files.{Absent, FileState, Files, entry_at, is_pair, is_special}
+use Rattle.nofs_image.specs.declared.value.Value.{Value}
+use Rattle.nofs_image.specs.declared.value.Value.TheVariants.{Hole, Bytes}
 use Rattle.nofs_machine.specs.Meta.{Meta, Gone, Is}
 use Rattle.nofs_machine.specs.Machine.{Given, nothing, is_at, value_of, size_of, link_to, found, place_for, link_place, zeros, put_content, with_entry}
 use Rattle.nofs_machine.specs.Machine.{cell_given, meta_given, no_meta, meta_with, put_given, resize_slot, resize_given, entry_given, make_given}

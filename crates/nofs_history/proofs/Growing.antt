@@ -2,8 +2,8 @@
 use Rattle.std.proofs.Common.{ne_eqb, ◌≡◌, ℕ, zero, suc, ◌<◌, ◌≤◌, Bool, true, false, cond, eqb, ltb, List, [], ◌∷◌, ◌++◌, length, take, Option, Some, None}
 use Rattle.std.proofs.Common.{slice_get, slice_set, ◌-◌, refl, ap, ◌∙◌, arith}
 use Rattle.std.proofs.Math.Dec.{eqb-suc-suc, eqb-suc-zero}
-use Rattle.nofs_model.specs.Files.{FileState}
-use Rattle.nofs_model.specs.declared.value.Value.TheVariants as value
+use Rattle.nofs_image.specs.Files.{FileState}
+use Rattle.nofs_image.specs.declared.value.Value.TheVariants as value
 use Rattle.nofs_history.specs.Kept.{kept_value, value_at, file_of, file_at}
 use Rattle.nofs_history.specs.declared.accepted.files.Kept.{Kept}
 use Rattle.nofs_history.specs.declared.accepted.files.Kept.TheVariants as kept

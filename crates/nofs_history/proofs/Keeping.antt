@@ -4,11 +4,11 @@ use Rattle.std.proofs.Common.{is_some, option_map, refl, ap, ◌∙◌, arith, b
 use Rattle.std.specs.List.{list_any}
 use Rattle.nofs_dirent.specs.Entries.{entry_limit}
 use Rattle.nofs_ptrs.specs.Paths.{slot_limit}
-use Rattle.nofs_model.specs.Cells.{BackLink, Entry, is_empty_link}
-use Rattle.nofs_model.specs.Files.{FileState, Files, is_folder, entry_held, entry_in_file, entry_at, names, is_a, pairs, is_pair, links_in_file, links_of}
+use Rattle.nofs_image.specs.Cells.{BackLink, Entry, is_empty_link}
+use Rattle.nofs_image.specs.Files.{FileState, Files, is_folder, entry_held, entry_in_file, entry_at, names, is_a, pairs, is_pair, links_in_file, links_of}
 use Rattle.nofs_inode.specs.declared.inode.FileKind.TheVariants.{Directory as Folder}
-use Rattle.nofs_model.specs.declared.value.Value.{Value}
-use Rattle.nofs_model.specs.declared.value.Value.TheVariants.{Hole}
+use Rattle.nofs_image.specs.declared.value.Value.{Value}
+use Rattle.nofs_image.specs.declared.value.Value.TheVariants.{Hole}
 use Rattle.nofs_machine.specs.Meta.{is_bytes}
 use Rattle.nofs_machine.specs.Search.{least_from, first_of}
 use Rattle.nofs_machine.specs.Machine.{generation_of, value_of, size_of, same_link, link_to, is_paired, entry_has_name, found, first_dead, place_for}

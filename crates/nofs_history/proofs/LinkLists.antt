@@ -2,7 +2,7 @@
 use Rattle.std.proofs.Common.{◌≡◌, ℕ, zero, suc, ◌+◌, ◌<◌, ◌≤◌, Bool, true, false, ◌||◌, cond, List, [], ◌∷◌, length, drop, get_or, Some, None, slice_set}
 use Rattle.std.proofs.Common.{refl, ap, ◌∙◌, arith}
 use Rattle.std.specs.List.{list_any}
-use Rattle.nofs_model.specs.Cells.{BackLink}
+use Rattle.nofs_image.specs.Cells.{BackLink}
 use Rattle.nofs_machine.specs.Machine.{place_for_link, set_link}
 
 -- the rest of a list, from its next item on

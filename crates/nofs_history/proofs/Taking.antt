@@ -2,9 +2,9 @@
 use Rattle.std.proofs.Common.{◌≡◌, ℕ, Bool, true, false, cond, eqb, [], ◌∷◌, Option, Some, None, unwrap_or, refl, sym, ap, ◌∙◌, eqb-true}
 use Rattle.std.proofs.Common.{eq-eqb, ne_eqb}
 use Rattle.std.proofs.lemmas.Bool.{eqb-false}
-use Rattle.nofs_model.specs.Files.{FileState, Files}
-use Rattle.nofs_model.specs.declared.value.Value.{Value}
-use Rattle.nofs_model.specs.declared.value.Value.TheVariants.{Hole}
+use Rattle.nofs_image.specs.Files.{FileState, Files}
+use Rattle.nofs_image.specs.declared.value.Value.{Value}
+use Rattle.nofs_image.specs.declared.value.Value.TheVariants.{Hole}
 use Rattle.nofs_machine.specs.Meta.{Meta, Is}
 use Rattle.nofs_machine.specs.Machine.{Given, nothing, link_to, cell_given, no_meta, file_after, born_file, new_file, files_after}
 use Rattle.nofs_history.specs.Kept.{kept_file, kept_files, with_file, metas_alone, made_file}

@@ -1,6 +1,6 @@
 -- What has been read of the files of a base image.
 use Rattle.std.specs.Prelude.{◌≡◌, ℕ, ◌+◌, ◌<◌, List, length, Option, slice_get}
-use Rattle.nofs_model.specs.Image.{Image, value}
+use Rattle.nofs_image.specs.Image.{Image, value}
 use Rattle.nofs_machine.specs.History.{agreed_files}
 use Rattle.nofs_history.specs.Kept.{file_at, value_at, kept_file, kept_files}
 use Rattle.nofs_history.specs.declared.accepted.files.Kept.{Kept}

@@ -1,9 +1,9 @@
 -- What a step gives, as it was computed, as a gift of the machine.
 use Rattle.std.specs.Prelude.{ℕ, true, [], ◌∷◌, ◌&&◌, ◌==◌, Bool, Option, Some, None, if◌then◌else◌, nat_lt, List}
 use Rattle.nofs_ptrs.specs.Paths.{slot_limit}
-use Rattle.nofs_model.specs.Files.{Files}
-use Rattle.nofs_model.specs.declared.value.Value.{Value}
-use Rattle.nofs_model.specs.declared.value.Value.TheVariants.{Hole, Bytes}
+use Rattle.nofs_image.specs.Files.{Files}
+use Rattle.nofs_image.specs.declared.value.Value.{Value}
+use Rattle.nofs_image.specs.declared.value.Value.TheVariants.{Hole, Bytes}
 use Rattle.nofs_machine.specs.Meta.{Meta, Gone, Is}
 use Rattle.nofs_machine.specs.Machine.{Given, nothing, is_at, cell_given, meta_given, no_meta, resize_given, link_to, at_place, place_for, link_place}
 use Rattle.nofs_machine.specs.Machine.{found, make_given, link_given, drop_given, rename_given}

@@ -2,12 +2,12 @@
 use Rattle.std.specs.Prelude.{◌≡◌, ℕ, true, [], ◌∷◌, length, ◌+◌, ◌-◌, ◌%◌, min, ◌&&◌, not, nat_le, ◌++◌, take, unwrap_or, ◌==◌, List, Bool, false, Option}
 use Rattle.std.specs.Prelude.{Some, None, if◌then◌else◌, nat_lt, slice_get}
 use Rattle.nofs_ptrs.specs.Paths.{slot_limit}
-use Rattle.nofs_model.specs.Files.{Absent, FileState, Files}
-use Rattle.nofs_model.specs.declared.value.Value.{Value}
-use Rattle.nofs_model.specs.declared.value.Value.TheVariants as value
+use Rattle.nofs_image.specs.Files.{Absent, FileState, Files}
+use Rattle.nofs_image.specs.declared.value.Value.{Value}
+use Rattle.nofs_image.specs.declared.value.Value.TheVariants as value
 use Rattle.nofs_machine.specs.Meta.{Meta, is_bytes}
 use Rattle.nofs_machine.specs.Machine.{Given, nothing, files_after, link_to, may_give, slots_in, zeros, bytes_in, trimmed, entry_has_name, is_paired}
-use Rattle.nofs_model.specs.Cells.{FileKind, BackLink}
+use Rattle.nofs_image.specs.Cells.{FileKind, BackLink}
 use Rattle.nofs_machine.specs.declared.history.Claims.{Claims}
 use Rattle.nofs_machine.specs.declared.history.Entry1.{Entry1}
 use Rattle.nofs_machine.specs.declared.steps.Step.{Step}

@@ -1,7 +1,7 @@
 -- A step that changes the content, the size and the blocks of one file, and nothing else.
 use Rattle.std.proofs.Common.{◌≡◌, ◌≢◌, ℕ, Bool, true, false, eqb, Option, Some, None, is_some, refl, sym, ap, ◌∙◌, subst, subst₂, eqb-true, eq-eqb, ne_eqb}
-use Rattle.nofs_model.specs.Cells.{FileKind, Record}
-use Rattle.nofs_model.specs.Image.{Image, inode, file_from, files_in, FileState, Files, is_folder}
+use Rattle.nofs_image.specs.Cells.{FileKind, Record}
+use Rattle.nofs_image.specs.Image.{Image, inode, file_from, files_in, FileState, Files, is_folder}
 use Rattle.nofs_machine.specs.Machine.{Given, files_after}
 use Rattle.nofs_machine.specs.History.{FilesMatch, SameFile}
 use Rattle.nofs_law_untouched.specs.Frames.{Touches, Rewrites, OldPointers, SameIdentity, SameNames}

@@ -2,10 +2,10 @@
 use Rattle.std.proofs.Common.{◌≡◌, ◌≢◌, ℕ, ◌+◌, ◌*◌, ◌<◌, max, Bool, true, false, cond, eqb, ◌&&◌, List, length, Option, Some, None, unwrap_or, refl, sym, ap}
 use Rattle.std.proofs.Common.{◌∙◌, subst, subst₂, eqb-true, eq-eqb, ne_eqb}
 use Rattle.nofs_ptrs.specs.Paths.{slot_limit}
-use Rattle.nofs_model.specs.Cells.{FileKind}
-use Rattle.nofs_model.specs.Image.{Image, inode, file_from, files_in, value, node_in, Path, path_of, is_pointer_slot, find, Present, FileState, Files}
-use Rattle.nofs_model.specs.Image.{is_folder, IsSlot}
-use Rattle.nofs_model.specs.declared.value.Value.TheVariants.{Bytes}
+use Rattle.nofs_image.specs.Cells.{FileKind}
+use Rattle.nofs_image.specs.Image.{Image, inode, file_from, files_in, value, node_in, Path, path_of, is_pointer_slot, find, Present, FileState, Files}
+use Rattle.nofs_image.specs.Image.{is_folder, IsSlot}
+use Rattle.nofs_image.specs.declared.value.Value.TheVariants.{Bytes}
 use Rattle.nofs_machine.specs.Meta.{Meta, Gone, Is}
 use Rattle.nofs_machine.specs.Machine.{put_given, put_content, meta_with, is_at, filled, after_meta, file_after, files_after, value_of, size_of, lies_above}
 use Rattle.nofs_machine.specs.History.{FilesMatch, SameFile}

@@ -1,11 +1,11 @@
 -- A Put into a slot that holds: its block is written in place, and each slot of its path stays.
 use Rattle.std.proofs.Common.{◌≡◌, ◌≢◌, ℕ, ◌≤◌, ◌⊎◌, inl, inr, Bool, true, false, eqb, List, Some, refl, sym, ap, ◌∙◌, subst, eqb-true, eq-eqb}
-use Rattle.nofs_model.specs.Cells.{Cell, Tag, Pointer, tag_of, pointer_at}
-use Rattle.nofs_model.specs.Image.{Image, cell_at, is_data_block, inode, Path, InRecord, Under, path_of, slot_of, is_pointer_slot, kind_in, tag_for, find}
-use Rattle.nofs_model.specs.Image.{pointer, FileState, Files, IsAbove, IsSlot, IsFree}
-use Rattle.nofs_model.specs.declared.path.PathAnswer.TheVariants as answer
-use Rattle.nofs_model.proofs.Find.{find-held}
-use Rattle.nofs_model.proofs.Paths.{path_of-slot, path_of-slot_of, path_of-content, above-up, above-slot}
+use Rattle.nofs_image.specs.Cells.{Cell, Tag, Pointer, tag_of, pointer_at}
+use Rattle.nofs_image.specs.Image.{Image, cell_at, is_data_block, inode, Path, InRecord, Under, path_of, slot_of, is_pointer_slot, kind_in, tag_for, find}
+use Rattle.nofs_image.specs.Image.{pointer, FileState, Files, IsAbove, IsSlot, IsFree}
+use Rattle.nofs_image.specs.declared.path.PathAnswer.TheVariants as answer
+use Rattle.nofs_image.proofs.Find.{find-held}
+use Rattle.nofs_image.proofs.Paths.{path_of-slot, path_of-slot_of, path_of-content, above-up, above-slot}
 use Rattle.nofs_machine.specs.declared.history.Claims.{Claims}
 use Rattle.nofs_machine.specs.Claims.{is_claimed}
 use Rattle.nofs_law_untouched.specs.Frames.{Touches}

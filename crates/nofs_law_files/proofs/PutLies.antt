@@ -1,12 +1,12 @@
 -- A Put at any depth: the files after it, and the homes of what it claims.
 use Rattle.std.proofs.Common.{◌≡◌, ◌≢◌, ℕ, ◌<◌, inl, inr, true, false, eqb, List, refl, sym, ap, ◌∙◌, subst, eqb-true}
 use Rattle.nofs_ptrs.specs.Paths.{slot_limit}
-use Rattle.nofs_model.specs.Cells.{Pointer}
-use Rattle.nofs_model.specs.Image.{Image, files_in, agreed, value, node_in, Path, path_of, is_pointer_slot, find, FileState, Files, Home, home_at, IsAbove}
-use Rattle.nofs_model.specs.Image.{IsSlot}
-use Rattle.nofs_model.specs.declared.value.Value.TheVariants.{Bytes}
-use Rattle.nofs_model.specs.declared.path.PathAnswer.TheVariants as answer
-use Rattle.nofs_model.proofs.Paths.{path_of-content, above-refl}
+use Rattle.nofs_image.specs.Cells.{Pointer}
+use Rattle.nofs_image.specs.Image.{Image, files_in, agreed, value, node_in, Path, path_of, is_pointer_slot, find, FileState, Files, Home, home_at, IsAbove}
+use Rattle.nofs_image.specs.Image.{IsSlot}
+use Rattle.nofs_image.specs.declared.value.Value.TheVariants.{Bytes}
+use Rattle.nofs_image.specs.declared.path.PathAnswer.TheVariants as answer
+use Rattle.nofs_image.proofs.Paths.{path_of-content, above-refl}
 use Rattle.nofs_machine.specs.Machine.{put_given, put_content, files_after, lies_above}
 use Rattle.nofs_machine.specs.History.{FilesMatch}
 use Rattle.nofs_machine.specs.declared.steps.Step.TheVariants as step

@@ -4,14 +4,14 @@ use Rattle.std.proofs.Common.{not, ◌++◌, option_to_list, Option, Some, None,
 use Rattle.std.proofs.lemmas.Bool.{cases_lt, le-leb}
 use Rattle.std.proofs.lemmas.List.Elements.{Contains-push}
 use Rattle.nofs_ptrs.specs.Paths.{slot_limit}
-use Rattle.nofs_model.specs.Cells.{FileKind}
-use Rattle.nofs_model.specs.Image.{Image, cell_at, inode, file_from, files_in, agreed, value, value_in, node_in, Path, InRecord, Under, path_of}
-use Rattle.nofs_model.specs.Image.{is_pointer_slot, find, NodeState, Absent, FileState, Files, is_folder, IsAbove, IsSlot}
-use Rattle.nofs_model.specs.declared.path.PathAnswer.{PathAnswer}
-use Rattle.nofs_model.specs.declared.path.PathAnswer.TheVariants as answer
-use Rattle.nofs_model.specs.declared.value.Value.{Value}
-use Rattle.nofs_model.specs.declared.value.Value.TheVariants.{Hole, Bytes, Lost}
-use Rattle.nofs_model.proofs.Paths.{path-direct, path-leaf, path-far, path_of-slot}
+use Rattle.nofs_image.specs.Cells.{FileKind}
+use Rattle.nofs_image.specs.Image.{Image, cell_at, inode, file_from, files_in, agreed, value, value_in, node_in, Path, InRecord, Under, path_of}
+use Rattle.nofs_image.specs.Image.{is_pointer_slot, find, NodeState, Absent, FileState, Files, is_folder, IsAbove, IsSlot}
+use Rattle.nofs_image.specs.declared.path.PathAnswer.{PathAnswer}
+use Rattle.nofs_image.specs.declared.path.PathAnswer.TheVariants as answer
+use Rattle.nofs_image.specs.declared.value.Value.{Value}
+use Rattle.nofs_image.specs.declared.value.Value.TheVariants.{Hole, Bytes, Lost}
+use Rattle.nofs_image.proofs.Paths.{path-direct, path-leaf, path-far, path_of-slot}
 use Rattle.nofs_machine.specs.Meta.{Meta, Gone, Is, is_bytes}
 use Rattle.nofs_machine.specs.Machine.{slots_in, is_at, meta_with, filled, after_meta, file_after, files_after, value_of, size_of, resize_slot, resize_node}
 use Rattle.nofs_machine.specs.Machine.{resize_given}

@@ -2,14 +2,14 @@
 use Rattle.std.proofs.Common.{◌≡◌, ◌≢◌, ℕ, ◌<◌, ◌≤◌, inl, inr, Bool, true, false, eqb, ◌++◌, option_to_list, Option, Some, None, refl, sym, ap, ◌∙◌, subst}
 use Rattle.std.proofs.Common.{subst₂, Contains, eqb-true, eq-eqb}
 use Rattle.std.proofs.lemmas.List.Elements.{Contains-push, Contains-append_left}
-use Rattle.nofs_model.specs.Cells.{File, Content, Directory, Leaf, Pointer, Record, tag_of, pointer_at}
+use Rattle.nofs_image.specs.Cells.{File, Content, Directory, Leaf, Pointer, Record, tag_of, pointer_at}
 use Rattle.nofs_inode.specs.declared.inode.FileKind.TheVariants.{Directory as Folder}
-use Rattle.nofs_model.specs.Image.{Image, cell_at, inode, Path, InRecord, Under, path_of, slot_of, kind_in, tag_for, find, pointer, record_pointer, IsAbove}
-use Rattle.nofs_model.specs.declared.path.PathAnswer.TheVariants as answer
-use Rattle.nofs_model.specs.declared.value.Value.{Value}
-use Rattle.nofs_model.specs.declared.value.Value.TheVariants.{Hole, Bytes}
-use Rattle.nofs_model.proofs.Find.{find-held}
-use Rattle.nofs_model.proofs.Paths.{path_of-content, slot_of-path_of}
+use Rattle.nofs_image.specs.Image.{Image, cell_at, inode, Path, InRecord, Under, path_of, slot_of, kind_in, tag_for, find, pointer, record_pointer, IsAbove}
+use Rattle.nofs_image.specs.declared.path.PathAnswer.TheVariants as answer
+use Rattle.nofs_image.specs.declared.value.Value.{Value}
+use Rattle.nofs_image.specs.declared.value.Value.TheVariants.{Hole, Bytes}
+use Rattle.nofs_image.proofs.Find.{find-held}
+use Rattle.nofs_image.proofs.Paths.{path_of-content, slot_of-path_of}
 use Rattle.nofs_machine.specs.Meta.{Meta, meta_of}
 use Rattle.nofs_machine.specs.Marks.{Mark}
 use Rattle.nofs_machine.specs.Machine.{Given}

@@ -3,13 +3,13 @@ use Rattle.std.proofs.Common.{◌≡◌, ◌≢◌, ℕ, ◌*◌, ◌/◌, ◌<�
 use Rattle.std.proofs.Common.{sym, ap, ◌∙◌, subst, arith}
 use Rattle.nofs_dirent.specs.Entries.{entry_limit}
 use Rattle.nofs_ptrs.specs.Paths.{slot_limit}
-use Rattle.nofs_model.specs.Cells.{Entry, Pointer}
-use Rattle.nofs_model.specs.Image.{value_in, path_of, find, FileState, Files, entry_held, entry_at}
-use Rattle.nofs_model.specs.declared.path.PathAnswer.{PathAnswer}
-use Rattle.nofs_model.specs.declared.path.PathAnswer.TheVariants as answer
-use Rattle.nofs_model.specs.declared.value.Value.{Value}
-use Rattle.nofs_model.specs.declared.value.Value.TheVariants.{Hole, Bytes, Lost}
-use Rattle.nofs_model.proofs.Find.{and-both}
+use Rattle.nofs_image.specs.Cells.{Entry, Pointer}
+use Rattle.nofs_image.specs.Image.{value_in, path_of, find, FileState, Files, entry_held, entry_at}
+use Rattle.nofs_image.specs.declared.path.PathAnswer.{PathAnswer}
+use Rattle.nofs_image.specs.declared.path.PathAnswer.TheVariants as answer
+use Rattle.nofs_image.specs.declared.value.Value.{Value}
+use Rattle.nofs_image.specs.declared.value.Value.TheVariants.{Hole, Bytes, Lost}
+use Rattle.nofs_image.proofs.Find.{and-both}
 use Rattle.nofs_machine.specs.Meta.{is_bytes}
 use Rattle.nofs_machine.specs.Search.{least_from, first_of}
 use Rattle.nofs_machine.specs.Machine.{value_of, entry_has_name, is_paired, is_hole, first_dead, place_for}

@@ -1,12 +1,12 @@
 -- What a step on names leaves in slots that get no block, and how many blocks it claims.
 use Rattle.std.proofs.Common.{◌≡◌, ◌≢◌, ℕ, ◌+◌, ◌/◌, ◌<◌, inl, false, true, cond, ltb, List, Option, Some, None, is_some, refl, sym, ap, ◌∙◌}
 use Rattle.nofs_ptrs.specs.Paths.{slot_limit}
-use Rattle.nofs_model.specs.Cells.{BackLink, Pointer, is_live}
-use Rattle.nofs_model.specs.Image.{Image, inode, files_in, agreed, value_in, node_in, Path, path_of, find, FileState, Files, IsSlot, is_pointer_slot}
-use Rattle.nofs_model.specs.declared.path.PathAnswer.{PathAnswer}
-use Rattle.nofs_model.specs.declared.path.PathAnswer.TheVariants as answer
-use Rattle.nofs_model.specs.declared.value.Value.{Value}
-use Rattle.nofs_model.proofs.Find.{find-held}
+use Rattle.nofs_image.specs.Cells.{BackLink, Pointer, is_live}
+use Rattle.nofs_image.specs.Image.{Image, inode, files_in, agreed, value_in, node_in, Path, path_of, find, FileState, Files, IsSlot, is_pointer_slot}
+use Rattle.nofs_image.specs.declared.path.PathAnswer.{PathAnswer}
+use Rattle.nofs_image.specs.declared.path.PathAnswer.TheVariants as answer
+use Rattle.nofs_image.specs.declared.value.Value.{Value}
+use Rattle.nofs_image.proofs.Find.{find-held}
 use Rattle.nofs_machine.specs.Meta.{Meta, is_bytes}
 use Rattle.nofs_machine.specs.Machine.{Given, filled, after_meta, born_file, file_after, files_after, node_of, place_for}
 use Rattle.nofs_machine.specs.History.{FilesMatch}

@@ -1,11 +1,11 @@
 -- A new entry in a hole: the directory's slots after it, and where the claimed blocks stand.
 use Rattle.std.proofs.Common.{◌≡◌, ◌≢◌, ℕ, ◌+◌, ◌-◌, ◌<◌, ◌≤◌, ◌⊎◌, inl, inr, false, true, eqb, ◌||◌, Some, refl, sym, ap, ◌∙◌, subst, arith, ne_eqb}
-use Rattle.nofs_model.specs.Cells.{Pointer, Record}
-use Rattle.nofs_model.specs.Image.{Image, is_data_block, inode, files_in, agreed, Path, InRecord, Under, leaf, path_of, find, FileState, Files, node_in}
-use Rattle.nofs_model.specs.Image.{NodeState, Absent, Present, Damaged, home_at, IsAbove, IsSlot}
-use Rattle.nofs_model.specs.declared.path.PathAnswer.{PathAnswer}
-use Rattle.nofs_model.specs.declared.path.PathAnswer.TheVariants as answer
-use Rattle.nofs_model.proofs.Paths.{path-direct, path-leaf, above-refl}
+use Rattle.nofs_image.specs.Cells.{Pointer, Record}
+use Rattle.nofs_image.specs.Image.{Image, is_data_block, inode, files_in, agreed, Path, InRecord, Under, leaf, path_of, find, FileState, Files, node_in}
+use Rattle.nofs_image.specs.Image.{NodeState, Absent, Present, Damaged, home_at, IsAbove, IsSlot}
+use Rattle.nofs_image.specs.declared.path.PathAnswer.{PathAnswer}
+use Rattle.nofs_image.specs.declared.path.PathAnswer.TheVariants as answer
+use Rattle.nofs_image.proofs.Paths.{path-direct, path-leaf, above-refl}
 use Rattle.nofs_machine.specs.History.{FilesMatch}
 use Rattle.nofs_machine.specs.World.{absent_above, blocks_for}
 use Rattle.nofs_machine.specs.Claims.{is_claimed, slot_above}

@@ -1,8 +1,8 @@
 -- Rename and Drop: each block has its home.
 use Rattle.std.proofs.Common.{◌≡◌, ◌≢◌, ℕ, ◌/◌, ◌<◌, List, Option, Some, None, refl, sym, ap, ◌∙◌, subst, arith}
 use Rattle.nofs_dirent.specs.Entries.{entry_limit}
-use Rattle.nofs_model.specs.Cells.{Entry, Pointer, Record, spelled_entry}
-use Rattle.nofs_model.specs.Image.{Image, FileState, Files, entry_at}
+use Rattle.nofs_image.specs.Cells.{Entry, Pointer, Record, spelled_entry}
+use Rattle.nofs_image.specs.Image.{Image, FileState, Files, entry_at}
 use Rattle.nofs_machine.specs.Machine.{Given, zeros, files_after, entry_given, no_meta, meta_given, nothing, link_to, without_link, drop_meta, drop_given}
 use Rattle.nofs_machine.specs.Machine.{rename_given}
 use Rattle.nofs_machine.specs.History.{FilesMatch}

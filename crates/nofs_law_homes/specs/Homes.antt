@@ -1,7 +1,7 @@
 -- What each step on names does to the homes of the blocks.
 use Rattle.std.specs.Prelude.{◌≡◌, ℕ, true, List, Some, None}
-use Rattle.nofs_model.specs.Cells.{FileKind, Pointer, Entry, spelled_entry}
-use Rattle.nofs_model.specs.Image.{Image, inode, FileState, Files}
+use Rattle.nofs_image.specs.Cells.{FileKind, Pointer, Entry, spelled_entry}
+use Rattle.nofs_image.specs.Image.{Image, inode, FileState, Files}
 use Rattle.nofs_machine.specs.Meta.{Gone, Is}
 use Rattle.nofs_machine.specs.Machine.{place_for, link_to, without_link, drop_meta}
 use Rattle.nofs_machine.specs.World.{World}

@@ -3,9 +3,9 @@ use Rattle.std.specs.Prelude.{◌≡◌, ℕ, ◌/◌, ◌^◌, ◌<◌, ◌≤�
 use Rattle.nofs_dirent.specs.Entries.{entry_limit}
 use Rattle.nofs_dirent.specs.EntryLaws.{Spells}
 use Rattle.nofs_dirent.specs.Names.{NameOk}
-use Rattle.nofs_model.specs.Cells.{Pointer, spelled_entry}
-use Rattle.nofs_model.specs.Image.{Image, path_of, find, FileState, Files}
-use Rattle.nofs_model.specs.declared.path.PathAnswer.TheVariants as answer
+use Rattle.nofs_image.specs.Cells.{Pointer, spelled_entry}
+use Rattle.nofs_image.specs.Image.{Image, path_of, find, FileState, Files}
+use Rattle.nofs_image.specs.declared.path.PathAnswer.TheVariants as answer
 use Rattle.nofs_machine.specs.Machine.{is_paired, place_for}
 use Rattle.nofs_machine.specs.History.{FilesMatch}
 

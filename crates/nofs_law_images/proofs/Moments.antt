@@ -7,17 +7,17 @@ use Rattle.nofs_disk.specs.Disk.{Picks, no_cell}
 use Rattle.nofs_law_images.specs.Reasons.{Holes, Explained, Emptied, Fresh, Kept, WrittenAs, RecordExplained, Fine, IsKept, RecordStands, Solid, IsMark}
 use Rattle.nofs_law_images.specs.Reasons.{FineImage, SolidImage}
 use Rattle.nofs_law_images.specs.Moments.{is_removal, during, AllExplained, LawFlush, LawMoment, LawImages}
-use Rattle.nofs_model.proofs.Find.{and-both}
+use Rattle.nofs_image.proofs.Find.{and-both}
 use Rattle.nofs_law_images.proofs.Trace.{reads, same-super}
 use Rattle.nofs_law_images.proofs.Steady.{solid-keeps, solid-steady}
 use Rattle.nofs_law_images.proofs.Writes.{writes-proper}
 use Rattle.nofs_machine.specs.Meta.{Meta, meta_of, MayRead}
 use Rattle.nofs_machine.specs.Marks.{Mark}
 use Rattle.nofs_machine.specs.Machine.{Given}
-use Rattle.nofs_model.specs.Cells.{Cell, Kind, Nothing, Content, Directory, Leaf, Table, Super, Tag, Pointer, Record, pointer_at, record_at}
-use Rattle.nofs_model.specs.Image.{Image, cell_at, inode, is_inode, Path, InRecord, Under, path_of}
-use Rattle.nofs_model.specs.declared.value.Value.{Value}
-use Rattle.nofs_model.specs.declared.value.Value.TheVariants.{Hole, Bytes}
+use Rattle.nofs_image.specs.Cells.{Cell, Kind, Nothing, Content, Directory, Leaf, Table, Super, Tag, Pointer, Record, pointer_at, record_at}
+use Rattle.nofs_image.specs.Image.{Image, cell_at, inode, is_inode, Path, InRecord, Under, path_of}
+use Rattle.nofs_image.specs.declared.value.Value.{Value}
+use Rattle.nofs_image.specs.declared.value.Value.TheVariants.{Hole, Bytes}
 
 module _ (m : Mark) (given : Given) where
   more : (i g k : ℕ) (v : Value) → Contains (m.since i g k) v → Contains ((during m given).since i g k) v

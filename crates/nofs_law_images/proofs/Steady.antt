@@ -1,16 +1,16 @@
 -- What is sure at the mark stays in every image, as long as no write disturbs it.
 use Rattle.std.proofs.Common.{◌≡◌, ℕ, ◌+◌, ◌-◌, ◌/◌, ◌%◌, inl, inr, Bool, true, false, cond, Some, refl, sym, ap, ◌∙◌, subst}
-use Rattle.nofs_model.specs.declared.path.PathAnswer.{PathAnswer}
+use Rattle.nofs_image.specs.declared.path.PathAnswer.{PathAnswer}
 use Rattle.nofs_law_images.specs.Reasons.{IsKept, RecordStands, SolidImage, IsMark, KeepsSure, KeepsPointers}
-use Rattle.nofs_model.proofs.Find.{find-held, find-built, agrees-built}
-use Rattle.nofs_model.proofs.Paths.{above-refl, above-up}
-use Rattle.nofs_model.specs.declared.path.PathAnswer.TheVariants as answer
+use Rattle.nofs_image.proofs.Find.{find-held, find-built, agrees-built}
+use Rattle.nofs_image.proofs.Paths.{above-refl, above-up}
+use Rattle.nofs_image.specs.declared.path.PathAnswer.TheVariants as answer
 use Rattle.nofs_machine.specs.Meta.{is_bytes}
 use Rattle.nofs_machine.specs.Marks.{Mark}
-use Rattle.nofs_model.specs.Cells.{Cell, Pointer, tag_of, pointer_at, is_live, record_at, free_record}
-use Rattle.nofs_model.specs.Image.{super_in, Image, cell_at, super_at, is_data_block, is_inode, inode, Path, InRecord, Under, path_of, tag_for, find, pointer}
-use Rattle.nofs_model.specs.Image.{value, value_in, IsAbove, AboveHolds}
-use Rattle.nofs_model.specs.declared.value.Value.TheVariants.{Bytes}
+use Rattle.nofs_image.specs.Cells.{Cell, Pointer, tag_of, pointer_at, is_live, record_at, free_record}
+use Rattle.nofs_image.specs.Image.{super_in, Image, cell_at, super_at, is_data_block, is_inode, inode, Path, InRecord, Under, path_of, tag_for, find, pointer}
+use Rattle.nofs_image.specs.Image.{value, value_in, IsAbove, AboveHolds}
+use Rattle.nofs_image.specs.declared.value.Value.TheVariants.{Bytes}
 
 -- a slot that holds has those above it hold
 above-held : (X : Image) (i : ℕ) (a p : Path) → IsAbove a p → (x : Pointer) → find X i p ≡ answer.Holds x → (y : Pointer) × (find X i a ≡ answer.Holds y)

@@ -5,17 +5,17 @@ use Rattle.nofs_law_images.specs.Reasons.{Holes, Explained, Emptied, Fresh, Writ
 use Rattle.nofs_law_images.specs.Reasons.{SolidImage, IsMark, KeepsPointers}
 use Rattle.nofs_law_images.specs.Proper.{PointerProper, Same, Cut, New, InPlaceOrFree, IsContentKind, ContentProper, PointersProper, RecordProper, Unchanged}
 use Rattle.nofs_law_images.specs.Proper.{Changed, Freed, Made, TableProper, Proper, OfContent, OfPointers, OfTable}
-use Rattle.nofs_model.proofs.Find.{and-both, find-held}
-use Rattle.nofs_model.proofs.Paths.{path_of-slot_of, path_of-slot, above-slot}
+use Rattle.nofs_image.proofs.Find.{and-both, find-held}
+use Rattle.nofs_image.proofs.Paths.{path_of-slot_of, path_of-slot, above-slot}
 use Rattle.nofs_law_images.proofs.Trace.{same-super, explained-record, explained}
 use Rattle.nofs_law_images.proofs.Steady.{kept-holds, stands-record, steady}
-use Rattle.nofs_model.specs.declared.path.PathAnswer.TheVariants as answer
+use Rattle.nofs_image.specs.declared.path.PathAnswer.TheVariants as answer
 use Rattle.nofs_machine.specs.Meta.{is_bytes}
 use Rattle.nofs_machine.specs.Marks.{Mark}
-use Rattle.nofs_model.specs.Cells.{Cell, Kind, Leaf, Pointer, FileKind, Record, tag_of, pointer_at, is_live, record_at}
-use Rattle.nofs_model.specs.Image.{Image, cell_at, super_at, is_data_block, is_inode, inode, Path, InRecord, Under, path_of, slot_of, kind_in, tag_for}
-use Rattle.nofs_model.specs.Image.{record_pointer, find, pointer, files_in, agreed, IsSlot}
-use Rattle.nofs_model.specs.declared.value.Value.TheVariants.{Hole}
+use Rattle.nofs_image.specs.Cells.{Cell, Kind, Leaf, Pointer, FileKind, Record, tag_of, pointer_at, is_live, record_at}
+use Rattle.nofs_image.specs.Image.{Image, cell_at, super_at, is_data_block, is_inode, inode, Path, InRecord, Under, path_of, slot_of, kind_in, tag_for}
+use Rattle.nofs_image.specs.Image.{record_pointer, find, pointer, files_in, agreed, IsSlot}
+use Rattle.nofs_image.specs.declared.value.Value.TheVariants.{Hole}
 
 kept-slot : (m : Mark) (i g : ℕ) (path : Path) → IsKept m i g path → IsSlot path
 kept-slot m i g path k = above-slot path (path_of k.slot) k.above (path_of-slot k.slot k.range)

@@ -6,8 +6,8 @@ use Rattle.nofs_law_images.specs.Proper.{Proper}
 use Rattle.nofs_machine.specs.Meta.{Meta, Gone, Is}
 use Rattle.nofs_machine.specs.Marks.{Mark}
 use Rattle.nofs_machine.specs.Machine.{Given}
-use Rattle.nofs_model.specs.Cells.{Cell}
-use Rattle.nofs_model.specs.Image.{Image, cell_at, files_in, agreed}
+use Rattle.nofs_image.specs.Cells.{Cell}
+use Rattle.nofs_image.specs.Image.{Image, cell_at, files_in, agreed}
 
 abbrev pub is_removal : Option Meta → Bool
 is_removal None = false

@@ -2,13 +2,13 @@
 use Rattle.std.specs.Prelude.{◌≡◌, ℕ, ◌+◌, ◌-◌, ◌/◌, ◌%◌, ◌<◌, ◌≤◌, ◌⊎◌, true, false, Some, Contains}
 use Rattle.nofs_ptrs.specs.Paths.{slot_limit}
 use Rattle.nofs_law_images.specs.Reasons.{Holes}
-use Rattle.nofs_model.specs.declared.path.PathAnswer.TheVariants as answer
+use Rattle.nofs_image.specs.declared.path.PathAnswer.TheVariants as answer
 use Rattle.nofs_machine.specs.Meta.{meta_of}
 use Rattle.nofs_machine.specs.Marks.{Mark}
-use Rattle.nofs_model.specs.Image.{IsSlot, IsFree, Image, cell_at, is_data_block, is_inode, inode, Path, InRecord, Under, slot_of, is_pointer_slot}
-use Rattle.nofs_model.specs.Image.{record_pointer, find, pointer, AboveHolds}
-use Rattle.nofs_model.specs.Cells.{Cell, Kind, Content, Directory, Leaf, Tag, Pointer, Record, tag_of, is_null, pointer_at, record_at, is_live}
-use Rattle.nofs_model.specs.declared.value.Value.TheVariants.{Hole, Bytes}
+use Rattle.nofs_image.specs.Image.{IsSlot, IsFree, Image, cell_at, is_data_block, is_inode, inode, Path, InRecord, Under, slot_of, is_pointer_slot}
+use Rattle.nofs_image.specs.Image.{record_pointer, find, pointer, AboveHolds}
+use Rattle.nofs_image.specs.Cells.{Cell, Kind, Content, Directory, Leaf, Tag, Pointer, Record, tag_of, is_null, pointer_at, record_at, is_live}
+use Rattle.nofs_image.specs.declared.value.Value.TheVariants.{Hole, Bytes}
 
 -- why a step that began at X, whose givings m has, writes this pointer
 pub data PointerProper (L : Mark) (X : Image) (i g : ℕ) (path : Path) (x : Pointer) : Type 0 where

@@ -1,15 +1,15 @@
 -- What a crash may leave, block by block.
 use Rattle.std.specs.Prelude.{◌≡◌, ℕ, ◌+◌, ◌-◌, ◌/◌, ◌%◌, ◌<◌, ◌≤◌, ◌⊎◌, ◌≢◌, true, List, Some, Contains}
 use Rattle.nofs_ptrs.specs.Paths.{slot_limit}
-use Rattle.nofs_model.specs.declared.path.PathAnswer.TheVariants as answer
+use Rattle.nofs_image.specs.declared.path.PathAnswer.TheVariants as answer
 use Rattle.nofs_machine.specs.Meta.{meta_of, AllBytes, MayRead}
 use Rattle.nofs_machine.specs.Marks.{Mark}
-use Rattle.nofs_model.specs.Image.{IsAbove, AboveHolds, Image, cell_at, super_at, is_data_block, is_inode, inode, Path, InRecord, Under, path_of}
-use Rattle.nofs_model.specs.Image.{record_pointer, find, pointer, value}
-use Rattle.nofs_model.specs.Cells.{Cell, Kind, Nothing, Content, Directory, Leaf, Table, Super, Tag, Pointer, Record, tag_of, is_null, pointer_at, record_at}
-use Rattle.nofs_model.specs.Cells.{is_live}
-use Rattle.nofs_model.specs.declared.value.Value.{Value}
-use Rattle.nofs_model.specs.declared.value.Value.TheVariants.{Hole, Bytes, Lost}
+use Rattle.nofs_image.specs.Image.{IsAbove, AboveHolds, Image, cell_at, super_at, is_data_block, is_inode, inode, Path, InRecord, Under, path_of}
+use Rattle.nofs_image.specs.Image.{record_pointer, find, pointer, value}
+use Rattle.nofs_image.specs.Cells.{Cell, Kind, Nothing, Content, Directory, Leaf, Table, Super, Tag, Pointer, Record, tag_of, is_null, pointer_at, record_at}
+use Rattle.nofs_image.specs.Cells.{is_live}
+use Rattle.nofs_image.specs.declared.value.Value.{Value}
+use Rattle.nofs_image.specs.declared.value.Value.TheVariants.{Hole, Bytes, Lost}
 
 -- each slot of content in or below this one may be a hole
 abbrev pub Holes : Mark → ℕ → ℕ → Path → Type 0

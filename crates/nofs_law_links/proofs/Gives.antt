@@ -4,9 +4,9 @@ use Rattle.std.proofs.Common.{ap, ◌∙◌, subst, arith, eqb-true, ne_eqb}
 use Rattle.std.specs.Prelude.{slice_get}
 use Rattle.std.specs.List.{list_any}
 use Rattle.nofs_dirent.specs.Entries.{entry_limit}
-use Rattle.nofs_model.specs.Cells.{FileKind, BackLink, Entry}
-use Rattle.nofs_model.specs.Image.{Files, FileState, is_folder, entry_at, is_pair, is_special}
-use Rattle.nofs_model.specs.declared.value.Value.{Value}
+use Rattle.nofs_image.specs.Cells.{FileKind, BackLink, Entry}
+use Rattle.nofs_image.specs.Image.{Files, FileState, is_folder, entry_at, is_pair, is_special}
+use Rattle.nofs_image.specs.declared.value.Value.{Value}
 use Rattle.nofs_machine.specs.Meta.{Meta, Gone, Is}
 use Rattle.nofs_machine.specs.Search.{least_from, first_of}
 use Rattle.nofs_machine.specs.Machine.{gives, at_place, found, place_for, link_place, make_given, link_given, drop_given, rename_given, meta_given, drop_meta}

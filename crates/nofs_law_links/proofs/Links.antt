@@ -2,12 +2,12 @@
 use Rattle.std.proofs.Common.{◌≡◌, ℕ, ◌/◌, ◌^◌, ◌<◌, Bool, true, false, cond, eqb, ltb, ◌&&◌, ◌||◌, not, List, [], length, Option, Some, None, unwrap_or}
 use Rattle.std.proofs.Common.{refl, sym, ap, ◌∙◌, subst, eqb-true, eq-eqb, lt-ltb, Contains}
 use Rattle.nofs_dirent.specs.Entries.{entry_limit}
-use Rattle.nofs_model.specs.Cells.{FileKind, File, BackLink, Entry}
+use Rattle.nofs_image.specs.Cells.{FileKind, File, BackLink, Entry}
 use Rattle.nofs_inode.specs.declared.inode.FileKind.TheVariants.{Directory as Folder}
-use Rattle.nofs_model.specs.Image.{Files, FileState, Agreed, is_folder, entry_in_file, entry_at, entry_held, names, is_a, is_pair, links_of}
-use Rattle.nofs_model.specs.declared.value.Value.{Value}
-use Rattle.nofs_model.proofs.Find.{and-both}
-use Rattle.nofs_model.proofs.Chains.{PairOf, pair-of}
+use Rattle.nofs_image.specs.Image.{Files, FileState, Agreed, is_folder, entry_in_file, entry_at, entry_held, names, is_a, is_pair, links_of}
+use Rattle.nofs_image.specs.declared.value.Value.{Value}
+use Rattle.nofs_image.proofs.Find.{and-both}
+use Rattle.nofs_image.proofs.Chains.{PairOf, pair-of}
 use Rattle.nofs_machine.specs.Meta.{Meta, Gone, Is}
 use Rattle.nofs_machine.specs.Search.{first_of}
 use Rattle.nofs_machine.specs.Machine.{Given, nothing, gives, found, bytes_in, is_paired, filled, after_meta, born_file, file_after, files_after, is_refused}

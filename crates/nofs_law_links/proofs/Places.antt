@@ -2,7 +2,7 @@
 use Rattle.std.proofs.Common.{◌≡◌, ◌≢◌, ℕ, zero, suc, ◌+◌, ◌<◌, Bool, true, false, cond, List, [], ◌∷◌, ◌++◌, length, take, drop, get_or, Some, refl, ap, ◌∙◌}
 use Rattle.std.proofs.Common.{subst, arith, Contains}
 use Rattle.std.specs.Prelude.{slice_get}
-use Rattle.nofs_model.specs.Cells.{BackLink}
+use Rattle.nofs_image.specs.Cells.{BackLink}
 use Rattle.nofs_machine.specs.Machine.{same_link, set_link, without_link, place_for_link}
 use Rattle.nofs_law_links.specs.Pairs.{HasAt}
 

@@ -6,10 +6,10 @@ use Rattle.std.proofs.lemmas.Bool.{cases_lt}
 use Rattle.std.proofs.lemmas.List.{length-replicate}
 use Rattle.nofs_disk.specs.Parts.{length-put_bytes}
 use Rattle.nofs_dirent.specs.Entries.{spelled_entry}
-use Rattle.nofs_model.specs.Cells.{FileKind, Entry}
-use Rattle.nofs_model.specs.Image.{Files, FileState, is_folder, entry_at}
-use Rattle.nofs_model.specs.declared.value.Value.{Value}
-use Rattle.nofs_model.specs.declared.value.Value.TheVariants.{Hole}
+use Rattle.nofs_image.specs.Cells.{FileKind, Entry}
+use Rattle.nofs_image.specs.Image.{Files, FileState, is_folder, entry_at}
+use Rattle.nofs_image.specs.declared.value.Value.{Value}
+use Rattle.nofs_image.specs.declared.value.Value.TheVariants.{Hole}
 use Rattle.nofs_machine.specs.Meta.{Meta, Gone, Is}
 use Rattle.nofs_machine.specs.Search.{first_of}
 use Rattle.nofs_machine.specs.Machine.{Given, gives, at_place, found, place_for, link_place, make_given, link_given, drop_given, rename_given, entry_given}

@@ -7,11 +7,11 @@ use Rattle.nofs_dirent.specs.Names.{NameOk, is_name}
 use Rattle.nofs_dirent.specs.NameLaws.{is_name-Decides}
 use Rattle.nofs_dirent.specs.Entries.{spelled_entry}
 use Rattle.nofs_dirent.specs.EntryLaws.{spelled_entry-spells, length-spelled_entry}
-use Rattle.nofs_model.specs.Cells.{BackLink, Entry, is_empty_link}
-use Rattle.nofs_model.specs.Image.{Files, FileState, is_folder, entry_at, entry_held, is_pair, is_special, links_of}
-use Rattle.nofs_model.specs.declared.value.Value.{Value}
-use Rattle.nofs_model.specs.declared.value.Value.TheVariants.{Lost}
-use Rattle.nofs_model.proofs.Chains.{pair-of, true-any}
+use Rattle.nofs_image.specs.Cells.{BackLink, Entry, is_empty_link}
+use Rattle.nofs_image.specs.Image.{Files, FileState, is_folder, entry_at, entry_held, is_pair, is_special, links_of}
+use Rattle.nofs_image.specs.declared.value.Value.{Value}
+use Rattle.nofs_image.specs.declared.value.Value.TheVariants.{Lost}
+use Rattle.nofs_image.proofs.Chains.{pair-of, true-any}
 use Rattle.nofs_machine.specs.Meta.{Meta, Gone, Is}
 use Rattle.nofs_machine.specs.Search.{first_of}
 use Rattle.nofs_machine.specs.Machine.{gives, at_place, found, place_for, link_place, place_for_link, make_given, link_given, drop_given, rename_given}

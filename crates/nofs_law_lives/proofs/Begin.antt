@@ -4,16 +4,16 @@ use Rattle.std.proofs.Common.{◌≡◌, ◌≢◌, ℕ, ◌+◌, ◌*◌, ◌^�
 use Rattle.std.proofs.Common.{Option, Some, None, IfSome, Contains, refl, sym, ap, subst, subst₂, arith, eqb-true, eq-eqb}
 use Rattle.std.proofs.lemmas.List.Elements.{Contains-append_cases}
 use Rattle.nofs_law_lives.specs.Lives.{OnlySuper, GivenBy, LawGiven, LawBegin, LawUpgraded}
-use Rattle.nofs_model.proofs.Find.{and-both}
-use Rattle.nofs_model.proofs.Sound.{tag-below, record-below}
+use Rattle.nofs_image.proofs.Find.{and-both}
+use Rattle.nofs_image.proofs.Sound.{tag-below, record-below}
 use Rattle.nofs_law_maps.proofs.Fresh.{sole-is}
 use Rattle.nofs_machine.specs.declared.history.Entry1.{Entry1}
 use Rattle.nofs_machine.specs.Machine.{given_by, files_by}
 use Rattle.nofs_machine.specs.History.{values_given}
 use Rattle.nofs_machine.specs.World.{world_of}
-use Rattle.nofs_model.specs.Cells.{Cell, Super, Directory, Leaf, Tag, tag_of, pointer_at, entry_in}
-use Rattle.nofs_model.specs.Image.{is_super, is_geometry, Image, cell_at, super_at, is_mountable, CellBelow, IsBelow}
-use Rattle.nofs_model.specs.declared.value.Value.{Value}
+use Rattle.nofs_image.specs.Cells.{Cell, Super, Directory, Leaf, Tag, tag_of, pointer_at, entry_in}
+use Rattle.nofs_image.specs.Image.{is_super, is_geometry, Image, cell_at, super_at, is_mountable, CellBelow, IsBelow}
+use Rattle.nofs_image.specs.declared.value.Value.{Value}
 
 nothing-in : (v : Value) → Contains [] v → ⊥
 nothing-in v (k, lt, e) = omega (arith, lt)

@@ -6,7 +6,7 @@ use Rattle.std.proofs.lemmas.Bool.{cases_lt}
 use Rattle.std.proofs.lemmas.List.Elements.{Contains-append_cases}
 use Rattle.nofs_law_maps.specs.Fresh.{needed}
 use Rattle.nofs_law_lives.specs.Lives.{Life, IsLife, SameOrUpgraded, NextLife, Lives, numbers_of, claimed_in, claimed_by, Rising, LawOnce}
-use Rattle.nofs_model.proofs.Sound.{supers}
+use Rattle.nofs_image.proofs.Sound.{supers}
 use Rattle.nofs_law_maps.proofs.Fresh.{sole-is}
 use Rattle.nofs_machine.specs.declared.steps.Step.{Step}
 use Rattle.nofs_machine.specs.declared.replies.Refusal.{Refusal}
@@ -19,8 +19,8 @@ use Rattle.nofs_machine.specs.Claims.{no_claims, claimed_blocks, IsClaim, next_s
 use Rattle.nofs_machine.specs.Next.{Keeps, Next, AfterFault, ByRow, Done, ByRead, ByWrite, Run}
 use Rattle.nofs_machine.specs.declared.steps.Step.TheVariants as step
 use Rattle.nofs_machine.specs.declared.replies.Refusal.TheVariants as refusal
-use Rattle.nofs_model.specs.Cells.{Pointer, SuperBlock}
-use Rattle.nofs_model.specs.Image.{Image, super_at}
+use Rattle.nofs_image.specs.Cells.{Pointer, SuperBlock}
+use Rattle.nofs_image.specs.Image.{Image, super_at}
 
 abbrev pub AllUnder : ℕ → List ℕ → Type 0
 AllUnder high [] = Unit {0}

@@ -2,13 +2,13 @@
 use Rattle.std.proofs.Common.{◌≡◌, ℕ, ◌<◌, ◌⊎◌, inl, inr, true, eqb, List, [], ◌∷◌, ◌++◌, sym, ap, ◌∙◌, subst, Contains, eqb-true}
 use Rattle.nofs_ptrs.specs.Paths.{slot_limit}
 use Rattle.nofs_law_lives.specs.Lives.{SameOrUpgraded, Life, NextLife, Lives, GivenIn, LawLives}
-use Rattle.nofs_model.proofs.Find.{and-both}
+use Rattle.nofs_image.proofs.Find.{and-both}
 use Rattle.nofs_machine.proofs.Lives.{left-given}
 use Rattle.nofs_law_lives.proofs.OnlySuper.{same-inode, same-value, no-bytes}
 use Rattle.nofs_machine.specs.History.{agreed_files, values_given, is_generation}
-use Rattle.nofs_model.specs.Cells.{Record, is_live}
-use Rattle.nofs_model.specs.Image.{Image, inode, value}
-use Rattle.nofs_model.specs.declared.value.Value.TheVariants.{Bytes}
+use Rattle.nofs_image.specs.Cells.{Record, is_live}
+use Rattle.nofs_image.specs.Image.{Image, inode, value}
+use Rattle.nofs_image.specs.declared.value.Value.TheVariants.{Bytes}
 
 lives-tail : (l : Life) (ls : List Life) → Lives (l ∷ ls) → Lives ls
 lives-tail l [] h = tt

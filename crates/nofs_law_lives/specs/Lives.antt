@@ -10,11 +10,11 @@ use Rattle.nofs_machine.specs.World.{World, world_of}
 use Rattle.nofs_machine.specs.Claims.{claimed_blocks}
 use Rattle.nofs_machine.specs.Next.{Run}
 use Rattle.nofs_machine.specs.Good.{IsFresh}
-use Rattle.nofs_model.specs.Cells.{Super, is_null, tag_of}
-use Rattle.nofs_model.specs.Image.{is_super, Image, cell_at, super_at, inode, record_pointer, value, Files, files_in, agreed, is_used_inode, is_used_block}
-use Rattle.nofs_model.specs.Image.{IsSound}
-use Rattle.nofs_model.specs.declared.value.Value.TheVariants.{Bytes}
-use Rattle.nofs_model.specs.declared.value.Value.{Value}
+use Rattle.nofs_image.specs.Cells.{Super, is_null, tag_of}
+use Rattle.nofs_image.specs.Image.{is_super, Image, cell_at, super_at, inode, record_pointer, value, Files, files_in, agreed, is_used_inode, is_used_block}
+use Rattle.nofs_image.specs.Image.{IsSound}
+use Rattle.nofs_image.specs.declared.value.Value.TheVariants.{Bytes}
+use Rattle.nofs_image.specs.declared.value.Value.{Value}
 
 -- A life: its base, which is the disk as the mount's flush left it, with the raised number; the entries until the crash; and
 -- the world at its end. A life that ended inside the raise of its mount number has no entries.

@@ -1,10 +1,10 @@
 -- No refusal that a row names is a fault of the device, and no answer is.
 use Rattle.std.proofs.Common.{◌≡◌, ℕ, ◌-◌, Bool, true, false, cond, not, List, Option, Some, None}
 use Rattle.std.proofs.Common.{refl}
-use Rattle.nofs_model.specs.Cells.{Entry}
-use Rattle.nofs_model.specs.Image.{FileState, entry_at}
-use Rattle.nofs_model.specs.declared.value.Value.{Value}
-use Rattle.nofs_model.specs.declared.value.Value.TheVariants.{Hole, Bytes, Lost}
+use Rattle.nofs_image.specs.Cells.{Entry}
+use Rattle.nofs_image.specs.Image.{FileState, entry_at}
+use Rattle.nofs_image.specs.declared.value.Value.{Value}
+use Rattle.nofs_image.specs.declared.value.Value.TheVariants.{Hole, Bytes, Lost}
 use Rattle.nofs_machine.specs.Search.{least_from, first_of}
 use Rattle.nofs_machine.specs.Machine.{found, value_of, is_hole, is_lost, link_to, generation_of}
 use Rattle.nofs_machine.specs.World.{World}

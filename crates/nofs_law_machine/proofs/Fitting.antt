@@ -5,10 +5,10 @@ use Rattle.std.proofs.lemmas.List.Elements.{All-nil, All-cons, All-append}
 use Rattle.nofs_disk.specs.Number.{number_at}
 use Rattle.nofs_dirent.specs.Entries.{entry_of, entry_fields, has_zeros_after, entry_limit}
 use Rattle.nofs_dirent.specs.Names.{is_name}
-use Rattle.nofs_model.specs.Cells.{BackLink, Entry}
-use Rattle.nofs_model.specs.Image.{Files, FileState, entry_at, entry_in_file, entry_held, is_folder}
-use Rattle.nofs_model.specs.declared.value.Value.{Value}
-use Rattle.nofs_model.specs.declared.value.Value.TheVariants.{Hole, Bytes, Lost}
+use Rattle.nofs_image.specs.Cells.{BackLink, Entry}
+use Rattle.nofs_image.specs.Image.{Files, FileState, entry_at, entry_in_file, entry_held, is_folder}
+use Rattle.nofs_image.specs.declared.value.Value.{Value}
+use Rattle.nofs_image.specs.declared.value.Value.TheVariants.{Hole, Bytes, Lost}
 use Rattle.nofs_machine.specs.Search.{count_below, least_from, first_of}
 use Rattle.nofs_machine.specs.Machine.{link_to, generation_of, value_of, is_lost, is_hole, found}
 use Rattle.nofs_machine.specs.Steps.{InRange, Fits}

@@ -1,7 +1,7 @@
 -- What the rows of refusals name: no fault of the device, and numbers of the world after the step.
 use Rattle.std.proofs.Common.{◌≡◌, ℕ, ◌+◌, ◌-◌, ◌*◌, ◌/◌, Bool, true, false, cond, ltb, ◌&&◌, List, [], ◌∷◌, Option, Some, None}
 use Rattle.std.proofs.Common.{is_some, option_map, refl, min}
-use Rattle.nofs_model.specs.Image.{InRecord, Under}
+use Rattle.nofs_image.specs.Image.{InRecord, Under}
 use Rattle.nofs_machine.specs.Search.{first_of}
 use Rattle.nofs_machine.specs.Machine.{found, first_dead, first_lost_slot, size_of, slots_in, node_of}
 use Rattle.nofs_machine.specs.World.{World, unverified_inodes, unverified_blocks, next_inode}

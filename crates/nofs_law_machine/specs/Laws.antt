@@ -1,9 +1,9 @@
 -- Laws of the machine's step: it is total, and but for what is left to choice a function.
 use Rattle.std.specs.Prelude.{◌≡◌, ℕ, ◌≤◌, Bool, true, false, List, [], ◌∷◌, length, Some}
-use Rattle.nofs_model.specs.declared.value.Value.TheVariants.{Bytes}
+use Rattle.nofs_image.specs.declared.value.Value.TheVariants.{Bytes}
 use Rattle.nofs_machine.specs.Machine.{value_of}
 use Rattle.nofs_machine.specs.Steps.{Fits}
-use Rattle.nofs_model.specs.Image.{Image, FileState}
+use Rattle.nofs_image.specs.Image.{Image, FileState}
 use Rattle.nofs_machine.specs.Meta.{Is}
 use Rattle.nofs_machine.specs.History.{agreed_files, files_along, NoWriteFault, accepted_of, accepted_meta_of, last_in}
 use Rattle.nofs_machine.specs.World.{World}

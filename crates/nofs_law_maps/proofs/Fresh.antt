@@ -4,13 +4,13 @@ use Rattle.nofs_machine.proofs.ClaimParts.{claim-count, claim-stamps, claim-inod
 use Rattle.std.proofs.Common.{◌≡◌, ◌≢◌, ℕ, zero, suc, ◌+◌, ◌-◌, ◌*◌, ◌/◌, ◌%◌, ◌^◌, ◌<◌, ◌≤◌, inl, inr, Bool, true, false, cond, leb, ltb, List, [], ◌∷◌}
 use Rattle.std.proofs.Common.{length, Option, Some, IfSome, Contains, refl, sym, ap, ◌∙◌, subst, arith, leb-true, ltb-true}
 use Rattle.std.proofs.lemmas.List.Elements.{Contains-append_cases}
-use Rattle.nofs_model.specs.declared.path.PathAnswer.{PathAnswer}
+use Rattle.nofs_image.specs.declared.path.PathAnswer.{PathAnswer}
 use Rattle.nofs_law_maps.specs.Fresh.{needed, Numbered, Old, Stamp, Generation, RecordNumbers, CellNumbers, InContent, InDirectory, InPointers, InTable}
 use Rattle.nofs_law_maps.specs.Fresh.{OnlyNumbered, AllBelow, LawFresh, LawOld}
-use Rattle.nofs_model.proofs.Find.{and-both, find-held}
-use Rattle.nofs_model.proofs.Sound.{if-some, tag-below, record-below, ranges}
+use Rattle.nofs_image.proofs.Find.{and-both, find-held}
+use Rattle.nofs_image.proofs.Sound.{if-some, tag-below, record-below, ranges}
 use Rattle.nofs_law_untouched.proofs.Given.{not-table}
-use Rattle.nofs_model.specs.declared.path.PathAnswer.TheVariants as answer
+use Rattle.nofs_image.specs.declared.path.PathAnswer.TheVariants as answer
 use Rattle.nofs_machine.specs.declared.steps.Step.{Step}
 use Rattle.nofs_machine.specs.declared.history.Claims.{Claims}
 use Rattle.nofs_machine.specs.Machine.{is_write_fault}
@@ -18,10 +18,10 @@ use Rattle.nofs_machine.specs.World.{World, inodes_needed}
 use Rattle.nofs_machine.specs.Claims.{no_claims, claimed_blocks, IsClaim, next_stamp}
 use Rattle.nofs_machine.specs.Next.{Keeps, AfterFault, ByRow, Done, ByRead, ByWrite}
 use Rattle.nofs_machine.specs.Good.{IsFresh}
-use Rattle.nofs_model.specs.Cells.{Cell, Kind, Content, Directory, Leaf, Table, Tag, Pointer, Record, Entry, tag_of, null, pointer_at, record_at, free_record}
-use Rattle.nofs_model.specs.Cells.{is_live, entry_in}
-use Rattle.nofs_model.specs.Image.{is_super, is_geometry, Image, cell_at, super_at, is_mountable, is_inode, inode, InRecord, Under, tag_for, find, pointer}
-use Rattle.nofs_model.specs.Image.{TagBelow, RecordBelow, CellBelow, IsBelow}
+use Rattle.nofs_image.specs.Cells.{Cell, Kind, Content, Directory, Leaf, Table, Tag, Pointer, Record, Entry, tag_of, null, pointer_at, record_at, free_record}
+use Rattle.nofs_image.specs.Cells.{is_live, entry_in}
+use Rattle.nofs_image.specs.Image.{is_super, is_geometry, Image, cell_at, super_at, is_mountable, is_inode, inode, InRecord, Under, tag_for, find, pointer}
+use Rattle.nofs_image.specs.Image.{TagBelow, RecordBelow, CellBelow, IsBelow}
 
 -- What is claimed is below the next number
 

@@ -4,17 +4,17 @@ use Rattle.std.proofs.Common.{◌≡◌, ◌≢◌, ℕ, ◌+◌, ◌/◌, ◌<�
 use Rattle.std.proofs.Common.{◌∙◌, subst, arith, lt-ltb}
 use Rattle.std.proofs.lemmas.Bool.Decides.{nat_tests}
 use Rattle.nofs_law_maps.specs.Homes.{SameNumbers, LawGoodDone, LawGoodKept, LawClaims}
-use Rattle.nofs_model.proofs.Find.{and-both}
-use Rattle.nofs_model.proofs.Sound.{supers}
-use Rattle.nofs_model.proofs.Owners.{unowned-free}
+use Rattle.nofs_image.proofs.Find.{and-both}
+use Rattle.nofs_image.proofs.Sound.{supers}
+use Rattle.nofs_image.proofs.Owners.{unowned-free}
 use Rattle.nofs_law_maps.proofs.Homes.{law-homes, law-good, uses-inode}
 use Rattle.nofs_machine.specs.History.{FilesMatch}
 use Rattle.nofs_machine.specs.World.{World, uses_inode, uses_block}
 use Rattle.nofs_machine.specs.Claims.{claimed_blocks}
 use Rattle.nofs_machine.specs.Next.{Keeps}
 use Rattle.nofs_machine.specs.Good.{MatchesSuper}
-use Rattle.nofs_model.specs.Cells.{Pointer, SuperBlock}
-use Rattle.nofs_model.specs.Image.{Image, cell_at, super_at, owner, Home, Files, is_special, is_used_block}
+use Rattle.nofs_image.specs.Cells.{Pointer, SuperBlock}
+use Rattle.nofs_image.specs.Image.{Image, cell_at, super_at, owner, Home, Files, is_special, is_used_block}
 
 -- the numbers of a world go on, and so does block 0
 pub numbers-on : (W V : World) (X Y : Image) → SameNumbers W V → cell_at Y 0 ≡ cell_at X 0 → MatchesSuper W X → MatchesSuper V Y

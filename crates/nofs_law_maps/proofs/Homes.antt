@@ -4,27 +4,27 @@ use Rattle.std.proofs.Common.{refl, sym, ap, ◌∙◌, subst, arith, lt-ltb, le
 use Rattle.std.proofs.lemmas.Bool.{cases_lt}
 use Rattle.std.proofs.lemmas.Bool.Decides.{nat_tests}
 use Rattle.nofs_ptrs.specs.Paths.{slot_limit}
-use Rattle.nofs_model.specs.declared.path.PathAnswer.{PathAnswer}
+use Rattle.nofs_image.specs.declared.path.PathAnswer.{PathAnswer}
 use Rattle.nofs_law_maps.specs.Homes.{Houses, HomesMove, LawHomes, LawGood}
-use Rattle.nofs_model.proofs.Find.{find-held}
-use Rattle.nofs_model.proofs.Paths.{path_of-slot_of, path-record, path-child, path_of-number}
+use Rattle.nofs_image.proofs.Find.{find-held}
+use Rattle.nofs_image.proofs.Paths.{path_of-slot_of, path-record, path-child, path_of-number}
 use Rattle.nofs_law_untouched.proofs.Matching.{matched-file, matched-agreed}
-use Rattle.nofs_model.proofs.Owners.{owner-of, owner-holds, owner-slot}
+use Rattle.nofs_image.proofs.Owners.{owner-of, owner-holds, owner-slot}
 use Rattle.nofs_law_untouched.proofs.Alike.{same-of, live-some, agreed-some}
-use Rattle.nofs_model.proofs.Chains.{agreed-holds}
+use Rattle.nofs_image.proofs.Chains.{agreed-holds}
 use Rattle.nofs_law_untouched.proofs.Framing.{some-is}
-use Rattle.nofs_model.specs.declared.path.PathAnswer.TheVariants as answer
+use Rattle.nofs_image.specs.declared.path.PathAnswer.TheVariants as answer
 use Rattle.nofs_machine.specs.Meta.{is_bytes}
 use Rattle.nofs_machine.specs.declared.steps.Step.{Step}
 use Rattle.nofs_machine.specs.declared.history.Claims.{Claims}
 use Rattle.nofs_machine.specs.History.{FilesMatch, SameFile}
 use Rattle.nofs_machine.specs.World.{World}
 use Rattle.nofs_machine.specs.Claims.{claimed_home, is_present, has_block, homes_after}
-use Rattle.nofs_model.specs.Cells.{FileKind, Pointer}
-use Rattle.nofs_model.specs.Image.{Image, cell_at, super_at, inode, file_from, files_in, agreed, value_in, Path, path_of, slot_of, is_pointer_slot, find}
-use Rattle.nofs_model.specs.Image.{NodeState, Absent, Present, node_in, FileState, Files, Home, home_at, owner, is_special, IsSlot}
-use Rattle.nofs_model.specs.declared.value.Value.{Value}
-use Rattle.nofs_model.specs.declared.value.Value.TheVariants.{Bytes, Hole}
+use Rattle.nofs_image.specs.Cells.{FileKind, Pointer}
+use Rattle.nofs_image.specs.Image.{Image, cell_at, super_at, inode, file_from, files_in, agreed, value_in, Path, path_of, slot_of, is_pointer_slot, find}
+use Rattle.nofs_image.specs.Image.{NodeState, Absent, Present, node_in, FileState, Files, Home, home_at, owner, is_special, IsSlot}
+use Rattle.nofs_image.specs.declared.value.Value.{Value}
+use Rattle.nofs_image.specs.declared.value.Value.TheVariants.{Bytes, Hole}
 
 eight-le : (n : ℕ) → leb 8 (8 + n) ≡ true
 eight-le n = grind (arith, nat_tests)

@@ -4,11 +4,11 @@ use Rattle.std.proofs.Common.{◌≡◌, ℕ, ◌/◌, ◌⊎◌, inl, inr, Bool
 use Rattle.std.proofs.Common.{refl, sym, ap, ◌∙◌, subst, arith, eqb-true, eq-eqb}
 use Rattle.nofs_law_maps.specs.Homes.{Houses}
 use Rattle.nofs_law_maps.specs.Moves.{IsClaimed, ClaimsStand, LawHomesMove, LawGrow, LawShrink, LawBare}
-use Rattle.nofs_model.proofs.Find.{and-both, find-held}
-use Rattle.nofs_model.proofs.Paths.{path_of-slot, slot_of-path_of}
+use Rattle.nofs_image.proofs.Find.{and-both, find-held}
+use Rattle.nofs_image.proofs.Paths.{path_of-slot, slot_of-path_of}
 use Rattle.nofs_law_untouched.proofs.Growth.{above-or-not}
 use Rattle.nofs_law_untouched.proofs.Touching.{same-find}
-use Rattle.nofs_model.specs.declared.path.PathAnswer.TheVariants as answer
+use Rattle.nofs_image.specs.declared.path.PathAnswer.TheVariants as answer
 use Rattle.nofs_machine.specs.declared.steps.Step.{Step}
 use Rattle.nofs_machine.specs.declared.history.Claims.{Claims}
 use Rattle.nofs_machine.specs.Search.{first_of}
@@ -16,8 +16,8 @@ use Rattle.nofs_machine.specs.Machine.{place_for}
 use Rattle.nofs_machine.specs.World.{blocks_needed, blocks_at}
 use Rattle.nofs_machine.specs.Claims.{is_claimed, claimed_blocks, cell_slot, slot_above, claimed_home}
 use Rattle.nofs_machine.specs.declared.steps.Step.TheVariants as step
-use Rattle.nofs_model.specs.Cells.{Pointer, Record, is_live}
-use Rattle.nofs_model.specs.Image.{Image, inode, files_in, agreed, Path, InRecord, Under, path_of, slot_of, find, Files, Home, home_at, IsSlot}
+use Rattle.nofs_image.specs.Cells.{Pointer, Record, is_live}
+use Rattle.nofs_image.specs.Image.{Image, inode, files_in, agreed, Path, InRecord, Under, path_of, slot_of, find, Files, Home, home_at, IsSlot}
 
 above-is-slot : (a : Path) → IsSlot a → IsSlot (slot_above a)
 above-is-slot (InRecord n) s = s

@@ -1,11 +1,11 @@
 -- Good goes on over each step that has no fault of writing.
 use Rattle.std.proofs.Common.{◌≡◌, ℕ, ◌<◌, Bool, true, false, Option, Some, None, refl, sym, ap, ◌∙◌, subst}
 use Rattle.nofs_law_maps.specs.Homes.{HomesMove, HomesMatch, GoodMaps, SameNumbers, LawGoodNext}
-use Rattle.nofs_model.proofs.Paths.{path_of-slot_of}
+use Rattle.nofs_image.proofs.Paths.{path_of-slot_of}
 use Rattle.nofs_law_maps.proofs.Homes.{owner-houses, holds-has, back, forth, law-good, law-homes}
 use Rattle.nofs_law_maps.proofs.Good.{numbers-on, kept-numbers}
 use Rattle.nofs_law_maps.proofs.Moves.{home-is, home_by}
-use Rattle.nofs_model.specs.declared.path.PathAnswer.TheVariants as answer
+use Rattle.nofs_image.specs.declared.path.PathAnswer.TheVariants as answer
 use Rattle.nofs_machine.specs.declared.steps.Step.{Step}
 use Rattle.nofs_machine.specs.declared.history.Claims.{Claims}
 use Rattle.nofs_machine.specs.declared.history.Entry1.{Entry1}
@@ -15,7 +15,7 @@ use Rattle.nofs_machine.specs.World.{World}
 use Rattle.nofs_machine.specs.Claims.{no_claims, cell_slot, claimed_home, has_block}
 use Rattle.nofs_machine.specs.Next.{Keeps, Next, AfterFault, ByRow, Done, ByRead, ByWrite}
 use Rattle.nofs_machine.specs.Good.{IsGood}
-use Rattle.nofs_model.specs.Image.{Image, cell_at, Path, path_of, find, Home, owner, Files, IsSlot}
+use Rattle.nofs_image.specs.Image.{Image, cell_at, Path, path_of, find, Home, owner, Files, IsSlot}
 
 -- no claims make no home
 no-home : (F : Files) (step : Step) (p : ℕ) → claimed_home F step no_claims p ≡ None

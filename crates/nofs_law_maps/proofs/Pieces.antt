@@ -1,17 +1,17 @@
 -- Where the numbers in a written cell come from.
 use Rattle.nofs_law_untouched.proofs.EntryCells.{entry-here, others}
-use Rattle.nofs_model.specs.Image.{entry_held}
-use Rattle.nofs_model.specs.declared.value.Value.{Value}
+use Rattle.nofs_image.specs.Image.{entry_held}
+use Rattle.nofs_image.specs.declared.value.Value.{Value}
 use Rattle.nofs_machine.specs.Claims.{next_stamp}
 use Rattle.std.proofs.Common.{◌≡◌, ◌≢◌, ℕ, ◌%◌, ◌<◌, Bool, true, false, eqb, Option, IfSome, refl, sym, ◌∙◌, subst, arith, eqb-true, eq-eqb}
 use Rattle.nofs_law_maps.specs.Fresh.{Numbered, Old, Stamp}
 use Rattle.nofs_law_maps.specs.Pieces.{Before, Empty, Claimed, LawPick, LawPointers, LawEntries, LawEntryNumbers}
-use Rattle.nofs_model.proofs.Find.{and-both}
+use Rattle.nofs_image.proofs.Find.{and-both}
 use Rattle.nofs_law_maps.proofs.Fresh.{law-old}
 use Rattle.nofs_machine.specs.Machine.{bytes_in}
-use Rattle.nofs_model.specs.Cells.{Entry, Pointer, entry_of, entry_in}
-use Rattle.nofs_model.specs.Image.{cell_at}
-use Rattle.nofs_model.specs.declared.value.Value.{Value}
+use Rattle.nofs_image.specs.Cells.{Entry, Pointer, entry_of, entry_in}
+use Rattle.nofs_image.specs.Image.{cell_at}
+use Rattle.nofs_image.specs.declared.value.Value.{Value}
 
 pub law-pick : LawPick
 law-pick W X may eb fresh pick b lt =

@@ -9,8 +9,8 @@ use Rattle.nofs_machine.specs.World.{World, inodes_needed, blocks_needed}
 use Rattle.nofs_machine.specs.Claims.{claimed_blocks, next_stamp}
 use Rattle.nofs_machine.specs.Next.{Next}
 use Rattle.nofs_machine.specs.Good.{IsFresh}
-use Rattle.nofs_model.specs.Cells.{Cell, Content, Directory, Leaf, Table, Tag, Pointer, Record, tag_of, pointer_at, record_at, is_live, entry_in}
-use Rattle.nofs_model.specs.Image.{Image, cell_at, super_at, is_mountable, is_data_block, is_inode, inode, record_pointer, CellBelow, IsBelow}
+use Rattle.nofs_image.specs.Cells.{Cell, Content, Directory, Leaf, Table, Tag, Pointer, Record, tag_of, pointer_at, record_at, is_live, entry_in}
+use Rattle.nofs_image.specs.Image.{Image, cell_at, super_at, is_mountable, is_data_block, is_inode, inode, record_pointer, CellBelow, IsBelow}
 
 -- how many a step claims
 abbrev pub needed : World → Step → ℕ

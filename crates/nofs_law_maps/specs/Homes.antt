@@ -1,6 +1,6 @@
 -- The homes of the machine after a step are the owners of the image after it.
 use Rattle.std.specs.Prelude.{◌≡◌, ◌≢◌, ℕ, ◌<◌, ◌⊎◌, Bool, true, false, not, Some, is_some, Contains}
-use Rattle.nofs_model.specs.declared.path.PathAnswer.TheVariants as answer
+use Rattle.nofs_image.specs.declared.path.PathAnswer.TheVariants as answer
 use Rattle.nofs_machine.specs.declared.steps.Step.{Step}
 use Rattle.nofs_machine.specs.declared.history.Claims.{Claims}
 use Rattle.nofs_machine.specs.declared.history.Entry1.{Entry1}
@@ -10,9 +10,9 @@ use Rattle.nofs_machine.specs.World.{World, uses_inode, uses_block}
 use Rattle.nofs_machine.specs.Claims.{claimed_blocks, claimed_home, homes_after, IsClaim}
 use Rattle.nofs_machine.specs.Next.{Keeps, Next}
 use Rattle.nofs_machine.specs.Good.{MatchesSuper, IsGood}
-use Rattle.nofs_model.specs.Cells.{Pointer}
-use Rattle.nofs_model.specs.Image.{Image, cell_at, super_at, is_data_block, files_in, agreed, Path, slot_of, find, Files, Home, owner, is_used_inode}
-use Rattle.nofs_model.specs.Image.{is_used_block, IsSlot, IsFree}
+use Rattle.nofs_image.specs.Cells.{Pointer}
+use Rattle.nofs_image.specs.Image.{Image, cell_at, super_at, is_data_block, files_in, agreed, Path, slot_of, find, Files, Home, owner, is_used_inode}
+use Rattle.nofs_image.specs.Image.{is_used_block, IsSlot, IsFree}
 
 -- the slot of this home holds block p, and its inode is agreed
 pub record Houses (X : Image) (home : Home) (p : ℕ) : Type 0 where

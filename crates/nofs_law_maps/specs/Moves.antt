@@ -3,13 +3,13 @@ use Rattle.std.specs.Prelude.{◌≡◌, ℕ, ◌<◌, ◌⊎◌, Bool, true, fa
 use Rattle.nofs_ptrs.specs.Paths.{slot_limit}
 use Rattle.nofs_law_untouched.specs.Frames.{OldPointers, Touches}
 use Rattle.nofs_law_maps.specs.Homes.{HomesMove}
-use Rattle.nofs_model.specs.declared.path.PathAnswer.TheVariants as answer
+use Rattle.nofs_image.specs.declared.path.PathAnswer.TheVariants as answer
 use Rattle.nofs_machine.specs.declared.steps.Step.{Step}
 use Rattle.nofs_machine.specs.declared.history.Claims.{Claims}
 use Rattle.nofs_machine.specs.World.{World}
 use Rattle.nofs_machine.specs.Claims.{is_claimed, cell_slot, slot_above, IsClaim}
-use Rattle.nofs_model.specs.Cells.{Pointer}
-use Rattle.nofs_model.specs.Image.{Image, files_in, agreed, Path, path_of, find, Home, IsAbove, IsSlot}
+use Rattle.nofs_image.specs.Cells.{Pointer}
+use Rattle.nofs_image.specs.Image.{Image, files_in, agreed, Path, path_of, find, Home, IsAbove, IsSlot}
 
 abbrev pub IsClaimed : Claims → Pointer → Type 0
 IsClaimed c y = (is_claimed y ≡ true) × ((c.cell ≡ y) ⊎ ((c.leaf ≡ y) ⊎ (c.top ≡ y)))

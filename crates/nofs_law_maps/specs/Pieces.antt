@@ -6,10 +6,10 @@ use Rattle.nofs_machine.specs.Machine.{bytes_in, with_entry}
 use Rattle.nofs_machine.specs.World.{World}
 use Rattle.nofs_machine.specs.Claims.{claimed_blocks, next_stamp}
 use Rattle.nofs_machine.specs.Good.{IsFresh}
-use Rattle.nofs_model.specs.Cells.{Cell, Entry, Pointer, is_null, is_live, entry_of, entry_in}
-use Rattle.nofs_model.specs.Image.{Image, cell_at, super_at, is_mountable, inode, Path, pointer, IsBelow, IsSlot}
-use Rattle.nofs_model.specs.declared.value.Value.{Value}
-use Rattle.nofs_model.specs.declared.value.Value.TheVariants.{Bytes}
+use Rattle.nofs_image.specs.Cells.{Cell, Entry, Pointer, is_null, is_live, entry_of, entry_in}
+use Rattle.nofs_image.specs.Image.{Image, cell_at, super_at, is_mountable, inode, Path, pointer, IsBelow, IsSlot}
+use Rattle.nofs_image.specs.declared.value.Value.{Value}
+use Rattle.nofs_image.specs.declared.value.Value.TheVariants.{Bytes}
 
 -- a pointer that a step writes: the one before, none, or a claimed one
 pub data PointerFrom (c : Claims) (X : Image) (i : ℕ) (a : Path) (x : Pointer) : Type 0 where

@@ -2,8 +2,8 @@
 use Rattle.std.proofs.Common.{◌≡◌, ◌⊎◌, ℕ, ◌<◌, inl, inr, IsTrue, List, sym, ◌∙◌, subst, subst₂, arith}
 use Rattle.std.proofs.lemmas.List.{ext_get_or}
 use Rattle.nofs_disk.specs.Disk.{DiskState, IsDisk, IsSettled, Picks, no_cell}
-use Rattle.nofs_model.specs.Cells.{Cell}
-use Rattle.nofs_model.specs.Image.{Image, cell_at}
+use Rattle.nofs_image.specs.Cells.{Cell}
+use Rattle.nofs_image.specs.Image.{Image, cell_at}
 use Rattle.nofs_law_lives.specs.Lives.{SameOrUpgraded, Upgraded}
 use Rattle.nofs_upgrade.specs.Upgrades.{IsFoundOrSecond, IsSecond, StaysOrUpgrades}
 use Rattle.nofs_law_mounts.specs.Mounts.{IsOfUpgrade, LawKeptAfter, LawSettledAfter, LawUpgradedAfter, SameOrSecond}

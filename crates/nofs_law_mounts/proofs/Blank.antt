@@ -12,11 +12,11 @@ use Rattle.nofs_super.specs.Format.{IsFormatted, cell_at-formatted, first_record
 use Rattle.nofs_super.specs.Format.{super_payload, table_cell}
 use Rattle.nofs_super.specs.Geometry.{IsGeometry, is_geometry, is_geometry-parts}
 use Rattle.nofs_super.specs.Spelling.{super_of-payload}
-use Rattle.nofs_model.specs.Cells.{Cell, Pointer, Record, SuperBlock, fields_in, free_record, is_null, link_in, null, number_at, pointer_in, record_at}
-use Rattle.nofs_model.specs.Cells.{record_of}
-use Rattle.nofs_model.specs.Image.{Image, cell_at, inode, is_inode, record_pointer, super_at, super_in}
-use Rattle.nofs_model.proofs.Sound.{mountable-law}
-use Rattle.nofs_model.proofs.Spells.{spells}
+use Rattle.nofs_image.specs.Cells.{Cell, Pointer, Record, SuperBlock, fields_in, free_record, is_null, link_in, null, number_at, pointer_in, record_at}
+use Rattle.nofs_image.specs.Cells.{record_of}
+use Rattle.nofs_image.specs.Image.{Image, cell_at, inode, is_inode, record_pointer, super_at, super_in}
+use Rattle.nofs_image.proofs.Sound.{mountable-law}
+use Rattle.nofs_image.proofs.Spells.{spells}
 use Rattle.nofs_law_mounts.specs.Mounts.{IsBlank, LawFirstDisk}
 
 -- a record without pointers

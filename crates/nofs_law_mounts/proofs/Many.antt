@@ -6,10 +6,10 @@ use Rattle.std.proofs.Common.{◌≡◌, ◌≢◌, ℕ, suc, ◌+◌, ◌<◌, 
 use Rattle.std.proofs.Common.{subst, arith}
 use Rattle.std.proofs.lemmas.Bool.{cases_lt}
 use Rattle.nofs_disk.specs.Disk.{DiskState, IsDisk, Picks}
-use Rattle.nofs_model.specs.Cells.{Record, is_null}
-use Rattle.nofs_model.specs.Image.{Image, inode, record_pointer}
-use Rattle.nofs_model.specs.declared.value.Value.{Value}
-use Rattle.nofs_model.specs.declared.value.Value.TheVariants.{Bytes}
+use Rattle.nofs_image.specs.Cells.{Record, is_null}
+use Rattle.nofs_image.specs.Image.{Image, inode, record_pointer}
+use Rattle.nofs_image.specs.declared.value.Value.{Value}
+use Rattle.nofs_image.specs.declared.value.Value.TheVariants.{Bytes}
 use Rattle.nofs_machine.specs.History.{agreed_files, values_given}
 use Rattle.nofs_machine.specs.World.{World, world_of}
 use Rattle.nofs_machine.specs.declared.history.Entry1.{Entry1}

@@ -7,8 +7,8 @@ use Rattle.nofs_disk.specs.Disk.{DiskState, IsDisk, Picks, no_cell}
 use Rattle.nofs_disk.specs.Adds.{WasOr}
 use Rattle.nofs_super.specs.Format.{super_cell}
 use Rattle.nofs_super.specs.Raise.{IsSuperCell, raised}
-use Rattle.nofs_model.specs.Cells.{Cell, SuperBlock}
-use Rattle.nofs_model.specs.Image.{Image, cell_at, super_at, super_in, IsSound}
+use Rattle.nofs_image.specs.Cells.{Cell, SuperBlock}
+use Rattle.nofs_image.specs.Image.{Image, cell_at, super_at, super_in, IsSound}
 use Rattle.nofs_machine.specs.Allowed.{IsAllowed}
 use Rattle.nofs_machine.specs.Next.{Run}
 use Rattle.nofs_machine.specs.World.{world_of}

@@ -8,10 +8,10 @@ use Rattle.nofs_super.specs.Format.{super_cell, super_payload}
 use Rattle.nofs_super.specs.Raise.{raised}
 use Rattle.nofs_super.specs.Spelling.{super_of-payload}
 use Rattle.nofs_super.specs.Super.{has_magic, is_version, rest_fault}
-use Rattle.nofs_model.specs.Cells.{Cell, SuperBlock, tag_of}
-use Rattle.nofs_model.specs.Image.{Image, cell_at, super_at, super_in, is_super, IsSound}
-use Rattle.nofs_model.proofs.Sound.{mountable-law}
-use Rattle.nofs_model.proofs.Spells.{Spells, spells, version-small, super-tag}
+use Rattle.nofs_image.specs.Cells.{Cell, SuperBlock, tag_of}
+use Rattle.nofs_image.specs.Image.{Image, cell_at, super_at, super_in, is_super, IsSound}
+use Rattle.nofs_image.proofs.Sound.{mountable-law}
+use Rattle.nofs_image.proofs.Spells.{Spells, spells, version-small, super-tag}
 use Rattle.nofs_law_lives.specs.Lives.{HasSuperCell, Raised}
 
 version-of : (payload : List ℕ) → is_super payload ≡ true → is_version (super_in payload).version ≡ true

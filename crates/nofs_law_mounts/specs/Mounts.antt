@@ -4,9 +4,9 @@ use Rattle.nofs_ptrs.specs.Paths.{slot_limit}
 use Rattle.nofs_disk.specs.Disk.{DiskState, IsSameDisk, IsSettled, KeepsCells, Picks}
 use Rattle.nofs_super.specs.Format.{IsFormatted, super_cell}
 use Rattle.nofs_super.specs.Raise.{raised}
-use Rattle.nofs_model.specs.Cells.{is_null}
-use Rattle.nofs_model.specs.Image.{Image, inode, record_pointer, super_at, value}
-use Rattle.nofs_model.specs.declared.value.Value.TheVariants.{Bytes}
+use Rattle.nofs_image.specs.Cells.{is_null}
+use Rattle.nofs_image.specs.Image.{Image, inode, record_pointer, super_at, value}
+use Rattle.nofs_image.specs.declared.value.Value.TheVariants.{Bytes}
 use Rattle.nofs_machine.specs.History.{agreed_files, is_generation}
 use Rattle.nofs_machine.specs.HistoryState.{HistoryState}
 use Rattle.nofs_machine.specs.World.{World}

@@ -8,19 +8,19 @@ use Rattle.nofs_machine.specs.declared.replies.Reply.{Reply}
 use Rattle.nofs_machine.specs.declared.replies.Reply.TheVariants as reply
 use Rattle.nofs_machine.specs.declared.replies.Refusal.{Refusal}
 use Rattle.nofs_machine.specs.declared.replies.Refusal.TheVariants as refusal
-use Rattle.nofs_client.specs.declared.commands.Command.{Command}
-use Rattle.nofs_client.specs.declared.commands.Command.TheVariants as command
-use Rattle.nofs_client.specs.declared.commands.Path.{Path}
-use Rattle.nofs_client.specs.declared.next.Next.{Next}
-use Rattle.nofs_client.specs.declared.next.Next.TheVariants.{Do, Say}
-use Rattle.nofs_client.specs.declared.lines.Line.{Line}
-use Rattle.nofs_client.specs.declared.lines.Line.TheVariants as line
+use Rattle.nofs_task.specs.declared.commands.Command.{Command}
+use Rattle.nofs_task.specs.declared.commands.Command.TheVariants as command
+use Rattle.nofs_task.specs.declared.commands.Path.{Path}
+use Rattle.nofs_task.specs.declared.next.Next.{Next}
+use Rattle.nofs_task.specs.declared.next.Next.TheVariants.{Do, Say}
+use Rattle.nofs_task.specs.declared.lines.Line.{Line}
+use Rattle.nofs_task.specs.declared.lines.Line.TheVariants as line
 use Rattle.nofs_client.specs.declared.progress.Progress.{Progress}
 use Rattle.nofs_client.specs.declared.progress.See.{See}
 use Rattle.nofs_client.specs.declared.progress.See.TheVariants as see
-use Rattle.nofs_client.specs.declared.task.Task.TheVariants as task
-use Rattle.nofs_client.specs.Asks.{task_asks}
-use Rattle.nofs_client.specs.Answers.{task_after}
+use Rattle.nofs_task.specs.declared.task.Task.TheVariants as task
+use Rattle.nofs_task.specs.Asks.{task_asks}
+use Rattle.nofs_task.specs.Answers.{task_after}
 use Rattle.nofs_client.specs.Drive.{fresh_progress, step_before_repeat, asks_beside, asks, goes_on, step_answered, examines_block, examines_inode}
 use Rattle.nofs_client.specs.Drive.{after_refused, after_step, after_see, after_beside, progress_after}
 use Rattle.nofs_client.specs.Runs.{Asked, made_reply}

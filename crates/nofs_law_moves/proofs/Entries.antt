@@ -4,10 +4,10 @@ use Rattle.std.proofs.Common.{◌∙◌, subst, arith, eqb-true, eq-eqb}
 use Rattle.std.specs.Prelude.{slice_get}
 use Rattle.std.proofs.lemmas.Bool.{cases_lt}
 use Rattle.std.proofs.lemmas.Option.{slice_get_within}
-use Rattle.nofs_model.specs.Image.{Image}
+use Rattle.nofs_image.specs.Image.{Image}
 use Rattle.nofs_machine.specs.Steps.{Made}
 use Rattle.nofs_machine.specs.declared.history.Entry1.{Entry1}
-use Rattle.nofs_client.specs.declared.commands.Command.{Command}
+use Rattle.nofs_task.specs.declared.commands.Command.{Command}
 use Rattle.nofs_law_runs.proofs.Along.{SaneRun, moment-at}
 use Rattle.nofs_law_moves.specs.Own.{done_of, steps_by, own_place, RunBy, place_in, end_of}
 use Rattle.nofs_law_moves.proofs.Own.{OwnEntry, own-entry, OwnStep, own-step, own-rises}

@@ -1,6 +1,6 @@
 -- A run of a move makes the steps of a move.
 use Rattle.std.proofs.Common.{inl, inr}
-use Rattle.nofs_client.specs.declared.commands.Command.TheVariants as command
+use Rattle.nofs_task.specs.declared.commands.Command.TheVariants as command
 use Rattle.nofs_client.specs.Drive.{drive_of, start_of}
 use Rattle.nofs_law_runs.proofs.Base.{sane-run}
 use Rattle.nofs_law_moves.specs.Steps.{LawSteps, LawMovedSteps}

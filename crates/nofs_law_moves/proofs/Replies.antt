@@ -1,9 +1,9 @@
 -- What an entry of a run was answered, and what it gives.
 use Rattle.std.proofs.Common.{◌≡◌, ℕ, ◌/◌, ◌-◌, Bool, true, false, cond, not, ◌||◌, List, Option, Some, None, refl, sym, ap, ◌∙◌, subst}
-use Rattle.nofs_model.specs.Cells.{BackLink, Entry}
-use Rattle.nofs_model.specs.Image.{Files, FileState, entry_at}
-use Rattle.nofs_model.specs.declared.value.Value.{Value}
-use Rattle.nofs_model.specs.declared.value.Value.TheVariants.{Hole, Bytes, Lost}
+use Rattle.nofs_image.specs.Cells.{BackLink, Entry}
+use Rattle.nofs_image.specs.Image.{Files, FileState, entry_at}
+use Rattle.nofs_image.specs.declared.value.Value.{Value}
+use Rattle.nofs_image.specs.declared.value.Value.TheVariants.{Hole, Bytes, Lost}
 use Rattle.nofs_machine.specs.Search.{least_from}
 use Rattle.nofs_machine.specs.Machine.{Given, nothing, gives, found, given_by, is_refused, is_write_fault, may_give, generation_of, link_to, value_of}
 use Rattle.nofs_machine.specs.Machine.{is_hole, is_lost}

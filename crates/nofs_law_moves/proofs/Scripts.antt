@@ -2,9 +2,9 @@
 use Rattle.std.proofs.Common.{◌≡◌, ℕ, zero, suc, List, [], ◌∷◌, ◌++◌, length, Some, refl, sym, ap, ◌∙◌, subst, append_assoc, append-nil}
 use Rattle.std.specs.Prelude.{slice_get}
 use Rattle.nofs_machine.specs.Steps.{Made}
-use Rattle.nofs_client.specs.declared.commands.Command.{Command}
-use Rattle.nofs_client.specs.declared.next.Next.TheVariants.{Say}
-use Rattle.nofs_client.specs.declared.lines.Line.{Line}
+use Rattle.nofs_task.specs.declared.commands.Command.{Command}
+use Rattle.nofs_task.specs.declared.next.Next.TheVariants.{Say}
+use Rattle.nofs_task.specs.declared.lines.Line.{Line}
 use Rattle.nofs_client.specs.Drive.{start_of}
 use Rattle.nofs_client.specs.Runs.{Asked, IsCommandRun, IsDriven, IsBegun}
 use Rattle.nofs_law_moves.specs.Own.{steps_by}

@@ -8,19 +8,19 @@ use Rattle.nofs_machine.specs.declared.steps.Step.TheVariants as step
 use Rattle.nofs_machine.specs.declared.replies.Reply.{Reply}
 use Rattle.nofs_machine.specs.declared.replies.Reply.TheVariants as reply
 use Rattle.nofs_machine.specs.declared.replies.Refusal.{Refusal}
-use Rattle.nofs_client.specs.declared.commands.Command.TheVariants as command
-use Rattle.nofs_client.specs.declared.commands.Path.{Path}
-use Rattle.nofs_client.specs.declared.next.Next.TheVariants.{Do}
-use Rattle.nofs_client.specs.declared.lines.Line.TheVariants as line
-use Rattle.nofs_client.specs.declared.places.Handle.{Handle}
-use Rattle.nofs_client.specs.declared.places.Location.{Location}
+use Rattle.nofs_task.specs.declared.commands.Command.TheVariants as command
+use Rattle.nofs_task.specs.declared.commands.Path.{Path}
+use Rattle.nofs_task.specs.declared.next.Next.TheVariants.{Do}
+use Rattle.nofs_task.specs.declared.lines.Line.TheVariants as line
+use Rattle.nofs_task.specs.declared.places.Handle.{Handle}
+use Rattle.nofs_task.specs.declared.places.Location.{Location}
 use Rattle.nofs_client.specs.declared.progress.Progress.{Progress}
-use Rattle.nofs_client.specs.declared.task.Stage.TheVariants as stage
-use Rattle.nofs_client.specs.declared.task.Task.{Task}
-use Rattle.nofs_client.specs.declared.task.Task.TheVariants as task
-use Rattle.nofs_client.specs.Places.{last_name}
-use Rattle.nofs_client.specs.Asks.{task_asks}
-use Rattle.nofs_client.specs.Answers.{task_after}
+use Rattle.nofs_task.specs.declared.task.Stage.TheVariants as stage
+use Rattle.nofs_task.specs.declared.task.Task.{Task}
+use Rattle.nofs_task.specs.declared.task.Task.TheVariants as task
+use Rattle.nofs_task.specs.Places.{last_name}
+use Rattle.nofs_task.specs.Asks.{task_asks}
+use Rattle.nofs_task.specs.Answers.{task_after}
 use Rattle.nofs_client.specs.Drive.{fresh_progress, progress_after}
 use Rattle.nofs_client.specs.Runs.{Asked}
 use Rattle.nofs_law_moves.specs.Linked.{is_idle}

@@ -7,8 +7,8 @@ use Rattle.nofs_machine.specs.declared.steps.Step.{Step}
 use Rattle.nofs_machine.specs.declared.steps.Step.TheVariants as step
 use Rattle.nofs_machine.specs.declared.replies.Reply.{Reply}
 use Rattle.nofs_machine.specs.declared.replies.Reply.TheVariants as reply
-use Rattle.nofs_client.specs.declared.commands.Path.{Path}
-use Rattle.nofs_client.specs.Places.{last_name}
+use Rattle.nofs_task.specs.declared.commands.Path.{Path}
+use Rattle.nofs_task.specs.Places.{last_name}
 
 -- whether a step never changes a file or a directory
 abbrev pub only_looks : Step → Bool

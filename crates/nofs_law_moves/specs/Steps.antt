@@ -1,19 +1,19 @@
 -- The steps of one run of the command, by their replies.
 use Rattle.std.specs.Prelude.{◌≡◌, ℕ, List, length, map, Some, slice_get}
-use Rattle.nofs_model.specs.Image.{Image}
+use Rattle.nofs_image.specs.Image.{Image}
 use Rattle.nofs_machine.specs.HistoryState.{HistoryState}
 use Rattle.nofs_machine.specs.Steps.{Made}
 use Rattle.nofs_machine.specs.declared.history.Entry1.{Entry1}
 use Rattle.nofs_machine.specs.declared.steps.Step.{Step}
 use Rattle.nofs_machine.specs.declared.replies.Reply.TheVariants as reply
-use Rattle.nofs_client.specs.declared.commands.Command.{Command}
-use Rattle.nofs_client.specs.declared.commands.Command.TheVariants as command
-use Rattle.nofs_client.specs.declared.commands.Path.{Path}
-use Rattle.nofs_client.specs.declared.next.Next.TheVariants.{Say}
-use Rattle.nofs_client.specs.declared.lines.Line.{Line}
-use Rattle.nofs_client.specs.declared.lines.Line.TheVariants as line
-use Rattle.nofs_client.specs.Commands.{HasName}
-use Rattle.nofs_client.specs.Places.{last_name}
+use Rattle.nofs_task.specs.declared.commands.Command.{Command}
+use Rattle.nofs_task.specs.declared.commands.Command.TheVariants as command
+use Rattle.nofs_task.specs.declared.commands.Path.{Path}
+use Rattle.nofs_task.specs.declared.next.Next.TheVariants.{Say}
+use Rattle.nofs_task.specs.declared.lines.Line.{Line}
+use Rattle.nofs_task.specs.declared.lines.Line.TheVariants as line
+use Rattle.nofs_task.specs.Commands.{HasName}
+use Rattle.nofs_task.specs.Places.{last_name}
 use Rattle.nofs_client.specs.Drive.{drive_of}
 use Rattle.nofs_client.specs.Runs.{made_reply, IsCommandRun, IsPartlyDriven}
 use Rattle.nofs_law_runs.specs.Bases.{IsHistory}

@@ -6,14 +6,14 @@ use Rattle.std.proofs.lemmas.List.Elements.{Contains-append_left}
 use Rattle.nofs_law_images.specs.Reasons.{Holes}
 use Rattle.nofs_law_images.specs.Proper.{Proper, OfPointers, OfTable, RecordProper, Unchanged, Changed, PointerProper, Same, Cut, New}
 use Rattle.nofs_law_images.specs.Moments.{during}
-use Rattle.nofs_model.proofs.Find.{find-held}
-use Rattle.nofs_model.specs.declared.path.PathAnswer.TheVariants as answer
+use Rattle.nofs_image.proofs.Find.{find-held}
+use Rattle.nofs_image.specs.declared.path.PathAnswer.TheVariants as answer
 use Rattle.nofs_machine.specs.Meta.{Meta, Gone, Is, meta_of}
 use Rattle.nofs_machine.specs.Marks.{Mark}
 use Rattle.nofs_machine.specs.Machine.{Given}
-use Rattle.nofs_model.specs.Cells.{Cell, FileKind, BackLink, Tag, Pointer, Record, tag_of, pointer_at, record_at, is_live}
-use Rattle.nofs_model.specs.Image.{Image, cell_at, is_data_block, is_inode, inode, tag_for, Path, InRecord, Under, leaf, find, pointer, record_pointer, IsFree}
-use Rattle.nofs_model.specs.declared.value.Value.TheVariants.{Hole}
+use Rattle.nofs_image.specs.Cells.{Cell, FileKind, BackLink, Tag, Pointer, Record, tag_of, pointer_at, record_at, is_live}
+use Rattle.nofs_image.specs.Image.{Image, cell_at, is_data_block, is_inode, inode, tag_for, Path, InRecord, Under, leaf, find, pointer, record_pointer, IsFree}
+use Rattle.nofs_image.specs.declared.value.Value.TheVariants.{Hole}
 use Rattle.nofs_law_untouched.specs.Frames.{SameMeta}
 use Rattle.nofs_law_untouched.specs.Grows.{ClaimedCell}
 use Rattle.nofs_law_untouched.proofs.Claiming.{fresh-tag}

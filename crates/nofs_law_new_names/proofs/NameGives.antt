@@ -13,17 +13,17 @@ use Rattle.nofs_law_old_names.proofs.NameRename.{value-held}
 use Rattle.nofs_dirent.specs.EntryLaws.{Spells}
 use Rattle.nofs_law_old_names.proofs.NameLinks.{table-proper, relinked-proper}
 use Rattle.nofs_law_new_names.proofs.NameNew.{birth-proper, link-matches, make-matches}
-use Rattle.nofs_model.specs.declared.path.PathAnswer.TheVariants as answer
+use Rattle.nofs_image.specs.declared.path.PathAnswer.TheVariants as answer
 use Rattle.nofs_machine.specs.Meta.{Meta, Gone, Is}
 use Rattle.nofs_machine.specs.Marks.{Mark}
 use Rattle.nofs_machine.specs.declared.history.Claims.{Claims}
 use Rattle.nofs_machine.specs.Machine.{Given, files_after, value_of, bytes_in, with_entry, entry_given, link_given, make_given, meta_given, set_link, link_to}
 use Rattle.nofs_machine.specs.Machine.{is_paired}
 use Rattle.nofs_machine.specs.History.{FilesMatch, SameFile}
-use Rattle.nofs_model.specs.Cells.{FileKind, BackLink, Pointer, spelled_entry}
-use Rattle.nofs_model.specs.Image.{Image, cell_at, super_at, is_data_block, inode, files_in, path_of, find, FileState, Files, is_folder, entry_held, is_special}
-use Rattle.nofs_model.specs.declared.value.Value.{Value}
-use Rattle.nofs_model.specs.declared.value.Value.TheVariants.{Bytes, Lost}
+use Rattle.nofs_image.specs.Cells.{FileKind, BackLink, Pointer, spelled_entry}
+use Rattle.nofs_image.specs.Image.{Image, cell_at, super_at, is_data_block, inode, files_in, path_of, find, FileState, Files, is_folder, entry_held, is_special}
+use Rattle.nofs_image.specs.declared.value.Value.{Value}
+use Rattle.nofs_image.specs.declared.value.Value.TheVariants.{Bytes, Lost}
 use Rattle.nofs_machine.specs.Gives.{GivesNothing, GivesCell, GivesMeta, GivesBirth}
 use Rattle.nofs_law_old_names.specs.Names.{InPlace, Relinked, NameWrites}
 use Rattle.nofs_law_new_names.specs.Holes.{IsNewRecord, first_links}

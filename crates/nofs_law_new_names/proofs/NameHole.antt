@@ -3,21 +3,21 @@ use Rattle.std.proofs.Common.{◌≡◌, ◌≢◌, ℕ, ◌<◌, ◌≤◌, ◌
 use Rattle.std.proofs.Common.{eq-eqb, leb-true}
 use Rattle.nofs_ptrs.specs.Paths.{slot_limit}
 use Rattle.nofs_law_untouched.specs.Frames.{SameIdentity, OldPointers}
-use Rattle.nofs_model.proofs.Find.{find-held}
-use Rattle.nofs_model.proofs.Paths.{path_of-content, path_of-slot_of}
+use Rattle.nofs_image.proofs.Find.{find-held}
+use Rattle.nofs_image.proofs.Paths.{path_of-content, path_of-slot_of}
 use Rattle.nofs_law_untouched.proofs.Matching.{matched-file}
 use Rattle.nofs_law_untouched.proofs.Framing.{some-is}
 use Rattle.nofs_law_untouched.proofs.Touching.{one-owner, rewrites}
 use Rattle.nofs_law_untouched.proofs.Growth.{on-path, off-path, value-on, value-off}
 use Rattle.nofs_law_old_names.proofs.NameFiles.{touches-of, directory-file}
-use Rattle.nofs_model.specs.declared.path.PathAnswer.TheVariants as answer
+use Rattle.nofs_image.specs.declared.path.PathAnswer.TheVariants as answer
 use Rattle.nofs_machine.specs.Machine.{Given, files_after}
 use Rattle.nofs_machine.specs.History.{FilesMatch, SameFile}
-use Rattle.nofs_model.specs.Cells.{Tag, Pointer, Record, tag_of, pointer_at, is_null}
-use Rattle.nofs_model.specs.Image.{super_in, Image, cell_at, super_at, is_data_block, inode, files_in, agreed, value, node_in, tag_for, Path, InRecord, Under}
-use Rattle.nofs_model.specs.Image.{leaf, path_of, slot_of, is_pointer_slot, find, Present, FileState, Files, record_pointer, IsAbove, IsSlot, IsFree}
-use Rattle.nofs_model.specs.declared.value.Value.{Value}
-use Rattle.nofs_model.specs.declared.value.Value.TheVariants.{Bytes}
+use Rattle.nofs_image.specs.Cells.{Tag, Pointer, Record, tag_of, pointer_at, is_null}
+use Rattle.nofs_image.specs.Image.{super_in, Image, cell_at, super_at, is_data_block, inode, files_in, agreed, value, node_in, tag_for, Path, InRecord, Under}
+use Rattle.nofs_image.specs.Image.{leaf, path_of, slot_of, is_pointer_slot, find, Present, FileState, Files, record_pointer, IsAbove, IsSlot, IsFree}
+use Rattle.nofs_image.specs.declared.value.Value.{Value}
+use Rattle.nofs_image.specs.declared.value.Value.TheVariants.{Bytes}
 use Rattle.nofs_machine.specs.Gives.{GivesCell}
 use Rattle.nofs_law_untouched.specs.Frames.{SameMeta}
 use Rattle.nofs_law_untouched.specs.Grows.{IsPlaced, Grows}
@@ -93,7 +93,7 @@ leaf-hole-grows s X Y d i n x y apart owned h = record {
   area = on-leaf (λ a. is_data_block Y (leaf_places y x a).block ≡ true) n (rw z h.cell.area) (rw z hx.agrees.area);
   tag = on-leaf (λ a. tag_of (cell_at Y (leaf_places y x a).block).tag ≡ Some (tag_for Y d a (leaf_places y x a).stamp)) n h.cell.tag
       (h.tag ∙ hx.agrees.tag ∙ ap (λ (r : Record). Some (record {
-        kind = Rattle.nofs_model.specs.Image.kind_in r leaf;
+        kind = Rattle.nofs_image.specs.Image.kind_in r leaf;
         inode = d;
         generation =
             r.generation;
@@ -116,7 +116,7 @@ leaf-hole-grows s X Y d i n x y apart owned h = record {
     same : inode Y d ≡ inode X d
     same = h.records d (λ t. apart (sym t))
 
-    hx : Rattle.nofs_model.proofs.Find.HoldsAt X d leaf y
+    hx : Rattle.nofs_image.proofs.Find.HoldsAt X d leaf y
     hx = find-held X d leaf y h.held
 
     z : super_at Y ≡ super_at X

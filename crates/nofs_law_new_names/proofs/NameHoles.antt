@@ -4,12 +4,12 @@ use Rattle.nofs_ptrs.specs.Paths.{slot_limit}
 use Rattle.nofs_law_untouched.proofs.Claiming.{holes-under}
 use Rattle.std.proofs.Common.{◌≡◌, ◌≢◌, ℕ, ◌+◌, ◌-◌, ◌/◌, ◌%◌, ◌<◌, ◌≤◌, ◌⊎◌, inl, inr, true, false, List, length, Some, None, is_some, refl, sym, ap, ◌∙◌}
 use Rattle.std.proofs.Common.{subst, arith, Contains, eq-eqb}
-use Rattle.nofs_model.specs.declared.path.PathAnswer.{PathAnswer}
+use Rattle.nofs_image.specs.declared.path.PathAnswer.{PathAnswer}
 use Rattle.nofs_law_images.specs.Reasons.{Holes, ReadsSince}
 use Rattle.nofs_law_images.specs.Proper.{Proper, RecordProper, Unchanged}
 use Rattle.nofs_law_images.specs.Moments.{during}
 use Rattle.nofs_law_untouched.specs.Frames.{OldPointers}
-use Rattle.nofs_model.proofs.Paths.{path-direct, path-leaf}
+use Rattle.nofs_image.proofs.Paths.{path-direct, path-leaf}
 use Rattle.nofs_law_untouched.proofs.Matching.{matched-file}
 use Rattle.nofs_law_untouched.proofs.Framing.{some-is}
 use Rattle.nofs_law_untouched.proofs.Given.{file-apart, none-apart, meta-stays, value-of}
@@ -21,17 +21,17 @@ use Rattle.nofs_law_new_names.proofs.NameGives.{link-cell, link-meta, make-birth
 use Rattle.nofs_law_new_names.proofs.NameHole.{leaf_places, directory-grown, record-hole-writes, record-hole-grows, leaf-hole-grows, claimed-hole-grows}
 use Rattle.nofs_law_new_names.proofs.NameRows.{step-table-proper}
 use Rattle.nofs_law_new_names.proofs.NameClaims.{grown-record-proper, grown-leaf-proper, claimed-leaf-proper, leaf-hole-writes, claimed-hole-writes}
-use Rattle.nofs_model.specs.declared.path.PathAnswer.TheVariants as answer
+use Rattle.nofs_image.specs.declared.path.PathAnswer.TheVariants as answer
 use Rattle.nofs_machine.specs.Meta.{meta_of}
 use Rattle.nofs_machine.specs.Marks.{Mark}
 use Rattle.nofs_machine.specs.declared.history.Claims.{Claims}
 use Rattle.nofs_machine.specs.Machine.{Given, files_after, value_of, bytes_in, with_entry, link_given, make_given, set_link, link_to, is_paired}
 use Rattle.nofs_machine.specs.History.{FilesMatch, SameFile}
-use Rattle.nofs_model.specs.Cells.{Cell, FileKind, Pointer, Record, is_live, record_at, spelled_entry}
-use Rattle.nofs_model.specs.Image.{Image, cell_at, is_inode, is_data_block, inode, files_in, value_in, Path, InRecord, Under, leaf, path_of, find, FileState}
-use Rattle.nofs_model.specs.Image.{Files, is_folder, is_special}
-use Rattle.nofs_model.specs.declared.value.Value.{Value}
-use Rattle.nofs_model.specs.declared.value.Value.TheVariants.{Hole, Bytes, Lost}
+use Rattle.nofs_image.specs.Cells.{Cell, FileKind, Pointer, Record, is_live, record_at, spelled_entry}
+use Rattle.nofs_image.specs.Image.{Image, cell_at, is_inode, is_data_block, inode, files_in, value_in, Path, InRecord, Under, leaf, path_of, find, FileState}
+use Rattle.nofs_image.specs.Image.{Files, is_folder, is_special}
+use Rattle.nofs_image.specs.declared.value.Value.{Value}
+use Rattle.nofs_image.specs.declared.value.Value.TheVariants.{Hole, Bytes, Lost}
 use Rattle.nofs_machine.specs.Gives.{GivesCell}
 use Rattle.nofs_law_untouched.specs.Grows.{ClaimedCell, Grows}
 use Rattle.nofs_law_untouched.proofs.Claiming.{claimed-cell-proper}

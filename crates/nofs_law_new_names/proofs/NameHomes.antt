@@ -1,6 +1,6 @@
 -- After a step on names each block has its home.
 use Rattle.std.proofs.Common.{◌≡◌, ◌≢◌, ℕ, Bool, true, false, eqb, ◌||◌, Option, Some, None, is_some, refl, sym, ap, ◌∙◌, subst, eqb-true, eq-eqb}
-use Rattle.nofs_model.specs.Image.{files_in, agreed, FileState, Files}
+use Rattle.nofs_image.specs.Image.{files_in, agreed, FileState, Files}
 use Rattle.nofs_machine.specs.Machine.{Given, born_file, file_after, files_after}
 use Rattle.nofs_law_maps.specs.Moves.{HeldMove}
 use Rattle.nofs_law_maps.proofs.Homes.{uses-inode}

@@ -4,8 +4,8 @@ use Rattle.std.proofs.Common.{[], ◌∷◌, length, Option, Some, None, is_some
 use Rattle.std.specs.Prelude.{option_map}
 use Rattle.nofs_dirent.specs.Entries.{entry_limit}
 use Rattle.nofs_law_images.specs.Proper.{Proper, RecordProper}
-use Rattle.nofs_model.proofs.Find.{and-both}
-use Rattle.nofs_model.proofs.Chains.{agreed-holds}
+use Rattle.nofs_image.proofs.Find.{and-both}
+use Rattle.nofs_image.proofs.Chains.{agreed-holds}
 use Rattle.nofs_law_untouched.proofs.Matching.{matched-file}
 use Rattle.nofs_law_untouched.proofs.Framing.{some-is}
 use Rattle.nofs_law_untouched.proofs.Alike.{agreed-machine}
@@ -18,12 +18,12 @@ use Rattle.nofs_machine.specs.Machine.{drop_given, link_given, make_given, place
 use Rattle.nofs_machine.specs.Search.{first_of, least_from}
 use Rattle.nofs_machine.specs.History.{FilesMatch}
 use Rattle.nofs_machine.specs.declared.steps.Step.TheVariants as step
-use Rattle.nofs_model.specs.Cells.{Cell, Entry, FileKind, BackLink, record_at, free_record, is_empty_link}
+use Rattle.nofs_image.specs.Cells.{Cell, Entry, FileKind, BackLink, record_at, free_record, is_empty_link}
 use Rattle.nofs_inode.specs.declared.inode.FileKind.TheVariants.{Directory as Folder}
-use Rattle.nofs_model.specs.Image.{Image, cell_at, super_at, is_inode, is_data_block, inode, FileState, Files, entry_held, entry_in_file, entry_at, is_folder}
-use Rattle.nofs_model.specs.Image.{files_in, Agreed, root, linked, is_a, is_pair, is_special, links_of}
-use Rattle.nofs_model.specs.declared.value.Value.{Value}
-use Rattle.nofs_model.specs.declared.value.Value.TheVariants.{Hole}
+use Rattle.nofs_image.specs.Image.{Image, cell_at, super_at, is_inode, is_data_block, inode, FileState, Files, entry_held, entry_in_file, entry_at, is_folder}
+use Rattle.nofs_image.specs.Image.{files_in, Agreed, root, linked, is_a, is_pair, is_special, links_of}
+use Rattle.nofs_image.specs.declared.value.Value.{Value}
+use Rattle.nofs_image.specs.declared.value.Value.TheVariants.{Hole}
 use Rattle.nofs_law_untouched.proofs.Claiming.{super-same}
 
 -- what a least number passes
@@ -153,8 +153,8 @@ place-hole F d k h e eq = go (F d) refl
 
 is-hole-true : (v : Value) → is_hole v ≡ true → v ≡ Hole
 is-hole-true Hole e = refl
-is-hole-true (Rattle.nofs_model.specs.declared.value.Value.TheVariants.Bytes c) e = cc
-is-hole-true Rattle.nofs_model.specs.declared.value.Value.TheVariants.Lost e = cc
+is-hole-true (Rattle.nofs_image.specs.declared.value.Value.TheVariants.Bytes c) e = cc
+is-hole-true Rattle.nofs_image.specs.declared.value.Value.TheVariants.Lost e = cc
 
 some-false : (o : Option Entry) → is_some o ≡ false → o ≡ None
 some-false None e = refl

@@ -1,11 +1,11 @@
 -- The laws of Link and Make.
 use Rattle.std.proofs.Common.{◌≡◌, ◌≢◌, ℕ, ◌/◌, ◌<◌, length, Some, ap, ◌∙◌, arith}
 use Rattle.nofs_dirent.specs.Entries.{entry_limit}
-use Rattle.nofs_model.specs.Cells.{Pointer}
-use Rattle.nofs_model.specs.Image.{Image, cell_at, path_of, find, FileState, Files}
-use Rattle.nofs_model.specs.declared.path.PathAnswer.TheVariants as answer
-use Rattle.nofs_model.specs.declared.value.Value.{Value}
-use Rattle.nofs_model.specs.declared.value.Value.TheVariants.{Bytes, Lost}
+use Rattle.nofs_image.specs.Cells.{Pointer}
+use Rattle.nofs_image.specs.Image.{Image, cell_at, path_of, find, FileState, Files}
+use Rattle.nofs_image.specs.declared.path.PathAnswer.TheVariants as answer
+use Rattle.nofs_image.specs.declared.value.Value.{Value}
+use Rattle.nofs_image.specs.declared.value.Value.TheVariants.{Bytes, Lost}
 use Rattle.nofs_machine.specs.Machine.{value_of, bytes_in}
 use Rattle.nofs_machine.specs.History.{FilesMatch}
 use Rattle.nofs_law_untouched.proofs.Given.{value-of}

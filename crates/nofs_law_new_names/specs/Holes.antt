@@ -2,11 +2,11 @@
 use Rattle.std.specs.Prelude.{◌≡◌, ◌≢◌, ℕ, ◌+◌, ◌-◌, ◌/◌, ◌%◌, ◌<◌, ◌≤◌, ◌⊎◌, true, false, List, [], ◌∷◌, length, Some, None, is_some, Contains}
 use Rattle.nofs_dirent.specs.Entries.{entry_limit}
 use Rattle.nofs_dirent.specs.EntryLaws.{Spells}
-use Rattle.nofs_model.specs.Cells.{Cell, FileKind, Pointer, BackLink, tag_of, is_null, pointer_at, record_at, spelled_entry}
-use Rattle.nofs_model.specs.Image.{Image, cell_at, super_at, is_data_block, is_inode, inode, InRecord, Under, leaf, path_of, find, record_pointer, FileState}
-use Rattle.nofs_model.specs.Image.{Files, is_folder, is_special}
-use Rattle.nofs_model.specs.declared.path.PathAnswer.TheVariants as answer
-use Rattle.nofs_model.specs.declared.value.Value.TheVariants.{Hole, Bytes}
+use Rattle.nofs_image.specs.Cells.{Cell, FileKind, Pointer, BackLink, tag_of, is_null, pointer_at, record_at, spelled_entry}
+use Rattle.nofs_image.specs.Image.{Image, cell_at, super_at, is_data_block, is_inode, inode, InRecord, Under, leaf, path_of, find, record_pointer, FileState}
+use Rattle.nofs_image.specs.Image.{Files, is_folder, is_special}
+use Rattle.nofs_image.specs.declared.path.PathAnswer.TheVariants as answer
+use Rattle.nofs_image.specs.declared.value.Value.TheVariants.{Hole, Bytes}
 use Rattle.nofs_machine.specs.Meta.{meta_of}
 use Rattle.nofs_machine.specs.Marks.{Mark}
 use Rattle.nofs_machine.specs.Machine.{is_paired, with_entry, link_to, set_link, link_given, make_given, files_after}

@@ -1,6 +1,6 @@
 -- What a step on names does to the homes of the blocks.
 use Rattle.std.specs.Prelude.{◌≡◌, ◌≢◌, ℕ, true, Some, None, is_some}
-use Rattle.nofs_model.specs.Image.{Image, Home}
+use Rattle.nofs_image.specs.Image.{Image, Home}
 use Rattle.nofs_machine.specs.Machine.{Given, files_after}
 use Rattle.nofs_machine.specs.History.{FilesMatch}
 use Rattle.nofs_machine.specs.World.{World}

@@ -4,14 +4,14 @@ use Rattle.std.proofs.Common.{ap, ◌∙◌, subst, arith, Contains, eqb-true, e
 use Rattle.std.proofs.lemmas.List.Elements.{Contains-append_left, Contains-append_right, Contains-append_cases}
 use Rattle.nofs_dirent.specs.Entries.{entry_limit}
 use Rattle.nofs_ptrs.specs.Paths.{slot_limit}
-use Rattle.nofs_model.specs.Cells.{FileKind, File, Directory, Pointer, BackLink, Entry, tag_of, entry_of, entry_in, spelled_entry}
+use Rattle.nofs_image.specs.Cells.{FileKind, File, Directory, Pointer, BackLink, Entry, tag_of, entry_of, entry_in, spelled_entry}
 use Rattle.nofs_inode.specs.declared.inode.FileKind.TheVariants.{Directory as Folder}
-use Rattle.nofs_model.specs.Image.{Image, cell_at, inode, path_of, content_kind, kind_in, find, FileState, is_folder, entry_held}
-use Rattle.nofs_model.specs.declared.path.PathAnswer.TheVariants as answer
-use Rattle.nofs_model.specs.declared.value.Value.{Value}
-use Rattle.nofs_model.specs.declared.value.Value.TheVariants.{Bytes}
-use Rattle.nofs_model.proofs.Find.{find-held}
-use Rattle.nofs_model.proofs.Paths.{path_of-slot, path_of-content}
+use Rattle.nofs_image.specs.Image.{Image, cell_at, inode, path_of, content_kind, kind_in, find, FileState, is_folder, entry_held}
+use Rattle.nofs_image.specs.declared.path.PathAnswer.TheVariants as answer
+use Rattle.nofs_image.specs.declared.value.Value.{Value}
+use Rattle.nofs_image.specs.declared.value.Value.TheVariants.{Bytes}
+use Rattle.nofs_image.proofs.Find.{find-held}
+use Rattle.nofs_image.proofs.Paths.{path_of-slot, path_of-content}
 use Rattle.nofs_machine.specs.Machine.{zeros, with_entry, link_to, same_link, without_link}
 use Rattle.nofs_machine.specs.History.{FilesMatch}
 use Rattle.nofs_machine.specs.World.{World}

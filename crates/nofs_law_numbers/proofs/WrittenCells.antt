@@ -1,12 +1,12 @@
 -- The numbers of a cell in the data area: content, pointers, entries.
 use Rattle.std.proofs.Common.{◌≡◌, ◌≢◌, ℕ, suc, ◌+◌, ◌/◌, ◌%◌, ◌<◌, true, leb, ltb, length, Option, None, IfSome, refl, sym, ap, ◌∙◌, subst, arith, ltb-true}
-use Rattle.nofs_model.specs.Cells.{Cell, is_live, Directory, Leaf, Tag, Pointer, Entry, pointer_at, entry_in}
-use Rattle.nofs_model.specs.Image.{Image, cell_at, super_at, inode, Path, Under, kind_in, tag_for, find}
-use Rattle.nofs_model.specs.declared.path.PathAnswer.TheVariants as answer
-use Rattle.nofs_model.specs.declared.value.Value.{Value}
-use Rattle.nofs_model.specs.declared.value.Value.TheVariants.{Hole}
-use Rattle.nofs_model.proofs.Find.{and-both, find-held}
-use Rattle.nofs_model.proofs.Sound.{if-some}
+use Rattle.nofs_image.specs.Cells.{Cell, is_live, Directory, Leaf, Tag, Pointer, Entry, pointer_at, entry_in}
+use Rattle.nofs_image.specs.Image.{Image, cell_at, super_at, inode, Path, Under, kind_in, tag_for, find}
+use Rattle.nofs_image.specs.declared.path.PathAnswer.TheVariants as answer
+use Rattle.nofs_image.specs.declared.value.Value.{Value}
+use Rattle.nofs_image.specs.declared.value.Value.TheVariants.{Hole}
+use Rattle.nofs_image.proofs.Find.{and-both, find-held}
+use Rattle.nofs_image.proofs.Sound.{if-some}
 use Rattle.nofs_machine.specs.Machine.{zeros, bytes_in}
 use Rattle.nofs_machine.specs.World.{World}
 use Rattle.nofs_machine.specs.Claims.{next_stamp}

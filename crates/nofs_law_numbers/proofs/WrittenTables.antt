@@ -1,9 +1,9 @@
 -- The numbers of a table cell.
 use Rattle.std.proofs.Common.{◌≡◌, ℕ, ◌-◌, ◌%◌, ◌<◌, inl, inr, true, refl, sym, subst, Contains, eqb, eqb-true, arith}
 use Rattle.std.proofs.lemmas.List.Elements.{All-contains, Contains-get_or}
-use Rattle.nofs_model.specs.Cells.{Pointer, Record, BackLink, is_null, is_live, record_at}
-use Rattle.nofs_model.specs.Image.{Image, inode, InRecord, record_pointer}
-use Rattle.nofs_model.proofs.Find.{and-both}
+use Rattle.nofs_image.specs.Cells.{Pointer, Record, BackLink, is_null, is_live, record_at}
+use Rattle.nofs_image.specs.Image.{Image, inode, InRecord, record_pointer}
+use Rattle.nofs_image.proofs.Find.{and-both}
 use Rattle.nofs_machine.specs.World.{World}
 use Rattle.nofs_machine.specs.Claims.{next_stamp}
 use Rattle.nofs_machine.specs.declared.history.Claims.{Claims}

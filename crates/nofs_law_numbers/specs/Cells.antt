@@ -1,12 +1,12 @@
 -- Why each number in a written cell is one that the step may write: a cell as before but for one piece, or a claimed one.
 use Rattle.std.specs.Prelude.{◌≡◌, ◌≢◌, ℕ, ◌+◌, ◌-◌, ◌/◌, ◌%◌, ◌<◌, ◌⊎◌, true, false, Some, List, length, IfSome, Contains}
-use Rattle.nofs_model.specs.Cells.{Cell, Content, Directory, Table, Tag, Pointer, BackLink, Record, Entry, tag_of, is_null, is_live, pointer_at, record_at}
-use Rattle.nofs_model.specs.Cells.{entry_of}
-use Rattle.nofs_model.specs.Image.{Image, cell_at, is_mountable, is_data_block, is_inode, inode, Path, InRecord, Under, is_pointer_slot, kind_in, tag_for}
-use Rattle.nofs_model.specs.Image.{find, record_pointer, IsBelow, IsSlot}
-use Rattle.nofs_model.specs.declared.path.PathAnswer.TheVariants as answer
-use Rattle.nofs_model.specs.declared.value.Value.{Value}
-use Rattle.nofs_model.specs.declared.value.Value.TheVariants.{Hole, Bytes}
+use Rattle.nofs_image.specs.Cells.{Cell, Content, Directory, Table, Tag, Pointer, BackLink, Record, Entry, tag_of, is_null, is_live, pointer_at, record_at}
+use Rattle.nofs_image.specs.Cells.{entry_of}
+use Rattle.nofs_image.specs.Image.{Image, cell_at, is_mountable, is_data_block, is_inode, inode, Path, InRecord, Under, is_pointer_slot, kind_in, tag_for}
+use Rattle.nofs_image.specs.Image.{find, record_pointer, IsBelow, IsSlot}
+use Rattle.nofs_image.specs.declared.path.PathAnswer.TheVariants as answer
+use Rattle.nofs_image.specs.declared.value.Value.{Value}
+use Rattle.nofs_image.specs.declared.value.Value.TheVariants.{Hole, Bytes}
 use Rattle.nofs_machine.specs.Machine.{with_entry}
 use Rattle.nofs_machine.specs.World.{World}
 use Rattle.nofs_machine.specs.Claims.{next_stamp}

@@ -1,7 +1,7 @@
 -- The numbers in what the steps on names write: Rename, Drop, Link and Make.
 use Rattle.std.specs.Prelude.{◌≡◌, ℕ, ◌/◌, ◌≤◌, ◌⊎◌, List, None}
-use Rattle.nofs_model.specs.Cells.{FileKind, Pointer, Entry, spelled_entry}
-use Rattle.nofs_model.specs.Image.{Image, cell_at, inode, FileState}
+use Rattle.nofs_image.specs.Cells.{FileKind, Pointer, Entry, spelled_entry}
+use Rattle.nofs_image.specs.Image.{Image, cell_at, inode, FileState}
 use Rattle.nofs_machine.specs.Machine.{link_to, without_link}
 use Rattle.nofs_machine.specs.World.{World}
 use Rattle.nofs_machine.specs.Claims.{IsClaim}

@@ -6,8 +6,8 @@ use Rattle.nofs_dirent.specs.Entries.{entry_limit}
 use Rattle.nofs_law_images.specs.Proper.{Proper}
 use Rattle.nofs_law_images.specs.Moments.{during}
 use Rattle.nofs_law_untouched.specs.Frames.{OldPointers}
-use Rattle.nofs_model.proofs.Find.{and-both}
-use Rattle.nofs_model.proofs.Chains.{pair-of, any-true, agreed-holds}
+use Rattle.nofs_image.proofs.Find.{and-both}
+use Rattle.nofs_image.proofs.Chains.{pair-of, any-true, agreed-holds}
 use Rattle.nofs_law_untouched.proofs.Matching.{matched-file}
 use Rattle.nofs_law_untouched.proofs.Framing.{some-is}
 use Rattle.nofs_law_untouched.proofs.Alike.{agreed-machine}
@@ -16,17 +16,17 @@ use Rattle.nofs_law_old_names.proofs.NameStep.{pair-named, empty-lone, file-lone
 use Rattle.nofs_law_old_names.proofs.NameInPlace.{no-file-zero}
 use Rattle.nofs_law_old_names.proofs.NameRename.{entry-parts}
 use Rattle.nofs_law_old_names.proofs.NameLinks.{pair-apart, entry-proper, record-proper, stays-match, free-proper, goes-match, pair-kept, own-directory}
-use Rattle.nofs_model.specs.declared.path.PathAnswer.TheVariants as answer
+use Rattle.nofs_image.specs.declared.path.PathAnswer.TheVariants as answer
 use Rattle.nofs_machine.specs.Meta.{Gone, Is}
 use Rattle.nofs_machine.specs.Marks.{Mark}
 use Rattle.nofs_machine.specs.Machine.{zeros, files_after, with_entry, entry_given, meta_given, drop_given, drop_meta, without_link, link_to, same_link}
 use Rattle.nofs_machine.specs.Machine.{is_paired, generation_of, nothing}
 use Rattle.nofs_machine.specs.History.{FilesMatch}
-use Rattle.nofs_model.specs.Cells.{FileKind, File, BackLink, Entry, Pointer, entry_of}
+use Rattle.nofs_image.specs.Cells.{FileKind, File, BackLink, Entry, Pointer, entry_of}
 use Rattle.nofs_inode.specs.declared.inode.FileKind.TheVariants.{Directory as Folder}
-use Rattle.nofs_model.specs.Image.{Image, cell_at, super_at, is_data_block, inode, files_in, agreed, Agreed, root, linked, Path, path_of, find, FileState}
-use Rattle.nofs_model.specs.Image.{Files, is_folder, entry_in_file, entry_at, pairs, names, is_a, is_pair, is_root, is_special, links_of, links_in_file}
-use Rattle.nofs_model.specs.declared.value.Value.TheVariants.{Bytes}
+use Rattle.nofs_image.specs.Image.{Image, cell_at, super_at, is_data_block, inode, files_in, agreed, Agreed, root, linked, Path, path_of, find, FileState}
+use Rattle.nofs_image.specs.Image.{Files, is_folder, entry_in_file, entry_at, pairs, names, is_a, is_pair, is_root, is_special, links_of, links_in_file}
+use Rattle.nofs_image.specs.declared.value.Value.TheVariants.{Bytes}
 use Rattle.nofs_law_old_names.specs.Names.{DropLies, InPlace, Relinked}
 
 -- the back link of a paired entry
@@ -93,7 +93,7 @@ module _ (F : Files) (X Y : Image) (d g e s : ℕ) (f h : FileState) (x : Pointe
     (lies : DropLies F X Y d g e s f h x entry) where
   open lies use {files as match, is, generation as gen, found, paired, named as is_i, no_names, held, whole, content, writes, old}
 
-  parts : (is_folder f.kind ≡ true) × (e < entry_limit) × (Rattle.nofs_model.specs.Image.entry_held (f.values (e / 16)) e ≡ Some entry)
+  parts : (is_folder f.kind ≡ true) × (e < entry_limit) × (Rattle.nofs_image.specs.Image.entry_held (f.values (e / 16)) e ≡ Some entry)
   parts = entry-parts (F d) f e entry is found
 
   back : (l : BackLink) × Contains (links_of F entry.inode) l × (is_pair F entry.inode l ≡ true) × (l.directory ≡ d) × (l.entry ≡ e)

@@ -3,30 +3,30 @@ use Rattle.std.proofs.Common.{◌≡◌, ◌≢◌, ℕ, ◌<◌, ◌≤◌, ◌
 use Rattle.std.proofs.Common.{sym, ap, ◌∙◌, subst, subst₂, Contains, eqb-true, eq-eqb, ne_eqb}
 use Rattle.std.proofs.lemmas.List.Elements.{Contains-push}
 use Rattle.nofs_ptrs.specs.Paths.{slot_limit}
-use Rattle.nofs_model.specs.declared.path.PathAnswer.{PathAnswer}
+use Rattle.nofs_image.specs.declared.path.PathAnswer.{PathAnswer}
 use Rattle.nofs_law_images.specs.Proper.{IsContentKind, Proper, OfContent}
 use Rattle.nofs_law_images.specs.Moments.{during}
 use Rattle.nofs_law_untouched.specs.Frames.{SamePointers, OldPointers}
-use Rattle.nofs_model.proofs.Find.{find-held}
-use Rattle.nofs_model.proofs.Paths.{path_of-slot, path_of-slot_of, path_of-content, slot_of-path_of}
+use Rattle.nofs_image.proofs.Find.{find-held}
+use Rattle.nofs_image.proofs.Paths.{path_of-slot, path_of-slot_of, path_of-content, slot_of-path_of}
 use Rattle.nofs_law_untouched.proofs.Matching.{matched-file, agreed-files-is}
 use Rattle.nofs_law_untouched.proofs.Framing.{frame, some-is}
 use Rattle.nofs_law_untouched.proofs.Touching.{one-owner, rewrites}
 use Rattle.nofs_law_untouched.proofs.Given.{meta-stays, at-itself, lies-held}
 use Rattle.nofs_law_untouched.proofs.Claiming.{slot-content}
 use Rattle.nofs_law_old_names.proofs.NameFiles.{touches-of, directory-file, file-of}
-use Rattle.nofs_model.specs.declared.path.PathAnswer.TheVariants as answer
+use Rattle.nofs_image.specs.declared.path.PathAnswer.TheVariants as answer
 use Rattle.nofs_machine.specs.Meta.{Meta}
 use Rattle.nofs_machine.specs.Marks.{Mark}
 use Rattle.nofs_machine.specs.Machine.{Given, files_after, lies_above, cell_given}
 use Rattle.nofs_machine.specs.History.{FilesMatch, SameFile}
-use Rattle.nofs_model.specs.Cells.{Cell, File, Content, Directory, Tag, Pointer, Record, tag_of, pointer_at, is_live, free_record}
+use Rattle.nofs_image.specs.Cells.{Cell, File, Content, Directory, Tag, Pointer, Record, tag_of, pointer_at, is_live, free_record}
 use Rattle.nofs_inode.specs.declared.inode.FileKind.TheVariants.{Directory as Folder}
-use Rattle.nofs_model.specs.Image.{Image, cell_at, super_at, is_inode, is_data_block, inode, file_from, files_in, agreed, value, value_in, node_in, kind_in}
-use Rattle.nofs_model.specs.Image.{tag_for, Path, InRecord, Under, path_of, slot_of, is_pointer_slot, find, Present, FileState, Files, record_pointer}
-use Rattle.nofs_model.specs.Image.{is_folder, entry_held, entry_in_file, entry_at, names, is_pair, links_of, IsSlot}
-use Rattle.nofs_model.specs.declared.value.Value.{Value}
-use Rattle.nofs_model.specs.declared.value.Value.TheVariants.{Bytes}
+use Rattle.nofs_image.specs.Image.{Image, cell_at, super_at, is_inode, is_data_block, inode, file_from, files_in, agreed, value, value_in, node_in, kind_in}
+use Rattle.nofs_image.specs.Image.{tag_for, Path, InRecord, Under, path_of, slot_of, is_pointer_slot, find, Present, FileState, Files, record_pointer}
+use Rattle.nofs_image.specs.Image.{is_folder, entry_held, entry_in_file, entry_at, names, is_pair, links_of, IsSlot}
+use Rattle.nofs_image.specs.declared.value.Value.{Value}
+use Rattle.nofs_image.specs.declared.value.Value.TheVariants.{Bytes}
 use Rattle.nofs_machine.specs.Gives.{GivesNothing, GivesCell}
 use Rattle.nofs_law_old_names.specs.Names.{InPlace, NameWrites}
 
@@ -59,7 +59,7 @@ in-place-writes s d i k X Y x held p = record {
 }
   where
     go : (b : ℕ) → is_data_block X b ≡ true → (t : Bool) → eqb b x.block ≡ t → (cell_at Y b ≡ cell_at X b)
-        ⊎ ((Rattle.nofs_model.specs.Image.IsFree X b × ((t : Tag) → tag_of (cell_at Y b).tag ≡ Some t → s ≤ t.stamp))
+        ⊎ ((Rattle.nofs_image.specs.Image.IsFree X b × ((t : Tag) → tag_of (cell_at Y b).tag ≡ Some t → s ≤ t.stamp))
         ⊎ ((tag_of (cell_at Y b).tag ≡ tag_of (cell_at X b).tag) × ((path : Path) × (y : Pointer) × (find X d path ≡ answer.Holds y) × (y.block ≡ b))))
     go b area true e =
         let eb = eqb-true b x.block e in

@@ -1,6 +1,6 @@
 -- The laws of Rename and Drop.
 use Rattle.std.proofs.Common.{◌≡◌, ℕ, Bool, true, false, cond, List, refl, sym, ◌∙◌}
-use Rattle.nofs_model.specs.Cells.{FileKind, BackLink}
+use Rattle.nofs_image.specs.Cells.{FileKind, BackLink}
 use Rattle.nofs_machine.specs.Meta.{Gone, Is}
 use Rattle.nofs_machine.specs.Machine.{link_to, without_link}
 use Rattle.nofs_law_old_names.specs.Names.{LawRename, LawDropEntry, LawDropName, LawDropFile}

@@ -8,7 +8,7 @@ use Rattle.nofs_ptrs.specs.Paths.{slot_limit}
 use Rattle.nofs_law_images.specs.Proper.{Proper, OfTable, RecordProper, Unchanged, Changed, Freed, Same}
 use Rattle.nofs_law_images.specs.Moments.{during, is_removal}
 use Rattle.nofs_law_untouched.specs.Frames.{OldPointers}
-use Rattle.nofs_model.proofs.Chains.{pair-of}
+use Rattle.nofs_image.proofs.Chains.{pair-of}
 use Rattle.nofs_law_untouched.proofs.Matching.{matched-file}
 use Rattle.nofs_law_untouched.proofs.Framing.{some-is}
 use Rattle.nofs_law_untouched.proofs.Entries.{SameDirectory}
@@ -18,18 +18,18 @@ use Rattle.nofs_law_old_names.proofs.NameFiles.{linked_state, linked-now, linked
 use Rattle.nofs_law_old_names.proofs.NameStep.{match-names, directory-after}
 use Rattle.nofs_law_old_names.proofs.NameInPlace.{in-place-writes, cell-proper, directory-in-place, cell-gives, cell-elsewhere}
 use Rattle.nofs_law_old_names.proofs.NameRename.{value-held}
-use Rattle.nofs_model.specs.declared.path.PathAnswer.TheVariants as answer
+use Rattle.nofs_image.specs.declared.path.PathAnswer.TheVariants as answer
 use Rattle.nofs_machine.specs.Meta.{Meta, Gone, Is, meta_of}
 use Rattle.nofs_machine.specs.Marks.{Mark}
 use Rattle.nofs_machine.specs.Machine.{Given, filled, files_after, file_after, after_meta, born_file, bytes_in, with_entry, cell_given, entry_given, meta_given}
 use Rattle.nofs_machine.specs.History.{FilesMatch, SameFile}
-use Rattle.nofs_model.specs.Cells.{FileKind, BackLink, Entry, Pointer, Record, is_live, entry_of, record_at}
+use Rattle.nofs_image.specs.Cells.{FileKind, BackLink, Entry, Pointer, Record, is_live, entry_of, record_at}
 use Rattle.nofs_inode.specs.declared.inode.FileKind.TheVariants.{Directory as Folder}
-use Rattle.nofs_model.specs.Image.{super_in, Image, cell_at, super_at, is_inode, is_data_block, inode, file_from, files_in, agreed, value, value_in, Path}
-use Rattle.nofs_model.specs.Image.{InRecord, path_of, find, pointer, FileState, Files, is_folder, entry_held, entry_in_file, entry_at, pairs, names, is_a}
-use Rattle.nofs_model.specs.Image.{is_pair, is_root, is_special, links_of, record_pointer, IsSlot}
-use Rattle.nofs_model.specs.declared.value.Value.{Value}
-use Rattle.nofs_model.specs.declared.value.Value.TheVariants.{Bytes}
+use Rattle.nofs_image.specs.Image.{super_in, Image, cell_at, super_at, is_inode, is_data_block, inode, file_from, files_in, agreed, value, value_in, Path}
+use Rattle.nofs_image.specs.Image.{InRecord, path_of, find, pointer, FileState, Files, is_folder, entry_held, entry_in_file, entry_at, pairs, names, is_a}
+use Rattle.nofs_image.specs.Image.{is_pair, is_root, is_special, links_of, record_pointer, IsSlot}
+use Rattle.nofs_image.specs.declared.value.Value.{Value}
+use Rattle.nofs_image.specs.declared.value.Value.TheVariants.{Bytes}
 use Rattle.nofs_machine.specs.Gives.{GivesNothing, GivesCell, GivesMeta}
 use Rattle.nofs_law_old_names.specs.Names.{InPlace, Relinked, NameWrites}
 
@@ -221,7 +221,7 @@ module _ (F : Files) (X Y : Image) (d g e i s : ℕ) (f h : FileState) (x : Poin
           | inr l ↦ inr (
             l.0,
             l.1,
-            subst (λ (ls : List BackLink). Contains ls l.0) (sym (ap Rattle.nofs_model.specs.Image.links_in_file file-now)) l.2,
+            subst (λ (ls : List BackLink). Contains ls l.0) (sym (ap Rattle.nofs_image.specs.Image.links_in_file file-now)) l.2,
             l.3,
             l.4,
             l.5,

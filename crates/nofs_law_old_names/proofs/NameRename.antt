@@ -4,11 +4,11 @@ use Rattle.nofs_ptrs.specs.Paths.{slot_limit}
 use Rattle.nofs_dirent.specs.EntryLaws.{Spells}
 use Rattle.std.proofs.Common.{◌≡◌, ◌≢◌, ℕ, ◌/◌, ◌%◌, ◌<◌, Bool, true, false, cond, eqb, ltb, ◌&&◌, List, length, Option, Some, None, is_some, refl, sym, ap}
 use Rattle.std.proofs.Common.{◌∙◌, subst, subst₂, arith, eqb-true, eq-eqb, ltb-true}
-use Rattle.nofs_model.specs.declared.path.PathAnswer.{PathAnswer}
+use Rattle.nofs_image.specs.declared.path.PathAnswer.{PathAnswer}
 use Rattle.nofs_law_images.specs.Proper.{Proper}
 use Rattle.nofs_law_images.specs.Moments.{during}
 use Rattle.nofs_law_untouched.specs.Frames.{OldPointers}
-use Rattle.nofs_model.proofs.Find.{and-both}
+use Rattle.nofs_image.proofs.Find.{and-both}
 use Rattle.nofs_law_untouched.proofs.Framing.{some-is}
 use Rattle.nofs_law_untouched.proofs.Entries.{SameDirectory, match-entry}
 use Rattle.nofs_law_untouched.proofs.Given.{value-of}
@@ -16,16 +16,16 @@ use Rattle.nofs_law_untouched.proofs.EntryCells.{entry-here, entry-there}
 use Rattle.nofs_law_old_names.proofs.NameFiles.{file-of}
 use Rattle.nofs_law_old_names.proofs.NameStep.{pair-named, entry-range, file-lone, entry-new, directory-after, kin-after, same-after, rest-after, folder-after}
 use Rattle.nofs_law_old_names.proofs.NameInPlace.{in-place-writes, cell-proper, directory-in-place, cell-gives, cell-elsewhere, no-zero, no-file-zero}
-use Rattle.nofs_model.specs.declared.path.PathAnswer.TheVariants as answer
+use Rattle.nofs_image.specs.declared.path.PathAnswer.TheVariants as answer
 use Rattle.nofs_machine.specs.Marks.{Mark}
 use Rattle.nofs_machine.specs.Machine.{Given, files_after, file_after, born_file, value_of, bytes_in, with_entry, cell_given, entry_given, rename_given}
 use Rattle.nofs_machine.specs.Machine.{nothing, no_meta}
 use Rattle.nofs_machine.specs.History.{FilesMatch, SameFile}
-use Rattle.nofs_model.specs.Cells.{Entry, Pointer, Record, spelled_entry}
-use Rattle.nofs_model.specs.Image.{Image, cell_at, is_data_block, file_from, files_in, value_in, path_of, find, FileState, Files, is_folder, entry_held}
-use Rattle.nofs_model.specs.Image.{entry_in_file, entry_at, names}
-use Rattle.nofs_model.specs.declared.value.Value.{Value}
-use Rattle.nofs_model.specs.declared.value.Value.TheVariants.{Bytes}
+use Rattle.nofs_image.specs.Cells.{Entry, Pointer, Record, spelled_entry}
+use Rattle.nofs_image.specs.Image.{Image, cell_at, is_data_block, file_from, files_in, value_in, path_of, find, FileState, Files, is_folder, entry_held}
+use Rattle.nofs_image.specs.Image.{entry_in_file, entry_at, names}
+use Rattle.nofs_image.specs.declared.value.Value.{Value}
+use Rattle.nofs_image.specs.declared.value.Value.TheVariants.{Bytes}
 use Rattle.nofs_machine.specs.Gives.{GivesNothing, GivesCell}
 use Rattle.nofs_law_old_names.specs.Names.{InPlace, NameWrites}
 

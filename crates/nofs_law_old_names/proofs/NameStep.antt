@@ -5,8 +5,8 @@ use Rattle.std.proofs.lemmas.Bool.{cases_eq}
 use Rattle.std.specs.List.{list_any}
 use Rattle.nofs_dirent.specs.Entries.{entry_limit}
 use Rattle.nofs_law_untouched.specs.Frames.{OldPointers}
-use Rattle.nofs_model.proofs.Find.{and-both}
-use Rattle.nofs_model.proofs.Chains.{pair-of, true-any}
+use Rattle.nofs_image.proofs.Find.{and-both}
+use Rattle.nofs_image.proofs.Chains.{pair-of, true-any}
 use Rattle.nofs_law_untouched.proofs.Matching.{matched-file, gen-of}
 use Rattle.nofs_law_untouched.proofs.Framing.{some-is}
 use Rattle.nofs_law_untouched.proofs.Touching.{same-file}
@@ -16,11 +16,11 @@ use Rattle.nofs_law_untouched.proofs.Given.{given-elsewhere, same-trans}
 use Rattle.nofs_law_old_names.proofs.NameFiles.{touches-of}
 use Rattle.nofs_machine.specs.Machine.{Given, filled, files_after, file_after, born_file, link_to, same_link, is_paired, generation_of}
 use Rattle.nofs_machine.specs.History.{FilesMatch, SameFile}
-use Rattle.nofs_model.specs.Cells.{FileKind, BackLink, Entry, Record}
+use Rattle.nofs_image.specs.Cells.{FileKind, BackLink, Entry, Record}
 use Rattle.nofs_inode.specs.declared.inode.FileKind.TheVariants.{Directory as Folder}
-use Rattle.nofs_model.specs.Image.{Image, inode, file_from, files_in, FileState, Files, is_folder, entry_held, entry_in_file, pairs, names, is_a, is_pair}
-use Rattle.nofs_model.specs.Image.{is_root, is_special, links_of}
-use Rattle.nofs_model.specs.declared.value.Value.{Value}
+use Rattle.nofs_image.specs.Image.{Image, inode, file_from, files_in, FileState, Files, is_folder, entry_held, entry_in_file, pairs, names, is_a, is_pair}
+use Rattle.nofs_image.specs.Image.{is_root, is_special, links_of}
+use Rattle.nofs_image.specs.declared.value.Value.{Value}
 use Rattle.nofs_machine.specs.Gives.{GivesNothing, GivesCell}
 use Rattle.nofs_law_old_names.specs.Names.{NameWrites}
 

@@ -2,11 +2,11 @@
 use Rattle.std.specs.Prelude.{◌≡◌, ◌≢◌, ℕ, ◌+◌, ◌-◌, ◌/◌, ◌<◌, ◌≤◌, ◌⊎◌, true, false, List, length, Some, None, is_some}
 use Rattle.nofs_dirent.specs.Entries.{entry_limit}
 use Rattle.nofs_dirent.specs.EntryLaws.{Spells}
-use Rattle.nofs_model.specs.Cells.{Tag, Pointer, BackLink, Entry, tag_of, spelled_entry}
-use Rattle.nofs_model.specs.Image.{Image, cell_at, super_at, is_data_block, inode, Path, path_of, find, record_pointer, FileState, Files, is_folder, entry_at}
-use Rattle.nofs_model.specs.Image.{IsFree}
-use Rattle.nofs_model.specs.declared.path.PathAnswer.TheVariants as answer
-use Rattle.nofs_model.specs.declared.value.Value.TheVariants.{Bytes}
+use Rattle.nofs_image.specs.Cells.{Tag, Pointer, BackLink, Entry, tag_of, spelled_entry}
+use Rattle.nofs_image.specs.Image.{Image, cell_at, super_at, is_data_block, inode, Path, path_of, find, record_pointer, FileState, Files, is_folder, entry_at}
+use Rattle.nofs_image.specs.Image.{IsFree}
+use Rattle.nofs_image.specs.declared.path.PathAnswer.TheVariants as answer
+use Rattle.nofs_image.specs.declared.value.Value.TheVariants.{Bytes}
 use Rattle.nofs_machine.specs.Meta.{Gone, Is}
 use Rattle.nofs_machine.specs.Marks.{Mark}
 use Rattle.nofs_machine.specs.Machine.{zeros, is_paired, with_entry, link_to, without_link, drop_meta, drop_given, rename_given, files_after}

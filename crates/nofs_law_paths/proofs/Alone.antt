@@ -2,8 +2,8 @@
 use Rattle.std.proofs.Common.{◌≡◌, ◌≢◌, ℕ, suc, ◌+◌, ◌/◌, ◌<◌, ◌≤◌, Bool, true, false, eqb, not, List, [], ◌∷◌, ◌++◌, length, Option, Some, None, is_some}
 use Rattle.std.proofs.Common.{refl, sym, ap, ◌∙◌, subst, arith, eqb-true, eq-eqb}
 use Rattle.std.specs.Prelude.{slice_get}
-use Rattle.nofs_model.specs.Cells.{FileKind, Entry}
-use Rattle.nofs_model.specs.Image.{Image, Files, entry_at}
+use Rattle.nofs_image.specs.Cells.{FileKind, Entry}
+use Rattle.nofs_image.specs.Image.{Image, Files, entry_at}
 use Rattle.nofs_machine.specs.Search.{first_of}
 use Rattle.nofs_machine.specs.Machine.{Given, nothing, gives, found, place_for, given_by, is_refused, link_to, generation_of}
 use Rattle.nofs_machine.specs.World.{World}

@@ -5,12 +5,12 @@ use Rattle.std.proofs.lemmas.Bool.{cases_lt}
 use Rattle.std.proofs.lemmas.List.{get_or_past}
 use Rattle.nofs_dirent.specs.Entries.{entry_limit}
 use Rattle.nofs_ptrs.specs.Paths.{slot_limit}
-use Rattle.nofs_model.specs.Cells.{FileKind, File, BackLink, Record, entry_in}
+use Rattle.nofs_image.specs.Cells.{FileKind, File, BackLink, Record, entry_in}
 use Rattle.nofs_inode.specs.declared.inode.FileKind.TheVariants.{Directory as Folder}
-use Rattle.nofs_model.specs.Image.{Image, inode, files_in, Agreed, root, linked, value, entry_in_file, entry_at, names, is_pair, links_of}
-use Rattle.nofs_model.specs.declared.value.Value.{Value}
-use Rattle.nofs_model.specs.declared.value.Value.TheVariants.{Bytes}
-use Rattle.nofs_model.proofs.Chains.{holds-agreed}
+use Rattle.nofs_image.specs.Image.{Image, inode, files_in, Agreed, root, linked, value, entry_in_file, entry_at, names, is_pair, links_of}
+use Rattle.nofs_image.specs.declared.value.Value.{Value}
+use Rattle.nofs_image.specs.declared.value.Value.TheVariants.{Bytes}
+use Rattle.nofs_image.proofs.Chains.{holds-agreed}
 use Rattle.nofs_machine.specs.Meta.{Meta, Gone, Is, meta_of, is_bytes, MayRead}
 use Rattle.nofs_machine.specs.History.{since, since_meta, stands}
 use Rattle.nofs_machine.specs.Allowed.{IsAllowed, IsFolderMeta, SureLink, meta_link}

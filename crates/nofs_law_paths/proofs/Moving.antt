@@ -5,11 +5,11 @@ use Rattle.std.specs.Prelude.{bytes_eq}
 use Rattle.std.proofs.lemmas.Slice.Eq.{bytes_eq-Decides}
 use Rattle.std.proofs.lemmas.List.{length-replicate}
 use Rattle.nofs_dirent.specs.Entries.{spelled_entry, entry_limit}
-use Rattle.nofs_model.specs.Cells.{FileKind, BackLink, Entry}
-use Rattle.nofs_model.specs.Image.{Files, FileState, is_folder, entry_at, entry_in_file, entry_held, is_pair, links_of}
-use Rattle.nofs_model.specs.declared.value.Value.{Value}
-use Rattle.nofs_model.proofs.Find.{and-both}
-use Rattle.nofs_model.proofs.Chains.{pair-of}
+use Rattle.nofs_image.specs.Cells.{FileKind, BackLink, Entry}
+use Rattle.nofs_image.specs.Image.{Files, FileState, is_folder, entry_at, entry_in_file, entry_held, is_pair, links_of}
+use Rattle.nofs_image.specs.declared.value.Value.{Value}
+use Rattle.nofs_image.proofs.Find.{and-both}
+use Rattle.nofs_image.proofs.Chains.{pair-of}
 use Rattle.nofs_machine.specs.Meta.{Meta, Gone, Is}
 use Rattle.nofs_machine.specs.Search.{first_of, least_from}
 use Rattle.nofs_machine.specs.Machine.{Given, gives, found, place_for, link_place, entry_has_name, is_paired, is_folder_at, generation_of, value_of, bytes_in}

@@ -4,10 +4,10 @@ use Rattle.std.proofs.Common.{ap, ◌∙◌, subst, arith, Contains, eq-eqb}
 use Rattle.std.specs.Prelude.{slice_get}
 use Rattle.std.specs.List.{list_any}
 use Rattle.nofs_dirent.specs.Entries.{entry_limit}
-use Rattle.nofs_model.specs.Cells.{BackLink, Entry, entry_in}
-use Rattle.nofs_model.specs.Image.{Image, Files, FileState, Agreed, root, linked, entry_held, names, links_of}
-use Rattle.nofs_model.specs.declared.value.Value.{Value}
-use Rattle.nofs_model.specs.declared.value.Value.TheVariants.{Hole, Bytes, Lost}
+use Rattle.nofs_image.specs.Cells.{BackLink, Entry, entry_in}
+use Rattle.nofs_image.specs.Image.{Image, Files, FileState, Agreed, root, linked, entry_held, names, links_of}
+use Rattle.nofs_image.specs.declared.value.Value.{Value}
+use Rattle.nofs_image.specs.declared.value.Value.TheVariants.{Hole, Bytes, Lost}
 use Rattle.nofs_machine.specs.Meta.{Meta, Gone, Is, is_gone}
 use Rattle.nofs_machine.specs.Machine.{Given, gives, generation_of, given_by}
 use Rattle.nofs_machine.specs.History.{NoWriteFault, begun, mark, metas_given, since, since_mark, since_meta, files_at_mark, stands}

@@ -1,9 +1,9 @@
 -- Which name finds which file, in an image and in every version since the last flush.
 use Rattle.std.specs.Prelude.{◌≡◌, ℕ, ◌/◌, ◌%◌, true, false, List, Some, Contains}
-use Rattle.nofs_model.specs.Cells.{BackLink, Entry, entry_in}
-use Rattle.nofs_model.specs.Image.{Image, inode, files_in, agreed, entry_at, is_pair, links_of, is_special}
-use Rattle.nofs_model.specs.declared.value.Value.{Value}
-use Rattle.nofs_model.specs.declared.value.Value.TheVariants.{Bytes}
+use Rattle.nofs_image.specs.Cells.{BackLink, Entry, entry_in}
+use Rattle.nofs_image.specs.Image.{Image, inode, files_in, agreed, entry_at, is_pair, links_of, is_special}
+use Rattle.nofs_image.specs.declared.value.Value.{Value}
+use Rattle.nofs_image.specs.declared.value.Value.TheVariants.{Bytes}
 use Rattle.nofs_machine.specs.Meta.{Meta}
 use Rattle.nofs_machine.specs.History.{since, since_meta, stands}
 use Rattle.nofs_machine.specs.Allowed.{IsAllowed, IsFolderMeta, SureLink}

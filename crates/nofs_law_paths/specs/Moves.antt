@@ -4,9 +4,9 @@
 -- old name. Other callers' entries may stand between these. From the first flush on one of the two names finds the file in
 -- every image that a crash may leave.
 use Rattle.std.specs.Prelude.{◌≡◌, ◌≢◌, ℕ, ◌/◌, ◌<◌, ◌≤◌, ◌⊎◌, List, [], ◌∷◌, ◌++◌, Some, slice_get}
-use Rattle.nofs_model.specs.Cells.{FileKind, Entry}
-use Rattle.nofs_model.specs.Image.{Image, entry_held, entry_at}
-use Rattle.nofs_model.specs.declared.value.Value.{Value}
+use Rattle.nofs_image.specs.Cells.{FileKind, Entry}
+use Rattle.nofs_image.specs.Image.{Image, entry_held, entry_at}
+use Rattle.nofs_image.specs.declared.value.Value.{Value}
 use Rattle.nofs_machine.specs.Machine.{Given, found, place_for, given_by}
 use Rattle.nofs_machine.specs.HistoryState.{HistoryState}
 use Rattle.nofs_machine.specs.Allowed.{IsAllowed}

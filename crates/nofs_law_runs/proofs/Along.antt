@@ -2,11 +2,11 @@
 use Rattle.std.proofs.Common.{◌≡◌, ℕ, zero, suc, ◌+◌, ◌-◌, ◌/◌, ◌<◌, ◌≤◌, Bool, true, false, eqb, ◌||◌, not, List, Option, Some, None, refl, sym, ap, ◌∙◌}
 use Rattle.std.proofs.Common.{subst, arith, eqb-true, eq-eqb}
 use Rattle.std.specs.Prelude.{slice_get}
-use Rattle.nofs_model.specs.Cells.{File, BackLink, Entry}
+use Rattle.nofs_image.specs.Cells.{File, BackLink, Entry}
 use Rattle.nofs_inode.specs.declared.inode.FileKind.TheVariants.{Directory as Folder}
-use Rattle.nofs_model.specs.Image.{Image, Files, FileState, is_folder, entry_at, entry_held, is_a, is_root}
-use Rattle.nofs_model.specs.declared.value.Value.{Value}
-use Rattle.nofs_model.proofs.Find.{and-both}
+use Rattle.nofs_image.specs.Image.{Image, Files, FileState, is_folder, entry_at, entry_held, is_a, is_root}
+use Rattle.nofs_image.specs.declared.value.Value.{Value}
+use Rattle.nofs_image.proofs.Find.{and-both}
 use Rattle.nofs_machine.specs.Search.{first_of}
 use Rattle.nofs_machine.specs.Machine.{Given, gives, found, drop_given, given_by}
 use Rattle.nofs_machine.specs.History.{agreed_files}

@@ -1,8 +1,8 @@
 -- The machine's worlds are sane along a run over a base that a mount leaves.
 use Rattle.std.proofs.Common.{◌≡◌, ℕ, ◌+◌, ◌*◌, ◌^◌, ◌<◌, ◌≤◌, true, length, Option, Some, None, unwrap_or, refl, sym, ap, ◌∙◌, subst, subst₂, arith}
 use Rattle.std.proofs.lemmas.List.{length-replicate}
-use Rattle.nofs_model.specs.Image.{Image, Files, FileState, is_folder}
-use Rattle.nofs_model.specs.declared.value.Value.{Value}
+use Rattle.nofs_image.specs.Image.{Image, Files, FileState, is_folder}
+use Rattle.nofs_image.specs.declared.value.Value.{Value}
 use Rattle.nofs_machine.specs.Machine.{gives, bytes_in, files_after}
 use Rattle.nofs_machine.specs.HistoryState.{HistoryState}
 use Rattle.nofs_machine.specs.World.{World, world_of, inodes_needed, blocks_needed}
@@ -33,7 +33,7 @@ keeps-sane W V k s = record {
   numbers = λ i f is. s.numbers i f (sym (ap (λ (F : Files). F i) k.files) ∙ is);
   young = λ i f is. subst (λ (n : ℕ). f.generation < n) (sym stamp) (s.young i f (sym (ap (λ (F : Files). F i) k.files) ∙ is));
   whole = λ i f is. s.whole i f (sym (ap (λ (F : Files). F i) k.files) ∙ is);
-  rooted = λ i f is dir. subst (λ (F : Files). Rattle.nofs_model.specs.Image.Agreed F i) (sym k.files)
+  rooted = λ i f is dir. subst (λ (F : Files). Rattle.nofs_image.specs.Image.Agreed F i) (sym k.files)
       (s.rooted i f (sym (ap (λ (F : Files). F i) k.files) ∙ is) dir);
 }
   where

@@ -3,7 +3,7 @@ use Rattle.std.proofs.Common.{◌≡◌, ℕ, ◌*◌, ◌/◌, ◌<◌, Bool, t
 use Rattle.std.proofs.Common.{eqb-true}
 use Rattle.std.specs.Prelude.{option_map}
 use Rattle.nofs_dirent.specs.Entries.{entry_limit}
-use Rattle.nofs_model.specs.Image.{Files, FileState, entry_at}
+use Rattle.nofs_image.specs.Image.{Files, FileState, entry_at}
 use Rattle.nofs_machine.specs.Meta.{is_bytes}
 use Rattle.nofs_machine.specs.Search.{first_of, least_from}
 use Rattle.nofs_machine.specs.Machine.{first_dead, place_for, entry_has_name, is_paired, is_folder_at, is_hole, generation_of, value_of}

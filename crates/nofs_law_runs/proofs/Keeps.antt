@@ -1,8 +1,8 @@
 -- What holds over each entry of a history: directories, their chains, and back links.
 use Rattle.std.proofs.Common.{◌≡◌, ℕ, zero, suc, ◌<◌, List, [], ◌∷◌, length, Some, refl, sym, subst, arith}
 use Rattle.std.specs.Prelude.{slice_get}
-use Rattle.nofs_model.specs.Cells.{BackLink}
-use Rattle.nofs_model.specs.Image.{Image, Files, Agreed}
+use Rattle.nofs_image.specs.Cells.{BackLink}
+use Rattle.nofs_image.specs.Image.{Image, Files, Agreed}
 use Rattle.nofs_machine.specs.Machine.{found}
 use Rattle.nofs_machine.specs.History.{agreed_files}
 use Rattle.nofs_machine.specs.HistoryState.{HistoryState}

@@ -1,6 +1,6 @@
 -- What a mount leaves is a base of which the law of the move speaks.
 use Rattle.std.proofs.Common.{refl, arith}
-use Rattle.nofs_model.specs.Image.{cell_at}
+use Rattle.nofs_image.specs.Image.{cell_at}
 use Rattle.nofs_machine.specs.World.{world_of}
 use Rattle.nofs_law_lives.proofs.Begin.{law-begin}
 use Rattle.nofs_law_runs.specs.Bases.{LawMounted}

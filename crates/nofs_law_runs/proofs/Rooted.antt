@@ -3,11 +3,11 @@ use Rattle.std.proofs.Common.{◌≡◌, ℕ, suc, ◌/◌, Bool, true, false, c
 use Rattle.std.proofs.Common.{refl, sym, ap, ◌∙◌, subst, arith, Contains, eqb-true, eq-eqb, lt-ltb, ne_eqb}
 use Rattle.std.specs.List.{list_any}
 use Rattle.nofs_dirent.specs.Entries.{spelled_entry, entry_limit}
-use Rattle.nofs_model.specs.Cells.{FileKind, BackLink, Entry}
+use Rattle.nofs_image.specs.Cells.{FileKind, BackLink, Entry}
 use Rattle.nofs_inode.specs.declared.inode.FileKind.TheVariants.{Directory as Folder}
-use Rattle.nofs_model.specs.Image.{Files, FileState, Agreed, root, linked, is_folder, entry_in_file, entry_at, entry_held, is_a, is_pair, is_root, is_special}
-use Rattle.nofs_model.specs.Image.{links_of}
-use Rattle.nofs_model.specs.declared.value.Value.{Value}
+use Rattle.nofs_image.specs.Image.{Files, FileState, Agreed, root, linked, is_folder, entry_in_file, entry_at, entry_held, is_a, is_pair, is_root, is_special}
+use Rattle.nofs_image.specs.Image.{links_of}
+use Rattle.nofs_image.specs.declared.value.Value.{Value}
 use Rattle.nofs_machine.specs.Meta.{Meta, Gone, Is}
 use Rattle.nofs_machine.specs.Search.{first_of}
 use Rattle.nofs_machine.specs.Machine.{Given, gives, found, place_for, make_given, drop_given, drop_meta, same_link, link_to, without_link, bytes_in}

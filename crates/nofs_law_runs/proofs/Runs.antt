@@ -3,8 +3,8 @@ use Rattle.std.proofs.Common.{◌≡◌, ℕ, zero, suc, ◌+◌, ◌<◌, ◌�
 use Rattle.std.proofs.Common.{[], ◌∷◌, length, take, drop, Option, Some, None, option_to_list, refl, sym, ap, ◌∙◌, subst, arith, Contains}
 use Rattle.std.specs.Prelude.{slice_get}
 use Rattle.std.proofs.lemmas.List.Elements.{Contains-append_cases}
-use Rattle.nofs_model.specs.Image.{Image, Files, FileState}
-use Rattle.nofs_model.specs.declared.value.Value.{Value}
+use Rattle.nofs_image.specs.Image.{Image, Files, FileState}
+use Rattle.nofs_image.specs.declared.value.Value.{Value}
 use Rattle.nofs_machine.specs.Meta.{Meta, Is}
 use Rattle.nofs_machine.specs.Machine.{given_by, files_by, is_write_fault}
 use Rattle.nofs_machine.specs.History.{agreed_files, files_along, NoWriteFault, values_given, metas_given, last_in, is_flushed, begun, mark_from, mark}
@@ -18,7 +18,7 @@ use Rattle.nofs_machine.specs.declared.replies.Reply.TheVariants as reply
 use Rattle.nofs_machine.specs.declared.replies.Refusal.TheVariants as refusal
 use Rattle.nofs_machine.proofs.Era.{current-accepted}
 use Rattle.nofs_machine.proofs.Lives.{along-append, begun-take}
-use Rattle.nofs_model.proofs.Find.{and-both}
+use Rattle.nofs_image.proofs.Find.{and-both}
 use Rattle.nofs_law_machine.proofs.Faultless.{answer-free}
 use Rattle.nofs_law_runs.specs.Runs.{files_before}
 use Rattle.nofs_law_links.proofs.Places.{take-more, part-get}

@@ -5,14 +5,14 @@ use Rattle.std.specs.List.{list_all}
 use Rattle.std.proofs.lemmas.List.{length-replicate}
 use Rattle.nofs_inode.specs.InodeRecords.{has_rest, allows_record, allows_kind, is_tidy_link, fields_in}
 use Rattle.nofs_super.specs.Geometry.{IsGeometry}
-use Rattle.nofs_model.specs.Cells.{FileKind, Record, is_live, record_at, record_of}
-use Rattle.nofs_model.specs.declared.path.PathAnswer.{PathAnswer}
-use Rattle.nofs_model.specs.declared.path.PathAnswer.TheVariants as answer
-use Rattle.nofs_model.specs.declared.value.Value.{Value}
-use Rattle.nofs_model.specs.Image.{Image, super_at, cell_at, inode, Agreed, FileState, files_in, agreed, file_from, path_of, find, value, value_in}
-use Rattle.nofs_model.proofs.Find.{and-both, find-held}
-use Rattle.nofs_model.proofs.Chains.{agreed-holds}
-use Rattle.nofs_model.proofs.Sound.{mountable-law}
+use Rattle.nofs_image.specs.Cells.{FileKind, Record, is_live, record_at, record_of}
+use Rattle.nofs_image.specs.declared.path.PathAnswer.{PathAnswer}
+use Rattle.nofs_image.specs.declared.path.PathAnswer.TheVariants as answer
+use Rattle.nofs_image.specs.declared.value.Value.{Value}
+use Rattle.nofs_image.specs.Image.{Image, super_at, cell_at, inode, Agreed, FileState, files_in, agreed, file_from, path_of, find, value, value_in}
+use Rattle.nofs_image.proofs.Find.{and-both, find-held}
+use Rattle.nofs_image.proofs.Chains.{agreed-holds}
+use Rattle.nofs_image.proofs.Sound.{mountable-law}
 use Rattle.nofs_machine.specs.Machine.{bytes_in}
 use Rattle.nofs_machine.specs.History.{agreed_files}
 use Rattle.nofs_machine.specs.World.{world_of}

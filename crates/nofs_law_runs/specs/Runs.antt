@@ -1,7 +1,7 @@
 -- What a run of the machine keeps, whatever its entries.
 use Rattle.std.specs.Prelude.{◌≡◌, ℕ, suc, ◌≤◌, true, List, length, take, Some, slice_get}
-use Rattle.nofs_model.specs.Cells.{BackLink}
-use Rattle.nofs_model.specs.Image.{Image, Files, FileState, Agreed, is_pair}
+use Rattle.nofs_image.specs.Cells.{BackLink}
+use Rattle.nofs_image.specs.Image.{Image, Files, FileState, Agreed, is_pair}
 use Rattle.nofs_machine.specs.Machine.{found}
 use Rattle.nofs_machine.specs.History.{agreed_files, files_along}
 use Rattle.nofs_machine.specs.HistoryState.{HistoryState}

@@ -2,16 +2,16 @@
 use Rattle.std.proofs.Common.{◌≡◌, ◌≢◌, ℕ, ◌⊎◌, inl, inr, Bool, true, false, eqb, ltb, ◌&&◌, ◌||◌, not, List, Option, Some, None, is_some, refl, sym, ap, ◌∙◌}
 use Rattle.std.proofs.Common.{subst, subst₂, arith, Contains, eqb-true, eq-eqb}
 use Rattle.std.proofs.lemmas.Bool.{cases_eq}
-use Rattle.nofs_model.proofs.Chains.{pair-of, agreed-holds, holds-agreed}
+use Rattle.nofs_image.proofs.Chains.{pair-of, agreed-holds, holds-agreed}
 use Rattle.nofs_law_untouched.proofs.Matching.{matched-file, matched-agreed}
 use Rattle.nofs_law_untouched.proofs.Framing.{some-is, files-match}
 use Rattle.nofs_law_untouched.proofs.Alike.{Alike, same-alike, Kin, KinFiles, both-same, kin-sym, same-of, agreed-machine, agreed-some, live-some, links-kin, a-kin}
 use Rattle.nofs_law_untouched.proofs.Alike.{entry-alike, a-alike}
 use Rattle.nofs_machine.specs.History.{FilesMatch, SameFile}
-use Rattle.nofs_model.specs.Cells.{File, BackLink, Entry}
+use Rattle.nofs_image.specs.Cells.{File, BackLink, Entry}
 use Rattle.nofs_inode.specs.declared.inode.FileKind.TheVariants.{Directory as Folder}
-use Rattle.nofs_model.specs.Image.{Image, files_in, agreed, Agreed, root, linked, FileState, Files, is_folder, entry_in_file, pairs, names, is_a, is_pair}
-use Rattle.nofs_model.specs.Image.{links_of, is_root, is_special}
+use Rattle.nofs_image.specs.Image.{Image, files_in, agreed, Agreed, root, linked, FileState, Files, is_folder, entry_in_file, pairs, names, is_a, is_pair}
+use Rattle.nofs_image.specs.Image.{links_of, is_root, is_special}
 
 -- entry e of the two directories is the same, and so are their kinds and generations
 pub record SameDirectory (o p : Option FileState) (e : ℕ) : Type 0 where

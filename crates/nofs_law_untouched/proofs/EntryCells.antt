@@ -5,10 +5,10 @@ use Rattle.std.proofs.lemmas.List.{length-drop, length-replicate, replicate-appe
 use Rattle.std.proofs.lemmas.Bool.{cases_lt}
 use Rattle.std.proofs.lemmas.Slice.{drop-append-drop}
 use Rattle.nofs_machine.specs.Machine.{bytes_in, zeros, with_entry}
-use Rattle.nofs_model.specs.Cells.{number_at, entry_fields, entry_of, entry_in}
-use Rattle.nofs_model.specs.declared.value.Value.{Value}
-use Rattle.nofs_model.specs.declared.value.Value.TheVariants.{Hole, Bytes, Lost}
-use Rattle.nofs_model.specs.Image.{entry_held}
+use Rattle.nofs_image.specs.Cells.{number_at, entry_fields, entry_of, entry_in}
+use Rattle.nofs_image.specs.declared.value.Value.{Value}
+use Rattle.nofs_image.specs.declared.value.Value.TheVariants.{Hole, Bytes, Lost}
+use Rattle.nofs_image.specs.Image.{entry_held}
 
 window-here : (xs ys : List ℕ) (a : ℕ) → a ≤ length xs → length ys ≡ 64 → take 64 (drop a (take a xs ++ ys ++ drop (a + 64) xs)) ≡ ys
 window-here xs ys a le len =

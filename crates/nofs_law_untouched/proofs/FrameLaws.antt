@@ -1,5 +1,5 @@
 -- The laws of what a step leaves as it was.
-use Rattle.nofs_model.specs.Image.{path_of}
+use Rattle.nofs_image.specs.Image.{path_of}
 use Rattle.nofs_law_untouched.specs.Laws.{LawUntouched, LawGrown}
 use Rattle.nofs_law_untouched.proofs.Touching.{same-file}
 use Rattle.nofs_law_untouched.proofs.Growth.{on-path, off-path, value-on, value-off}

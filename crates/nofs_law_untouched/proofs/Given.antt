@@ -2,17 +2,17 @@
 use Rattle.std.proofs.Common.{◌≡◌, ◌≢◌, ℕ, ◌+◌, ◌<◌, ◌≤◌, inl, inr, Bool, true, false, ltb, ◌||◌, Option, Some, None, unwrap_or, refl, sym, ap, ◌∙◌, subst, arith}
 use Rattle.std.proofs.Common.{eq-eqb, leb, leb-true, ◌-◌, ◌/◌, ◌%◌}
 use Rattle.nofs_law_images.specs.Proper.{IsContentKind}
-use Rattle.nofs_model.proofs.Find.{and-both, find-held}
+use Rattle.nofs_image.proofs.Find.{and-both, find-held}
 use Rattle.nofs_law_untouched.specs.Frames.{SameMeta}
 use Rattle.nofs_law_untouched.proofs.Growth.{same_path-true}
-use Rattle.nofs_model.specs.declared.path.PathAnswer.TheVariants as answer
+use Rattle.nofs_image.specs.declared.path.PathAnswer.TheVariants as answer
 use Rattle.nofs_machine.specs.Meta.{Meta}
 use Rattle.nofs_machine.specs.Machine.{Given, is_at, filled, after_meta, born_file, file_after, files_after, value_of, size_of, lies_above, same_path}
 use Rattle.nofs_machine.specs.History.{SameFile}
-use Rattle.nofs_model.specs.Cells.{FileKind, File, Record, Pointer, Content, Directory}
+use Rattle.nofs_image.specs.Cells.{FileKind, File, Record, Pointer, Content, Directory}
 use Rattle.nofs_inode.specs.declared.inode.FileKind.TheVariants.{Directory as Folder}
-use Rattle.nofs_model.specs.Image.{Image, super_at, is_data_block, inode, is_inode, Path, InRecord, Under, find, NodeState, FileState, Files, is_folder}
-use Rattle.nofs_model.specs.declared.value.Value.{Value}
+use Rattle.nofs_image.specs.Image.{Image, super_at, is_data_block, inode, is_inode, Path, InRecord, Under, find, NodeState, FileState, Files, is_folder}
+use Rattle.nofs_image.specs.declared.value.Value.{Value}
 
 -- a file to which nothing is given stays
 pub given-elsewhere : (F : Files) (given : Given) (j : ℕ) → given.born j ≡ None → ((g k : ℕ) → given.slots j g k ≡ None)

@@ -5,8 +5,8 @@ use Rattle.nofs_machine.proofs.Era.{meta_of_file}
 use Rattle.nofs_machine.specs.Meta.{meta_of}
 use Rattle.nofs_machine.specs.Machine.{generation_of}
 use Rattle.nofs_machine.specs.History.{agreed_files, FilesMatch, SameFile}
-use Rattle.nofs_model.specs.Cells.{FileKind, is_live}
-use Rattle.nofs_model.specs.Image.{Image, inode, file_from, files_in, agreed, value, FileState, Files}
+use Rattle.nofs_image.specs.Cells.{FileKind, is_live}
+use Rattle.nofs_image.specs.Image.{Image, inode, file_from, files_in, agreed, value, FileState, Files}
 
 pub agreed-files-is : (X : Image) (i : ℕ) → agreed_files X i ≡ cond (agreed (files_in X) i) (files_in X i) None
 unfolding agreed_files

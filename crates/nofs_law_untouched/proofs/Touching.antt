@@ -1,17 +1,17 @@
 -- The files of inodes that a step does not touch stay.
 use Rattle.std.proofs.Common.{◌≡◌, ℕ, ◌<◌, inl, inr, Bool, true, false, Option, Some, None, refl, sym, ap, ◌∙◌, subst}
 use Rattle.nofs_ptrs.specs.Paths.{slot_limit}
-use Rattle.nofs_model.specs.declared.path.PathAnswer.{PathAnswer}
+use Rattle.nofs_image.specs.declared.path.PathAnswer.{PathAnswer}
 use Rattle.nofs_law_untouched.specs.Frames.{Rewrites, SameIdentity, SamePointers, OldPointers, Touches}
-use Rattle.nofs_model.proofs.Find.{find-held}
-use Rattle.nofs_model.proofs.Paths.{path_of-slot}
+use Rattle.nofs_image.proofs.Find.{find-held}
+use Rattle.nofs_image.proofs.Paths.{path_of-slot}
 use Rattle.nofs_law_untouched.proofs.Framing.{frame}
-use Rattle.nofs_model.specs.declared.path.PathAnswer.TheVariants as answer
+use Rattle.nofs_image.specs.declared.path.PathAnswer.TheVariants as answer
 use Rattle.nofs_machine.specs.History.{SameFile}
-use Rattle.nofs_model.specs.Cells.{Cell, FileKind, Tag, Pointer, Record, tag_of, pointer_at, is_live}
-use Rattle.nofs_model.specs.Image.{Image, cell_at, inode, files_in, agreed, value, value_in, node_in, Path, InRecord, Under, path_of, slot_of, tag_for, find}
-use Rattle.nofs_model.specs.Image.{IsSlot}
-use Rattle.nofs_model.specs.declared.value.Value.{Value}
+use Rattle.nofs_image.specs.Cells.{Cell, FileKind, Tag, Pointer, Record, tag_of, pointer_at, is_live}
+use Rattle.nofs_image.specs.Image.{Image, cell_at, inode, files_in, agreed, value, value_in, node_in, Path, InRecord, Under, path_of, slot_of, tag_for, find}
+use Rattle.nofs_image.specs.Image.{IsSlot}
+use Rattle.nofs_image.specs.declared.value.Value.{Value}
 
 same-parts : (t u : Tag) → Some t ≡ Some u → (t.inode ≡ u.inode) × (t.slot ≡ u.slot)
 same-parts t u e = let s : t ≡ u = cc e in (ap (λ (q : Tag). q.inode) s, ap (λ (q : Tag). q.slot) s)

@@ -1,8 +1,8 @@
 -- What a step leaves as it was.
 use Rattle.std.specs.Prelude.{◌≡◌, ℕ, ◌<◌, ◌≤◌, ◌⊎◌, Bool, true, false, Some}
-use Rattle.nofs_model.specs.declared.path.PathAnswer.TheVariants as answer
-use Rattle.nofs_model.specs.Cells.{Tag, Pointer, tag_of, pointer_at, is_live}
-use Rattle.nofs_model.specs.Image.{Image, cell_at, is_data_block, inode, Path, InRecord, Under, record_pointer, find, pointer, IsSlot, IsFree}
+use Rattle.nofs_image.specs.declared.path.PathAnswer.TheVariants as answer
+use Rattle.nofs_image.specs.Cells.{Tag, Pointer, tag_of, pointer_at, is_live}
+use Rattle.nofs_image.specs.Image.{Image, cell_at, is_data_block, inode, Path, InRecord, Under, record_pointer, find, pointer, IsSlot, IsFree}
 
 -- each block keeps its tag, or was free and has a stamp of at least s
 pub record Rewrites (s : ℕ) (X Y : Image) : Type 0 where

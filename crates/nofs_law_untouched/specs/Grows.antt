@@ -1,8 +1,8 @@
 -- A slot of content gets a block: the blocks of pointers above it are there already, or are claimed with it.
 use Rattle.std.specs.Prelude.{◌≡◌, ℕ, ◌≤◌, ◌⊎◌, true, false, Some}
-use Rattle.nofs_model.specs.Cells.{Pointer, tag_of, is_null, pointer_at}
-use Rattle.nofs_model.specs.Image.{Image, cell_at, is_data_block, inode, Path, InRecord, Under, tag_for, find, record_pointer, IsAbove, IsSlot, IsFree}
-use Rattle.nofs_model.specs.declared.path.PathAnswer.TheVariants as answer
+use Rattle.nofs_image.specs.Cells.{Pointer, tag_of, is_null, pointer_at}
+use Rattle.nofs_image.specs.Image.{Image, cell_at, is_data_block, inode, Path, InRecord, Under, tag_for, find, record_pointer, IsAbove, IsSlot, IsFree}
+use Rattle.nofs_image.specs.declared.path.PathAnswer.TheVariants as answer
 
 -- where the pointer of slot a stands in Y
 abbrev pub IsPlaced : Image → ℕ → (Path → Pointer) → Path → Type 0

@@ -4,8 +4,8 @@ use Rattle.std.proofs.Common.{◌++◌, length, Option, Some, None, refl, sym, a
 use Rattle.std.proofs.lemmas.Bool.{le-leb}
 use Rattle.std.proofs.lemmas.List.Elements.{Contains-append_cases}
 use Rattle.nofs_ptrs.specs.Paths.{slot_limit}
-use Rattle.nofs_model.specs.Cells.{Pointer, null}
-use Rattle.nofs_model.specs.Image.{Path, InRecord, Under, path_of, NodeState, Absent, Present, Damaged, Files}
+use Rattle.nofs_image.specs.Cells.{Pointer, null}
+use Rattle.nofs_image.specs.Image.{Path, InRecord, Under, path_of, NodeState, Absent, Present, Damaged, Files}
 use Rattle.nofs_machine.specs.Meta.{is_bytes}
 use Rattle.nofs_machine.specs.Machine.{value_of, node_of, place_for}
 use Rattle.nofs_machine.specs.World.{World, is_free_block, is_free_inode, absent_above, blocks_for, blocks_at, blocks_needed, inodes_needed}

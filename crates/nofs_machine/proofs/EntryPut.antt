@@ -2,8 +2,8 @@
 use Rattle.std.proofs.Common.{◌≡◌, ℕ, ◌+◌, ◌*◌, ◌%◌, List, ◌++◌, length, take, drop, refl, sym, ap, ◌∙◌, append_assoc}
 use Rattle.nofs_disk.specs.Number.{put_bytes}
 use Rattle.nofs_disk.specs.Number as number
-use Rattle.nofs_model.specs.declared.value.Value.{Value}
-use Rattle.nofs_model.specs.declared.value.Value.TheVariants.{Bytes}
+use Rattle.nofs_image.specs.declared.value.Value.{Value}
+use Rattle.nofs_image.specs.declared.value.Value.TheVariants.{Bytes}
 use Rattle.nofs_machine.specs.Machine.{bytes_in, with_entry, zeros}
 
 -- the 64 bytes of an entry stand at its place

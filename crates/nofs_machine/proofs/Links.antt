@@ -1,7 +1,7 @@
 -- A back link that is there, as a pair.
 use Rattle.std.proofs.Common.{◌≡◌, ℕ, zero, suc, ◌+◌, ◌-◌, ◌<◌, Bool, true, false, eqb, ◌&&◌, ◌||◌, List, [], ◌∷◌, Some, None, refl, ap, ◌∙◌, eqb-true, arith}
 use Rattle.std.specs.List.{list_any}
-use Rattle.nofs_model.specs.Cells.{BackLink}
+use Rattle.nofs_image.specs.Cells.{BackLink}
 use Rattle.nofs_machine.specs.Machine.{same_link}
 use Rattle.nofs_machine.specs.Search.{least_from}
 

@@ -5,10 +5,10 @@ use Rattle.std.proofs.Common.{ltb}
 use Rattle.std.proofs.lemmas.Bool.{cases_lt}
 use Rattle.std.proofs.lemmas.List.Elements.{Contains-append_left, Contains-append_right, Contains-append_cases}
 use Rattle.nofs_ptrs.specs.Paths.{slot_limit}
-use Rattle.nofs_model.specs.Cells.{is_live}
-use Rattle.nofs_model.specs.Image.{Image, inode, value, Files}
-use Rattle.nofs_model.specs.declared.value.Value.{Value}
-use Rattle.nofs_model.specs.declared.value.Value.TheVariants.{Bytes}
+use Rattle.nofs_image.specs.Cells.{is_live}
+use Rattle.nofs_image.specs.Image.{Image, inode, value, Files}
+use Rattle.nofs_image.specs.declared.value.Value.{Value}
+use Rattle.nofs_image.specs.declared.value.Value.TheVariants.{Bytes}
 use Rattle.nofs_machine.specs.Meta.{Meta}
 use Rattle.nofs_machine.specs.Machine.{given_by, files_by}
 use Rattle.nofs_machine.specs.History.{accepted_of, agreed_files, files_along, values_given, metas_given, last_in, is_generation, begun, mark, before_mark}

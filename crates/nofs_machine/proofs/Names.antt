@@ -7,11 +7,11 @@ use Rattle.nofs_machine.specs.Meta.{Gone, Is, meta_of, is_bytes, MayRead}
 use Rattle.nofs_machine.specs.declared.history.Entry1.{Entry1}
 use Rattle.nofs_machine.specs.History.{since, since_meta}
 use Rattle.nofs_machine.specs.Allowed.{HasVersions, IsFolderMeta, NamesStay}
-use Rattle.nofs_model.specs.Cells.{FileKind, File, BackLink, Record, is_live, entry_in}
+use Rattle.nofs_image.specs.Cells.{FileKind, File, BackLink, Record, is_live, entry_in}
 use Rattle.nofs_inode.specs.declared.inode.FileKind.TheVariants.{Directory as Folder}
-use Rattle.nofs_model.specs.Image.{Image, inode, value, files_in, is_folder, entry_in_file, entry_at, names, is_a, is_pair}
-use Rattle.nofs_model.specs.declared.value.Value.{Value}
-use Rattle.nofs_model.specs.declared.value.Value.TheVariants.{Bytes}
+use Rattle.nofs_image.specs.Image.{Image, inode, value, files_in, is_folder, entry_in_file, entry_at, names, is_a, is_pair}
+use Rattle.nofs_image.specs.declared.value.Value.{Value}
+use Rattle.nofs_image.specs.declared.value.Value.TheVariants.{Bytes}
 
 -- the kind of a folder's record
 folder-kind : (r : Record) → IsFolderMeta (meta_of r) → r.kind ≡ Some Folder

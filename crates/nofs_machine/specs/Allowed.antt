@@ -3,10 +3,10 @@
 use Rattle.std.specs.Prelude.{◌≡◌, ◌≢◌, ℕ, ◌/◌, ◌%◌, ◌<◌, true, List, length, get_or, Contains}
 use Rattle.nofs_dirent.specs.Entries.{entry_limit}
 use Rattle.nofs_ptrs.specs.Paths.{slot_limit}
-use Rattle.nofs_model.specs.Cells.{BackLink, is_live, entry_in}
-use Rattle.nofs_model.specs.Image.{Image, cell_at, inode, value, files_in, names, is_folder, is_pair}
-use Rattle.nofs_model.specs.declared.value.Value.{Value}
-use Rattle.nofs_model.specs.declared.value.Value.TheVariants.{Bytes, Lost}
+use Rattle.nofs_image.specs.Cells.{BackLink, is_live, entry_in}
+use Rattle.nofs_image.specs.Image.{Image, cell_at, inode, value, files_in, names, is_folder, is_pair}
+use Rattle.nofs_image.specs.declared.value.Value.{Value}
+use Rattle.nofs_image.specs.declared.value.Value.TheVariants.{Bytes, Lost}
 use Rattle.nofs_machine.specs.Meta.{Meta, Gone, Is, meta_of, MayRead}
 use Rattle.nofs_machine.specs.Since.{since, since_meta, stands, IsSure}
 use Rattle.nofs_machine.specs.declared.history.Entry1.{Entry1}

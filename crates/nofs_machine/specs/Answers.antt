@@ -1,10 +1,10 @@
 -- What a step is answered where no refusal comes.
 use Rattle.std.specs.Prelude.{ℕ, zero, suc, ◌-◌, ◌*◌, ◌&&◌, not, List, [], ◌∷◌, ◌++◌, Option, Some, None, if◌then◌else◌, count_by}
-use Rattle.nofs_model.specs.Cells.{FileKind, BackLink, Entry}
+use Rattle.nofs_image.specs.Cells.{FileKind, BackLink, Entry}
 use Rattle.nofs_inode.specs.declared.inode.FileKind.TheVariants.{File, Directory}
-use Rattle.nofs_model.specs.Image.{FileState, Files, entry_at, is_pair}
-use Rattle.nofs_model.specs.declared.value.Value.{Value}
-use Rattle.nofs_model.specs.declared.value.Value.TheVariants.{Hole, Bytes, Lost}
+use Rattle.nofs_image.specs.Image.{FileState, Files, entry_at, is_pair}
+use Rattle.nofs_image.specs.declared.value.Value.{Value}
+use Rattle.nofs_image.specs.declared.value.Value.TheVariants.{Hole, Bytes, Lost}
 use Rattle.nofs_machine.specs.Search.{least_from}
 use Rattle.nofs_machine.specs.Machine.{generation_of, value_of, is_folder_at, is_paired, found, is_lost, is_hole, drop_meta, link_to}
 use Rattle.nofs_machine.specs.Meta.{is_gone}

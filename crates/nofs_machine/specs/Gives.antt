@@ -1,9 +1,9 @@
 -- What an entry gives to one inode: nothing, a cell, a meta, or its birth.
 use Rattle.std.specs.Prelude.{◌≡◌, ◌≢◌, ℕ, List, Some, None, if◌then◌else◌, ◌==◌}
-use Rattle.nofs_model.specs.Cells.{FileKind, BackLink}
-use Rattle.nofs_model.specs.Image.{Path, path_of, Present}
-use Rattle.nofs_model.specs.declared.value.Value.{Value}
-use Rattle.nofs_model.specs.declared.value.Value.TheVariants.{Hole}
+use Rattle.nofs_image.specs.Cells.{FileKind, BackLink}
+use Rattle.nofs_image.specs.Image.{Path, path_of, Present}
+use Rattle.nofs_image.specs.declared.value.Value.{Value}
+use Rattle.nofs_image.specs.declared.value.Value.TheVariants.{Hole}
 use Rattle.nofs_machine.specs.Meta.{Meta, Gone, Is}
 use Rattle.nofs_machine.specs.Machine.{Given, lies_above}
 

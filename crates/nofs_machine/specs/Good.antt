@@ -1,7 +1,7 @@
 -- Maps that are right, verdicts that stay, and stamps that are fresh.
 use Rattle.std.specs.Prelude.{◌≡◌, ℕ, ◌+◌, ◌*◌, ◌^◌, ◌<◌, Bool, true, false, not, List, Contains}
-use Rattle.nofs_model.specs.Cells.{Cell}
-use Rattle.nofs_model.specs.Image.{Image, super_at, owner, is_used_inode, is_used_block, CellBelow}
+use Rattle.nofs_image.specs.Cells.{Cell}
+use Rattle.nofs_image.specs.Image.{Image, super_at, owner, is_used_inode, is_used_block, CellBelow}
 use Rattle.nofs_machine.specs.History.{FilesMatch}
 use Rattle.nofs_machine.specs.World.{World, uses_inode, uses_block}
 

@@ -2,7 +2,7 @@
 -- last flush and of the mark are here too, each from the file that defines it.
 use Rattle.std.specs.Prelude.{◌≡◌, ℕ, ◌<◌, true, false, List, [], ◌∷◌, Option, Some, None}
 use Rattle.nofs_ptrs.specs.Paths.{slot_limit}
-use Rattle.nofs_model.specs.Image.{Image, Path, is_pointer_slot, IsSlot, FileState, Files}
+use Rattle.nofs_image.specs.Image.{Image, Path, is_pointer_slot, IsSlot, FileState, Files}
 use Rattle.nofs_machine.specs.Machine.{is_write_fault}
 unfoldable pub use Rattle.nofs_machine.specs.Since.{agreed_files}
 pub use Rattle.nofs_machine.specs.Since.{files_along, values_given, metas_given, is_generation, accepted_of, accepted_meta_of, last_in, is_flushed}

@@ -5,11 +5,11 @@ use Rattle.std.specs.List.{list_any}
 use Rattle.nofs_ptrs.specs.Paths.{slot_limit}
 use Rattle.nofs_disk.specs.Number.{put_bytes}
 use Rattle.nofs_dirent.specs.Entries.{spelled_entry, entry_limit}
-use Rattle.nofs_model.specs.Cells.{FileKind, File, BackLink, is_empty_link}
-use Rattle.nofs_model.specs.Image.{Path, InRecord, Under, path_of, NodeState, Absent, Present, FileState, Files, is_folder, entry_at, is_pair, links_of}
-use Rattle.nofs_model.specs.Image.{is_special}
-use Rattle.nofs_model.specs.declared.value.Value.{Value}
-use Rattle.nofs_model.specs.declared.value.Value.TheVariants.{Hole, Bytes, Lost}
+use Rattle.nofs_image.specs.Cells.{FileKind, File, BackLink, is_empty_link}
+use Rattle.nofs_image.specs.Image.{Path, InRecord, Under, path_of, NodeState, Absent, Present, FileState, Files, is_folder, entry_at, is_pair, links_of}
+use Rattle.nofs_image.specs.Image.{is_special}
+use Rattle.nofs_image.specs.declared.value.Value.{Value}
+use Rattle.nofs_image.specs.declared.value.Value.TheVariants.{Hole, Bytes, Lost}
 use Rattle.nofs_machine.specs.Meta.{Meta, Gone, Is, is_bytes}
 use Rattle.nofs_machine.specs.Search.{least_from, first_of}
 use Rattle.nofs_machine.specs.declared.history.Claims.{Claims}

@@ -1,7 +1,7 @@
 -- The tools of the proof of what a crash may leave: the mark, as a record of what may be read since it, and a step under way.
 use Rattle.std.specs.Prelude.{◌≡◌, ℕ, ◌≤◌, Bool, ◌&&◌, List, [], ◌∷◌, ◌++◌, length, is_some, ◌==◌}
-use Rattle.nofs_model.specs.Image.{Image}
-use Rattle.nofs_model.specs.declared.value.Value.{Value}
+use Rattle.nofs_image.specs.Image.{Image}
+use Rattle.nofs_image.specs.declared.value.Value.{Value}
 use Rattle.nofs_machine.specs.Meta.{Meta}
 use Rattle.nofs_machine.specs.Machine.{generation_of}
 use Rattle.nofs_machine.specs.Since.{agreed_files, files_along, accepted_of, accepted_meta_of, last_in, begun, mark, since, since_meta, stands}

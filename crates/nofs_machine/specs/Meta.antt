@@ -1,8 +1,8 @@
 -- What an entry gives of an inode, and which values may be read. These are words of the promise.
 use Rattle.std.specs.Prelude.{◌≡◌, ℕ, ◌⊎◌, Bool, true, false, List, Some, None, Contains}
-use Rattle.nofs_model.specs.Cells.{FileKind, BackLink, Record}
-use Rattle.nofs_model.specs.declared.value.Value.{Value}
-use Rattle.nofs_model.specs.declared.value.Value.TheVariants.{Hole, Bytes, Lost}
+use Rattle.nofs_image.specs.Cells.{FileKind, BackLink, Record}
+use Rattle.nofs_image.specs.declared.value.Value.{Value}
+use Rattle.nofs_image.specs.declared.value.Value.TheVariants.{Hole, Bytes, Lost}
 
 -- what is known of an inode beside its content, or that it is gone
 pub data Meta : Type 0 where

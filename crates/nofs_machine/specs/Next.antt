@@ -1,6 +1,6 @@
 -- The steps of the machine, and its runs.
 use Rattle.std.specs.Prelude.{◌≡◌, ◌≢◌, ℕ, ◌+◌, ◌<◌, ◌≤◌, ◌⊎◌, Bool, true, false, ◌||◌, List, [], ◌∷◌, Some, None, ◌==◌}
-use Rattle.nofs_model.specs.Image.{Image}
+use Rattle.nofs_image.specs.Image.{Image}
 use Rattle.nofs_machine.specs.Search.{first_of}
 use Rattle.nofs_machine.specs.Machine.{gives, files_after}
 use Rattle.nofs_machine.specs.World.{World, uses_inode, uses_block, inodes_needed, blocks_needed, world_of}

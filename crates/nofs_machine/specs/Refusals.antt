@@ -3,8 +3,8 @@ use Rattle.std.specs.Prelude.{ℕ, ◌+◌, ◌-◌, ◌*◌, ◌/◌, ◌%◌, 
 use Rattle.std.specs.Prelude.{option_map, if◌then◌else◌, nat_lt, nat_le, ◌==◌}
 use Rattle.nofs_dirent.specs.Entries.{entry_limit}
 use Rattle.nofs_ptrs.specs.Paths.{slot_limit}
-use Rattle.nofs_model.specs.Cells.{Entry}
-use Rattle.nofs_model.specs.Image.{InRecord, Under, path_of, NodeState, Absent, Present, Damaged, entry_at}
+use Rattle.nofs_image.specs.Cells.{Entry}
+use Rattle.nofs_image.specs.Image.{InRecord, Under, path_of, NodeState, Absent, Present, Damaged, entry_at}
 use Rattle.nofs_dirent.specs.Names.{is_name}
 use Rattle.nofs_machine.specs.Search.{least_from, first_of}
 use Rattle.nofs_machine.specs.Machine.{generation_of, value_of, size_of, node_of, is_folder_at, is_paired, found, first_dead, is_lost, first_lost_slot}

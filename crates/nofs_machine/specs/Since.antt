@@ -3,9 +3,9 @@
 use Rattle.std.specs.Prelude.{ℕ, suc, Bool, true, false, ◌&&◌, not, List, [], ◌∷◌, ◌++◌, take, drop, is_some, option_to_list, None, if◌then◌else◌}
 use Rattle.std.specs.Prelude.{nat_lt, nat_le, ◌==◌}
 use Rattle.std.specs.List.{list_any}
-use Rattle.nofs_model.specs.Cells.{is_live}
-use Rattle.nofs_model.specs.Image.{Image, inode, value, Files, files_in, agreed}
-use Rattle.nofs_model.specs.declared.value.Value.{Value}
+use Rattle.nofs_image.specs.Cells.{is_live}
+use Rattle.nofs_image.specs.Image.{Image, inode, value, Files, files_in, agreed}
+use Rattle.nofs_image.specs.declared.value.Value.{Value}
 use Rattle.nofs_machine.specs.Meta.{Meta, meta_of, is_gone, AllBytes}
 use Rattle.nofs_machine.specs.Machine.{given_by, files_by, generation_of}
 use Rattle.nofs_machine.specs.declared.history.Entry1.{Entry1}

@@ -2,9 +2,9 @@
 use Rattle.std.specs.Prelude.{◌≡◌, ℕ, ◌<◌, ◌⊎◌, true, false, List, [], length}
 use Rattle.nofs_ptrs.specs.Paths.{slot_limit}
 use Rattle.nofs_disk.specs.Disk.{Picks}
-use Rattle.nofs_model.specs.Cells.{Cell, is_live}
-use Rattle.nofs_model.specs.Image.{Image, inode, Path, path_of, IsAbove, pointer, value, files_in, agreed}
-use Rattle.nofs_model.specs.declared.value.Value.TheVariants.{Lost}
+use Rattle.nofs_image.specs.Cells.{Cell, is_live}
+use Rattle.nofs_image.specs.Image.{Image, inode, Path, path_of, IsAbove, pointer, value, files_in, agreed}
+use Rattle.nofs_image.specs.declared.value.Value.TheVariants.{Lost}
 use Rattle.nofs_machine.specs.Meta.{meta_of}
 use Rattle.nofs_machine.specs.Since.{agreed_files, values_given, metas_given, stands, IsSure}
 use Rattle.nofs_machine.specs.declared.history.Entry1.{Entry1}

@@ -1,6 +1,6 @@
 -- The machine's state: files, the blocks that are used, and what is known of both.
 use Rattle.std.specs.Prelude.{ℕ, suc, ◌+◌, ◌/◌, Bool, true, false, ◌&&◌, ◌||◌, not, Option, Some, None, is_some, if◌then◌else◌, nat_le, unwrap_or}
-use Rattle.nofs_model.specs.Image.{Image, super_at, Path, InRecord, Under, path_of, Absent, Present, Damaged, Files, is_special, Home, owner}
+use Rattle.nofs_image.specs.Image.{Image, super_at, Path, InRecord, Under, path_of, Absent, Present, Damaged, Files, is_special, Home, owner}
 use Rattle.nofs_machine.specs.Meta.{is_bytes}
 use Rattle.nofs_machine.specs.Search.{count_below, least_from}
 use Rattle.nofs_machine.specs.Machine.{value_of, node_of, place_for}

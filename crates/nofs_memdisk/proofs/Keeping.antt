@@ -4,13 +4,13 @@ use Rattle.std.specs.Prelude.{vec_capacity}
 use Rattle.std.proofs.lemmas.List.{length_push}
 use Rattle.nofs_disk.specs.declared.tag.Cell.{Cell}
 use Rattle.nofs_disk.specs.Disk.{IsSizedCell}
-use Rattle.nofs_memdisk.specs.declared.call.Call.{Call}
-use Rattle.nofs_memdisk.specs.declared.call.Call.TheVariants.{Write, Flush}
+use Rattle.nofs_versions.specs.declared.call.Call.{Call}
+use Rattle.nofs_versions.specs.declared.call.Call.TheVariants.{Write, Flush}
 use Rattle.nofs_memdisk.specs.declared.memory.MemDisk.{MemDisk}
-use Rattle.nofs_memdisk.specs.Memory.{held_after, put_if}
-use Rattle.nofs_memdisk.specs.MemoryLaws.{AreSized}
-use Rattle.nofs_memdisk.proofs.Held.{flush_present, length-put_if, write_present}
-use Rattle.nofs_memdisk.proofs.Sized.{sized_flush, sized_write}
+use Rattle.nofs_versions.specs.Memory.{held_after, put_if}
+use Rattle.nofs_versions.specs.MemoryLaws.{AreSized}
+use Rattle.nofs_versions.proofs.Held.{flush_present, length-put_if, write_present}
+use Rattle.nofs_versions.proofs.Sized.{sized_flush, sized_write}
 
 -- what the ghost fields of a disk in memory say
 abbrev pub Holds : ℕ → List Cell → List Cell → List Call → ℕ → ℕ → ℕ → Type 0

@@ -4,14 +4,14 @@ use Rattle.std.proofs.Common.{Some}
 use Rattle.std.specs.Prelude.{is_none, is_some, unwrap_or, ◌^◌}
 use Rattle.nofs_disk.specs.declared.tag.Cell.{Cell}
 use Rattle.nofs_disk.specs.Disk.{Rose}
-use Rattle.nofs_memdisk.specs.declared.call.Call.{Call}
-use Rattle.nofs_memdisk.specs.declared.call.Call.TheVariants.{Write, Flush}
-use Rattle.nofs_memdisk.specs.Memory.{held_after}
-use Rattle.nofs_memdisk.specs.declared.call.CallKind.TheVariants as kind
-use Rattle.nofs_memdisk.specs.declared.call.FaultAt.{FaultAt}
-use Rattle.nofs_memdisk.specs.Faults.{faults_after_call, fault_of, next}
+use Rattle.nofs_versions.specs.declared.call.Call.{Call}
+use Rattle.nofs_versions.specs.declared.call.Call.TheVariants.{Write, Flush}
+use Rattle.nofs_versions.specs.Memory.{held_after}
+use Rattle.nofs_versions.specs.declared.call.CallKind.TheVariants as kind
+use Rattle.nofs_versions.specs.declared.call.FaultAt.{FaultAt}
+use Rattle.nofs_versions.specs.Faults.{faults_after_call, fault_of, next}
 use Rattle.nofs_memdisk.specs.Parts.{Parts, has_flushed, has_written}
-use Rattle.nofs_memdisk.proofs.Held.{after_none}
+use Rattle.nofs_versions.proofs.Held.{after_none}
 
 -- a write that is not to fail is taken
 pub taken_if_none : (fault : Option Bool) → is_some fault ≡ false → unwrap_or fault true ≡ true

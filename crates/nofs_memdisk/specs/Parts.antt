@@ -2,13 +2,13 @@
 use Rattle.std.specs.Prelude.{ℕ, List, [], ◌∷◌, ◌++◌, length, ◌+◌, ◌-◌, ◌*◌, Bool, true, Option, is_none, unwrap_or, slice_set}
 use Rattle.nofs_disk.specs.declared.tag.Cell.{Cell}
 use Rattle.nofs_disk.specs.Disk.{DiskState}
-use Rattle.nofs_memdisk.specs.declared.call.Call.{Call}
-use Rattle.nofs_memdisk.specs.declared.call.Call.TheVariants.{Write, Flush}
-use Rattle.nofs_memdisk.specs.declared.call.CallKind.TheVariants as kind
-use Rattle.nofs_memdisk.specs.declared.call.FaultAt.{FaultAt}
+use Rattle.nofs_versions.specs.declared.call.Call.{Call}
+use Rattle.nofs_versions.specs.declared.call.Call.TheVariants.{Write, Flush}
+use Rattle.nofs_versions.specs.declared.call.CallKind.TheVariants as kind
+use Rattle.nofs_versions.specs.declared.call.FaultAt.{FaultAt}
 use Rattle.nofs_memdisk.specs.declared.memory.MemDisk.{MemDisk}
-use Rattle.nofs_memdisk.specs.Faults.{faults_after_call, fault_of, next}
-use Rattle.nofs_memdisk.specs.Memory.{held_after, state_of}
+use Rattle.nofs_versions.specs.Faults.{faults_after_call, fault_of, next}
+use Rattle.nofs_versions.specs.Memory.{held_after, state_of}
 
 -- what contracts of every disk see of it
 abbrev pub memory_state : MemDisk → DiskState

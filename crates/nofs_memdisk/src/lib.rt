@@ -6,14 +6,10 @@
 //! that finds memory only so often is that other one but in this.
 #![tactic(auto)]
 
-mod call;
-mod effects;
 mod memory;
-mod search;
 #[cfg(test)]
 mod tests;
 mod unready;
 
-pub use call::{CallCounts, CallKind, FaultAt, Pick};
 pub use memory::MemDisk;
 pub use unready::Unready;

@@ -7,13 +7,14 @@ ghost use Rattle.std.specs.Prelude.{◌≡◌, ◌+◌, ◌*◌, ◌^◌, ◌<�
 ghost use Rattle.nofs_disk.specs.Disk.{no_cell, Flushes, IsSettled, IsSizedCell, MakesReady, Picks, Reads, Writes, WritesOut};
 ghost use Rattle.nofs_disk.specs.Tag.{zero_cell};
 ghost use Rattle.nofs_disk.specs.declared.tag.Cell.{Cell};
-ghost use Rattle.nofs_memdisk.specs.Memory.{PicksVersions, held_after, picked};
-ghost use Rattle.nofs_memdisk.specs.MemoryLaws.{AreSized};
+ghost use Rattle.nofs_versions.specs.Memory.{PicksVersions, held_after, picked};
+ghost use Rattle.nofs_versions.specs.MemoryLaws.{AreSized};
 
-use crate::call::{Call, CallCounts, CallKind, FaultAt, Pick, fault_at};
-use crate::effects::{count_fault, keep, put};
-use crate::search::{Search, choices_after, search_on};
 use nofs_disk::{Cell, Disk, Failed};
+use nofs_versions::{
+    Call, CallCounts, CallKind, FaultAt, Pick, Search, choices_after, count_fault, fault_at, keep,
+    put, search_on,
+};
 use std::alloc::{AllocError, Global};
 
 /// A disk of cells in memory.
@@ -48,7 +49,7 @@ impl MemDisk {
     ghost use Rattle.nofs_memdisk.specs.Parts.{fresh_parts, laid, memory_state, parts_of};
 
     /// A disk of this many cells of zeros, at moment 0.
-    #[tactic(auto, unfolding(crate::specs::Memory::held_after))]
+    #[tactic(auto, unfolding(nofs_versions::specs::Memory::held_after))]
     pub fn new(alloc: Global, blocks: u64) -> Result<MemDisk, AllocError>
         ensures parts { IfOk result (λ disk. parts_of disk ≡ fresh_parts (replicate blocks zero_cell)) }
         ensures settled { IfOk result (λ disk. IsSettled (memory_state disk)) }
@@ -58,7 +59,7 @@ impl MemDisk {
     }
 
     // A disk that holds these cells as flushed content.
-    #[tactic(auto, unfolding(crate::specs::Memory::held_after))]
+    #[tactic(auto, unfolding(nofs_versions::specs::Memory::held_after))]
     fn of(alloc: Global, base: Vec<Cell>) -> Result<MemDisk, AllocError>
         requires { AreSized (length base.items) (held_after base.items []).may }
         ensures parts { IfOk result (λ disk. parts_of disk ≡ fresh_parts base.items) }
@@ -149,7 +150,7 @@ impl MemDisk {
 
     /// The disk that a crash leaves which takes these cells; of two picks of one block the later
     /// counts, and a block that is not named takes its last cell. All its cells are flushed.
-    #[tactic(auto, unfolding(crate::specs::Memory::held_after))]
+    #[tactic(auto, unfolding(nofs_versions::specs::Memory::held_after))]
     pub fn image(&self, alloc: Global, picks: &[Pick]) -> Result<MemDisk, AllocError>
         requires { All (PicksVersions (memory_state self.now)) picks.now }
         ensures parts { IfOk result (λ disk. parts_of disk ≡ fresh_parts (picked (memory_state self.now).may (memory_state self.now).now picks.now)) }
@@ -178,7 +179,7 @@ impl MemDisk {
 
 impl Disk for MemDisk {
     ghost use Rattle.nofs_memdisk.specs.Parts.{flush_fault, has_flushed, has_read, has_written, has_written_out, made_ready, memory_state, parts_of, read_fault, write_fault};
-    ghost use Rattle.nofs_memdisk.specs.MemoryLaws.{state_of-is};
+    ghost use Rattle.nofs_versions.specs.MemoryLaws.{state_of-is};
 
     ghost state = { memory_state };
 

@@ -1,6 +1,6 @@
 //! Disks in memory: what their calls do, fail and count, and the images that a crash leaves.
 ghost use Rattle.std.specs.Prelude.{◌↔◌, IsTrue};
-ghost use Rattle.nofs_memdisk.specs.Memory.{PicksVersions};
+ghost use Rattle.nofs_versions.specs.Memory.{PicksVersions};
 ghost use Rattle.nofs_memdisk.specs.Parts.{memory_state};
 
 use super::*;

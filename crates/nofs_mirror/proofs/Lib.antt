@@ -1,11 +1,5 @@
-pub mod SidePast
-pub mod MirrorPast
-pub mod MirrorCells
-pub mod MirrorWrites
-pub mod MirrorLeaves
 pub mod MirrorCalls
 pub mod WriteCalls
-pub mod MirrorFlushes
 pub mod FlushCalls
 pub mod MirrorReads
 pub mod Copied

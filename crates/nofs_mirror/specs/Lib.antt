@@ -1,5 +1,1 @@
-pub mod Past
-pub mod Asking
 pub mod Copying
-pub mod Mirror
-pub mod Laws

@@ -5,13 +5,7 @@
 //! stays in.
 #![tactic(auto)]
 
-mod asking;
 mod copying;
-mod log;
 mod mirror;
-mod opening;
-mod past;
 
-pub use log::Sides;
 pub use mirror::{Mirror, MirrorFault};
-pub use opening::MirrorCause;

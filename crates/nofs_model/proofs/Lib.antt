@@ -1,13 +1,1 @@
-pub mod Find
-pub mod Paths
-pub mod Chains
-pub mod Owners
-pub mod Sound
-pub mod Vectors
-pub mod EntryTests
 pub mod Parents
-pub mod Meanings
-pub mod NameMeanings
-pub mod OwnerMeanings
-pub mod Spells
-pub mod Formatted

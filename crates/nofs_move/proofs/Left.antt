@@ -4,8 +4,8 @@ use Rattle.std.proofs.Common.{ap, ◌∙◌, subst, arith, eqb-true, eq-eqb}
 use Rattle.std.specs.Prelude.{slice_get}
 use Rattle.std.proofs.lemmas.Bool.{cases_lt}
 use Rattle.std.proofs.lemmas.Option.{slice_get_within}
-use Rattle.nofs_model.specs.Cells.{Entry}
-use Rattle.nofs_model.specs.Image.{Image, Files, entry_at}
+use Rattle.nofs_image.specs.Cells.{Entry}
+use Rattle.nofs_image.specs.Image.{Image, Files, entry_at}
 use Rattle.nofs_machine.specs.Machine.{found, place_for, link_to, given_by}
 use Rattle.nofs_machine.specs.History.{agreed_files}
 use Rattle.nofs_machine.specs.Steps.{Made}
@@ -15,9 +15,9 @@ use Rattle.nofs_machine.specs.declared.history.Entry1.{Entry1}
 use Rattle.nofs_machine.specs.declared.steps.Step.{Step}
 use Rattle.nofs_machine.specs.declared.steps.Step.TheVariants as step
 use Rattle.nofs_machine.specs.declared.replies.Reply.TheVariants as reply
-use Rattle.nofs_client.specs.declared.commands.Command.TheVariants as command
-use Rattle.nofs_client.specs.declared.commands.Path.{Path}
-use Rattle.nofs_client.specs.Places.{last_name}
+use Rattle.nofs_task.specs.declared.commands.Command.TheVariants as command
+use Rattle.nofs_task.specs.declared.commands.Path.{Path}
+use Rattle.nofs_task.specs.Places.{last_name}
 use Rattle.nofs_law_runs.specs.Runs.{files_before}
 use Rattle.nofs_law_runs.proofs.Runs.{files-after}
 use Rattle.nofs_law_links.proofs.Links.{IsSane, Linked, linked-range, linked-paired}

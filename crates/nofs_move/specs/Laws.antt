@@ -2,8 +2,8 @@
 --
 -- The premises are ones that a user can see: the replies to the steps of the command, and what other callers did meanwhile.
 use Rattle.std.specs.Prelude.{◌≡◌, ◌≢◌, ℕ, ◌<◌, ◌≤◌, ◌⊎◌, List, length, Some, slice_get}
-use Rattle.nofs_model.specs.Cells.{Entry}
-use Rattle.nofs_model.specs.Image.{Image, entry_at}
+use Rattle.nofs_image.specs.Cells.{Entry}
+use Rattle.nofs_image.specs.Image.{Image, entry_at}
 use Rattle.nofs_machine.specs.Machine.{found, place_for, given_by}
 use Rattle.nofs_machine.specs.HistoryState.{HistoryState}
 use Rattle.nofs_machine.specs.Allowed.{IsAllowed}
@@ -11,9 +11,9 @@ use Rattle.nofs_machine.specs.Steps.{Made}
 use Rattle.nofs_machine.specs.declared.history.Entry1.{Entry1}
 use Rattle.nofs_machine.specs.declared.steps.Step.{Step}
 use Rattle.nofs_machine.specs.declared.steps.Step.TheVariants as step
-use Rattle.nofs_client.specs.declared.commands.Command.TheVariants as command
-use Rattle.nofs_client.specs.declared.commands.Path.{Path}
-use Rattle.nofs_client.specs.Places.{last_name}
+use Rattle.nofs_task.specs.declared.commands.Command.TheVariants as command
+use Rattle.nofs_task.specs.declared.commands.Path.{Path}
+use Rattle.nofs_task.specs.Places.{last_name}
 use Rattle.nofs_law_runs.specs.Bases.{IsHistory}
 use Rattle.nofs_law_runs.specs.Runs.{files_before}
 use Rattle.nofs_law_paths.specs.Finds.{Finds}

@@ -1,7 +1,8 @@
 //! Copies of paths.
 ghost use Rattle.std.specs.Prelude.{◌≡◌, IfOk};
 
-use nofs_client::{Path, PathNames};
+use nofs_client::PathNames;
+use nofs_task::Path;
 use std::alloc::{AllocError, Global};
 
 fn copy_names(alloc: Global, names: &PathNames) -> Result<PathNames, AllocError>

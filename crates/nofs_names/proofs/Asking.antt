@@ -7,10 +7,10 @@ use Rattle.std.proofs.lemmas.Bool.{cases_eq}
 use Rattle.nofs_dirent.specs.Entries.{entry_limit}
 use Rattle.nofs_bits.specs.Bits.{is_set}
 use Rattle.nofs_disk.specs.Disk.{DiskState}
-use Rattle.nofs_model.specs.Cells.{FileKind, Pointer, SuperBlock, null}
-use Rattle.nofs_model.specs.Image.{Image, value_in, leaf, path_of, find, files_in, agreed, Files, NodeState, Absent, Present, Damaged, node_in}
-use Rattle.nofs_model.specs.declared.path.PathAnswer.TheVariants as answer
-use Rattle.nofs_model.proofs.Paths.{path-direct, path-leaf}
+use Rattle.nofs_image.specs.Cells.{FileKind, Pointer, SuperBlock, null}
+use Rattle.nofs_image.specs.Image.{Image, value_in, leaf, path_of, find, files_in, agreed, Files, NodeState, Absent, Present, Damaged, node_in}
+use Rattle.nofs_image.specs.declared.path.PathAnswer.TheVariants as answer
+use Rattle.nofs_image.proofs.Paths.{path-direct, path-leaf}
 use Rattle.nofs_machine.specs.Meta.{is_bytes}
 use Rattle.nofs_machine.specs.Machine.{value_of, node_of, place_for}
 use Rattle.nofs_machine.specs.World.{World, blocks_at, blocks_for, blocks_needed, is_free_block}

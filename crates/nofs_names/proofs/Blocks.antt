@@ -12,12 +12,12 @@ use Rattle.std.specs.Prelude.{IfErr, OnOk}
 use Rattle.nofs_disk.specs.Chains.{StaysButFaults-trans}
 use Rattle.nofs_disk.specs.declared.Failed.{Failed}
 use Rattle.nofs_machine.specs.declared.replies.Refusal.{Refusal}
-use Rattle.nofs_model.specs.Cells.{Pointer, SuperBlock}
-use Rattle.nofs_model.specs.Image.{Image, Path, InRecord, Under, path_of, find, files_in, agreed, is_slot, Home, owner}
-use Rattle.nofs_model.specs.declared.path.PathAnswer.{PathAnswer}
-use Rattle.nofs_model.specs.declared.path.PathAnswer.TheVariants as answer
-use Rattle.nofs_model.proofs.Owners.{owner-of, owner-holds, owner-slot}
-use Rattle.nofs_model.proofs.Paths.{path_of-number}
+use Rattle.nofs_image.specs.Cells.{Pointer, SuperBlock}
+use Rattle.nofs_image.specs.Image.{Image, Path, InRecord, Under, path_of, find, files_in, agreed, is_slot, Home, owner}
+use Rattle.nofs_image.specs.declared.path.PathAnswer.{PathAnswer}
+use Rattle.nofs_image.specs.declared.path.PathAnswer.TheVariants as answer
+use Rattle.nofs_image.proofs.Owners.{owner-of, owner-holds, owner-slot}
+use Rattle.nofs_image.proofs.Paths.{path_of-number}
 use Rattle.nofs_ptrs.specs.PathLaws.{path-far}
 use Rattle.nofs_agree.specs.Finding.{FindsSlot}
 use Rattle.nofs_agree.specs.declared.reads.LastRead.{LastRead}

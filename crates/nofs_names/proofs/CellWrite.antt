@@ -3,10 +3,10 @@ use Rattle.std.proofs.Common.{◌≡◌, ◌≢◌, ℕ, ◌+◌, ◌-◌, ◌/�
 use Rattle.std.proofs.Common.{◌∙◌, arith}
 use Rattle.std.proofs.lemmas.List.{get_or-set_same, get_or-set_other}
 use Rattle.nofs_disk.specs.Disk.{cell_at, no_cell}
-use Rattle.nofs_model.specs.Cells.{Cell, Pointer, SuperBlock, record_at, free_record}
-use Rattle.nofs_model.specs.Image.{Image, super_at, is_data_block, is_inode, inode}
-use Rattle.nofs_model.proofs.Find.{and-both}
-use Rattle.nofs_model.proofs.Sound.{supers}
+use Rattle.nofs_image.specs.Cells.{Cell, Pointer, SuperBlock, record_at, free_record}
+use Rattle.nofs_image.specs.Image.{Image, super_at, is_data_block, is_inode, inode}
+use Rattle.nofs_image.proofs.Find.{and-both}
+use Rattle.nofs_image.proofs.Sound.{supers}
 use Rattle.nofs_state.specs.Writing.{image_after}
 
 in-table : (X : Image) (j : ℕ) → is_inode X j ≡ true → inode X j ≡ record_at (cell_at X (1 + (j - 1) / 4)).payload ((j - 1) % 4)

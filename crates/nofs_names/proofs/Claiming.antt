@@ -5,9 +5,9 @@ use Rattle.std.proofs.lemmas.Bool.{cases_eq}
 use Rattle.std.proofs.Math.Bool.{and-false, or-true}
 use Rattle.nofs_agree.specs.Chains.{told}
 use Rattle.nofs_bits.specs.Bits.{is_set}
-use Rattle.nofs_model.specs.Cells.{Pointer, SuperBlock}
-use Rattle.nofs_model.specs.Image.{Image, is_special, Files, Home}
-use Rattle.nofs_model.proofs.Find.{and-both}
+use Rattle.nofs_image.specs.Cells.{Pointer, SuperBlock}
+use Rattle.nofs_image.specs.Image.{Image, is_special, Files, Home}
+use Rattle.nofs_image.proofs.Find.{and-both}
 use Rattle.nofs_machine.specs.Machine.{gives, files_after}
 use Rattle.nofs_machine.specs.World.{World, is_fixed, is_free_inode, blocks_needed, inodes_needed, uses_inode, uses_block}
 use Rattle.nofs_machine.specs.Claims.{cell_slot, has_block, homes_after, claimed_home, next_stamp, IsClaim, IsInodeClaim, ClaimedInode}

@@ -1,8 +1,8 @@
 -- What a Drop stands on when it writes: it stays over reads, and with it the inode goes.
 use Rattle.std.proofs.Common.{arith, ◌≡◌, ◌≤◌, ℕ, Bool, true, not, IsTrue, List, [], ◌∷◌, Result, Ok, Err, sym, ap, ◌∙◌, subst}
 use Rattle.nofs_disk.specs.Disk.{DiskState, IsDisk, StaysButFaults, cell_at}
-use Rattle.nofs_model.specs.Cells.{Cell, Record, free_record}
-use Rattle.nofs_model.specs.Image.{Files}
+use Rattle.nofs_image.specs.Cells.{Cell, Record, free_record}
+use Rattle.nofs_image.specs.Image.{Files}
 use Rattle.nofs_machine.specs.History.{FilesMatch}
 use Rattle.nofs_machine.specs.Machine.{drop_meta, link_to}
 use Rattle.nofs_machine.specs.Meta.{is_gone}

@@ -3,9 +3,9 @@ use Rattle.std.proofs.Common.{◌≡◌, ℕ, ◌/◌, ◌%◌, ◌*◌, ◌||�
 use Rattle.std.specs.List.{list_any}
 use Rattle.nofs_disk.specs.Disk.{DiskState, IsDisk, StaysButFaults, Rose, cell_at}
 use Rattle.nofs_disk.specs.Number.{put_bytes, zeros}
-use Rattle.nofs_model.specs.Cells.{Cell, BackLink, Pointer, Record}
-use Rattle.nofs_model.specs.Image.{Image, Files, files_in, agreed, is_special, path_of, find}
-use Rattle.nofs_model.specs.declared.path.PathAnswer.TheVariants as answer
+use Rattle.nofs_image.specs.Cells.{Cell, BackLink, Pointer, Record}
+use Rattle.nofs_image.specs.Image.{Image, Files, files_in, agreed, is_special, path_of, find}
+use Rattle.nofs_image.specs.declared.path.PathAnswer.TheVariants as answer
 use Rattle.nofs_machine.specs.Meta.{is_gone}
 use Rattle.nofs_machine.specs.Machine.{drop_meta, link_to, without_link}
 use Rattle.nofs_machine.specs.Claims.{no_claims}

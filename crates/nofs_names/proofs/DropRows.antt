@@ -5,8 +5,8 @@ use Rattle.nofs_dirent.specs.Entries.{entry_limit}
 use Rattle.nofs_disk.specs.Disk.{DiskState, IsDisk, StaysButFaults}
 use Rattle.nofs_disk.specs.Chains.{StaysButFaults-refl, StaysButFaults-trans}
 use Rattle.nofs_dirent.specs.Names.{is_name}
-use Rattle.nofs_model.specs.Cells.{Entry, Record}
-use Rattle.nofs_model.specs.Image.{Image, Files, entry_at}
+use Rattle.nofs_image.specs.Cells.{Entry, Record}
+use Rattle.nofs_image.specs.Image.{Image, Files, entry_at}
 use Rattle.nofs_machine.specs.Search.{first_of, least_from}
 use Rattle.nofs_machine.specs.Machine.{generation_of, is_folder_at, is_paired, found}
 use Rattle.nofs_machine.specs.World.{World}

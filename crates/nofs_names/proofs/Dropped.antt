@@ -3,9 +3,9 @@ use Rattle.std.proofs.Common.{◌≡◌, ℕ, ◌/◌, ◌%◌, ◌<◌, Bool, t
 use Rattle.std.proofs.Common.{subst}
 use Rattle.std.specs.List.{list_any}
 use Rattle.nofs_disk.specs.Disk.{DiskState, IsDisk, StaysButFaults, cell_at}
-use Rattle.nofs_model.specs.Cells.{Cell, BackLink, Pointer, Record, tag_of}
-use Rattle.nofs_model.specs.Image.{Image, path_of, find, is_special, is_pair, FileState, Files}
-use Rattle.nofs_model.specs.declared.path.PathAnswer.TheVariants as answer
+use Rattle.nofs_image.specs.Cells.{Cell, BackLink, Pointer, Record, tag_of}
+use Rattle.nofs_image.specs.Image.{Image, path_of, find, is_special, is_pair, FileState, Files}
+use Rattle.nofs_image.specs.declared.path.PathAnswer.TheVariants as answer
 use Rattle.nofs_machine.specs.Meta.{Gone, Is, is_gone}
 use Rattle.nofs_machine.specs.Machine.{drop_meta, without_link, link_to}
 use Rattle.nofs_machine.specs.Claims.{no_claims}

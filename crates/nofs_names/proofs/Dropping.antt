@@ -8,15 +8,15 @@ use Rattle.nofs_disk.specs.Disk.{DiskState, IsDisk, cell_at}
 use Rattle.nofs_disk.specs.Number.{put_bytes}
 use Rattle.nofs_disk.specs.Number as number
 use Rattle.nofs_inode.specs.declared.inode.FileKind.TheVariants.{Directory as Folder}
-use Rattle.nofs_model.specs.Cells.{Cell, Entry, Pointer, Record, SuperBlock, tag_of, is_live}
-use Rattle.nofs_model.specs.Image.{Image, super_at, is_data_block, inode, path_of, find, record_pointer, files_in, agreed, is_folder, is_special, FileState}
-use Rattle.nofs_model.specs.Image.{Files, Home, is_pair}
-use Rattle.nofs_model.specs.declared.path.PathAnswer.TheVariants as answer
-use Rattle.nofs_model.specs.declared.value.Value.{Value}
-use Rattle.nofs_model.specs.declared.value.Value.TheVariants.{Bytes}
-use Rattle.nofs_model.proofs.Find.{and-both, find-held, HoldsAt}
-use Rattle.nofs_model.proofs.Owners.{owner-holds}
-use Rattle.nofs_model.proofs.Sound.{supers}
+use Rattle.nofs_image.specs.Cells.{Cell, Entry, Pointer, Record, SuperBlock, tag_of, is_live}
+use Rattle.nofs_image.specs.Image.{Image, super_at, is_data_block, inode, path_of, find, record_pointer, files_in, agreed, is_folder, is_special, FileState}
+use Rattle.nofs_image.specs.Image.{Files, Home, is_pair}
+use Rattle.nofs_image.specs.declared.path.PathAnswer.TheVariants as answer
+use Rattle.nofs_image.specs.declared.value.Value.{Value}
+use Rattle.nofs_image.specs.declared.value.Value.TheVariants.{Bytes}
+use Rattle.nofs_image.proofs.Find.{and-both, find-held, HoldsAt}
+use Rattle.nofs_image.proofs.Owners.{owner-holds}
+use Rattle.nofs_image.proofs.Sound.{supers}
 use Rattle.nofs_law_images.specs.Proper.{Proper}
 use Rattle.nofs_law_images.specs.Moments.{during}
 use Rattle.nofs_machine.specs.Meta.{Meta, Gone, Is, is_bytes, is_gone}

@@ -6,8 +6,8 @@ use Rattle.nofs_dirent.specs.Entries.{entry_limit}
 use Rattle.nofs_disk.specs.Disk.{DiskState}
 use Rattle.nofs_disk.specs.Chains.{StaysButFaults-refl}
 use Rattle.nofs_inode.specs.declared.inode.FileKind.TheVariants.{File, Directory}
-use Rattle.nofs_model.specs.Cells.{SuperBlock}
-use Rattle.nofs_model.specs.Image.{Image, files_in, agreed, is_folder, FileState, Files}
+use Rattle.nofs_image.specs.Cells.{SuperBlock}
+use Rattle.nofs_image.specs.Image.{Image, files_in, agreed, is_folder, FileState, Files}
 use Rattle.nofs_machine.specs.Search.{least_from}
 use Rattle.nofs_machine.specs.Machine.{is_folder_at, is_paired}
 use Rattle.nofs_machine.specs.History.{FilesMatch}

@@ -9,12 +9,12 @@ use Rattle.nofs_disk.specs.Disk.{cell_at, no_cell}
 use Rattle.nofs_disk.specs.Number.{zeros}
 use Rattle.nofs_inode.specs.InodeRecords.{record_or_free}
 use Rattle.nofs_inode.specs.declared.inode.FileKind.TheVariants.{Directory as Folder}
-use Rattle.nofs_model.specs.Cells.{Cell, Directory, Entry, Leaf, Pointer, Record, null, SuperBlock, tag_of, record_at, record_of, fields_in, free_record}
-use Rattle.nofs_model.specs.Cells.{spelled_entry}
-use Rattle.nofs_model.specs.Image.{Image, super_at, is_inode, inode, InRecord, leaf, path_of, tag_for, kind_in, slot_of, is_pointer_slot, record_pointer}
-use Rattle.nofs_model.specs.declared.value.Value.TheVariants.{Bytes, Hole}
-use Rattle.nofs_model.proofs.Find.{and-both}
-use Rattle.nofs_model.proofs.Sound.{supers}
+use Rattle.nofs_image.specs.Cells.{Cell, Directory, Entry, Leaf, Pointer, Record, null, SuperBlock, tag_of, record_at, record_of, fields_in, free_record}
+use Rattle.nofs_image.specs.Cells.{spelled_entry}
+use Rattle.nofs_image.specs.Image.{Image, super_at, is_inode, inode, InRecord, leaf, path_of, tag_for, kind_in, slot_of, is_pointer_slot, record_pointer}
+use Rattle.nofs_image.specs.declared.value.Value.TheVariants.{Bytes, Hole}
+use Rattle.nofs_image.proofs.Find.{and-both}
+use Rattle.nofs_image.proofs.Sound.{supers}
 use Rattle.nofs_ptrs.specs.PathLaws.{path-direct, path-leaf, slot_of-path_of}
 use Rattle.nofs_machine.specs.Machine.{with_entry}
 use Rattle.nofs_machine.proofs.EntryPut.{with-entry-put, zeros-are}

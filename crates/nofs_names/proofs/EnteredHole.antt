@@ -6,12 +6,12 @@ use Rattle.std.proofs.lemmas.List.{get_or-set_same, get_or-set_other, length-set
 use Rattle.nofs_dirent.specs.Entries.{entry_limit}
 use Rattle.nofs_disk.specs.Disk.{cell_at, no_cell}
 use Rattle.nofs_inode.specs.declared.inode.FileKind.TheVariants.{Directory as Folder}
-use Rattle.nofs_model.specs.Cells.{Cell, Entry, Pointer, Record, tag_of, is_null, pointer_at, record_of, spelled_entry}
-use Rattle.nofs_model.specs.Image.{Image, super_at, is_data_block, is_inode, inode, leaf, InRecord, Path, Under, path_of, tag_for, find, record_pointer}
-use Rattle.nofs_model.specs.Image.{files_in, agreed, IsFree}
-use Rattle.nofs_model.specs.declared.path.PathAnswer.TheVariants as answer
-use Rattle.nofs_model.specs.declared.value.Value.TheVariants.{Bytes, Hole}
-use Rattle.nofs_model.proofs.Find.{and-both, find-held}
+use Rattle.nofs_image.specs.Cells.{Cell, Entry, Pointer, Record, tag_of, is_null, pointer_at, record_of, spelled_entry}
+use Rattle.nofs_image.specs.Image.{Image, super_at, is_data_block, is_inode, inode, leaf, InRecord, Path, Under, path_of, tag_for, find, record_pointer}
+use Rattle.nofs_image.specs.Image.{files_in, agreed, IsFree}
+use Rattle.nofs_image.specs.declared.path.PathAnswer.TheVariants as answer
+use Rattle.nofs_image.specs.declared.value.Value.TheVariants.{Bytes, Hole}
+use Rattle.nofs_image.proofs.Find.{and-both, find-held}
 use Rattle.nofs_ptrs.specs.PathLaws.{path-direct, path-leaf}
 use Rattle.nofs_machine.specs.Machine.{with_entry}
 use Rattle.nofs_law_untouched.specs.Grows.{ClaimedCell}

@@ -5,10 +5,10 @@ use Rattle.std.proofs.lemmas.Bool.{cases_lt}
 use Rattle.nofs_disk.specs.Disk.{DiskState, StaysButFaults}
 use Rattle.nofs_disk.specs.Chains.{StaysButFaults-trans}
 use Rattle.nofs_disk.specs.declared.Failed.{Failed}
-use Rattle.nofs_model.specs.Cells.{Entry, Record, SuperBlock, entry_in}
-use Rattle.nofs_model.specs.Image.{Image, inode, Path, path_of, find, Files, entry_at, entry_held, value, value_in}
-use Rattle.nofs_model.specs.declared.path.PathAnswer.{PathAnswer}
-use Rattle.nofs_model.specs.declared.value.Value.TheVariants.{Bytes}
+use Rattle.nofs_image.specs.Cells.{Entry, Record, SuperBlock, entry_in}
+use Rattle.nofs_image.specs.Image.{Image, inode, Path, path_of, find, Files, entry_at, entry_held, value, value_in}
+use Rattle.nofs_image.specs.declared.path.PathAnswer.{PathAnswer}
+use Rattle.nofs_image.specs.declared.value.Value.TheVariants.{Bytes}
 use Rattle.nofs_machine.specs.Machine.{link_to, is_paired}
 use Rattle.nofs_machine.specs.History.{FilesMatch}
 use Rattle.nofs_agree.specs.Finding.{FindsSlot}

@@ -4,9 +4,9 @@ use Rattle.std.specs.List.{list_any}
 use Rattle.std.proofs.lemmas.List.{get_or_default}
 use Rattle.std.proofs.lemmas.List.Folds.{list_any_none}
 use Rattle.nofs_disk.specs.Disk.{DiskState}
-use Rattle.nofs_model.specs.Cells.{BackLink, Record, no_link}
-use Rattle.nofs_model.specs.Image.{Image, files_in, agreed, is_special, is_pair, FileState, Files}
-use Rattle.nofs_model.proofs.Chains.{any-same}
+use Rattle.nofs_image.specs.Cells.{BackLink, Record, no_link}
+use Rattle.nofs_image.specs.Image.{Image, files_in, agreed, is_special, is_pair, FileState, Files}
+use Rattle.nofs_image.proofs.Chains.{any-same}
 use Rattle.nofs_machine.specs.Meta.{Gone, Is, is_gone}
 use Rattle.nofs_machine.specs.Machine.{drop_meta, without_link}
 use Rattle.nofs_machine.specs.History.{FilesMatch}

@@ -6,8 +6,8 @@ use Rattle.std.proofs.lemmas.Bool.{cases_eq, ne_eqb}
 use Rattle.std.proofs.Math.Bool.{or-false, or-true}
 use Rattle.nofs_ptrs.specs.Paths.{slot_limit}
 use Rattle.nofs_bits.specs.Bits.{is_set}
-use Rattle.nofs_model.specs.Cells.{SuperBlock, null}
-use Rattle.nofs_model.specs.Image.{Image, is_special, FileState, Files, Home}
+use Rattle.nofs_image.specs.Cells.{SuperBlock, null}
+use Rattle.nofs_image.specs.Image.{Image, is_special, FileState, Files, Home}
 use Rattle.nofs_machine.specs.Machine.{gives, files_after}
 use Rattle.nofs_machine.specs.World.{World, is_fixed, blocks_needed, inodes_needed, uses_inode, uses_block, is_free_block}
 use Rattle.nofs_machine.specs.Claims.{no_claims, IsBlockClaim, next_stamp, has_block, homes_after, claimed_home, IsClaim, IsInodeClaim, Unclaimed, NoInode}

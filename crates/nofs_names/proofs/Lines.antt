@@ -8,9 +8,9 @@ use Rattle.nofs_dirent.specs.NameLaws.{is_name-Decides}
 use Rattle.nofs_disk.specs.Disk.{DiskState, StaysButFaults}
 use Rattle.nofs_disk.specs.Chains.{StaysButFaults-trans}
 use Rattle.nofs_inode.specs.declared.inode.FileKind.TheVariants.{File, Directory}
-use Rattle.nofs_model.specs.Cells.{Entry, FileKind, Record, SuperBlock, entry_in}
-use Rattle.nofs_model.specs.Image.{Image, inode, Files, files_in, agreed, is_folder, entry_at, value}
-use Rattle.nofs_model.specs.declared.value.Value.TheVariants.{Bytes}
+use Rattle.nofs_image.specs.Cells.{Entry, FileKind, Record, SuperBlock, entry_in}
+use Rattle.nofs_image.specs.Image.{Image, inode, Files, files_in, agreed, is_folder, entry_at, value}
+use Rattle.nofs_image.specs.declared.value.Value.TheVariants.{Bytes}
 use Rattle.nofs_machine.specs.Machine.{link_to, is_paired, is_folder_at}
 use Rattle.nofs_machine.specs.Answers.{line_of, lines_from, lines_in_slot}
 use Rattle.nofs_machine.specs.History.{FilesMatch}

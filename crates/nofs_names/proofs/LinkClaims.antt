@@ -5,9 +5,9 @@ use Rattle.std.specs.Prelude.{slice_set}
 use Rattle.std.proofs.lemmas.Bool.{cases_eq}
 use Rattle.nofs_bits.specs.Bits.{is_set}
 use Rattle.nofs_disk.specs.Disk.{DiskState}
-use Rattle.nofs_model.specs.Cells.{Pointer, null}
-use Rattle.nofs_model.specs.Image.{Image, leaf, path_of, find, files_in, agreed, Files, Absent, Present, node_in, value_in}
-use Rattle.nofs_model.specs.declared.path.PathAnswer.TheVariants as answer
+use Rattle.nofs_image.specs.Cells.{Pointer, null}
+use Rattle.nofs_image.specs.Image.{Image, leaf, path_of, find, files_in, agreed, Files, Absent, Present, node_in, value_in}
+use Rattle.nofs_image.specs.declared.path.PathAnswer.TheVariants as answer
 use Rattle.nofs_ptrs.specs.PathLaws.{path-direct, path-leaf}
 use Rattle.nofs_machine.specs.Meta.{is_bytes}
 use Rattle.nofs_machine.specs.Machine.{node_of, value_of}

@@ -8,8 +8,8 @@ use Rattle.nofs_disk.specs.Chains.{StaysButFaults-refl, StaysButFaults-trans}
 use Rattle.nofs_dirent.specs.Names.{is_name}
 use Rattle.nofs_disk.specs.Disk.{cell_at}
 use Rattle.nofs_dirent.specs.EntryLaws.{Spells}
-use Rattle.nofs_model.specs.Cells.{Cell, Entry, Record, spelled_entry}
-use Rattle.nofs_model.specs.Image.{Image, Files}
+use Rattle.nofs_image.specs.Cells.{Cell, Entry, Record, spelled_entry}
+use Rattle.nofs_image.specs.Image.{Image, Files}
 use Rattle.nofs_machine.specs.Search.{first_of, least_from}
 use Rattle.nofs_machine.specs.Machine.{generation_of, is_folder_at, found, link_place, link_to, place_for}
 use Rattle.nofs_machine.specs.World.{World, blocks_needed, free_blocks, next_block, unverified_blocks}

@@ -7,8 +7,8 @@ use Rattle.nofs_disk.specs.Chains.{StaysButFaults-refl, StaysButFaults-trans, Ro
 use Rattle.nofs_disk.specs.declared.Failed.{Failed}
 use Rattle.nofs_inode.specs.InodeRecords.{is_empty_link}
 use Rattle.nofs_inode.specs.declared.inode.FileKind.TheVariants.{File, Directory}
-use Rattle.nofs_model.specs.Cells.{BackLink, FileKind, Record, SuperBlock, no_link}
-use Rattle.nofs_model.specs.Image.{Image, inode, Files, files_in, agreed, is_folder, is_pair, links_of, links_in_file}
+use Rattle.nofs_image.specs.Cells.{BackLink, FileKind, Record, SuperBlock, no_link}
+use Rattle.nofs_image.specs.Image.{Image, inode, Files, files_in, agreed, is_folder, is_pair, links_of, links_in_file}
 use Rattle.nofs_machine.specs.Search.{first_of}
 use Rattle.nofs_machine.specs.Machine.{is_folder_at, link_place, place_for_link}
 use Rattle.nofs_machine.specs.World.{World}

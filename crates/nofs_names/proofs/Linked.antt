@@ -5,12 +5,12 @@ use Rattle.nofs_bits.specs.Bits.{is_set}
 use Rattle.nofs_disk.specs.Disk.{DiskState, IsDisk, cell_at}
 use Rattle.nofs_super.specs.Geometry.{IsGeometry}
 use Rattle.nofs_inode.specs.declared.inode.FileKind.TheVariants.{Directory as Folder, File}
-use Rattle.nofs_model.specs.Cells.{Cell, Entry, Pointer, Record, null, record_of, tag_of, spelled_entry}
-use Rattle.nofs_model.specs.Image.{Image, super_at, is_data_block, inode, leaf, path_of, find, files_in, agreed}
-use Rattle.nofs_model.specs.declared.path.PathAnswer.TheVariants as answer
-use Rattle.nofs_model.specs.declared.value.Value.TheVariants.{Bytes}
-use Rattle.nofs_model.proofs.Find.{find-held}
-use Rattle.nofs_model.proofs.Sound.{mountable-law}
+use Rattle.nofs_image.specs.Cells.{Cell, Entry, Pointer, Record, null, record_of, tag_of, spelled_entry}
+use Rattle.nofs_image.specs.Image.{Image, super_at, is_data_block, inode, leaf, path_of, find, files_in, agreed}
+use Rattle.nofs_image.specs.declared.path.PathAnswer.TheVariants as answer
+use Rattle.nofs_image.specs.declared.value.Value.TheVariants.{Bytes}
+use Rattle.nofs_image.proofs.Find.{find-held}
+use Rattle.nofs_image.proofs.Sound.{mountable-law}
 use Rattle.nofs_machine.specs.Machine.{link_to, with_entry, link_given}
 use Rattle.nofs_machine.specs.World.{blocks_needed}
 use Rattle.nofs_machine.specs.Claims.{IsClaim, is_claimed, next_stamp, no_claims}

@@ -6,13 +6,13 @@ use Rattle.nofs_dirent.specs.Entries.{entry_limit}
 use Rattle.nofs_disk.specs.Disk.{DiskState, IsDisk, cell_at}
 use Rattle.nofs_dirent.specs.EntryLaws.{Spells}
 use Rattle.nofs_inode.specs.declared.inode.FileKind.TheVariants.{Directory as Folder, File}
-use Rattle.nofs_model.specs.Cells.{BackLink, Cell, FileKind, Pointer, Record, SuperBlock, tag_of, record_at, spelled_entry}
-use Rattle.nofs_model.specs.Image.{Image, super_at, is_data_block, is_inode, inode, leaf, path_of, find, files_in, agreed, is_folder, FileState, Files, Home}
-use Rattle.nofs_model.specs.Image.{home_at, links_of, links_in_file, record_pointer}
-use Rattle.nofs_model.specs.declared.path.PathAnswer.TheVariants as answer
-use Rattle.nofs_model.specs.declared.value.Value.{Value}
-use Rattle.nofs_model.proofs.Find.{and-both, find-held}
-use Rattle.nofs_model.proofs.Sound.{supers}
+use Rattle.nofs_image.specs.Cells.{BackLink, Cell, FileKind, Pointer, Record, SuperBlock, tag_of, record_at, spelled_entry}
+use Rattle.nofs_image.specs.Image.{Image, super_at, is_data_block, is_inode, inode, leaf, path_of, find, files_in, agreed, is_folder, FileState, Files, Home}
+use Rattle.nofs_image.specs.Image.{home_at, links_of, links_in_file, record_pointer}
+use Rattle.nofs_image.specs.declared.path.PathAnswer.TheVariants as answer
+use Rattle.nofs_image.specs.declared.value.Value.{Value}
+use Rattle.nofs_image.proofs.Find.{and-both, find-held}
+use Rattle.nofs_image.proofs.Sound.{supers}
 use Rattle.nofs_law_images.specs.Proper.{Proper}
 use Rattle.nofs_law_images.specs.Moments.{during}
 use Rattle.nofs_machine.specs.Marks.{Mark}

@@ -4,10 +4,10 @@ use Rattle.std.proofs.Common.{sym, ap, ◌∙◌, subst, arith, le_refl}
 use Rattle.nofs_disk.specs.Disk.{DiskState, IsDisk, StaysButFaults}
 use Rattle.nofs_disk.specs.Chains.{StaysButFaults-trans, Rose-within}
 use Rattle.nofs_disk.specs.declared.Failed.{Failed}
-use Rattle.nofs_model.specs.Cells.{Record}
-use Rattle.nofs_model.specs.Image.{Image, Files, value}
-use Rattle.nofs_model.specs.declared.value.Value.{Value}
-use Rattle.nofs_model.specs.declared.value.Value.TheVariants.{Hole, Bytes, Lost}
+use Rattle.nofs_image.specs.Cells.{Record}
+use Rattle.nofs_image.specs.Image.{Image, Files, value}
+use Rattle.nofs_image.specs.declared.value.Value.{Value}
+use Rattle.nofs_image.specs.declared.value.Value.TheVariants.{Hole, Bytes, Lost}
 use Rattle.nofs_machine.specs.Search.{first_of, least_from}
 use Rattle.nofs_machine.specs.Machine.{gives, generation_of, is_folder_at, value_of, is_hole, is_lost, is_refused}
 use Rattle.nofs_machine.specs.World.{World}

@@ -4,8 +4,8 @@ use Rattle.std.proofs.Common.{Err, IfErr, refl, sym, ap, ◌∙◌, subst}
 use Rattle.nofs_disk.specs.Disk.{DiskState, IsDisk}
 use Rattle.nofs_disk.specs.Chains.{StaysButFaults-refl, StaysButFaults-trans}
 use Rattle.nofs_dirent.specs.Names.{is_name}
-use Rattle.nofs_model.specs.Cells.{Record}
-use Rattle.nofs_model.specs.Image.{Image, inode}
+use Rattle.nofs_image.specs.Cells.{Record}
+use Rattle.nofs_image.specs.Image.{Image, inode}
 use Rattle.nofs_machine.specs.Search.{first_of}
 use Rattle.nofs_machine.specs.Machine.{gives, generation_of, is_folder_at, found, first_dead, first_lost_slot}
 use Rattle.nofs_machine.specs.World.{World}

@@ -1,7 +1,7 @@
 -- The contract of Make, from what it writes.
 use Rattle.std.proofs.Common.{◌≡◌, ℕ, ◌+◌, false, List, Result, Ok, Err, IsTrue, refl, subst}
 use Rattle.nofs_disk.specs.Disk.{DiskState, IsDisk}
-use Rattle.nofs_model.specs.Cells.{Cell, FileKind}
+use Rattle.nofs_image.specs.Cells.{Cell, FileKind}
 use Rattle.nofs_machine.specs.World.{blocks_needed}
 use Rattle.nofs_machine.specs.declared.history.Claims.{Claims}
 use Rattle.nofs_machine.specs.declared.history.Entry1.{Entry1}

@@ -6,12 +6,12 @@ use Rattle.nofs_disk.specs.Number.{put_bytes}
 use Rattle.nofs_dirent.specs.Entries.{spelled_entry}
 use Rattle.nofs_dirent.specs.EntryLaws.{Spells, spelled_entry-spells}
 use Rattle.nofs_super.specs.Geometry.{IsGeometry}
-use Rattle.nofs_model.specs.Cells.{Cell, FileKind, Pointer, Record, SuperBlock, is_null, null, tag_of}
-use Rattle.nofs_model.specs.Image.{Image, super_at, is_data_block, is_inode, inode, path_of, find, files_in, agreed, record_pointer}
-use Rattle.nofs_model.specs.declared.path.PathAnswer.TheVariants as answer
-use Rattle.nofs_model.specs.declared.value.Value.TheVariants.{Bytes}
-use Rattle.nofs_model.proofs.Find.{find-held}
-use Rattle.nofs_model.proofs.Sound.{mountable-law}
+use Rattle.nofs_image.specs.Cells.{Cell, FileKind, Pointer, Record, SuperBlock, is_null, null, tag_of}
+use Rattle.nofs_image.specs.Image.{Image, super_at, is_data_block, is_inode, inode, path_of, find, files_in, agreed, record_pointer}
+use Rattle.nofs_image.specs.declared.path.PathAnswer.TheVariants as answer
+use Rattle.nofs_image.specs.declared.value.Value.TheVariants.{Bytes}
+use Rattle.nofs_image.proofs.Find.{find-held}
+use Rattle.nofs_image.proofs.Sound.{mountable-law}
 use Rattle.nofs_machine.specs.Machine.{link_to, place_for}
 use Rattle.nofs_machine.specs.World.{blocks_needed}
 use Rattle.nofs_machine.specs.Claims.{IsClaim, IsInodeClaim, next_stamp}
@@ -38,7 +38,7 @@ use Rattle.nofs_names.proofs.NameWrite as write
 use Rattle.nofs_names.proofs.Safely.{raised-stamp}
 
 -- a new record has no pointer
-no-pointers : (kind : FileKind) (g : ℕ) (link : Rattle.nofs_model.specs.Cells.BackLink) (n : ℕ) → n < 10
+no-pointers : (kind : FileKind) (g : ℕ) (link : Rattle.nofs_image.specs.Cells.BackLink) (n : ℕ) → n < 10
     → is_null (record_pointer (made_record kind g link) n) ≡ true
 no-pointers kind g link zero lt = refl
 no-pointers kind g link (suc zero) lt = refl
@@ -132,7 +132,7 @@ module _ (b : DiskState) (k : Books) (H : List Entry1) (p : Past) (d g : ℕ) (n
       range = in-table;
       here = written-table.here.here;
       others = λ j ne lt. written-table.here.others j ne lt
-          ∙ ap (λ (z : Cell). Rattle.nofs_model.specs.Cells.record_of j z.payload) was;
+          ∙ ap (λ (z : Cell). Rattle.nofs_image.specs.Cells.record_of j z.payload) was;
     }
 
     here : cell_at (image_after ((x.block, cell) ∷ (table_block i, table) ∷ []) b.now) x.block ≡ cell

@@ -2,7 +2,7 @@
 use Rattle.std.proofs.Common.{◌≡◌, ℕ, ◌/◌, ◌^◌, ◌<◌, ◌≤◌, true, false, eqb, ne_eqb, not, List, length, IsTrue, sym, ap, subst, arith}
 use Rattle.nofs_bits.specs.Bits.{is_set}
 use Rattle.nofs_disk.specs.Disk.{DiskState, IsDisk, cell_at}
-use Rattle.nofs_model.specs.Cells.{FileKind, Record}
+use Rattle.nofs_image.specs.Cells.{FileKind, Record}
 use Rattle.nofs_machine.specs.Machine.{link_to}
 use Rattle.nofs_machine.specs.Claims.{is_claimed}
 use Rattle.nofs_machine.specs.declared.history.Claims.{Claims}

@@ -3,10 +3,10 @@ use Rattle.std.proofs.Common.{◌≡◌, ◌≢◌, ℕ, ◌+◌, ◌-◌, ◌/�
 use Rattle.std.proofs.Common.{IsTrue, refl, sym, ap, ◌∙◌, subst, arith}
 use Rattle.nofs_bits.specs.Bits.{is_set}
 use Rattle.nofs_disk.specs.Disk.{DiskState, IsDisk, cell_at}
-use Rattle.nofs_model.specs.Cells.{Cell, Entry, FileKind, Pointer, Record, SuperBlock, null, record_at, spelled_entry}
-use Rattle.nofs_model.specs.Image.{Image, inode, leaf, find, files_in, agreed, is_special}
-use Rattle.nofs_model.specs.declared.path.PathAnswer.TheVariants as answer
-use Rattle.nofs_model.proofs.Sound.{supers}
+use Rattle.nofs_image.specs.Cells.{Cell, Entry, FileKind, Pointer, Record, SuperBlock, null, record_at, spelled_entry}
+use Rattle.nofs_image.specs.Image.{Image, inode, leaf, find, files_in, agreed, is_special}
+use Rattle.nofs_image.specs.declared.path.PathAnswer.TheVariants as answer
+use Rattle.nofs_image.proofs.Sound.{supers}
 use Rattle.nofs_machine.specs.Machine.{link_to}
 use Rattle.nofs_machine.specs.World.{World, blocks_needed, uses_inode, uses_block}
 use Rattle.nofs_machine.specs.Claims.{IsClaim, next_stamp}

@@ -8,9 +8,9 @@ use Rattle.nofs_bits.specs.Bits.{count_set, is_set}
 use Rattle.nofs_disk.specs.Disk.{DiskState, IsDisk, Rose, StaysButFaults}
 use Rattle.nofs_disk.specs.Chains.{StaysButFaults-refl, StaysButFaults-trans}
 use Rattle.nofs_dirent.specs.Names.{is_name}
-use Rattle.nofs_model.specs.Cells.{FileKind, Pointer, Record, SuperBlock}
-use Rattle.nofs_model.specs.Image.{Image, find, path_of, Files}
-use Rattle.nofs_model.specs.declared.path.PathAnswer.TheVariants as answer
+use Rattle.nofs_image.specs.Cells.{FileKind, Pointer, Record, SuperBlock}
+use Rattle.nofs_image.specs.Image.{Image, find, path_of, Files}
+use Rattle.nofs_image.specs.declared.path.PathAnswer.TheVariants as answer
 use Rattle.nofs_machine.specs.Search.{first_of}
 use Rattle.nofs_machine.specs.Machine.{generation_of, is_folder_at, found, place_for}
 use Rattle.nofs_machine.specs.World.{World, free_inodes, blocks_needed}

@@ -7,13 +7,13 @@ use Rattle.nofs_ptrs.specs.Paths.{slot_limit}
 use Rattle.nofs_disk.specs.Disk.{DiskState, IsDisk, cell_at}
 use Rattle.nofs_dirent.specs.EntryLaws.{Spells}
 use Rattle.nofs_inode.specs.declared.inode.FileKind.TheVariants.{Directory as Folder}
-use Rattle.nofs_model.specs.Cells.{Cell, FileKind, Pointer, SuperBlock, tag_of, record_at, spelled_entry}
-use Rattle.nofs_model.specs.Image.{Image, super_at, is_data_block, is_inode, inode, leaf, Path, path_of, find, files_in, agreed, is_folder, is_special}
-use Rattle.nofs_model.specs.Image.{FileState, Files, Home, home_at, NodeState, Present}
-use Rattle.nofs_model.specs.declared.path.PathAnswer.TheVariants as answer
-use Rattle.nofs_model.specs.declared.value.Value.{Value}
-use Rattle.nofs_model.proofs.Find.{find-held}
-use Rattle.nofs_model.proofs.Sound.{supers}
+use Rattle.nofs_image.specs.Cells.{Cell, FileKind, Pointer, SuperBlock, tag_of, record_at, spelled_entry}
+use Rattle.nofs_image.specs.Image.{Image, super_at, is_data_block, is_inode, inode, leaf, Path, path_of, find, files_in, agreed, is_folder, is_special}
+use Rattle.nofs_image.specs.Image.{FileState, Files, Home, home_at, NodeState, Present}
+use Rattle.nofs_image.specs.declared.path.PathAnswer.TheVariants as answer
+use Rattle.nofs_image.specs.declared.value.Value.{Value}
+use Rattle.nofs_image.proofs.Find.{find-held}
+use Rattle.nofs_image.proofs.Sound.{supers}
 use Rattle.nofs_law_images.specs.Proper.{Proper}
 use Rattle.nofs_law_images.specs.Moments.{during}
 use Rattle.nofs_machine.specs.Marks.{Mark}

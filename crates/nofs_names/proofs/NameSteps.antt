@@ -6,10 +6,10 @@ use Rattle.nofs_disk.specs.Disk.{DiskState, IsDisk, Picks, cell_at}
 use Rattle.nofs_disk.specs.Adds.{Adds}
 use Rattle.nofs_disk.specs.declared.Failed.{Failed}
 use Rattle.nofs_super.specs.Geometry.{IsGeometry}
-use Rattle.nofs_model.specs.Cells.{Cell, Pointer, Record, SuperBlock, is_live, record_at, tag_of}
-use Rattle.nofs_model.specs.Image.{Image, super_at, is_data_block, inode, leaf, Files, IsBelow}
-use Rattle.nofs_model.proofs.Find.{find-held}
-use Rattle.nofs_model.proofs.Sound.{mountable-law, supers}
+use Rattle.nofs_image.specs.Cells.{Cell, Pointer, Record, SuperBlock, is_live, record_at, tag_of}
+use Rattle.nofs_image.specs.Image.{Image, super_at, is_data_block, inode, leaf, Files, IsBelow}
+use Rattle.nofs_image.proofs.Find.{find-held}
+use Rattle.nofs_image.proofs.Sound.{mountable-law, supers}
 use Rattle.nofs_machine.specs.Search.{first_of}
 use Rattle.nofs_machine.specs.Machine.{Given, gives, given_by, files_after, is_refused}
 use Rattle.nofs_machine.specs.World.{World}

@@ -5,10 +5,10 @@ use Rattle.std.specs.Prelude.{slice_set}
 use Rattle.std.proofs.lemmas.List.{get_or-set_same, get_or-set_other, length-set}
 use Rattle.nofs_ptrs.specs.Paths.{slot_limit}
 use Rattle.nofs_disk.specs.Disk.{cell_at, no_cell}
-use Rattle.nofs_model.specs.Cells.{Cell, Pointer, Record}
-use Rattle.nofs_model.specs.Image.{Image, super_at, is_data_block, inode, path_of, FileState, Files}
-use Rattle.nofs_model.specs.declared.value.Value.{Value}
-use Rattle.nofs_model.proofs.Find.{and-both}
+use Rattle.nofs_image.specs.Cells.{Cell, Pointer, Record}
+use Rattle.nofs_image.specs.Image.{Image, super_at, is_data_block, inode, path_of, FileState, Files}
+use Rattle.nofs_image.specs.declared.value.Value.{Value}
+use Rattle.nofs_image.proofs.Find.{and-both}
 use Rattle.nofs_machine.specs.Meta.{Meta, Gone, Is, is_bytes}
 use Rattle.nofs_machine.specs.Machine.{cell_given, files_after, file_after, after_meta, filled}
 use Rattle.nofs_machine.specs.Claims.{is_present}

@@ -2,7 +2,7 @@
 use Rattle.std.proofs.Common.{ℕ, inl, [], ◌∷◌, Ok, refl, arith}
 use Rattle.nofs_disk.specs.Disk.{DiskState, IsDisk, Writes}
 use Rattle.nofs_disk.specs.Adds.{Adds-writes}
-use Rattle.nofs_model.specs.Cells.{Cell}
+use Rattle.nofs_image.specs.Cells.{Cell}
 use Rattle.nofs_state.specs.Writing.{OneOf, WritesAll}
 use Rattle.nofs_state.proofs.TwoWrites.{write-other}
 

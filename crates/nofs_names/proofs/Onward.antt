@@ -2,9 +2,9 @@
 use Rattle.std.proofs.Common.{◌≡◌, ℕ, ◌/◌, ◌*◌, ◌%◌, Bool, List, length, IsTrue, sym, subst}
 use Rattle.nofs_disk.specs.Disk.{DiskState, StaysButFaults, cell_at}
 use Rattle.nofs_disk.specs.Number.{put_bytes, zeros}
-use Rattle.nofs_model.specs.Cells.{Cell, Pointer, Record, SuperBlock}
-use Rattle.nofs_model.specs.Image.{Image, Files, path_of, find}
-use Rattle.nofs_model.specs.declared.path.PathAnswer.TheVariants as answer
+use Rattle.nofs_image.specs.Cells.{Cell, Pointer, Record, SuperBlock}
+use Rattle.nofs_image.specs.Image.{Image, Files, path_of, find}
+use Rattle.nofs_image.specs.declared.path.PathAnswer.TheVariants as answer
 use Rattle.nofs_machine.specs.History.{FilesMatch}
 use Rattle.nofs_machine.specs.declared.steps.Step.{Step}
 use Rattle.nofs_machine.specs.declared.steps.Step.TheVariants as step

@@ -5,11 +5,11 @@ use Rattle.std.specs.List.{list_any}
 use Rattle.std.proofs.lemmas.Bool.{and_parts}
 use Rattle.std.proofs.lemmas.Bool.Decides.{nat_tests}
 use Rattle.nofs_inode.specs.declared.inode.FileKind.TheVariants.{File, Directory as Folder}
-use Rattle.nofs_model.specs.Cells.{BackLink, Entry, FileKind, Record}
-use Rattle.nofs_model.specs.Files.{is_record}
-use Rattle.nofs_model.specs.Image.{Image, inode, file_from, files_in, agreed, Agreed, root, linked, FileState, Files, is_folder, entry_at, entry_in_file, names}
-use Rattle.nofs_model.specs.Image.{pairs, is_pair, links_in_file, links_of, is_root, is_special, is_a, value, find, node_in}
-use Rattle.nofs_model.proofs.Chains.{agreed-holds, holds-agreed, any-true}
+use Rattle.nofs_image.specs.Cells.{BackLink, Entry, FileKind, Record}
+use Rattle.nofs_image.specs.Files.{is_record}
+use Rattle.nofs_image.specs.Image.{Image, inode, file_from, files_in, agreed, Agreed, root, linked, FileState, Files, is_folder, entry_at, entry_in_file, names}
+use Rattle.nofs_image.specs.Image.{pairs, is_pair, links_in_file, links_of, is_root, is_special, is_a, value, find, node_in}
+use Rattle.nofs_image.proofs.Chains.{agreed-holds, holds-agreed, any-true}
 use Rattle.nofs_machine.specs.Machine.{same_link, link_to, generation_of, is_paired}
 use Rattle.nofs_machine.specs.History.{FilesMatch, SameFile}
 use Rattle.nofs_machine.proofs.Links.{any_same}

@@ -2,7 +2,7 @@
 use Rattle.std.proofs.Common.{◌≡◌, false, List, [], ◌∷◌, ◌++◌, Option, Some, None, IsTrue, Result, Err, IfErr, ℕ, refl, sym, subst, le_refl}
 use Rattle.nofs_disk.specs.Disk.{DiskState, IsDisk, StaysButFaults}
 use Rattle.nofs_disk.specs.Chains.{Rose-within}
-use Rattle.nofs_model.specs.Image.{Image}
+use Rattle.nofs_image.specs.Image.{Image}
 use Rattle.nofs_machine.specs.Search.{first_of}
 use Rattle.nofs_machine.specs.World.{World}
 use Rattle.nofs_machine.specs.Claims.{no_claims}

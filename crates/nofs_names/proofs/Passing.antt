@@ -6,10 +6,10 @@ use Rattle.std.proofs.lemmas.Slice.Eq.{bytes_eq-Decides}
 use Rattle.nofs_dirent.specs.Entries.{entry_limit}
 use Rattle.nofs_inode.specs.declared.inode.FileKind.TheVariants.{Directory as Folder}
 use Rattle.nofs_dirent.specs.Entries as cells
-use Rattle.nofs_model.specs.Cells.{Entry, Record, entry_in}
-use Rattle.nofs_model.specs.Image.{Image, inode, files_in, agreed, FileState, Files, is_folder, entry_at, entry_held, entry_in_file, value}
-use Rattle.nofs_model.specs.declared.value.Value.{Value}
-use Rattle.nofs_model.specs.declared.value.Value.TheVariants.{Hole, Bytes, Lost}
+use Rattle.nofs_image.specs.Cells.{Entry, Record, entry_in}
+use Rattle.nofs_image.specs.Image.{Image, inode, files_in, agreed, FileState, Files, is_folder, entry_at, entry_held, entry_in_file, value}
+use Rattle.nofs_image.specs.declared.value.Value.{Value}
+use Rattle.nofs_image.specs.declared.value.Value.TheVariants.{Hole, Bytes, Lost}
 use Rattle.nofs_machine.specs.Meta.{is_bytes}
 use Rattle.nofs_machine.specs.Search.{least_from}
 use Rattle.nofs_machine.specs.Machine as machine

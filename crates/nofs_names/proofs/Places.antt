@@ -7,7 +7,7 @@ use Rattle.nofs_disk.specs.Number.{number_at}
 use Rattle.nofs_dirent.specs.Entries.{entry_bytes, entry_in, entry_fields, entry_of, entry_with, has_entry_spelling, has_zeros_after}
 use Rattle.nofs_dirent.specs.OneEntry.{spelled}
 use Rattle.nofs_dirent.specs.declared.entry.Entry.{Entry}
-use Rattle.nofs_model.specs.Files.{names}
+use Rattle.nofs_image.specs.Files.{names}
 use Rattle.nofs_names.specs.Searching.{named_in, IsEntrySpelled}
 
 pub named-none : (bytes : List ℕ) (i g : ℕ) → i ≡ number_at 4 0 bytes → g ≡ number_at 8 8 bytes → names (entry_of bytes) i g ≡ false

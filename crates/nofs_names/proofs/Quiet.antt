@@ -2,10 +2,10 @@
 use Rattle.std.proofs.Common.{◌≡◌, ℕ, ◌+◌, ◌≤◌, Bool, true, false, cond, ltb, ◌&&◌, ◌||◌, not, Option, Some, None, is_some, unwrap_or, inl, refl, sym, ap, ◌∙◌}
 use Rattle.std.proofs.Common.{subst, arith}
 use Rattle.nofs_ptrs.specs.Paths.{slot_limit}
-use Rattle.nofs_model.specs.Cells.{null}
-use Rattle.nofs_model.specs.Image.{Image, path_of, is_special, FileState, Files, Home, NodeState, Present, Absent}
-use Rattle.nofs_model.specs.declared.value.Value.{Value}
-use Rattle.nofs_model.specs.declared.value.Value.TheVariants.{Hole}
+use Rattle.nofs_image.specs.Cells.{null}
+use Rattle.nofs_image.specs.Image.{Image, path_of, is_special, FileState, Files, Home, NodeState, Present, Absent}
+use Rattle.nofs_image.specs.declared.value.Value.{Value}
+use Rattle.nofs_image.specs.declared.value.Value.TheVariants.{Hole}
 use Rattle.nofs_machine.specs.Meta.{is_bytes}
 use Rattle.nofs_machine.specs.Machine.{gives, cell_given, no_meta, files_after, filled}
 use Rattle.nofs_machine.specs.World.{World, is_fixed, blocks_needed, inodes_needed, uses_inode, uses_block}

@@ -4,7 +4,7 @@ use Rattle.std.proofs.lemmas.List.Elements.{All-map, All-weaker}
 use Rattle.std.proofs.lemmas.List.Sums.{sum_by-cons}
 use Rattle.nofs_inode.specs.InodeRecords.{AllowsKind, AllowsRecord, HasRecordSpelling, IsTidyLink, is_empty_link, link_count}
 use Rattle.nofs_inode.specs.declared.inode.FileKind.TheVariants.{File, Directory}
-use Rattle.nofs_model.specs.Cells.{BackLink, FileKind, Record}
+use Rattle.nofs_image.specs.Cells.{BackLink, FileKind, Record}
 use Rattle.nofs_machine.specs.Machine.{link_to, same_link, without_link}
 use Rattle.nofs_names.specs.Drops.{relinked}
 

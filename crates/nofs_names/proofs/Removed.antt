@@ -3,9 +3,9 @@ use Rattle.std.proofs.Common.{◌≡◌, ℕ, ◌+◌, ◌-◌, ◌/◌, ◌%◌
 use Rattle.std.proofs.Common.{Err, refl, sym, ap, ◌∙◌, subst, subst₂, None}
 use Rattle.std.proofs.lemmas.List.{length-set}
 use Rattle.nofs_disk.specs.Disk.{DiskState, IsDisk, StaysButFaults, cell_at}
-use Rattle.nofs_model.specs.Cells.{Cell, Pointer, Record, SuperBlock, tag_of, is_live, free_record}
-use Rattle.nofs_model.specs.Image.{Image, path_of, find, files_in, agreed, owner}
-use Rattle.nofs_model.specs.declared.path.PathAnswer.TheVariants as answer
+use Rattle.nofs_image.specs.Cells.{Cell, Pointer, Record, SuperBlock, tag_of, is_live, free_record}
+use Rattle.nofs_image.specs.Image.{Image, path_of, find, files_in, agreed, owner}
+use Rattle.nofs_image.specs.declared.path.PathAnswer.TheVariants as answer
 use Rattle.nofs_machine.specs.Meta.{Meta, Gone, Is, is_gone}
 use Rattle.nofs_machine.specs.Machine.{drop_meta, link_to}
 use Rattle.nofs_machine.specs.Claims.{no_claims}

@@ -5,12 +5,12 @@ use Rattle.nofs_disk.specs.Disk.{DiskState, IsDisk, cell_at}
 use Rattle.nofs_disk.specs.Number.{put_bytes}
 use Rattle.nofs_inode.specs.declared.inode.FileKind.TheVariants.{Directory as Folder}
 use Rattle.nofs_dirent.specs.EntryLaws.{Spells}
-use Rattle.nofs_model.specs.Cells.{Cell, Entry, Pointer, Record, tag_of, is_live, spelled_entry}
-use Rattle.nofs_model.specs.Image.{Image, is_data_block, inode, path_of, find, files_in, agreed, Files}
-use Rattle.nofs_model.specs.declared.path.PathAnswer.TheVariants as answer
-use Rattle.nofs_model.specs.declared.value.Value.{Value}
-use Rattle.nofs_model.specs.declared.value.Value.TheVariants.{Bytes}
-use Rattle.nofs_model.proofs.Find.{find-held, HoldsAt}
+use Rattle.nofs_image.specs.Cells.{Cell, Entry, Pointer, Record, tag_of, is_live, spelled_entry}
+use Rattle.nofs_image.specs.Image.{Image, is_data_block, inode, path_of, find, files_in, agreed, Files}
+use Rattle.nofs_image.specs.declared.path.PathAnswer.TheVariants as answer
+use Rattle.nofs_image.specs.declared.value.Value.{Value}
+use Rattle.nofs_image.specs.declared.value.Value.TheVariants.{Bytes}
+use Rattle.nofs_image.proofs.Find.{find-held, HoldsAt}
 use Rattle.nofs_law_images.specs.Proper.{Proper}
 use Rattle.nofs_law_images.specs.Moments.{during}
 use Rattle.nofs_machine.specs.Meta.{is_bytes}

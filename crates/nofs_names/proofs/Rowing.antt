@@ -3,8 +3,8 @@ use Rattle.std.proofs.Common.{◌≡◌, ℕ, true, false, List, [], ◌∷◌, 
 use Rattle.nofs_dirent.specs.Entries.{entry_limit}
 use Rattle.nofs_disk.specs.Disk.{DiskState}
 use Rattle.nofs_inode.specs.declared.inode.FileKind.TheVariants.{Directory as Folder}
-use Rattle.nofs_model.specs.Cells.{FileKind, Record, SuperBlock}
-use Rattle.nofs_model.specs.Image.{Image, inode, files_in, agreed, Files, is_folder}
+use Rattle.nofs_image.specs.Cells.{FileKind, Record, SuperBlock}
+use Rattle.nofs_image.specs.Image.{Image, inode, files_in, agreed, Files, is_folder}
 use Rattle.nofs_machine.specs.Search.{first_of}
 use Rattle.nofs_machine.specs.Machine.{is_folder_at, found, first_dead, first_lost_slot, place_for}
 use Rattle.nofs_machine.specs.World.{World}

@@ -5,9 +5,9 @@ use Rattle.nofs_bits.specs.Bits.{is_set}
 use Rattle.nofs_disk.specs.Disk.{DiskState, StaysButFaults}
 use Rattle.nofs_dirent.specs.Names.{NameOk}
 use Rattle.nofs_inode.specs.InodeRecords.{HasRecordSpelling}
-use Rattle.nofs_model.specs.Cells.{Pointer, Record, SuperBlock}
-use Rattle.nofs_model.specs.Places.{InArea}
-use Rattle.nofs_model.specs.declared.path.PathAnswer.TheVariants as answer
+use Rattle.nofs_image.specs.Cells.{Pointer, Record, SuperBlock}
+use Rattle.nofs_image.specs.Places.{InArea}
+use Rattle.nofs_image.specs.declared.path.PathAnswer.TheVariants as answer
 use Rattle.nofs_machine.specs.declared.replies.Reply.TheVariants as reply
 use Rattle.nofs_machine.specs.declared.replies.Refusal.TheVariants as refusal
 use Rattle.nofs_agree.specs.Reading.{KnowsDirectory}

@@ -5,10 +5,10 @@ use Rattle.nofs_bits.specs.Bits.{count_set}
 use Rattle.std.proofs.lemmas.List.Sums.{count_by-le-length}
 use Rattle.nofs_disk.specs.Disk.{DiskState}
 use Rattle.nofs_disk.specs.declared.Failed.{Failed}
-use Rattle.nofs_model.specs.Cells.{SuperBlock}
-use Rattle.nofs_model.specs.Image.{Image, find, leaf, path_of, Path, Under}
-use Rattle.nofs_model.specs.declared.path.PathAnswer.{PathAnswer}
-use Rattle.nofs_model.specs.declared.path.PathAnswer.TheVariants as answer
+use Rattle.nofs_image.specs.Cells.{SuperBlock}
+use Rattle.nofs_image.specs.Image.{Image, find, leaf, path_of, Path, Under}
+use Rattle.nofs_image.specs.declared.path.PathAnswer.{PathAnswer}
+use Rattle.nofs_image.specs.declared.path.PathAnswer.TheVariants as answer
 use Rattle.nofs_ptrs.specs.PathLaws.{path-leaf}
 use Rattle.nofs_machine.specs.World.{World, free_blocks, next_block}
 use Rattle.nofs_machine.specs.declared.replies.Refusal.{Refusal}

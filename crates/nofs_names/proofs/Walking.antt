@@ -5,11 +5,11 @@ use Rattle.std.specs.Prelude.{IfOk, OnErr}
 use Rattle.nofs_disk.specs.Disk.{DiskState, StaysButFaults, Rose}
 use Rattle.nofs_disk.specs.Chains.{StaysButFaults-trans, Rose-within}
 use Rattle.nofs_disk.specs.declared.Failed.{Failed}
-use Rattle.nofs_model.specs.Cells.{Record, SuperBlock}
-use Rattle.nofs_model.specs.Image.{Image, files_in, inode, agreed, Files, value, value_in, find, path_of, Path}
-use Rattle.nofs_model.specs.declared.path.PathAnswer.{PathAnswer}
-use Rattle.nofs_model.specs.declared.path.PathAnswer.TheVariants as answer
-use Rattle.nofs_model.specs.declared.value.Value.TheVariants.{Bytes}
+use Rattle.nofs_image.specs.Cells.{Record, SuperBlock}
+use Rattle.nofs_image.specs.Image.{Image, files_in, inode, agreed, Files, value, value_in, find, path_of, Path}
+use Rattle.nofs_image.specs.declared.path.PathAnswer.{PathAnswer}
+use Rattle.nofs_image.specs.declared.path.PathAnswer.TheVariants as answer
+use Rattle.nofs_image.specs.declared.value.Value.TheVariants.{Bytes}
 use Rattle.nofs_machine.specs.Machine.{link_to}
 use Rattle.nofs_machine.specs.History.{FilesMatch}
 use Rattle.nofs_agree.specs.Reading.{IsLast, KnowsDirectory}

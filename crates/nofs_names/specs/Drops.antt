@@ -3,8 +3,8 @@ use Rattle.std.specs.Prelude.{◌≡◌, ℕ, ◌*◌, ◌<◌, true, false, len
 use Rattle.nofs_dirent.specs.Entries.{entry_limit}
 use Rattle.nofs_disk.specs.Disk.{DiskState, cell_at}
 use Rattle.nofs_disk.specs.Number.{put_bytes, zeros}
-use Rattle.nofs_model.specs.Cells.{Cell, BackLink, Pointer, Record}
-use Rattle.nofs_model.specs.Image.{Files}
+use Rattle.nofs_image.specs.Cells.{Cell, BackLink, Pointer, Record}
+use Rattle.nofs_image.specs.Image.{Files}
 use Rattle.nofs_machine.specs.Meta.{is_gone}
 use Rattle.nofs_machine.specs.Machine.{is_folder_at, is_paired, drop_meta, link_to, without_link}
 use Rattle.nofs_machine.specs.History.{FilesMatch}

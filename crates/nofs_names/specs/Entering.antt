@@ -7,7 +7,7 @@ use Rattle.nofs_disk.specs.declared.Failed.{Failed}
 use Rattle.nofs_disk.specs.declared.tag.Kind.TheVariants as kind
 use Rattle.nofs_dirent.specs.Entries.{HasEntrySpelling, spelled_entry, entry_limit}
 use Rattle.nofs_inode.specs.InodeRecords.{HasRecordSpelling}
-use Rattle.nofs_model.specs.Cells.{Cell, Entry, Pointer, Record, is_null, pointer_at, tag_of}
+use Rattle.nofs_image.specs.Cells.{Cell, Entry, Pointer, Record, is_null, pointer_at, tag_of}
 use Rattle.nofs_machine.specs.Claims.{no_claims}
 use Rattle.nofs_agree.specs.Reading.{IsLast, KnowsDirectory}
 use Rattle.nofs_agree.specs.declared.reads.LastRead.{LastRead}

@@ -3,8 +3,8 @@ use Rattle.std.specs.Prelude.{◌≡◌, ℕ, ◌<◌, Bool, true, false, List, 
 use Rattle.nofs_dirent.specs.Entries.{entry_limit}
 use Rattle.nofs_disk.specs.declared.Failed.{Failed}
 use Rattle.nofs_disk.specs.Disk.{DiskState, StaysButFaults, Rose}
-use Rattle.nofs_model.specs.Cells.{BackLink, entry_in}
-use Rattle.nofs_model.specs.Image.{Image, Files, inode}
+use Rattle.nofs_image.specs.Cells.{BackLink, entry_in}
+use Rattle.nofs_image.specs.Image.{Image, Files, inode}
 use Rattle.nofs_machine.specs.Machine.{is_paired}
 use Rattle.nofs_machine.specs.History.{FilesMatch}
 use Rattle.nofs_agree.specs.Reading.{IsLast}

@@ -7,8 +7,8 @@ use Rattle.nofs_inode.specs.declared.inode.FileKind.TheVariants as kind
 use Rattle.nofs_dirent.specs.Entries.{entry_limit}
 use Rattle.nofs_dirent.specs.EntryLaws.{Spells}
 use Rattle.nofs_dirent.specs.Names.{is_name}
-use Rattle.nofs_model.specs.Cells.{BackLink, Entry, FileKind, Record, SuperBlock, spelled_entry}
-use Rattle.nofs_model.specs.Image.{Image, Files, files_in}
+use Rattle.nofs_image.specs.Cells.{BackLink, Entry, FileKind, Record, SuperBlock, spelled_entry}
+use Rattle.nofs_image.specs.Image.{Image, Files, files_in}
 use Rattle.nofs_machine.specs.Machine.{link_place, place_for}
 use Rattle.nofs_machine.specs.Search.{first_of}
 use Rattle.nofs_machine.specs.Machine as machine

@@ -5,9 +5,9 @@ use Rattle.nofs_disk.specs.declared.Failed.{Failed}
 use Rattle.nofs_disk.specs.Disk.{DiskState, StaysButFaults, Rose}
 use Rattle.nofs_dirent.specs.Names.{NameOk, is_name}
 use Rattle.nofs_inode.specs.declared.inode.FileKind.TheVariants as kind
-use Rattle.nofs_model.specs.Cells.{BackLink, Entry, FileKind, entry_in}
-use Rattle.nofs_model.specs.Image.{Image, Files, inode, value}
-use Rattle.nofs_model.specs.declared.value.Value.TheVariants.{Hole, Bytes, Lost}
+use Rattle.nofs_image.specs.Cells.{BackLink, Entry, FileKind, entry_in}
+use Rattle.nofs_image.specs.Image.{Image, Files, inode, value}
+use Rattle.nofs_image.specs.declared.value.Value.TheVariants.{Hole, Bytes, Lost}
 use Rattle.nofs_machine.specs.History.{FilesMatch}
 use Rattle.nofs_machine.specs.Answers.{lines_in_slot}
 use Rattle.nofs_machine.specs.Steps.{IsListed}

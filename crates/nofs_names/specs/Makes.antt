@@ -6,7 +6,7 @@ use Rattle.nofs_bits.specs.Bits.{NoneSet, count_set, is_set}
 use Rattle.nofs_disk.specs.Disk.{DiskState}
 use Rattle.nofs_dirent.specs.Names.{NameOk}
 use Rattle.nofs_inode.specs.InodeRecords.{free_record}
-use Rattle.nofs_model.specs.Cells.{BackLink, FileKind, Record}
+use Rattle.nofs_image.specs.Cells.{BackLink, FileKind, Record}
 use Rattle.nofs_machine.specs.Search.{first_of}
 use Rattle.nofs_machine.specs.Machine.{link_to, place_for}
 use Rattle.nofs_machine.specs.World.{World, next_inode}

@@ -4,11 +4,11 @@ use Rattle.std.specs.Prelude.{IfSome, OnOk, nat_lt}
 use Rattle.nofs_dirent.specs.Entries.{entry_limit}
 use Rattle.nofs_bits.specs.Bits.{count_set, is_set}
 use Rattle.nofs_disk.specs.Disk.{DiskState, StaysButFaults, Rose, cell_at}
-use Rattle.nofs_model.specs.Cells.{Cell, Pointer, SuperBlock}
-use Rattle.nofs_model.specs.Image.{Image, find, leaf, path_of}
-use Rattle.nofs_model.specs.Places.{InArea}
-use Rattle.nofs_model.specs.declared.path.PathAnswer.{PathAnswer}
-use Rattle.nofs_model.specs.declared.path.PathAnswer.TheVariants as answer
+use Rattle.nofs_image.specs.Cells.{Cell, Pointer, SuperBlock}
+use Rattle.nofs_image.specs.Image.{Image, find, leaf, path_of}
+use Rattle.nofs_image.specs.Places.{InArea}
+use Rattle.nofs_image.specs.declared.path.PathAnswer.{PathAnswer}
+use Rattle.nofs_image.specs.declared.path.PathAnswer.TheVariants as answer
 use Rattle.nofs_machine.specs.Search.{first_of}
 use Rattle.nofs_machine.specs.Steps.{InRange}
 use Rattle.nofs_machine.specs.Refusals.{row}

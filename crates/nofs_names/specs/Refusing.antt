@@ -2,8 +2,8 @@
 use Rattle.std.specs.Prelude.{◌≡◌, ℕ, ◌*◌, true, List, [], ◌∷◌, Option, Some, None, option_map, IsTrue, Result, Ok, Err, IfOk, IfErr, OnOk}
 use Rattle.nofs_dirent.specs.Entries.{entry_limit}
 use Rattle.nofs_disk.specs.Disk.{DiskState, StaysButFaults, Rose}
-use Rattle.nofs_model.specs.Cells.{Record, SuperBlock}
-use Rattle.nofs_model.specs.Image.{Image, Files, files_in, agreed}
+use Rattle.nofs_image.specs.Cells.{Record, SuperBlock}
+use Rattle.nofs_image.specs.Image.{Image, Files, files_in, agreed}
 use Rattle.nofs_machine.specs.Search.{first_of}
 use Rattle.nofs_machine.specs.World.{World}
 use Rattle.nofs_machine.specs.Steps.{InRange}

@@ -3,8 +3,8 @@ use Rattle.nofs_state.specs.Owning.{AreFreed}
 use Rattle.std.specs.Prelude.{◌≡◌, ℕ, ◌+◌, ◌-◌, ◌/◌, ◌<◌, ◌≤◌, Bool, true, false, ◌==◌, List, Option, Some, None, length, IsTrue, slice_set}
 use Rattle.nofs_bits.specs.Bits.{is_set}
 use Rattle.nofs_disk.specs.Disk.{DiskState}
-use Rattle.nofs_model.specs.Cells.{SuperBlock}
-use Rattle.nofs_model.specs.Image.{Files, files_in, agreed, Home, owner}
+use Rattle.nofs_image.specs.Cells.{SuperBlock}
+use Rattle.nofs_image.specs.Image.{Files, files_in, agreed, Home, owner}
 use Rattle.nofs_machine.specs.Meta.{is_gone}
 use Rattle.nofs_machine.specs.Machine.{drop_meta, link_to}
 use Rattle.nofs_machine.specs.History.{FilesMatch}

@@ -1,11 +1,11 @@
 -- What Rename asks of its parts, and answers.
 use Rattle.std.specs.Prelude.{◌≡◌, ℕ, ◌⊎◌, true, List, IsTrue, Result, Ok, Err, IfOk, IfErr, OnOk}
 use Rattle.nofs_disk.specs.Disk.{DiskState, StaysButFaults, Rose, cell_at}
-use Rattle.nofs_model.specs.Cells.{Pointer, SuperBlock}
-use Rattle.nofs_model.specs.Image.{path_of, find}
-use Rattle.nofs_model.specs.Places.{InArea}
-use Rattle.nofs_model.specs.declared.path.PathAnswer.{PathAnswer}
-use Rattle.nofs_model.specs.declared.path.PathAnswer.TheVariants as answer
+use Rattle.nofs_image.specs.Cells.{Pointer, SuperBlock}
+use Rattle.nofs_image.specs.Image.{path_of, find}
+use Rattle.nofs_image.specs.Places.{InArea}
+use Rattle.nofs_image.specs.declared.path.PathAnswer.{PathAnswer}
+use Rattle.nofs_image.specs.declared.path.PathAnswer.TheVariants as answer
 use Rattle.nofs_machine.specs.Steps.{InRange}
 use Rattle.nofs_machine.specs.declared.replies.Refusal.{Refusal}
 use Rattle.nofs_machine.specs.declared.replies.Refusal.TheVariants as refusal
@@ -13,7 +13,7 @@ use Rattle.nofs_machine.specs.declared.replies.Reply.{Reply}
 use Rattle.nofs_machine.specs.declared.replies.Reply.TheVariants as reply
 use Rattle.nofs_agree.specs.Reading.{IsLast}
 use Rattle.nofs_agree.specs.declared.reads.LastRead.{LastRead}
-use Rattle.nofs_model.specs.Image.{Files}
+use Rattle.nofs_image.specs.Image.{Files}
 use Rattle.nofs_machine.specs.History.{FilesMatch}
 use Rattle.nofs_names.specs.Searching.{IsFoundEntry}
 use Rattle.nofs_names.specs.Refusing.{IsThere}

@@ -6,9 +6,9 @@ use Rattle.nofs_dirent.specs.Entries.{entry_limit}
 use Rattle.nofs_disk.specs.declared.Failed.{Failed}
 use Rattle.nofs_disk.specs.Disk.{DiskState, StaysButFaults, Rose}
 use Rattle.nofs_inode.specs.declared.inode.FileKind.TheVariants as kind
-use Rattle.nofs_model.specs.Cells.{BackLink, Entry, FileKind, Record, SuperBlock, entry_in}
-use Rattle.nofs_model.specs.Files.{is_record}
-use Rattle.nofs_model.specs.Image.{Image, inode, Files, files_in, agreed, is_folder, entry_at}
+use Rattle.nofs_image.specs.Cells.{BackLink, Entry, FileKind, Record, SuperBlock, entry_in}
+use Rattle.nofs_image.specs.Files.{is_record}
+use Rattle.nofs_image.specs.Image.{Image, inode, Files, files_in, agreed, is_folder, entry_at}
 use Rattle.nofs_machine.specs.Meta.{is_bytes}
 use Rattle.nofs_machine.specs.Search.{least_from}
 use Rattle.nofs_machine.specs.Machine.{same_link}

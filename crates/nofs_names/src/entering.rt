@@ -3,7 +3,7 @@ ghost use Rattle.std.specs.Prelude.{◌≡◌, ◌≢◌, ◌+◌, ◌-◌, ◌*
 ghost use Rattle.nofs_disk.specs.Number.{put_bytes, zeros};
 ghost use Rattle.nofs_disk.specs.Pointer.{is_null};
 ghost use Rattle.nofs_dirent.specs.Entries.{HasEntrySpelling, entry_limit, spelled_entry};
-ghost use Rattle.nofs_model.specs.Cells.{tag_of};
+ghost use Rattle.nofs_image.specs.Cells.{tag_of};
 ghost use Rattle.nofs_ptrs.specs.Cells.{pointer_at};
 ghost use Rattle.nofs_inode.specs.InodeRecords.{HasRecordSpelling};
 ghost use Rattle.nofs_names.specs.Stepping.{IsLast};

@@ -5,7 +5,7 @@ ghost use Rattle.nofs_dirent.specs.Entries.{entry_bytes, entry_in};
 ghost use Rattle.nofs_names.specs.Searching.{IsEntrySpelled, named_in};
 
 use nofs_disk::{read_u32_at, read_u64_at};
-use nofs_model::names_inode;
+use nofs_image::names_inode;
 
 /// The inode that an entry names.
 #[derive(Clone, Copy)]

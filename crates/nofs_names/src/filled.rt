@@ -1,8 +1,8 @@
 //! Whether a directory has a name of a file.
 ghost use Rattle.std.specs.Prelude.{◌≡◌, ◌+◌, ◌*◌, ◌<◌, IsTrue, OnOk};
 ghost use Rattle.nofs_dirent.specs.Entries.{entry_limit};
-ghost use Rattle.nofs_model.specs.Slots.{value};
-ghost use Rattle.nofs_model.specs.declared.value.Value.TheVariants.{Bytes};
+ghost use Rattle.nofs_image.specs.Slots.{value};
+ghost use Rattle.nofs_image.specs.declared.value.Value.TheVariants.{Bytes};
 ghost use Rattle.nofs_agree.specs.Reading.{IsAt, IsLast};
 ghost use Rattle.nofs_names.specs.Inodes.{KnowsFolder};
 ghost use Rattle.nofs_names.specs.Filled.{NamesOn, TellsPair};
@@ -12,8 +12,8 @@ use crate::inodes::ReadInode;
 use crate::pairing::paired_kind;
 use nofs_agree::{LastRead, read_inode};
 use nofs_disk::{Disk, Failed};
+use nofs_image::PathAnswer;
 use nofs_inode::BackLink;
-use nofs_model::PathAnswer;
 use nofs_super::SuperBlock;
 
 /// Whether some entry of a directory is a pair.

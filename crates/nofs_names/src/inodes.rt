@@ -1,14 +1,14 @@
 //! An inode with its record, and what stands in a slot of it.
 ghost use Rattle.std.specs.Prelude.{◌<◌};
-ghost use Rattle.nofs_model.specs.Slots as slots;
+ghost use Rattle.nofs_image.specs.Slots as slots;
 ghost use Rattle.nofs_agree.specs.Finding.{FindsSlot};
 ghost use Rattle.nofs_agree.specs.Reading.{IsLast};
 ghost use Rattle.nofs_names.specs.Inodes.{Knows};
 
 use nofs_agree::{LastRead, find_slot};
 use nofs_disk::{Disk, Failed};
+use nofs_image::{PathAnswer, place_of};
 use nofs_inode::Record;
-use nofs_model::{PathAnswer, place_of};
 use nofs_super::SuperBlock;
 
 /// An inode of the disk with these numbers, and its record.

@@ -1,7 +1,7 @@
 //! Whether an inode keeps a name.
 ghost use Rattle.std.specs.Prelude.{◌≡◌, ◌||◌, length};
 ghost use Rattle.std.specs.List.{list_any};
-ghost use Rattle.nofs_model.specs.Files as files;
+ghost use Rattle.nofs_image.specs.Files as files;
 ghost use Rattle.nofs_agree.specs.Chains.{TellsAgreed, is_agreed_link};
 ghost use Rattle.nofs_agree.specs.Reading.{IsLast};
 ghost use Rattle.nofs_names.specs.Inodes.{Knows};

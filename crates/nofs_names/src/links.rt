@@ -3,7 +3,7 @@ ghost use Rattle.std.specs.Prelude.{◌≡◌, ◌≤◌, ◌<◌, IfOk, IfSome,
 ghost use Rattle.nofs_dirent.specs.Entries.{HasEntrySpelling, entry_with, spelled_entry};
 ghost use Rattle.nofs_dirent.specs.EntryLaws.{Spells};
 ghost use Rattle.nofs_dirent.specs.Names.{NameOk};
-ghost use Rattle.nofs_model.specs.Cells.{is_empty_link};
+ghost use Rattle.nofs_image.specs.Cells.{is_empty_link};
 ghost use Rattle.nofs_machine.specs.Machine as machine;
 ghost use Rattle.nofs_machine.specs.declared.steps.Step.TheVariants as step;
 ghost use Rattle.nofs_machine.specs.declared.replies.Reply.TheVariants as reply;

@@ -8,8 +8,8 @@ ghost use Rattle.nofs_names.specs.Stepping.{IsLast, MarksAll};
 use crate::inodes::ReadInode;
 use nofs_agree::{LastRead, find_slot};
 use nofs_disk::Disk;
+use nofs_image::{PathAnswer, Place};
 use nofs_machine::Refusal;
-use nofs_model::{PathAnswer, Place};
 use nofs_state::{FreedBlocks, mark_slots};
 use std::alloc::Global;
 

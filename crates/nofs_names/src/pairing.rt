@@ -2,7 +2,7 @@
 ghost use Rattle.std.specs.Prelude.{◌≡◌};
 ghost use Rattle.std.specs.List.{list_any};
 ghost use Rattle.nofs_inode.specs.declared.inode.FileKind.TheVariants as kind;
-ghost use Rattle.nofs_model.specs.Files as files;
+ghost use Rattle.nofs_image.specs.Files as files;
 ghost use Rattle.nofs_machine.specs.Machine.{same_link};
 ghost use Rattle.nofs_names.specs.Searching.{answers, is_root_record, paired_kind};
 

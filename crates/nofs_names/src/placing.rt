@@ -2,8 +2,8 @@
 ghost use Rattle.std.specs.Prelude.{◌≡◌, ◌≤◌, ◌<◌, ◌^◌, IfErr, IfOk, IfSome, IsTrue, None, length};
 ghost use Rattle.nofs_dirent.specs.Entries.{entry_limit};
 ghost use Rattle.nofs_bits.specs.Bits.{count_set};
-ghost use Rattle.nofs_model.specs.Slots as slots;
-ghost use Rattle.nofs_model.specs.declared.path.PathAnswer.TheVariants as answer;
+ghost use Rattle.nofs_image.specs.Slots as slots;
+ghost use Rattle.nofs_image.specs.declared.path.PathAnswer.TheVariants as answer;
 ghost use Rattle.nofs_names.specs.Stepping.{IsLast, IsSafe};
 ghost use Rattle.nofs_names.specs.Inodes.{Knows};
 ghost use Rattle.nofs_names.specs.Placing.{AreFree, FindsEntrySlot, IsPlaceOf, IsUnderLeaf, TakesBlocks, slot_blocks};
@@ -13,8 +13,8 @@ use crate::opening::place_of_new;
 use crate::searching::Unfound;
 use nofs_agree::{LastRead, find_slot};
 use nofs_disk::{Disk, Pointer};
+use nofs_image::{PathAnswer, Place};
 use nofs_machine::Refusal;
-use nofs_model::{PathAnswer, Place};
 use nofs_state::{Books, Core};
 
 /// What stands in the slot of a new entry.

@@ -1,8 +1,8 @@
 //! The search of a directory for a name.
 ghost use Rattle.std.specs.Prelude.{◌≡◌, ◌+◌, ◌*◌, ◌<◌, IsTrue, OnOk, Some};
 ghost use Rattle.nofs_dirent.specs.Entries.{entry_limit};
-ghost use Rattle.nofs_model.specs.Slots.{value};
-ghost use Rattle.nofs_model.specs.declared.value.Value.TheVariants.{Bytes};
+ghost use Rattle.nofs_image.specs.Slots.{value};
+ghost use Rattle.nofs_image.specs.declared.value.Value.TheVariants.{Bytes};
 ghost use Rattle.nofs_agree.specs.Reading.{IsAt, IsLast};
 ghost use Rattle.nofs_names.specs.Inodes.{KnowsFolder};
 ghost use Rattle.nofs_names.specs.Searching.{IsEntrySpelled, Searches, SearchesOn, SeesNamed, SeesPlace, first_or};
@@ -13,8 +13,8 @@ use crate::pairing::paired_kind;
 use nofs_agree::{LastRead, read_inode};
 use nofs_dirent::has_name;
 use nofs_disk::{Disk, Failed};
+use nofs_image::PathAnswer;
 use nofs_inode::{BackLink, FileKind, Record};
-use nofs_model::PathAnswer;
 use nofs_super::SuperBlock;
 
 /// An entry and the inode that it names, which are a pair.

@@ -13,9 +13,9 @@ use crate::searching::Paired;
 use nofs_agree::LastRead;
 use nofs_dirent::{Entry, write_entry};
 use nofs_disk::{Cell, Disk, Pointer};
+use nofs_image::PathAnswer;
 use nofs_lists::Name;
 use nofs_machine::Refusal;
-use nofs_model::PathAnswer;
 use nofs_state::Core;
 use std::alloc::{AllocError, Global};
 

@@ -4,10 +4,10 @@ use Rattle.std.specs.Prelude.{option_map}
 use Rattle.std.specs.List.{list_any}
 use Rattle.std.proofs.lemmas.Bool.{and_parts}
 use Rattle.nofs_dirent.specs.Entries.{entry_limit}
-use Rattle.nofs_model.specs.Cells.{Entry}
-use Rattle.nofs_model.specs.Image.{FileState, Files, entry_at, links_in_file, is_pair}
-use Rattle.nofs_model.specs.declared.value.Value.{Value}
-use Rattle.nofs_model.specs.declared.value.Value.TheVariants.{Hole, Bytes, Lost}
+use Rattle.nofs_image.specs.Cells.{Entry}
+use Rattle.nofs_image.specs.Image.{FileState, Files, entry_at, links_in_file, is_pair}
+use Rattle.nofs_image.specs.declared.value.Value.{Value}
+use Rattle.nofs_image.specs.declared.value.Value.TheVariants.{Hole, Bytes, Lost}
 use Rattle.std.specs.Str.{bytes_eq}
 use Rattle.nofs_machine.specs.Search.{first_of, least_from}
 use Rattle.nofs_machine.specs.Machine.{first_dead, first_lost_slot, found, generation_of, entry_has_name, is_hole, is_lost, is_paired, is_refused, link_to}

@@ -1,6 +1,6 @@
 -- The laws of unchanged and of stale verdicts.
 use Rattle.std.specs.Prelude.{◌≡◌, ℕ, ◌<◌, false, List, ◌++◌, Bool}
-use Rattle.nofs_model.specs.Image.{Image, is_used_inode, is_used_block}
+use Rattle.nofs_image.specs.Image.{Image, is_used_inode, is_used_block}
 use Rattle.nofs_machine.specs.declared.history.Entry1.{Entry1}
 use Rattle.nofs_machine.specs.World.{World}
 use Rattle.nofs_machine.specs.Next.{Run}

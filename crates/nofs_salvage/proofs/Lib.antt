@@ -1,12 +1,2 @@
-pub mod Adding
-pub mod Answers
-pub mod Asking
-pub mod Growing
 pub mod Handing
-pub mod LostSlots
-pub mod Names
-pub mod Reading
-pub mod Refusing
-pub mod Roots
 pub mod Telling
-pub mod Walking

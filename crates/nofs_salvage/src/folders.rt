@@ -4,22 +4,17 @@
 ghost use Rattle.std.specs.Prelude.{◌≡◌, ◌+◌, ◌<◌, ◌≤◌, ℕ, Bool, true, List, IfOk, OnOk};
 ghost use Rattle.std.specs.Fn.{FnReturnsAt};
 ghost use Rattle.nofs_machine.specs.World.{World};
-ghost use Rattle.nofs_salvage.specs.declared.findings.Findings.{Findings as Found};
-ghost use Rattle.nofs_salvage.specs.Reads.{Reads, refusal_by};
-ghost use Rattle.nofs_salvage.specs.Answered.{AreAnswered};
-ghost use Rattle.nofs_salvage.specs.Trees.{IsWalked};
-ghost use Rattle.nofs_salvage.specs.Refusing.{AreFair, MayAsk};
+ghost use Rattle.nofs_lost.specs.declared.findings.Findings.{Findings as Found};
+ghost use Rattle.nofs_lost.specs.Reads.{Reads, refusal_by};
+ghost use Rattle.nofs_lost.specs.Answered.{AreAnswered};
+ghost use Rattle.nofs_lost.specs.Trees.{IsWalked};
+ghost use Rattle.nofs_asking.specs.Refusing.{AreFair, MayAsk};
 ghost use Rattle.nofs_salvage.specs.Noted.{SlotsNoted, FolderNoted};
-ghost use Rattle.nofs_salvage.specs.Asks.{AsksOn};
+ghost use Rattle.nofs_asking.specs.Asks.{AsksOn};
 
-use crate::answers::{Handle, Listed};
-use crate::fault::SalvageFault;
-use crate::filter::{NameFilter, NameRule};
-use crate::findings::Findings;
 use crate::lines::note_lines;
-use crate::report::Loss;
-use crate::seen::SeenNames;
-use crate::steps::list;
+use nofs_asking::list;
+use nofs_lost::{Findings, Handle, Listed, Loss, NameFilter, NameRule, SalvageFault, SeenNames};
 use nofs_machine::Steps;
 use std::alloc::Global;
 

@@ -4,22 +4,11 @@
 //! Promise: where nobody changes files meanwhile, the report is that of the definition. The walk only reads.
 #![tactic(auto)]
 
-mod answers;
-mod fault;
-mod filter;
-mod findings;
 mod folders;
 mod lines;
-mod report;
-mod seen;
 mod slots;
-mod steps;
 #[cfg(test)]
 mod tests;
-mod tree;
 mod walk;
 
-pub use fault::SalvageFault;
-pub use filter::{All, NameFilter, NameRule, Prefix};
-pub use report::{Loss, Report};
 pub use walk::salvage;

@@ -2,27 +2,25 @@
 //!
 //! Promise: each line is noted as what it is: dead, doubled, a file with its lost slots, or a directory.
 ghost use Rattle.std.specs.Prelude.{◌≡◌, ◌++◌, ℕ, Bool, true, false, List, [], ◌∷◌, OnOk};
-ghost use Rattle.nofs_model.specs.Image.{is_folder};
+ghost use Rattle.nofs_image.specs.Image.{is_folder};
 ghost use Rattle.std.specs.Fn.{FnReturnsAt};
 ghost use Rattle.nofs_machine.specs.World.{World};
 ghost use Rattle.nofs_machine.specs.Steps.{Made};
 ghost use Rattle.nofs_machine.specs.declared.replies.NameLine.{NameLine as Line};
-ghost use Rattle.nofs_salvage.specs.Reads.{Reads, refusal_by};
-ghost use Rattle.nofs_salvage.specs.Report.{pair_losses, pair_folders, line_losses, line_folders};
-ghost use Rattle.nofs_salvage.specs.Answered.{AreAnswered};
-ghost use Rattle.nofs_salvage.specs.Trees.{AreSeen, Adds};
-ghost use Rattle.nofs_salvage.specs.Refusing.{AreFair, MayAsk, LeadsTo};
-ghost use Rattle.nofs_salvage.specs.Told.{IsTold, AreTold, AreFolders};
-ghost use Rattle.nofs_salvage.specs.Asks.{Asks, HasGiven, AreGiven, AreReached};
+ghost use Rattle.nofs_lost.specs.Reads.{Reads, refusal_by};
+ghost use Rattle.nofs_lost.specs.Report.{pair_losses, pair_folders, line_losses, line_folders};
+ghost use Rattle.nofs_lost.specs.Answered.{AreAnswered};
+ghost use Rattle.nofs_lost.specs.Trees.{AreSeen, Adds};
+ghost use Rattle.nofs_asking.specs.Refusing.{AreFair, MayAsk, LeadsTo};
+ghost use Rattle.nofs_asking.specs.Told.{IsTold, AreTold, AreFolders};
+ghost use Rattle.nofs_asking.specs.Asks.{Asks, HasGiven, AreGiven, AreReached};
 ghost use Rattle.nofs_salvage.specs.Noted.{LinesNoted};
 
-use crate::answers::Handle;
-use crate::fault::SalvageFault;
-use crate::filter::{NameFilter, NameRule};
-use crate::findings::{Findings, NameFlaw, note_name};
-use crate::seen::SeenNames;
 use crate::slots::note_file;
-use crate::steps::find;
+use nofs_asking::find;
+use nofs_lost::{
+    Findings, Handle, NameFilter, NameFlaw, NameRule, SalvageFault, SeenNames, note_name,
+};
 use nofs_machine::{FileKind, NameLine, NameList, Steps};
 use std::alloc::Global;
 

@@ -6,16 +6,14 @@ ghost use Rattle.nofs_machine.specs.Steps.{Made};
 ghost use Rattle.nofs_machine.specs.Machine.{slots_in as slots_of_size};
 ghost use Rattle.nofs_machine.specs.Refusals.{slots as slots_of};
 ghost use Rattle.nofs_machine.specs.World.{World};
-ghost use Rattle.nofs_salvage.specs.Reads.{Reads, refusal_by};
-ghost use Rattle.nofs_salvage.specs.Report.{lost_below, file_losses};
-ghost use Rattle.nofs_salvage.specs.Answered.{AreAnswered, IsNoted};
-ghost use Rattle.nofs_salvage.specs.Refusing.{is_there, AreFair, MayAsk};
-ghost use Rattle.nofs_salvage.specs.Asks.{Asks, AsksOn, HasReached, HasTold};
+ghost use Rattle.nofs_lost.specs.Reads.{Reads, refusal_by};
+ghost use Rattle.nofs_lost.specs.Report.{lost_below, file_losses};
+ghost use Rattle.nofs_lost.specs.Answered.{AreAnswered, IsNoted};
+ghost use Rattle.nofs_asking.specs.Refusing.{is_there, AreFair, MayAsk};
+ghost use Rattle.nofs_asking.specs.Asks.{Asks, AsksOn, HasReached, HasTold};
 
-use crate::answers::{Got, Handle};
-use crate::fault::SalvageFault;
-use crate::report::{Loss, Report};
-use crate::steps::{get, size_of};
+use nofs_asking::{get, size_of};
+use nofs_lost::{Got, Handle, Loss, Report, SalvageFault};
 use nofs_machine::Steps;
 
 // How many slots a size reaches into.

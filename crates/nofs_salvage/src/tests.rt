@@ -5,10 +5,11 @@ ghost use Rattle.std.specs.Prelude.{◌≡◌, true};
 mod answer;
 mod asked;
 
+use crate::salvage;
 use crate::tests::answer::{Answer, Lost, loss, reply};
 use crate::tests::asked::AskedSteps;
-use crate::{All, NameFilter, Prefix, Report, SalvageFault, salvage};
 use nofs_lists::Name;
+use nofs_lost::{All, NameFilter, Prefix, Report, SalvageFault};
 use nofs_machine::{FileKind, Refusal};
 use nofs_told::{InTurn, Notepad, Told};
 use std::alloc::{AllocError, Global};

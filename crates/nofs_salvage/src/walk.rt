@@ -6,22 +6,18 @@ ghost use Rattle.std.specs.Prelude.{◌≡◌, ℕ, Bool, true, List, [], ◌∷
 ghost use Rattle.std.specs.Fn.{FnReturnsAt};
 ghost use Rattle.nofs_machine.specs.World.{World};
 ghost use Rattle.nofs_machine.specs.Steps.{Made};
-ghost use Rattle.nofs_salvage.specs.Reads.{Reads, refusal_by};
-ghost use Rattle.nofs_salvage.specs.Report.{report_of};
-ghost use Rattle.nofs_salvage.specs.Answered.{AreAnswered};
-ghost use Rattle.nofs_salvage.specs.Refusing.{is_there, HasRoots, MayRefuse, AreFair};
-ghost use Rattle.nofs_salvage.specs.Handles.{root_handle};
-ghost use Rattle.nofs_salvage.specs.InHand.{handles_in};
+ghost use Rattle.nofs_lost.specs.Reads.{Reads, refusal_by};
+ghost use Rattle.nofs_lost.specs.Report.{report_of};
+ghost use Rattle.nofs_lost.specs.Answered.{AreAnswered};
+ghost use Rattle.nofs_asking.specs.Refusing.{is_there, HasRoots, MayRefuse, AreFair};
+ghost use Rattle.nofs_lost.specs.Handles.{root_handle};
+ghost use Rattle.nofs_lost.specs.InHand.{handles_in};
 ghost use Rattle.nofs_salvage.specs.Noted.{TreeNoted};
-ghost use Rattle.nofs_salvage.specs.Asks.{Asks};
+ghost use Rattle.nofs_asking.specs.Asks.{Asks};
 
-use crate::answers::Handle;
-use crate::fault::SalvageFault;
-use crate::filter::{NameFilter, NameRule};
-use crate::findings::Findings;
 use crate::folders::note_folder;
-use crate::report::Report;
 use crate::slots::note_file;
+use nofs_lost::{Findings, Handle, NameFilter, NameRule, Report, SalvageFault};
 use nofs_machine::Steps;
 use std::alloc::Global;
 

@@ -1,7 +1,4 @@
 pub mod Seen
-pub mod Elements
-pub mod Sights
-pub mod Seeing
 pub mod Scanned
 pub mod Late
 pub mod Looking

@@ -3,16 +3,15 @@ ghost use Rattle.std.specs.Prelude.{◌≡◌, ◌<◌, ◌^◌, length, false, 
 ghost use Rattle.nofs_agree.specs.Reading.{IsAt};
 ghost use Rattle.nofs_machine.specs.declared.replies.Refusal.TheVariants as refusal;
 ghost use Rattle.nofs_state.specs.Books.{IsSafe};
-ghost use Rattle.nofs_scan.specs.Elements.{HasElement, items_of};
+ghost use Rattle.nofs_sights.specs.Elements.{HasElement, items_of};
 ghost use Rattle.nofs_scan.specs.Looking.{IsBatch, LookFails, LooksAll, OnlyLearns};
 
-use crate::evidence::{Evidence, Verdicts};
 use crate::reading::read_sight;
-use crate::sights::Sight;
 use nofs_agree::Known;
 use nofs_disk::Disk;
 use nofs_lists::ListOf;
 use nofs_machine::{ElementKind, Refusal};
+use nofs_sights::{Evidence, Sight, Verdicts};
 use nofs_state::Core;
 use nofs_super::SuperBlock;
 use std::alloc::Global;

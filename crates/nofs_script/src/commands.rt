@@ -7,8 +7,8 @@ ghost use Rattle.nofs_script.specs.Grammar.{Gives, path_word, new_path_word, num
 
 use crate::faults::{LineFault, ScriptKind};
 use crate::words::number_of;
-use nofs_client::{Command, Path};
 use nofs_lists::{Content, Name, PathNames};
+use nofs_task::{Command, Path};
 use std::alloc::{AllocError, Global};
 
 /// What the first word of a line asks for.

@@ -9,10 +9,8 @@ mod faults;
 mod session;
 #[cfg(test)]
 mod tests;
-mod text;
 mod words;
 
 pub use faults::{ParseFault, ScriptFault, ScriptKind, TextFault};
 pub use session::{Session, parse};
-pub use text::{line_text, push_number, push_words};
 pub use words::number_of;

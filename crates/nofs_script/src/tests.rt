@@ -1,9 +1,10 @@
 //! Sessions and lines with their worked texts.
 
-use crate::{ParseFault, line_text, parse};
-use nofs_client::{GotPart, GotParts, Line, ListPart, ListParts};
+use crate::{ParseFault, parse};
 use nofs_lists::{Content, Name};
 use nofs_machine::{FileKind, NameLine, Refusal, Stat};
+use nofs_task::{GotPart, GotParts, Line, ListPart, ListParts};
+use nofs_text::line_text;
 use std::alloc::{AllocError, Global};
 use std::test::Fail;
 

@@ -1,4 +1,1 @@
-pub mod Joins
-pub mod Teams
-pub mod Served
 pub mod Visits

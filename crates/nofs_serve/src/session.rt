@@ -3,13 +3,12 @@
 //! Promise: the history has of each user just the steps that its commands ask for, in order, and of each sweep one step for each
 //! element. The flusher has none.
 ghost use Rattle.std.specs.Prelude.{◌≡◌, ◌<◌, ◌≤◌, ◌^◌, true, All, map, vec_len};
-ghost use Rattle.nofs_client.specs.Commands.{AreWellFormed};
-ghost use Rattle.nofs_serve.specs.Served.{TeamServed};
+ghost use Rattle.nofs_task.specs.Commands.{AreWellFormed};
+ghost use Rattle.nofs_teams.specs.Served.{TeamServed};
 
-use crate::gather::Gathered;
-use crate::team::{Plan, Sweeps, TeamRoom, WriteOuts, run_team};
-use nofs_client::LineList;
 use nofs_shared::{Serves, ShareFault, SharedMount};
+use nofs_task::LineList;
+use nofs_teams::{Gathered, Plan, Sweeps, TeamRoom, WriteOuts, run_team};
 use nofs_workers::Gate;
 use std::alloc::Global;
 use std::sync::Wait;

@@ -4,8 +4,8 @@ use Rattle.std.specs.List.{AllByRecursion}
 use Rattle.std.specs.Option.{option_to_list}
 use Rattle.std.specs.declared.option.Option.{Option}
 use Rattle.std.specs.declared.option.Option.TheVariants.{Some}
-use Rattle.nofs_client.specs.declared.commands.Command.{Command}
-use Rattle.nofs_client.specs.Commands.{AreWellFormed}
+use Rattle.nofs_task.specs.declared.commands.Command.{Command}
+use Rattle.nofs_task.specs.Commands.{AreWellFormed}
 use Rattle.nofs_script.specs.Sessions.{IsSession}
 
 last-formed : (rest : List (List Command)) (c : List Command) → AllByRecursion AreWellFormed (rest ++ c ∷ []) → AreWellFormed c

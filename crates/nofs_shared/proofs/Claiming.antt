@@ -3,8 +3,8 @@ use Rattle.std.proofs.Common.{◌≡◌, ℕ, Bool, true, false, ◌&&◌, ◌||
 use Rattle.std.proofs.Common.{IsTrue, ◌⊎◌, inl, inr, refl, sym, ap, ◌∙◌, subst, arith}
 use Rattle.std.proofs.lemmas.Bool.{cases_lt}
 use Rattle.nofs_disk.specs.Disk.{DiskState}
-use Rattle.nofs_model.specs.Cells.{Pointer, SuperBlock}
-use Rattle.nofs_model.specs.Image.{Image, Home, owner}
+use Rattle.nofs_image.specs.Cells.{Pointer, SuperBlock}
+use Rattle.nofs_image.specs.Image.{Image, Home, owner}
 use Rattle.nofs_machine.specs.Machine.{is_write_fault}
 use Rattle.nofs_machine.specs.World.{World, is_free_block, is_fixed}
 use Rattle.nofs_machine.specs.Claims.{claimed_blocks, no_claims}

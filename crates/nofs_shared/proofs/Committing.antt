@@ -4,7 +4,7 @@ use mathlib.Core.List.{IsPrefix}
 use Rattle.nofs_disk.specs.Disk.{DiskState}
 use Rattle.nofs_disk.specs.Chains.{IsSameDisk-refl, KeepsPast-refl}
 use Rattle.nofs_super.specs.Format.{super_cell}
-use Rattle.nofs_model.specs.Cells.{SuperBlock}
+use Rattle.nofs_image.specs.Cells.{SuperBlock}
 use Rattle.nofs_machine.specs.Claims.{no_claims}
 use Rattle.nofs_machine.specs.HistoryState.{HistoryState}
 use Rattle.nofs_machine.specs.declared.history.Entry1.{Entry1}
@@ -20,7 +20,7 @@ use Rattle.nofs_state.specs.Standing.{IsOpen, IsStopped, Past}
 use Rattle.nofs_state.specs.Steps.{IsSafeStep, entry}
 use Rattle.nofs_state.specs.declared.books.Books.{Books}
 use Rattle.nofs_state.specs.Verdicts.{LearnsIt, Settles, StaysSo}
-use Rattle.nofs_scan.specs.Elements.{HasElement, is_used, learned, see_step, verdict_of}
+use Rattle.nofs_sights.specs.Elements.{HasElement, is_used, learned, see_step, verdict_of}
 use Rattle.nofs_scan.specs.Late.{Commits, WasOpen}
 use Rattle.nofs_shared.specs.Commits.{IsCommit, SeesVerdict}
 use Rattle.nofs_shared.specs.Sees.{is_see}

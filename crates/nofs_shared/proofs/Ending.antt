@@ -3,8 +3,8 @@ use Rattle.std.proofs.Common.{◌≡◌, ◌≢◌, ℕ, ◌≤◌, Bool, true, 
 use Rattle.nofs_disk.specs.Disk.{DiskState}
 use Rattle.nofs_disk.specs.Moments.{AtEach}
 use Rattle.nofs_super.specs.Format.{super_cell}
-use Rattle.nofs_model.specs.Cells.{Pointer, SuperBlock}
-use Rattle.nofs_model.specs.Image.{Image}
+use Rattle.nofs_image.specs.Cells.{Pointer, SuperBlock}
+use Rattle.nofs_image.specs.Image.{Image}
 use Rattle.nofs_machine.specs.World.{World, world_of, is_free_inode, inodes_needed}
 use Rattle.nofs_machine.specs.Claims.{claimed_blocks, no_claims, next_stamp, IsClaim, IsInodeClaim, ClaimedInode, NoInode}
 use Rattle.nofs_machine.specs.Next.{Next, Run, AfterFault, ByRow, Done, ByRead, ByWrite}

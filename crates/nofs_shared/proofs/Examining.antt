@@ -3,10 +3,10 @@ use Rattle.std.proofs.Common.{◌≡◌, ℕ, ◌+◌, ◌<◌, ◌≤◌, List,
 use Rattle.std.specs.Prelude.{Result, Ok, Err, IfOk}
 use Rattle.std.proofs.lemmas.List.{drop_all}
 use mathlib.Core.List.{IsPrefix}
-use Rattle.nofs_turn.specs.declared.view.View.{View}
-use Rattle.nofs_turn.specs.Lists.{numbered}
-use Rattle.nofs_turn.specs.Passes.{MayRun, Ran}
-use Rattle.nofs_turn.proofs.Words.{prefix_trans}
+use Rattle.nofs_turn_rule.specs.declared.view.View.{View}
+use Rattle.nofs_turn_rule.specs.Lists.{numbered}
+use Rattle.nofs_turn_rule.specs.Passes.{MayRun, Ran}
+use Rattle.nofs_turn_rule.proofs.Words.{prefix_trans}
 use Rattle.nofs_machine.specs.declared.history.Entry1.{Entry1}
 use Rattle.nofs_machine.specs.declared.steps.Step.{Step}
 use Rattle.nofs_machine.specs.declared.replies.Reply.{Reply}

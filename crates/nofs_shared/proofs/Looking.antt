@@ -10,9 +10,9 @@ use Rattle.nofs_state.specs.Knowing.{with_agreement}
 use Rattle.nofs_state.specs.declared.books.Books.{Books}
 use Rattle.nofs_state.proofs.Keeping.{reads-keep, safe-keeps}
 use Rattle.nofs_state.proofs.Knowing.{open-knows, safe-knows, stopped-knows}
-use Rattle.nofs_scan.specs.Elements.{items_of, verdict_at}
-use Rattle.nofs_scan.specs.declared.evidence.Verdict.{Verdict}
-use Rattle.nofs_turn.proofs.Words.{prefix_self}
+use Rattle.nofs_sights.specs.Elements.{items_of, verdict_at}
+use Rattle.nofs_sights.specs.declared.evidence.Verdict.{Verdict}
+use Rattle.nofs_turn_rule.proofs.Words.{prefix_self}
 use Rattle.nofs_shared.specs.Earlier.{IsEarlier}
 use Rattle.nofs_shared.specs.Mounts.{IsMount, IsSoundDisk, MountStands}
 use Rattle.nofs_shared.proofs.Mounting.{mount-still}

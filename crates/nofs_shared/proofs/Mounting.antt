@@ -4,8 +4,8 @@ use Rattle.std.proofs.Common.{◌∙◌, subst, subst₂, arith, le_refl}
 use Rattle.std.proofs.lemmas.Bool.{cases_lt}
 use Rattle.nofs_disk.specs.Disk.{DiskState, IsSameDisk, KeepsCells, Picks, Rose}
 use Rattle.nofs_disk.specs.Chains.{IsSameDisk-refl, IsSameDisk-trans}
-use Rattle.nofs_model.specs.Cells.{Cell, SuperBlock}
-use Rattle.nofs_model.specs.Image.{Image}
+use Rattle.nofs_image.specs.Cells.{Cell, SuperBlock}
+use Rattle.nofs_image.specs.Image.{Image}
 use Rattle.nofs_machine.specs.Allowed.{IsAllowed}
 use Rattle.nofs_machine.specs.History.{is_flushed}
 use Rattle.nofs_machine.specs.Machine.{is_write_fault, is_refused}

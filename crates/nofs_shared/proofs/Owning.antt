@@ -3,11 +3,11 @@ use Rattle.std.proofs.Common.{◌≡◌, ℕ, ◌+◌, ◌%◌, ◌<◌, ◌≤�
 use Rattle.std.proofs.Common.{IfOk, IfErr, refl, sym, ap, ◌∙◌, subst, arith}
 use Rattle.std.proofs.lemmas.List.{append-nil}
 use mathlib.Core.List.{IsPrefix}
-use Rattle.nofs_turn.specs.declared.view.View.{View}
-use Rattle.nofs_turn.specs.Lists.{numbered}
-use Rattle.nofs_turn.specs.Views.{looked}
-use Rattle.nofs_turn.specs.Passes.{Ran}
-use Rattle.nofs_turn.proofs.Words.{drop_prefix, prefix_trans}
+use Rattle.nofs_turn_rule.specs.declared.view.View.{View}
+use Rattle.nofs_turn_rule.specs.Lists.{numbered}
+use Rattle.nofs_turn_rule.specs.Views.{looked}
+use Rattle.nofs_turn_rule.specs.Passes.{Ran}
+use Rattle.nofs_turn_rule.proofs.Words.{drop_prefix, prefix_trans}
 use Rattle.nofs_machine.specs.Steps.{Made, is_out_of_memory, with_made}
 use Rattle.nofs_machine.specs.declared.history.Entry1.{Entry1}
 use Rattle.nofs_machine.specs.declared.steps.Step.{Step}

@@ -11,9 +11,9 @@ use Rattle.nofs_super.specs.Geometry.{IsGeometry}
 use Rattle.nofs_super.specs.Raise.{IsRaised, IsSuperCell, raised}
 use Rattle.nofs_super.specs.Spelling.{super_of-payload}
 use Rattle.nofs_super.specs.Super.{CanMount, super_of}
-use Rattle.nofs_model.specs.Cells.{Cell, SuperBlock, tag_of}
-use Rattle.nofs_model.specs.Image.{Image, cell_at, super_at, super_in, is_super, is_mountable, IsSound, IsBelow}
-use Rattle.nofs_model.proofs.Spells.{Spells, spells, super-tag, version-small}
+use Rattle.nofs_image.specs.Cells.{Cell, SuperBlock, tag_of}
+use Rattle.nofs_image.specs.Image.{Image, cell_at, super_at, super_in, is_super, is_mountable, IsSound, IsBelow}
+use Rattle.nofs_image.proofs.Spells.{Spells, spells, super-tag, version-small}
 use Rattle.nofs_machine.specs.Allowed.{IsAllowed}
 use Rattle.nofs_machine.specs.World.{world_of}
 use Rattle.nofs_law_lives.specs.Lives as lives

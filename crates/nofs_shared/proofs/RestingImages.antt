@@ -2,7 +2,7 @@
 use Rattle.std.proofs.Common.{◌≡◌, ℕ, ◌+◌, ◌<◌, ◌⊎◌, inl, inr, eqb, ◌&&◌, not, is_some, List, [], ◌∷◌, ◌++◌, take, drop, sym, ◌∙◌, subst, arith, le_refl}
 use Rattle.std.specs.List.{list_any}
 use Rattle.nofs_disk.specs.Disk.{DiskState, Picks}
-use Rattle.nofs_model.specs.Image.{Image}
+use Rattle.nofs_image.specs.Image.{Image}
 use Rattle.nofs_law_images.specs.Moments.{AllExplained}
 use Rattle.nofs_law_images.specs.Reasons.{IsMark}
 use Rattle.nofs_machine.specs.Allowed.{IsAllowed}

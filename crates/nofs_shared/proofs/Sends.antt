@@ -6,9 +6,9 @@ use Rattle.nofs_disk.specs.declared.disk.Disk as Disk
 use Rattle.nofs_shared.specs.contracts.mount.Mount.{the_row, the_type}
 use Rattle.nofs_state.specs.contracts.cores.Core as core
 use Rattle.nofs_state.proofs.cores.Core.TheSendSync as core_sends
-use Rattle.nofs_scan.specs.contracts.evidence.Evidence as evidence
-use Rattle.nofs_scan.specs.contracts.evidence.Verdicts as verdicts
-use Rattle.nofs_scan.proofs.evidence.Verdicts.TheSendSync as verdicts_sends
+use Rattle.nofs_sights.specs.contracts.evidence.Evidence as evidence
+use Rattle.nofs_sights.specs.contracts.evidence.Verdicts as verdicts
+use Rattle.nofs_sights.proofs.evidence.Verdicts.TheSendSync as verdicts_sends
 use Rattle.std.specs.contracts.snapshot.Snapshot as snapshot
 
 snapshot-send : (D : RattleType) → IsSend (snapshot.the_row D)

@@ -4,10 +4,10 @@ use Rattle.std.specs.Prelude.{All}
 use Rattle.std.specs.List.{AllByRecursion}
 use Rattle.std.proofs.lemmas.List.Elements.{recursion_from_All}
 use mathlib.Core.List.{IsPrefix}
-use Rattle.nofs_turn.specs.declared.view.View.{View}
-use Rattle.nofs_turn.specs.Lists.{rises, merge, numbered, chosen}
-use Rattle.nofs_turn.specs.Views.{fresh, joined}
-use Rattle.nofs_turn.proofs.Words.{prefix_trans}
+use Rattle.nofs_turn_rule.specs.declared.view.View.{View}
+use Rattle.nofs_turn_rule.specs.Lists.{rises, merge, numbered, chosen}
+use Rattle.nofs_turn_rule.specs.Views.{fresh, joined}
+use Rattle.nofs_turn_rule.proofs.Words.{prefix_trans}
 use Rattle.nofs_turn.proofs.Callers.{joined_own, joined_other}
 use Rattle.nofs_machine.specs.Steps.{Made}
 use Rattle.nofs_machine.specs.declared.history.Entry1.{Entry1}

@@ -4,7 +4,7 @@ use Rattle.std.proofs.lemmas.Bool.{cases_lt}
 use Rattle.nofs_disk.specs.Disk.{DiskState, Picks}
 use Rattle.nofs_disk.specs.Chains.{IsSameDisk-trans}
 use Rattle.nofs_disk.specs.declared.OutFault.{OutFault}
-use Rattle.nofs_model.specs.Image.{Image}
+use Rattle.nofs_image.specs.Image.{Image}
 use Rattle.nofs_machine.specs.Allowed.{IsAllowed}
 use Rattle.nofs_state.specs.Standing.{IsOpen, IsStopped, Past}
 use Rattle.nofs_state.specs.WritingOut.{WroteOne}

@@ -1,7 +1,7 @@
 -- What a step adds to a history, and what it claims.
 use Rattle.std.specs.Prelude.{◌≡◌, ℕ, true, false, List, [], ◌∷◌, ◌++◌, None, Contains}
-use Rattle.nofs_model.specs.Cells.{Pointer}
-use Rattle.nofs_model.specs.Image.{Image, owner}
+use Rattle.nofs_image.specs.Cells.{Pointer}
+use Rattle.nofs_image.specs.Image.{Image, owner}
 use Rattle.nofs_machine.specs.Claims.{claimed_blocks}
 use Rattle.nofs_machine.specs.Steps.{is_out_of_memory}
 use Rattle.nofs_machine.specs.declared.history.Entry1.{Entry1}

@@ -4,7 +4,7 @@ use Rattle.nofs_disk.specs.Disk.{DiskState}
 use Rattle.nofs_machine.specs.declared.replies.Refusal.{Refusal}
 use Rattle.nofs_machine.specs.declared.replies.Refusal.TheVariants as refusal
 use Rattle.nofs_machine.specs.declared.steps.ElementKind.{ElementKind}
-use Rattle.nofs_scan.specs.Elements.{HasElement}
+use Rattle.nofs_sights.specs.Elements.{HasElement}
 use Rattle.nofs_scan.specs.Looking.{LookFails}
 use Rattle.nofs_state.specs.declared.books.Books.{Books}
 

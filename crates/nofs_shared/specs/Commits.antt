@@ -1,7 +1,7 @@
 -- What a commit of an earlier verdict answers, and what it leaves in the maps.
 use Rattle.std.specs.Prelude.{◌≡◌, ℕ, ◌+◌, ◌<◌, ◌≤◌, Bool, true, false, List, Some, length}
 use mathlib.Core.List.{IsPrefix}
-use Rattle.nofs_turn.specs.declared.view.View.{View}
+use Rattle.nofs_turn_rule.specs.declared.view.View.{View}
 use Rattle.nofs_disk.specs.Disk.{DiskState}
 use Rattle.nofs_machine.specs.Steps.{is_out_of_memory}
 use Rattle.nofs_machine.specs.declared.history.Entry1.{Entry1}
@@ -12,8 +12,8 @@ use Rattle.nofs_machine.specs.declared.replies.Refusal.TheVariants as refusal
 use Rattle.nofs_state.specs.Books.{with_history}
 use Rattle.nofs_state.specs.Verdicts.{Settles}
 use Rattle.nofs_state.specs.declared.books.Books.{Books}
-use Rattle.nofs_scan.specs.Elements.{is_used, learned, verdict_at, verdict_of}
-use Rattle.nofs_scan.specs.declared.evidence.Verdict.{Verdict}
+use Rattle.nofs_sights.specs.Elements.{is_used, learned, verdict_at, verdict_of}
+use Rattle.nofs_sights.specs.declared.evidence.Verdict.{Verdict}
 use Rattle.nofs_shared.specs.Mounts.{IsMount, IsSoundDisk}
 
 -- this is the verdict at a place of those that were found

@@ -2,10 +2,10 @@
 use Rattle.std.proofs.Common.{◌≡◌, ℕ, false, List, ◌++◌, append_assoc, sym, ap, ◌∙◌}
 use mathlib.Core.List.{IsPrefix}
 use Rattle.nofs_disk.specs.Disk.{DiskState}
-use Rattle.nofs_model.specs.Cells.{SuperBlock}
+use Rattle.nofs_image.specs.Cells.{SuperBlock}
 use Rattle.nofs_machine.specs.declared.history.Entry1.{Entry1}
 use Rattle.nofs_state.specs.declared.books.Books.{Books}
-use Rattle.nofs_turn.proofs.Words.{prefix_trans}
+use Rattle.nofs_turn_rule.proofs.Words.{prefix_trans}
 use Rattle.nofs_shared.specs.Mounts.{IsMount}
 
 -- the mount of these numbers stood open in this state, which came before the entries H or between them

@@ -4,8 +4,8 @@ use mathlib.Core.List.{IsPrefix}
 use Rattle.nofs_disk.specs.Disk.{DiskState, IsSameDisk, Picks}
 use Rattle.nofs_super.specs.Format.{super_cell}
 use Rattle.nofs_super.specs.Raise.{raised}
-use Rattle.nofs_model.specs.Cells.{Pointer}
-use Rattle.nofs_model.specs.Image.{Image, super_at, IsSound}
+use Rattle.nofs_image.specs.Cells.{Pointer}
+use Rattle.nofs_image.specs.Image.{Image, super_at, IsSound}
 use Rattle.nofs_machine.specs.World.{World, world_of, is_free_block, is_free_inode}
 use Rattle.nofs_machine.specs.Claims.{claimed_blocks}
 use Rattle.nofs_machine.specs.Next.{Run, IsAfter}

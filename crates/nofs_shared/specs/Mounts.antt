@@ -4,8 +4,8 @@ use Rattle.nofs_disk.specs.Disk.{DiskState, IsSameDisk, Picks, cell_at}
 use Rattle.nofs_disk.specs.Adds.{WasOr}
 use Rattle.nofs_super.specs.Format.{super_cell}
 use Rattle.nofs_super.specs.Raise.{IsSuperCell, raised}
-use Rattle.nofs_model.specs.Cells.{SuperBlock}
-use Rattle.nofs_model.specs.Image.{Image, super_at, IsSound}
+use Rattle.nofs_image.specs.Cells.{SuperBlock}
+use Rattle.nofs_image.specs.Image.{Image, super_at, IsSound}
 use Rattle.nofs_machine.specs.Allowed.{IsAllowed}
 use Rattle.nofs_state.specs.Books.{IsSafe}
 use Rattle.nofs_state.specs.Standing.{IsOpen, IsStopped, Past, Sounds}

@@ -1,6 +1,6 @@
 -- Entries of one caller, and what a section at the mount tells.
 use Rattle.std.specs.Prelude.{ℕ, ◌==◌, Bool, true, ◌&&◌, List, [], ◌∷◌, map, filter}
-use Rattle.nofs_turn.specs.Lists.{entries_of}
+use Rattle.nofs_turn_rule.specs.Lists.{entries_of}
 use Rattle.nofs_machine.specs.Steps.{Fits, Made}
 use Rattle.nofs_machine.specs.declared.history.Entry1.{Entry1}
 use Rattle.nofs_machine.specs.declared.steps.Step.{Step}

@@ -1,8 +1,8 @@
 -- What no step changes of a pass.
 use Rattle.std.proofs.Common.{◌≡◌, refl, ◌∙◌}
 use mathlib.Core.List.{IsPrefix}
-use Rattle.nofs_turn.specs.declared.view.View.{View}
-use Rattle.nofs_turn.proofs.Words.{prefix_self, prefix_trans}
+use Rattle.nofs_turn_rule.specs.declared.view.View.{View}
+use Rattle.nofs_turn_rule.proofs.Words.{prefix_self, prefix_trans}
 
 pub record SameSeat {E F : Type 0} (v w : View E F) : Type 0 where
   pub fixed : w.fixed ≡ v.fixed

@@ -1,7 +1,7 @@
 -- What a user's worker leaves of its pass.
 use Rattle.std.specs.Prelude.{◌≡◌, ℕ, Bool, true, false, List, [], ◌∷◌, ◌++◌, length, drop, map}
 use mathlib.Core.List.{IsPrefix}
-use Rattle.nofs_turn.specs.declared.view.View.{View}
+use Rattle.nofs_turn_rule.specs.declared.view.View.{View}
 use Rattle.nofs_machine.specs.Steps.{Made}
 use Rattle.nofs_machine.specs.declared.history.Entry1.{Entry1}
 use Rattle.nofs_machine.specs.declared.steps.Step.{Step}

@@ -3,7 +3,7 @@ ghost use Rattle.std.specs.Prelude.{◌≡◌, ◌≤◌, ℕ, true, false, All,
 ghost use Rattle.nofs_disk.specs.Disk.{StaysButFaults};
 ghost use Rattle.nofs_machine.specs.Steps.{is_out_of_memory};
 ghost use Rattle.nofs_state.specs.Knowing.{with_agreement};
-ghost use Rattle.nofs_scan.specs.Elements.{HasElement, items_of, see_step, verdict_at};
+ghost use Rattle.nofs_sights.specs.Elements.{HasElement, items_of, see_step, verdict_at};
 ghost use Rattle.nofs_shared.specs.Batches as batches;
 ghost use Rattle.nofs_shared.specs.Commits.{IsCommit, IsVerdict};
 ghost use Rattle.nofs_shared.specs.Earlier.{IsEarlier, IsOfBooks};
@@ -17,7 +17,8 @@ use crate::room::take_room;
 use crate::steps::step_in;
 use nofs_disk::Disk;
 use nofs_machine::{ElementKind, NO_CLAIMS, Refusal, Reply};
-use nofs_scan::{Evidence, commit, look_batch, step_of};
+use nofs_scan::{commit, look_batch, step_of};
+use nofs_sights::Evidence;
 use nofs_state::Core;
 use nofs_super::SuperBlock;
 use std::alloc::Global;

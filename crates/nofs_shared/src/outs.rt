@@ -11,7 +11,7 @@ ghost use Rattle.nofs_shared.specs.Seats.{SameSeat};
 use crate::serves::Serves;
 use crate::shared::SharedPass;
 use nofs_disk::OutFault;
-use nofs_turn::Section;
+use nofs_turn_rule::Section;
 use std::sync::Wait;
 use std::sync::atomic::{AtomicBool, Ordering};
 

@@ -5,14 +5,14 @@ ghost use Rattle.std.specs.Prelude.{◌≡◌, ◌++◌, ◌<◌, ◌≤◌, ℕ
 ghost use Rattle.nofs_machine.specs.declared.history.Entry1.{Entry1};
 ghost use Rattle.nofs_machine.specs.declared.steps.ElementKind.{ElementKind};
 ghost use Rattle.nofs_machine.specs.declared.replies.Reply.{Reply};
-ghost use Rattle.nofs_scan.specs.Elements.{see_step};
+ghost use Rattle.nofs_sights.specs.Elements.{see_step};
 
 use crate::mount::Mount;
 use nofs_disk::{Disk, OutFault};
 use nofs_machine::{ElementKind, Entry1, Refusal, Reply, Step};
-use nofs_scan::{Evidence, judge};
+use nofs_sights::{Evidence, judge};
 use nofs_super::SuperBlock;
-use nofs_turn::Kept;
+use nofs_turn_rule::Kept;
 use std::alloc::Global;
 
 /// What no step changes of a mount: the device as it was found, the first serial, the moment at which
@@ -109,7 +109,7 @@ pub trait Serves: Kept<Entry = Entry1> + Drop {
 }
 
 impl<D: Disk + Drop> Serves for Mount<D> {
-    ghost use Rattle.nofs_scan.specs.Elements.{items_of, verdict_at};
+    ghost use Rattle.nofs_sights.specs.Elements.{items_of, verdict_at};
     ghost use Rattle.nofs_shared.specs.Commits.{CommitsAt};
     ghost use Rattle.nofs_shared.specs.Earlier.{IsEarlier, earlier-more};
 

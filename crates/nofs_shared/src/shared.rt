@@ -1,15 +1,16 @@
 //! Passes by which callers make steps at a shared mount.
 ghost use Rattle.std.specs.Prelude.{◌≡◌, ◌+◌, ◌*◌, ◌/◌, ◌%◌, ◌<◌, ◌≤◌, true, [], length, vec_len, All, IfOk, IfErr, OnErr};
 ghost use Rattle.nofs_turn.specs.Turns.{view_of, IsPassOf, IsFreshPass};
-ghost use Rattle.nofs_turn.specs.Views.{looked};
-ghost use Rattle.nofs_turn.specs.Passes.{Closes};
+ghost use Rattle.nofs_turn_rule.specs.Views.{looked};
+ghost use Rattle.nofs_turn_rule.specs.Passes.{Closes};
 ghost use Rattle.nofs_machine.specs.Steps.{Fits, with_made};
 ghost use Rattle.nofs_shared.specs.Owned.{all_by, own_steps};
 ghost use Rattle.nofs_shared.specs.Seats.{SameSeat};
 
 use crate::serves::Serves;
 use nofs_machine::{Reply, Step, Steps};
-use nofs_turn::{Busy, Pass, Section, Turn};
+use nofs_turn::{Busy, Pass, Turn};
+use nofs_turn_rule::Section;
 use std::alloc::Global;
 use std::sync::Wait;
 use std::sync::atomic::{AtomicBool, Ordering};

@@ -1,8 +1,8 @@
 //! A mount that several callers share.
 ghost use Rattle.std.specs.Prelude.{◌≡◌, ◌+◌, ◌<◌, ◌≤◌, [], vec_len, All, IfOk, IfErr};
 ghost use Rattle.nofs_turn.specs.Turns.{view_of, IsPassOf, IsFreshPass};
-ghost use Rattle.nofs_turn.specs.Views.{joined};
-ghost use Rattle.nofs_turn.specs.Passes.{Closes};
+ghost use Rattle.nofs_turn_rule.specs.Views.{joined};
+ghost use Rattle.nofs_turn_rule.specs.Passes.{Closes};
 
 use crate::serves::Serves;
 use crate::shared::SharedPass;

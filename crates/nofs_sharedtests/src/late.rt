@@ -6,8 +6,8 @@ ghost use Rattle.nofs_shared.specs.Earlier.{IsEarlier};
 use crate::rows::{full_below_24, is_stored, is_used, put, put_step, seen};
 use nofs_machine::{ElementKind, Reply, Step};
 use nofs_memdisk::MemDisk;
-use nofs_scan::{Evidence, judge};
 use nofs_shared::Mount;
+use nofs_sights::{Evidence, judge};
 use std::alloc::{AllocError, Global};
 use std::test::Fail;
 

@@ -1,13 +1,14 @@
 //! A file that is moved by a client of a pass.
 ghost use Rattle.std.specs.Prelude.{◌↔◌, IsTrue};
-ghost use Rattle.nofs_client.specs.Commands.{IsWellFormed};
+ghost use Rattle.nofs_task.specs.Commands.{IsWellFormed};
 
 use crate::rows::{formatted, mounted};
-use nofs_client::{Client, Command, Line, Path, PathNames};
+use nofs_client::{Client, PathNames};
 use nofs_lists::{Content, Name};
 use nofs_machine::{Stat, Steps};
 use nofs_move::move_file;
 use nofs_shared::SharedMount;
+use nofs_task::{Command, Line, Path};
 use std::alloc::{AllocError, Global};
 use std::test::Fail;
 

@@ -5,9 +5,10 @@ ghost use Rattle.std.specs.Prelude.{◌≤◌, ◌^◌};
 use nofs_disk::{Cell, Disk};
 use nofs_lists::Content;
 use nofs_machine::{Refusal, Reply, Step};
-use nofs_memdisk::{CallCounts, CallKind, FaultAt, MemDisk};
+use nofs_memdisk::MemDisk;
 use nofs_shared::{BeginFault, Mount};
 use nofs_super::{MountFault, SuperBlock, format, write_super};
+use nofs_versions::{CallCounts, CallKind, FaultAt};
 use std::alloc::{AllocError, Global};
 use std::test::Fail;
 

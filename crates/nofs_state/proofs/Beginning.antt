@@ -5,10 +5,10 @@ use Rattle.std.proofs.lemmas.Bool.{ltb-true, cases_lt}
 use Rattle.std.proofs.lemmas.Bool.Decides.{nat_tests}
 use Rattle.nofs_bits.specs.Bits.{is_set}
 use Rattle.nofs_disk.specs.Disk.{DiskState, IsDisk, IsSettled}
-use Rattle.nofs_model.specs.Cells.{SuperBlock}
-use Rattle.nofs_model.specs.Image.{Image, super_at, is_mountable, is_special, IsBelow, path_of, Home, owner}
-use Rattle.nofs_model.proofs.Find.{and-both, find-held}
-use Rattle.nofs_model.proofs.Owners.{owner-holds}
+use Rattle.nofs_image.specs.Cells.{SuperBlock}
+use Rattle.nofs_image.specs.Image.{Image, super_at, is_mountable, is_special, IsBelow, path_of, Home, owner}
+use Rattle.nofs_image.proofs.Find.{and-both, find-held}
+use Rattle.nofs_image.proofs.Owners.{owner-holds}
 use Rattle.nofs_machine.specs.World.{world_of}
 use Rattle.nofs_machine.specs.History.{agreed_files}
 use Rattle.nofs_machine.specs.HistoryState.{HistoryState}

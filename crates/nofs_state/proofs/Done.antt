@@ -4,10 +4,10 @@ use Rattle.std.proofs.Common.{ltb-true, ◌/◌, IsTrue, refl, sym, ap, ◌∙�
 use Rattle.nofs_disk.specs.Disk.{DiskState, IsDisk, IsSameDisk, KeepsPast, cell_at}
 use Rattle.nofs_disk.specs.Adds.{Adds, WasOr}
 use Rattle.nofs_super.specs.Geometry.{IsGeometry}
-use Rattle.nofs_model.specs.Cells.{Cell, SuperBlock}
-use Rattle.nofs_model.specs.Image.{super_at, is_super, is_mountable, Files, Home}
-use Rattle.nofs_model.proofs.Sound.{supers, mountable-law}
-use Rattle.nofs_model.proofs.Find.{and-both, find-held}
+use Rattle.nofs_image.specs.Cells.{Cell, SuperBlock}
+use Rattle.nofs_image.specs.Image.{super_at, is_super, is_mountable, Files, Home}
+use Rattle.nofs_image.proofs.Sound.{supers, mountable-law}
+use Rattle.nofs_image.proofs.Find.{and-both, find-held}
 use Rattle.nofs_law_images.specs.Proper.{Proper}
 use Rattle.nofs_law_images.specs.Moments.{during}
 use Rattle.nofs_machine.specs.Search.{first_of}

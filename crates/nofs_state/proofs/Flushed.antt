@@ -4,7 +4,7 @@ use Rattle.std.proofs.Common.{Result, Ok, Err, refl, sym, ap, ◌∙◌, subst, 
 use Rattle.nofs_disk.specs.Disk.{DiskState, IsDisk, Flushes}
 use Rattle.nofs_disk.specs.Adds.{Adds-flushes}
 use Rattle.nofs_disk.specs.declared.Failed.{Failed}
-use Rattle.nofs_model.specs.Image.{Image, super_at, is_mountable, Files, owner}
+use Rattle.nofs_image.specs.Image.{Image, super_at, is_mountable, Files, owner}
 use Rattle.nofs_law_images.specs.Proper.{Proper}
 use Rattle.nofs_law_images.specs.Moments.{during}
 use Rattle.nofs_machine.specs.Search.{first_of}

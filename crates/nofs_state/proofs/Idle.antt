@@ -1,7 +1,7 @@
 -- A step that leaves the disk and the files: the mount stands as before, with one more entry.
 use Rattle.std.proofs.Common.{◌≡◌, ℕ, ◌+◌, ◌*◌, ◌^◌, ◌<◌, ◌≤◌, true, false, List, [], ◌∷◌, ◌++◌, IsTrue, refl, sym, ap, ◌∙◌, subst, subst₂, arith}
 use Rattle.nofs_disk.specs.Disk.{DiskState, IsDisk, StaysButFaults}
-use Rattle.nofs_model.specs.Image.{Image, super_at, is_mountable, Files, owner}
+use Rattle.nofs_image.specs.Image.{Image, super_at, is_mountable, Files, owner}
 use Rattle.nofs_machine.specs.Machine.{given_by, files_by, nothing, is_write_fault}
 use Rattle.nofs_machine.specs.World.{World, world_of}
 use Rattle.nofs_machine.specs.Claims.{next_stamp}

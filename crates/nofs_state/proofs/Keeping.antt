@@ -2,8 +2,8 @@
 use Rattle.std.proofs.Common.{◌≡◌, ℕ, ◌+◌, ◌<◌, ◌⊎◌, inl, inr, Bool, true, List, IsTrue, sym, ap, ◌∙◌, subst, arith, Contains}
 use Rattle.nofs_disk.specs.Disk.{DiskState, KeepsCells, KeepsPast}
 use Rattle.nofs_disk.specs.Moments.{AtEach-stays}
-use Rattle.nofs_model.specs.Cells.{Cell}
-use Rattle.nofs_model.specs.Image.{Image, super_at, is_mountable, owner, CellBelow}
+use Rattle.nofs_image.specs.Cells.{Cell}
+use Rattle.nofs_image.specs.Image.{Image, super_at, is_mountable, owner, CellBelow}
 use Rattle.nofs_law_images.specs.Moments.{AllExplained}
 use Rattle.nofs_machine.specs.History.{FilesMatch, agreed_files, files_along, mark_at}
 use Rattle.nofs_machine.specs.Allowed.{IsAllowed}

@@ -1,8 +1,8 @@
 -- What the machine says of a file, in the words of the disk.
 use Rattle.std.proofs.Common.{◌≡◌, ℕ, Bool, true, false, ◌&&◌, not, List, Option, Some, None, is_some, refl, sym, ap, ◌∙◌, subst}
 use Rattle.nofs_disk.specs.Disk.{DiskState}
-use Rattle.nofs_model.specs.Cells.{BackLink, SuperBlock, is_live}
-use Rattle.nofs_model.specs.Image.{Image, inode, Files, FileState, files_in, agreed, is_pair, pairs}
+use Rattle.nofs_image.specs.Cells.{BackLink, SuperBlock, is_live}
+use Rattle.nofs_image.specs.Image.{Image, inode, Files, FileState, files_in, agreed, is_pair, pairs}
 use Rattle.nofs_machine.specs.Machine.{generation_of}
 use Rattle.nofs_machine.specs.World.{World}
 use Rattle.nofs_machine.specs.Refusals.{row, stale}
@@ -10,7 +10,7 @@ use Rattle.nofs_machine.specs.History.{FilesMatch, SameFile}
 use Rattle.nofs_machine.specs.Good.{MatchesSuper}
 use Rattle.nofs_machine.specs.declared.history.Entry1.{Entry1}
 use Rattle.nofs_machine.specs.declared.replies.Refusal.TheVariants as refusal
-use Rattle.nofs_model.proofs.Chains.{agreed-holds}
+use Rattle.nofs_image.proofs.Chains.{agreed-holds}
 use Rattle.nofs_law_untouched.proofs.Matching.{agreed-files-is, matched-agreed, gen-of}
 use Rattle.nofs_law_untouched.proofs.Alike.{same-of, same-alike, pairs-alike, agreed-some, live-some}
 use Rattle.nofs_law_maps.proofs.Homes.{uses-inode}

@@ -2,8 +2,8 @@
 use Rattle.std.proofs.Common.{◌≡◌, ℕ, Bool, true, false, Some, None, IsTrue, IfOk, IfErr, IfSome, Result, Ok, Err, refl, sym, ap, ◌∙◌, subst, eq-eqb}
 use Rattle.nofs_disk.specs.Disk.{DiskState, StaysButFaults, cell_at}
 use Rattle.nofs_disk.specs.Chains.{StaysButFaults-trans}
-use Rattle.nofs_model.specs.Cells.{Record, is_live}
-use Rattle.nofs_model.specs.Image.{Image, inode, files_in, agreed}
+use Rattle.nofs_image.specs.Cells.{Record, is_live}
+use Rattle.nofs_image.specs.Image.{Image, inode, files_in, agreed}
 use Rattle.nofs_agree.specs.Reading.{IsLast, KnowsInode}
 use Rattle.nofs_agree.specs.Chains.{AreTrue}
 use Rattle.nofs_agree.specs.declared.reads.LastRead.{LastRead}

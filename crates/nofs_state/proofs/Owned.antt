@@ -3,8 +3,8 @@ use Rattle.std.proofs.Common.{◌≡◌, ℕ, Bool, false, List, Option, Some, N
 use Rattle.nofs_disk.specs.Disk.{DiskState, Rose, cell_at}
 use Rattle.nofs_disk.specs.Chains.{Rose-within, StaysButFaults-trans}
 use Rattle.nofs_disk.specs.declared.Failed.{Failed}
-use Rattle.nofs_model.specs.Cells.{Cell, Tag, tag_of}
-use Rattle.nofs_model.specs.Image.{Image, owner, owner_by}
+use Rattle.nofs_image.specs.Cells.{Cell, Tag, tag_of}
+use Rattle.nofs_image.specs.Image.{Image, owner, owner_by}
 use Rattle.nofs_agree.specs.Chains.{AreTrue}
 use Rattle.nofs_agree.specs.Reading.{ReadsBlock}
 use Rattle.nofs_agree.specs.declared.reads.LastRead.{LastRead}

@@ -2,10 +2,10 @@
 use Rattle.std.proofs.Common.{◌≡◌, ℕ, ◌+◌, ◌≤◌, ◌⊎◌, inl, inr, Bool, true, false, cond, ltb, List, Option, Some, None, IsTrue, refl, sym, ap, ◌∙◌, subst, arith}
 use Rattle.std.proofs.lemmas.Bool.{cases_lt}
 use Rattle.nofs_disk.specs.Disk.{DiskState, IsDisk, StaysButFaults, Rose}
-use Rattle.nofs_model.specs.Cells.{null}
-use Rattle.nofs_model.specs.Image.{Image, Files, Home}
-use Rattle.nofs_model.proofs.Owners.{owner-holds, owner-slot}
-use Rattle.nofs_model.proofs.Paths.{path_of-number}
+use Rattle.nofs_image.specs.Cells.{null}
+use Rattle.nofs_image.specs.Image.{Image, Files, Home}
+use Rattle.nofs_image.proofs.Owners.{owner-holds, owner-slot}
+use Rattle.nofs_image.proofs.Paths.{path_of-number}
 use Rattle.nofs_machine.specs.Search.{first_of}
 use Rattle.nofs_machine.specs.Machine.{gives, files_after, is_write_fault, is_refused}
 use Rattle.nofs_machine.specs.World.{World, inodes_needed, blocks_needed}

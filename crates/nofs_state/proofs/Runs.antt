@@ -2,8 +2,8 @@
 use Rattle.std.proofs.Common.{◌≡◌, ℕ, ◌+◌, ◌<◌, ◌≤◌, Bool, true, false, ◌&&◌, leb, List, [], ◌∷◌, ◌++◌, append-nil, option_to_list, refl, sym, ap, ◌∙◌, subst}
 use Rattle.std.proofs.Common.{arith}
 use Rattle.nofs_disk.specs.Disk.{DiskState, StaysButFaults}
-use Rattle.nofs_model.specs.Cells.{Cell}
-use Rattle.nofs_model.specs.Image.{Image, inode}
+use Rattle.nofs_image.specs.Cells.{Cell}
+use Rattle.nofs_image.specs.Image.{Image, inode}
 use Rattle.nofs_law_images.specs.Moments.{during}
 use Rattle.nofs_machine.specs.Marks.{Mark}
 use Rattle.nofs_machine.specs.World.{World}

@@ -7,7 +7,7 @@ use Rattle.std.proofs.lemmas.List.{length-set}
 use Rattle.std.proofs.lemmas.Bool.Decides.{nat_tests}
 use Rattle.nofs_bits.specs.Bits.{is_set}
 use Rattle.nofs_disk.specs.Disk.{DiskState, IsDisk, StaysButFaults}
-use Rattle.nofs_model.specs.Image.{is_special}
+use Rattle.nofs_image.specs.Image.{is_special}
 use Rattle.nofs_machine.specs.Search.{first_of}
 use Rattle.nofs_machine.specs.World.{World, uses_inode}
 use Rattle.nofs_machine.specs.Claims.{no_claims}

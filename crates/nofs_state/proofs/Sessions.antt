@@ -2,7 +2,7 @@
 use Rattle.std.proofs.Common.{◌≡◌, ℕ, Bool, true, false, List, [], ◌∷◌, ◌++◌, IsTrue, refl, sym, ap, ◌∙◌, subst}
 use Rattle.nofs_disk.specs.Disk.{DiskState}
 use Rattle.nofs_disk.specs.Chains.{IsSameDisk-refl}
-use Rattle.nofs_model.specs.Image.{Image}
+use Rattle.nofs_image.specs.Image.{Image}
 use Rattle.nofs_machine.specs.HistoryState.{HistoryState}
 use Rattle.nofs_machine.specs.Machine.{is_write_fault}
 use Rattle.nofs_machine.specs.Steps.{is_out_of_memory}

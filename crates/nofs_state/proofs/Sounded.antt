@@ -4,10 +4,10 @@ use Rattle.std.proofs.Common.{◌∙◌, subst, arith, Contains}
 use Rattle.std.proofs.lemmas.Bool.{cases_lt}
 use Rattle.nofs_disk.specs.Disk.{DiskState, IsDisk}
 use Rattle.nofs_disk.specs.Adds.{Adds, WasOr}
-use Rattle.nofs_model.specs.Cells.{Cell, SuperBlock}
-use Rattle.nofs_model.specs.Image.{Image, IsSound, cell_at, super_at}
-use Rattle.nofs_model.proofs.Find.{and-both}
-use Rattle.nofs_model.proofs.Sound.{law-sound, mountable-law}
+use Rattle.nofs_image.specs.Cells.{Cell, SuperBlock}
+use Rattle.nofs_image.specs.Image.{Image, IsSound, cell_at, super_at}
+use Rattle.nofs_image.proofs.Find.{and-both}
+use Rattle.nofs_image.proofs.Sound.{law-sound, mountable-law}
 use Rattle.nofs_law_images.specs.Proper.{Proper, OfContent, OfPointers, OfTable}
 use Rattle.nofs_law_images.specs.Reasons.{Fine}
 use Rattle.nofs_machine.specs.Marks.{Mark}

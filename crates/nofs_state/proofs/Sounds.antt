@@ -1,9 +1,9 @@
 -- Between two steps each image that a crash may leave is sound.
 use Rattle.std.proofs.Common.{◌≡◌, ℕ, ◌+◌, ◌*◌, ◌^◌, ◌<◌, ◌≤◌, List, length, Contains, sym, ap, subst, arith}
 use Rattle.nofs_disk.specs.Disk.{DiskState, cell_at}
-use Rattle.nofs_model.specs.Cells.{SuperBlock}
-use Rattle.nofs_model.specs.Image.{Image, IsSound, super_at}
-use Rattle.nofs_model.proofs.Sound.{law-sound}
+use Rattle.nofs_image.specs.Cells.{SuperBlock}
+use Rattle.nofs_image.specs.Image.{Image, IsSound, super_at}
+use Rattle.nofs_image.proofs.Sound.{law-sound}
 use Rattle.nofs_machine.specs.Claims.{next_stamp}
 use Rattle.nofs_machine.specs.declared.history.Entry1.{Entry1}
 use Rattle.nofs_state.specs.Books.{IsSafe}

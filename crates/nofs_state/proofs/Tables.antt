@@ -3,11 +3,11 @@ use Rattle.std.proofs.Common.{◌≡◌, ◌≢◌, ℕ, ◌+◌, ◌-◌, ◌/�
 use Rattle.std.proofs.Common.{◌∙◌, subst, arith}
 use Rattle.std.proofs.lemmas.Bool.{cases_eq}
 use Rattle.nofs_disk.specs.Disk.{cell_at}
-use Rattle.nofs_model.specs.Cells.{Cell, Record, SuperBlock, record_at, record_of, free_record}
+use Rattle.nofs_image.specs.Cells.{Cell, Record, SuperBlock, record_at, record_of, free_record}
 use Rattle.nofs_inode.specs.InodeRecords.{record_or_free}
-use Rattle.nofs_model.specs.Image.{Image, super_at, is_inode, inode}
-use Rattle.nofs_model.proofs.Find.{and-both}
-use Rattle.nofs_model.proofs.Sound.{supers}
+use Rattle.nofs_image.specs.Image.{Image, super_at, is_inode, inode}
+use Rattle.nofs_image.proofs.Find.{and-both}
+use Rattle.nofs_image.proofs.Sound.{supers}
 
 -- the block of the table with the record of an inode
 abbrev pub table_block : ℕ → ℕ

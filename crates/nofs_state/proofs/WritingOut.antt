@@ -8,8 +8,8 @@ use Rattle.nofs_disk.specs.Moments.{AtEach}
 use Rattle.nofs_disk.specs.declared.Failed.{Failed}
 use Rattle.nofs_disk.specs.declared.OutFault.{OutFault}
 use Rattle.nofs_disk.specs.declared.OutFault.TheVariants as fault
-use Rattle.nofs_model.specs.Cells.{Cell}
-use Rattle.nofs_model.specs.Image.{Image, IsSound, super_at}
+use Rattle.nofs_image.specs.Cells.{Cell}
+use Rattle.nofs_image.specs.Image.{Image, IsSound, super_at}
 use Rattle.nofs_machine.specs.Allowed.{IsAllowed}
 use Rattle.nofs_machine.specs.declared.history.Entry1.{Entry1}
 use Rattle.nofs_crashlaw.specs.Stage.{Lasts}

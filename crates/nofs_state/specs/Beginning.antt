@@ -1,8 +1,8 @@
 -- A mount that has just begun: its books, and what only proofs know of it.
 use Rattle.std.specs.Prelude.{◌≡◌, ℕ, ◌+◌, ◌*◌, ◌^◌, ◌≤◌, false, []}
 use Rattle.nofs_disk.specs.Disk.{DiskState}
-use Rattle.nofs_model.specs.Cells.{SuperBlock}
-use Rattle.nofs_model.specs.Image.{super_at}
+use Rattle.nofs_image.specs.Cells.{SuperBlock}
+use Rattle.nofs_image.specs.Image.{super_at}
 use Rattle.nofs_machine.specs.World.{world_of}
 use Rattle.nofs_state.specs.Standing.{Past}
 use Rattle.nofs_state.specs.declared.books.Books.{Books}

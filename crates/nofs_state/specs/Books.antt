@@ -4,7 +4,7 @@ use Rattle.std.specs.Prelude.{nat_le, nat_lt, slice_set}
 use Rattle.nofs_bits.specs.Bits.{is_set}
 use Rattle.nofs_machine.specs.HistoryState.{HistoryState}
 use Rattle.nofs_disk.specs.Disk.{DiskState}
-use Rattle.nofs_model.specs.Cells.{Pointer, SuperBlock}
+use Rattle.nofs_image.specs.Cells.{Pointer, SuperBlock}
 use Rattle.nofs_machine.specs.World.{World, is_free_inode, is_free_block}
 use Rattle.nofs_agree.specs.Chains.{told}
 use Rattle.nofs_agree.specs.Reading.{IsAt}

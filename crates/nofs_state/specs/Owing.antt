@@ -1,7 +1,7 @@
 -- What the write of a step asks of its caller: that no row refuses the step, and a record in its cell.
 use Rattle.std.specs.Prelude.{◌≡◌, ℕ, ◌-◌, ◌%◌, ◌<◌, ◌≢◌, List, Some, None, IsTrue}
 use Rattle.nofs_disk.specs.Disk.{DiskState}
-use Rattle.nofs_model.specs.Cells.{Cell, Record, record_of}
+use Rattle.nofs_image.specs.Cells.{Cell, Record, record_of}
 use Rattle.nofs_machine.specs.Search.{first_of}
 use Rattle.nofs_machine.specs.World.{World}
 use Rattle.nofs_machine.specs.Refusals.{rows}

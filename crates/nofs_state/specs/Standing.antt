@@ -2,7 +2,7 @@
 use Rattle.std.specs.Prelude.{◌≡◌, ℕ, ◌≤◌, true, false, List, [], ◌∷◌, None}
 use Rattle.nofs_disk.specs.Disk.{DiskState, Picks}
 use Rattle.nofs_disk.specs.Moments.{AtEach}
-use Rattle.nofs_model.specs.Image.{Image, super_at, is_mountable, IsSound}
+use Rattle.nofs_image.specs.Image.{Image, super_at, is_mountable, IsSound}
 use Rattle.nofs_machine.specs.World.{World, world_of}
 use Rattle.nofs_machine.specs.Claims.{next_stamp}
 use Rattle.nofs_machine.specs.Next.{Run}

@@ -1,7 +1,7 @@
 -- What a step leaves: the contract of each step function.
 use Rattle.std.specs.Prelude.{◌≡◌, ◌⊎◌, ℕ, ◌<◌, ◌≤◌, true, false, List, [], ◌∷◌, ◌++◌, Bool, IsTrue, None}
 use Rattle.nofs_disk.specs.Disk.{DiskState, IsSameDisk, KeepsCells, KeepsPast, Rose}
-use Rattle.nofs_model.specs.Image.{Files}
+use Rattle.nofs_image.specs.Image.{Files}
 use Rattle.nofs_machine.specs.Machine.{gives, nothing, is_write_fault, is_refused}
 use Rattle.nofs_machine.specs.Steps.{is_out_of_memory, InRange}
 use Rattle.nofs_machine.specs.World.{inodes_needed, blocks_needed}

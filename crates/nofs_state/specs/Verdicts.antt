@@ -4,9 +4,9 @@ use Rattle.std.specs.Prelude.{IfOk, OnErr, length, slice_set}
 use Rattle.nofs_bits.specs.Bits.{is_set}
 use Rattle.nofs_disk.specs.declared.Failed.{Failed}
 use Rattle.nofs_disk.specs.Disk.{DiskState, StaysButFaults, Rose}
-use Rattle.nofs_model.specs.Image.{Image, is_used_inode, is_used_block}
-use Rattle.nofs_model.specs.declared.path.PathAnswer.{PathAnswer}
-use Rattle.nofs_model.specs.declared.path.PathAnswer.TheVariants as answer
+use Rattle.nofs_image.specs.Image.{Image, is_used_inode, is_used_block}
+use Rattle.nofs_image.specs.declared.path.PathAnswer.{PathAnswer}
+use Rattle.nofs_image.specs.declared.path.PathAnswer.TheVariants as answer
 use Rattle.nofs_agree.specs.Chains.{AreTrue}
 use Rattle.nofs_agree.specs.Reading.{IsAt}
 use Rattle.nofs_state.specs.declared.books.Books.{Books}

@@ -6,8 +6,8 @@ use Rattle.nofs_disk.specs.declared.Failed.{Failed}
 use Rattle.nofs_machine.specs.declared.replies.Refusal.{Refusal}
 use Rattle.nofs_machine.specs.declared.replies.Refusal.TheVariants as refusal
 use Rattle.nofs_state.specs.declared.books.Books.{Books}
-use Rattle.nofs_model.specs.Cells.{Cell}
-use Rattle.nofs_model.specs.Image.{Image}
+use Rattle.nofs_image.specs.Cells.{Cell}
+use Rattle.nofs_image.specs.Image.{Image}
 
 -- one of these cells of these blocks
 abbrev pub OneOf : List (ℕ × Cell) → ℕ → Cell → Type 0

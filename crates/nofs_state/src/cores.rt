@@ -1,7 +1,7 @@
 //! A mounted disk.
 ghost use Rattle.std.specs.Prelude.{◌≡◌, ◌+◌, ◌-◌, ◌∷◌, ◌++◌, ◌*◌, ◌^◌, ◌<◌, ◌≤◌, [], IsTrue};
 ghost use Rattle.nofs_disk.specs.Disk.{IsSettled};
-ghost use Rattle.nofs_model.specs.Image as image;
+ghost use Rattle.nofs_image.specs.Image as image;
 ghost use Rattle.nofs_agree.specs.Reading.{IsAt};
 ghost use Rattle.nofs_state.specs.Books.{IsRoom, IsSafe, with_history};
 ghost use Rattle.nofs_state.specs.Standing.{IsOpen};

@@ -1,16 +1,16 @@
 //! The blocks in some slots of an inode.
 ghost use Rattle.std.specs.Prelude.{◌≡◌, ◌≤◌, ◌<◌, ℕ, true, length, slice_set, IfErr, IsTrue, OnOk};
 ghost use Rattle.nofs_machine.specs.declared.replies.Refusal.TheVariants as refusal;
-ghost use Rattle.nofs_model.specs.Slots.{is_slot};
+ghost use Rattle.nofs_image.specs.Slots.{is_slot};
 ghost use Rattle.nofs_agree.specs.Reading.{IsLast, KnowsInode};
 ghost use Rattle.nofs_state.specs.Owning.{Marks, MarksAll};
 
 use crate::freed::FreedBlocks;
 use nofs_agree::{LastRead, find_slot};
 use nofs_disk::Disk;
+use nofs_image::{PathAnswer, place_of};
 use nofs_inode::Record;
 use nofs_machine::Refusal;
-use nofs_model::{PathAnswer, place_of};
 use nofs_super::SuperBlock;
 
 /// Adds the blocks of some slots of an inode to those that are freed.

@@ -7,14 +7,9 @@
 #![tactic(auto)]
 
 mod calls;
-mod kept;
 mod making;
-mod rule;
 #[cfg(test)]
 mod tests;
 mod turn;
-mod view;
 
-pub use kept::{Kept, Section};
 pub use turn::{Busy, Pass, PassesOut, Turn, TurnFault};
-pub use view::View;

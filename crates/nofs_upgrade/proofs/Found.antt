@@ -11,8 +11,8 @@ use Rattle.nofs_disk.specs.Number.{IsBytes}
 use Rattle.nofs_super.specs.Format.{super_cell}
 use Rattle.nofs_super.specs.Raise.{IsRaised, IsSuperCell}
 use Rattle.nofs_super.specs.Super.{CanMount, super_of}
-use Rattle.nofs_model.specs.Cells.{Cell, SuperBlock}
-use Rattle.nofs_model.specs.Image.{Image, cell_at}
+use Rattle.nofs_image.specs.Cells.{Cell, SuperBlock}
+use Rattle.nofs_image.specs.Image.{Image, cell_at}
 use Rattle.nofs_law_lives.specs.Lives.{SaysTheSame}
 use Rattle.nofs_law_lives.proofs.Begin.{law-upgraded}
 use Rattle.nofs_law_lives.proofs.OnlySuper.{law-only-super}

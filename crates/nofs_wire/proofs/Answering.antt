@@ -16,10 +16,10 @@ use Rattle.nofs_machine.specs.declared.replies.Refusal.{Refusal}
 use Rattle.nofs_machine.specs.declared.replies.Refusal.TheVariants as refusal
 use Rattle.nofs_wire.specs.declared.answers.Answered.{Answered}
 use Rattle.nofs_wire.specs.declared.answers.Answered.TheVariants as answered
-use Rattle.nofs_wire.specs.Replies.{HasSpelling, IsShort, line_bytes, body_bytes, field_bytes, kept_bytes, reply_bytes}
-use Rattle.nofs_wire.specs.Fields.{kind_byte, truth_byte, number_bytes}
+use Rattle.nofs_stream.specs.Replies.{HasSpelling, IsShort, line_bytes, body_bytes, field_bytes, kept_bytes, reply_bytes}
+use Rattle.nofs_requests.specs.Fields.{kind_byte, truth_byte, number_bytes}
 use Rattle.nofs_wire.specs.Turns.{AnswersSo, AnswersInPart, GivesReply}
-use Rattle.nofs_wire.proofs.Fields.{length-number_bytes}
+use Rattle.nofs_requests.proofs.Fields.{length-number_bytes}
 
 -- what a mount replies can be spelled in a frame
 pub record IsSpelled (r : Reply) : Type 0 where

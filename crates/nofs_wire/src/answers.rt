@@ -5,14 +5,14 @@ ghost use Rattle.std.specs.Prelude.{◌≡◌, ◌≤◌, not, Some};
 ghost use Rattle.nofs_io.specs.Calls.{Rose};
 ghost use Rattle.nofs_machine.specs.Steps.{Fits, is_out_of_memory};
 ghost use Rattle.nofs_machine.specs.declared.steps.Step.{Step};
-ghost use Rattle.nofs_wire.specs.Replies.{reply_bytes};
-ghost use Rattle.nofs_wire.specs.Requests.{step_of};
+ghost use Rattle.nofs_stream.specs.Replies.{reply_bytes};
+ghost use Rattle.nofs_requests.specs.Requests.{step_of};
 ghost use Rattle.nofs_wire.specs.Turns.{AnswersSo, GivesReply};
 
-use crate::replies::write_reply;
-use crate::requests::read_step;
 use nofs_io::{Sink, write_all};
 use nofs_machine::{Refusal, Reply, Step, Steps};
+use nofs_requests::read_step;
+use nofs_stream::write_reply;
 use std::alloc::Global;
 
 /// How far the step of a body was answered.

@@ -5,10 +5,6 @@
 #![tactic(auto)]
 
 mod answers;
-mod frames;
-mod inbox;
-mod replies;
-mod requests;
 mod serving;
 
 pub use serving::{STREAM_LIMIT, WireEnd, serve};

@@ -1,13 +1,14 @@
 //! Disks that hold given cells, the cells that a disk holds, and the line that a scan of them prints.
 ghost use Rattle.nofs_disk.specs.Disk.{IsSettled};
-ghost use Rattle.nofs_memdisk.specs.Memory.{PicksVersions};
+ghost use Rattle.nofs_versions.specs.Memory.{PicksVersions};
 ghost use Rattle.nofs_memdisk.specs.Parts.{memory_state};
 ghost use Rattle.std.specs.Prelude.{IsTrue, ◌↔◌};
 
 use nofs_cache::Cached;
 use nofs_disk::{Cell, Disk};
-use nofs_memdisk::{CallKind, FaultAt, MemDisk, Pick};
+use nofs_memdisk::MemDisk;
 use nofs_model::{ScanResult, full_scan, is_mountable};
+use nofs_versions::{CallKind, FaultAt, Pick};
 use std::alloc::{AllocError, Global};
 
 /// A disk of so many blocks that holds these cells first, and zeros after them.

@@ -3,7 +3,8 @@
 use crate::tests::disks::{failing, fault};
 use crate::tests::{USAGE, prints, run_on, run_with};
 use nofs_io::{MemSink, MemSource};
-use nofs_memdisk::{CallKind, MemDisk};
+use nofs_memdisk::MemDisk;
+use nofs_versions::CallKind;
 use std::test::Fail;
 
 /// A drill on a disk of 4,096 blocks, what it prints, and its status.

@@ -3,7 +3,8 @@
 use crate::tests::disks::{cached, failing, left};
 use crate::tests::moves::{calls_of, faults_behind, faults_of, images_of, run_failing, shown_by};
 use crate::tests::run_on;
-use nofs_memdisk::{CallCounts, CallKind, FaultAt, MemDisk};
+use nofs_memdisk::MemDisk;
+use nofs_versions::{CallCounts, CallKind, FaultAt};
 use std::alloc::{AllocError, Global};
 use std::test::Fail;
 

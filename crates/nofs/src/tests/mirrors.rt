@@ -2,8 +2,10 @@
 
 use crate::tests::disks::{bytes_of, cached, cells_of, failing, fault};
 use crate::tests::{LINES, SESSION, prints};
-use nofs_memdisk::{CallKind, MemDisk};
-use nofs_mirror::{Mirror, Sides};
+use nofs_memdisk::MemDisk;
+use nofs_mirror::Mirror;
+use nofs_sides::Sides;
+use nofs_versions::CallKind;
 use std::alloc::{AllocError, Global};
 use std::test::Fail;
 

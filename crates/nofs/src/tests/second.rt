@@ -7,7 +7,8 @@ use crate::tests::images::{FAULTS, Patch, VERSION_2, image_cells, patched, patch
 use crate::tests::{USAGE, prints, run_on, run_with};
 use nofs_disk::Disk;
 use nofs_io::{MemSink, MemSource};
-use nofs_memdisk::{CallKind, MemDisk, Pick, Unready};
+use nofs_memdisk::{MemDisk, Unready};
+use nofs_versions::{CallKind, Pick};
 use std::alloc::{AllocError, Global};
 use std::test::Fail;
 

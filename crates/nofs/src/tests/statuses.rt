@@ -3,7 +3,8 @@
 use crate::tests::disks::{failing, fault};
 use crate::tests::{LINES, SESSION, prints, run_on, run_with};
 use nofs_io::{MemSink, MemSource};
-use nofs_memdisk::{CallCounts, CallKind, MemDisk, Unready};
+use nofs_memdisk::{MemDisk, Unready};
+use nofs_versions::{CallCounts, CallKind};
 use std::alloc::{AllocError, Global};
 use std::test::Fail;
 

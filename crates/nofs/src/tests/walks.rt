@@ -4,7 +4,8 @@
 //! which bytes are an entry, and numbers are read where `docs/FORMAT.md` puts them.
 
 use nofs_disk::{Cell, read_u32_at, read_u64_at, write_bytes_at};
-use nofs_model::{Value, agreed, is_mountable, names_inode, value_of};
+use nofs_image::{Value, names_inode};
+use nofs_model::{agreed, is_mountable, value_of};
 use std::alloc::{AllocError, Global};
 
 /// How many slots a directory has, and a file in version 1 and in version 2.

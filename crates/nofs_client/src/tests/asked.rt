@@ -1,7 +1,7 @@
 //! The commands of the tables.
 
-use crate::{Command, Path};
 use nofs_lists::{Content, Name};
+use nofs_task::{Command, Path};
 use nofs_told::path_names;
 use std::alloc::{AllocError, Global};
 

@@ -1,7 +1,7 @@
 //! Steps and lines as short texts.
 
-use crate::{GotPart, Line, ListPart};
 use nofs_machine::{FileKind, NameLine, Step};
+use nofs_task::{GotPart, Line, ListPart};
 use nofs_told::{Notepad, Notes, generation_of, inode_of, name_of, number_of, word_of};
 use std::alloc::AllocError;
 

@@ -1,8 +1,9 @@
 //! Disks in memory that tests mount.
 
 use nofs_disk::Cell;
-use nofs_memdisk::{CallKind, FaultAt, MemDisk};
+use nofs_memdisk::MemDisk;
 use nofs_super::{SuperBlock, format, write_super};
+use nofs_versions::{CallKind, FaultAt};
 use std::alloc::Global;
 use std::test::Fail;
 

@@ -1,13 +1,14 @@
 //! Verdicts that are committed after other steps, and elements that are examined one by one.
 ghost use Rattle.std.specs.Prelude.{◌≡◌, true, IfSome};
-ghost use Rattle.nofs_scan.specs.Elements.{HasElement};
+ghost use Rattle.nofs_sights.specs.Elements.{HasElement};
 
 use crate::tests::bench::Bench;
 use crate::tests::disks::formatted;
 use crate::tests::steps::{Ask, LABEL, ROOT, S, Said};
 use nofs_machine::{ElementKind, Refusal};
 use nofs_memdisk::MemDisk;
-use nofs_scan::{Evidence, commit, judge, look_batch};
+use nofs_scan::{commit, look_batch};
+use nofs_sights::{Evidence, judge};
 use nofs_super::SuperBlock;
 use std::alloc::Global;
 use std::test::Fail;

@@ -5,18 +5,19 @@ ghost use Rattle.std.specs.Prelude.{◌≡◌, ◌<◌, ◌≤◌, ℕ, IfOk, Is
 ghost use Rattle.nofs_ptrs.specs.Paths.{slot_limit};
 ghost use Rattle.nofs_disk.specs.Number.{number_at};
 ghost use Rattle.nofs_machine.specs.History.{agreed_files};
-ghost use Rattle.nofs_model.specs.Files.{file_from};
-ghost use Rattle.nofs_model.specs.Geometry as image;
-ghost use Rattle.nofs_model.specs.Slots as slots;
-ghost use Rattle.nofs_model.specs.declared.value.Value.TheVariants as value;
+ghost use Rattle.nofs_image.specs.Files.{file_from};
+ghost use Rattle.nofs_image.specs.Geometry as image;
+ghost use Rattle.nofs_image.specs.Slots as slots;
+ghost use Rattle.nofs_image.specs.declared.value.Value.TheVariants as value;
 ghost use Rattle.nofs_history.specs.BaseFiles.{AreFiles, AreValues};
 ghost use Rattle.nofs_history.specs.Kept.{file_at, file_of, kept_files_of, kept_value, kept_file, kept_files};
 
 use crate::accepted::files::{FileNow, FilesNow, Kept};
 use nofs_disk::{Cell, read_u64_at};
+use nofs_image::Value;
 use nofs_inode::inode::FileKind;
 use nofs_inode::{Record, record_at};
-use nofs_model::{Value, agreed, value_of};
+use nofs_model::{agreed, value_of};
 use nofs_ptrs::SLOT_LIMIT;
 use std::alloc::{AllocError, Global};
 
@@ -41,7 +42,7 @@ pub(crate) fn note_sizes(base: &[Cell])
 }
 
 // How many inodes a base has.
-#[tactic(auto, unfolding(nofs_model::specs::Geometry::super_at, nofs_super::specs::Super::super_in))]
+#[tactic(auto, unfolding(nofs_image::specs::Geometry::super_at, nofs_super::specs::Super::super_in))]
 pub(crate) fn inodes_of(base: &[Cell]) -> u64
     requires { image.IsMountable base.now }
     ensures { result ≡ image.inodes_of base.now }
@@ -88,7 +89,7 @@ fn read_file(alloc: Global, base: &[Cell], inode: u32) -> Result<Option<FileNow>
 }
 
 // The record of an inode: free where its bytes spell none.
-#[tactic(auto, unfolding(nofs_model::specs::Geometry::inode))]
+#[tactic(auto, unfolding(nofs_image::specs::Geometry::inode))]
 pub(crate) fn read_inode(base: &[Cell], inode: u32) -> Record
     requires image { image.IsMountable base.now }
     requires inode { IsTrue (image.is_inode base.now inode) }

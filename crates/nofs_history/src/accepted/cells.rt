@@ -3,7 +3,7 @@ ghost use Rattle.std.specs.Prelude.{◌≡◌, ◌<◌, ◌≤◌, ◌+◌, ◌*
 ghost use Rattle.nofs_ptrs.specs.Paths.{slot_limit};
 ghost use Rattle.nofs_dirent.specs.Entries.{spelled_entry};
 ghost use Rattle.nofs_machine.specs.Machine as machine;
-ghost use Rattle.nofs_model.specs.declared.value.Value.TheVariants as value;
+ghost use Rattle.nofs_image.specs.declared.value.Value.TheVariants as value;
 ghost use Rattle.nofs_history.specs.Kept.{kept_value, kept_files_of};
 
 use crate::accepted::files::{FilesNow, Kept};

@@ -10,9 +10,9 @@ use crate::accepted::gift::Gift;
 use crate::accepted::gifts::Wanted;
 use crate::accepted::giving::BytesIn;
 use crate::accepted::names::NameIn;
+use nofs_image::Value;
 use nofs_lists::Name;
 use nofs_machine::{Claims, Entry1, Refusal, Reply, Step};
-use nofs_model::Value;
 use nofs_ptrs::SLOT_LIMIT;
 use std::alloc::{AllocError, Global};
 

@@ -2,8 +2,8 @@
 ghost use Rattle.std.specs.Prelude.{◌≡◌, ◌<◌, ◌≤◌, ◌/◌, ℕ, IfOk, IfSome, IsNone, length, Some, None};
 ghost use Rattle.std.specs.Option.{option_copied as copied};
 ghost use Rattle.nofs_machine.specs.Machine as machine;
-ghost use Rattle.nofs_model.specs.Files as files;
-ghost use Rattle.nofs_model.specs.declared.value.Value.TheVariants as value;
+ghost use Rattle.nofs_image.specs.Files as files;
+ghost use Rattle.nofs_image.specs.declared.value.Value.TheVariants as value;
 ghost use Rattle.nofs_history.specs.Kept.{kept_value, file_of, kept_files_of};
 
 use nofs_dirent::{ENTRY_LIMIT, Entry, read_entry};

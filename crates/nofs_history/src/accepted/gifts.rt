@@ -1,7 +1,7 @@
 //! The value that an accepted step gives to one slot.
 ghost use Rattle.std.specs.Prelude.{◌≡◌, ◌<◌, ◌≤◌, ◌+◌, ◌&&◌, ◌==◌, ℕ, IfOk, Some, None, if◌then◌else◌};
 ghost use Rattle.nofs_ptrs.specs.Paths.{slot_limit};
-ghost use Rattle.nofs_model.specs.declared.value.Value.TheVariants as value;
+ghost use Rattle.nofs_image.specs.declared.value.Value.TheVariants as value;
 ghost use Rattle.nofs_machine.specs.Machine as machine;
 ghost use Rattle.nofs_machine.specs.Meta as meta;
 ghost use Rattle.nofs_history.specs.Kept.{kept_files_of};
@@ -11,8 +11,8 @@ use crate::accepted::cells::trim;
 use crate::accepted::files::FilesNow;
 use crate::accepted::gift::{Birth, CellGift, Gift};
 use crate::accepted::resizing::slots_in;
+use nofs_image::Value;
 use nofs_lists::Content;
-use nofs_model::Value;
 use std::alloc::{AllocError, Global};
 
 /// A slot of one generation of an inode.

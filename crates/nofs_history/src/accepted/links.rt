@@ -4,7 +4,7 @@ ghost use Rattle.std.specs.List.{list_any};
 ghost use Rattle.nofs_machine.specs.Machine as machine;
 ghost use Rattle.nofs_inode.specs.InodeRecords.{is_empty_link};
 ghost use Rattle.nofs_machine.specs.Search.{first_of};
-ghost use Rattle.nofs_model.specs.Files as files;
+ghost use Rattle.nofs_image.specs.Files as files;
 ghost use Rattle.nofs_history.specs.Kept.{file_of, kept_files_of};
 
 use crate::accepted::files::{FileNow, FilesNow};

@@ -1,8 +1,8 @@
 //! The list of values that were accepted for one slot.
 ghost use Rattle.std.specs.Prelude.{◌≡◌, ℕ, ◌<◌, ◌++◌, ◌∷◌, [], ◌+◌, length, drop, IfOk, OnOk, option_to_list, if◌then◌else◌};
 ghost use Rattle.nofs_ptrs.specs.Paths.{slot_limit};
-ghost use Rattle.nofs_model.specs.Geometry as image;
-ghost use Rattle.nofs_model.specs.Slots as slots;
+ghost use Rattle.nofs_image.specs.Geometry as image;
+ghost use Rattle.nofs_image.specs.Slots as slots;
 ghost use Rattle.nofs_machine.specs.Machine as machine;
 ghost use Rattle.nofs_machine.specs.History.{accepted_of, is_generation};
 ghost use Rattle.nofs_machine.specs.Next.{IsAfter};
@@ -14,8 +14,9 @@ use crate::accepted::base::{files_at, inodes_of, note_sizes, read_inode};
 use crate::accepted::files::FilesNow;
 use crate::accepted::gifts::Wanted;
 use nofs_disk::Cell;
+use nofs_image::Value;
 use nofs_machine::{Entry1, History};
-use nofs_model::{Value, is_mountable, value_of};
+use nofs_model::{is_mountable, value_of};
 use nofs_ptrs::SLOT_LIMIT;
 use std::alloc::{AllocError, Global};
 

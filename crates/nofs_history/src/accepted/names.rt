@@ -5,7 +5,7 @@ ghost use Rattle.nofs_dirent.specs.Entries.{entry_limit};
 ghost use Rattle.nofs_inode.specs.declared.inode.FileKind.TheVariants as kind;
 ghost use Rattle.nofs_machine.specs.Machine as machine;
 ghost use Rattle.nofs_machine.specs.Search.{least_from};
-ghost use Rattle.nofs_model.specs.Files as files;
+ghost use Rattle.nofs_image.specs.Files as files;
 ghost use Rattle.nofs_history.specs.Kept.{file_of, kept_files_of, leads};
 
 use crate::accepted::files::{FileNow, FilesNow, names};

@@ -4,7 +4,7 @@ ghost use Rattle.nofs_dirent.specs.Entries.{entry_limit};
 ghost use Rattle.nofs_machine.specs.Machine as machine;
 ghost use Rattle.nofs_machine.specs.Meta as meta;
 ghost use Rattle.nofs_machine.specs.Search.{first_of, least_from};
-ghost use Rattle.nofs_model.specs.Files as files;
+ghost use Rattle.nofs_image.specs.Files as files;
 ghost use Rattle.nofs_history.specs.Kept.{kept_value, kept_files_of};
 
 use crate::accepted::files::{FilesNow, Kept};

@@ -1,7 +1,7 @@
 //! The replies and the losses of the tables.
 
-use crate::Loss;
 use nofs_lists::Name;
+use nofs_lost::Loss;
 use nofs_machine::{FileKind, Found, NameLine, NameList, Refusal, Reply, Stat};
 use std::alloc::{AllocError, Global};
 

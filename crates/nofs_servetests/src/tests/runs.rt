@@ -1,16 +1,18 @@
 //! Runs of two users at a mount of a new disk of 64 blocks and 16 inodes.
 ghost use Rattle.std.specs.Prelude.{◌≤◌, All, IfOk, vec_len};
-ghost use Rattle.nofs_client.specs.Commands.{AreWellFormed};
+ghost use Rattle.nofs_task.specs.Commands.{AreWellFormed};
 ghost use Rattle.nofs_script.specs.Sessions.{IsSession};
 
-use nofs_client::{CommandList, LineList};
 use nofs_disk::Disk;
 use nofs_machine::History;
 use nofs_memdisk::MemDisk;
-use nofs_script::{Session, line_text, parse};
-use nofs_serve::{Plan, Served, Sweeps, WriteOuts, serve};
+use nofs_script::{Session, parse};
+use nofs_serve::{Served, serve};
 use nofs_shared::Mount;
 use nofs_super::format;
+use nofs_task::{CommandList, LineList};
+use nofs_teams::{Plan, Sweeps, WriteOuts};
+use nofs_text::line_text;
 use nofs_workers::Gate;
 use std::alloc::{AllocError, Global};
 use std::sync::Wait;

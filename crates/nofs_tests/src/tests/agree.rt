@@ -1,14 +1,15 @@
 //! What the checks say of each example image: what the definitions say, and what was derived of the
 //! image by hand. Each read that fails fails the check.
 ghost use Rattle.std.specs.Prelude.{◌≡◌, IfOk, length};
-ghost use Rattle.nofs_model.specs.Slots.{is_slot};
+ghost use Rattle.nofs_image.specs.Slots.{is_slot};
 
 use crate::tests::disks::fail_read;
 use nofs_agree::{Known, PathAnswer, check_chain, check_path, learn_chain};
 use nofs_disk::{Cell, Failed, Pointer};
 use nofs_examples::*;
+use nofs_image::Value;
 use nofs_memdisk::MemDisk;
-use nofs_model::{Value, agreed, is_mountable, value_of};
+use nofs_model::{agreed, is_mountable, value_of};
 use nofs_testdisks::{disk_of, read_numbers};
 use std::alloc::{AllocError, Global};
 use std::process::Abort;

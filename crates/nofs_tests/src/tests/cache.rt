@@ -2,7 +2,8 @@
 use crate::tests::disks::{byte_of, failing, flushed, written_out, wrote};
 use nofs_cache::Cached;
 use nofs_disk::{Disk, Failed};
-use nofs_memdisk::{CallCounts, CallKind, MemDisk};
+use nofs_memdisk::MemDisk;
+use nofs_versions::{CallCounts, CallKind};
 use std::alloc::{AllocError, Global};
 use std::test::Fail;
 

@@ -1,7 +1,8 @@
 //! Disks in memory that tests begin with, and calls on any disk with cells of one byte.
 
 use nofs_disk::{Cell, Disk, Failed};
-use nofs_memdisk::{CallKind, FaultAt, MemDisk};
+use nofs_memdisk::MemDisk;
+use nofs_versions::{CallKind, FaultAt};
 use std::alloc::{AllocError, Global};
 
 /// A disk of four blocks, of which one call fails.

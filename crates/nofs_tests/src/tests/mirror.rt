@@ -1,8 +1,10 @@
 //! How a mirror goes on when a side fails, and what it does when both do.
 use crate::tests::disks::{byte_of, failing, flushed, written_out, wrote};
 use nofs_disk::Disk;
-use nofs_memdisk::{CallCounts, CallKind, MemDisk};
-use nofs_mirror::{Mirror, MirrorCause, Sides};
+use nofs_memdisk::MemDisk;
+use nofs_mirror::Mirror;
+use nofs_sides::{MirrorCause, Sides};
+use nofs_versions::{CallCounts, CallKind};
 use std::alloc::{AllocError, Global};
 use std::test::Fail;
 

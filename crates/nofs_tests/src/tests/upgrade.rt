@@ -1,15 +1,16 @@
 //! The empty example image is upgraded; a fault names its cause, and leaves version 1 or 2 and nothing else.
-ghost use Rattle.nofs_memdisk.specs.Memory.{PicksVersions};
+ghost use Rattle.nofs_versions.specs.Memory.{PicksVersions};
 ghost use Rattle.nofs_memdisk.specs.Parts.{memory_state};
 ghost use Rattle.std.specs.Prelude.{IsTrue, ◌↔◌};
 
 use crate::tests::disks::disk_with;
 use nofs_disk::{Cell, Disk};
 use nofs_examples::empty;
-use nofs_memdisk::{CallKind, FaultAt, MemDisk, Pick};
+use nofs_memdisk::MemDisk;
 use nofs_super::{MountFault, SuperBlock, write_super};
 use nofs_testdisks::disk_of;
 use nofs_upgrade::{UpgradeFault, upgrade};
+use nofs_versions::{CallKind, FaultAt, Pick};
 use std::alloc::{AllocError, Global};
 use std::test::Fail;
 

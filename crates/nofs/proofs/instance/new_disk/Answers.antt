@@ -1,6 +1,6 @@
 use Rattle.std.proofs.Common.{refl}
 use Rattle.nofs_memdisk.specs.Parts.{memory_state}
-use Rattle.nofs.proofs.Formatted.{formatted_met}
+use Rattle.nofs_sessions.proofs.Formatted.{formatted_met}
 use Rattle.nofs.proofs.instance.new_disk.Goals as goal
 
 pub returns-in-Ok : goal.returns-in-Ok

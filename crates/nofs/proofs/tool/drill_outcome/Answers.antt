@@ -1,7 +1,7 @@
 use Rattle.std.proofs.Common.{sym, subst}
 use Rattle.std.specs.Prelude.{IfSome}
 use Rattle.nofs.specs.Headline.{FollowsDrill, IsHeadlineOf}
-use Rattle.nofs.proofs.DrillEnds.{drill-taken}
+use Rattle.nofs_drills.proofs.DrillEnds.{drill-taken}
 use Rattle.nofs.proofs.Headlines.{drill-headline, drill-of}
 use Rattle.nofs.proofs.Outcomes.{mounted-ends, run-ends}
 use Rattle.nofs.proofs.tool.drill_outcome.Goals as goal

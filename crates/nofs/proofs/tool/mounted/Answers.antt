@@ -1,8 +1,8 @@
 use Rattle.std.proofs.Common.{◌≡◌, ℕ, List, false, sym, subst}
-use Rattle.nofs_client.specs.declared.lines.Line.{Line}
-use Rattle.nofs.specs.Entries.{session_text}
-use Rattle.nofs.specs.Says.{Says}
-use Rattle.nofs.specs.Serving.{IsSessionRun}
+use Rattle.nofs_task.specs.declared.lines.Line.{Line}
+use Rattle.nofs_sessions.specs.Entries.{session_text}
+use Rattle.nofs_sessions.specs.Says.{Says}
+use Rattle.nofs_sessions.specs.Serving.{IsSessionRun}
 use Rattle.nofs.proofs.Saying.{told-text}
 use Rattle.std.specs.Prelude.{IfSome}
 use Rattle.nofs.specs.Headline.{IsHeadline}

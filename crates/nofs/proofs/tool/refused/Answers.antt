@@ -1,5 +1,5 @@
 use Rattle.std.proofs.Common.{sym, ◌∙◌}
-use Rattle.nofs.specs.Lines.{cause_line}
+use Rattle.nofs_sessions.specs.Lines.{cause_line}
 use Rattle.nofs.proofs.tool.refused.Goals as goal
 
 pub returns-clause-says : goal.returns-clause-says

@@ -1,12 +1,12 @@
 use Rattle.std.proofs.Common.{map, string_bytes, sym, subst}
 use Rattle.std.specs.Prelude.{IfSome}
 use Rattle.nofs.specs.Headline.{IsHeadlineOf}
-use Rattle.nofs.specs.Salvaging.{AreReads, IsSalvaged}
-use Rattle.nofs.specs.Visits.{FollowsVisit}
-use Rattle.nofs.specs.Words.{picks_in}
+use Rattle.nofs_walks.specs.Salvaging.{AreReads, IsSalvaged}
+use Rattle.nofs_walks.specs.Visits.{FollowsVisit}
+use Rattle.nofs_sessions.specs.Words.{picks_in}
 use Rattle.nofs.proofs.Headlines.{visit-of}
 use Rattle.nofs.proofs.Outcomes.{old-ends}
-use Rattle.nofs.proofs.Salvages.{salvage-done, salvage-said}
+use Rattle.nofs_walks.proofs.Salvages.{salvage-done, salvage-said}
 use Rattle.nofs.proofs.tool.salvage_outcome.Goals as goal
 
 pub returns-in-Ok-clause-headline : goal.returns-in-Ok-clause-headline

@@ -1,8 +1,8 @@
 use Rattle.std.proofs.Common.{[], sym, subst}
 use Rattle.std.specs.Prelude.{IfSome}
 use Rattle.nofs.specs.Headline.{IsHeadline}
-use Rattle.nofs.specs.Counts.{IsScanned}
-use Rattle.nofs.proofs.Counted.{scan-done}
+use Rattle.nofs_sessions.specs.Counts.{IsScanned}
+use Rattle.nofs_sessions.proofs.Counted.{scan-done}
 use Rattle.nofs.proofs.Headlines.{headline-of, old-headline}
 use Rattle.nofs.proofs.Outcomes.{old-ends}
 use Rattle.nofs.proofs.tool.scan_outcome.Goals as goal

@@ -1,12 +1,12 @@
 use Rattle.std.proofs.Common.{◌≡◌, Option, Some, None, map, string_bytes, sym, ap, ◌∙◌, subst}
 use Rattle.nofs_io.specs.declared.texts.TheConstants.{TEXT_LIMIT}
-use Rattle.nofs.specs.declared.words.Request.{Request}
-use Rattle.nofs.specs.declared.words.Request.TheVariants.{New, Run, Scan, Drill, Upgrade, Salvage, Wire}
+use Rattle.nofs_sessions.specs.declared.words.Request.{Request}
+use Rattle.nofs_sessions.specs.declared.words.Request.TheVariants.{New, Run, Scan, Drill, Upgrade, Salvage, Wire}
 use Rattle.nofs.specs.Complete.{IsReady}
 use Rattle.nofs.specs.Said.{Said}
 use Rattle.nofs.specs.Statuses.{KeepsDevice}
 use Rattle.nofs.specs.Tool.{IsRefusedTask}
-use Rattle.nofs.specs.Words.{task_in}
+use Rattle.nofs_sessions.specs.Words.{task_in}
 use Rattle.nofs.proofs.Complete.{scan-completes, session-completes, upgrade-completes}
 use Rattle.nofs.proofs.Frames.{wire-completes}
 use Rattle.nofs.proofs.Outcomes.{upgrade-keeps}

@@ -1,5 +1,5 @@
 use Rattle.std.proofs.Common.{inr, sym, ◌∙◌}
-use Rattle.nofs.specs.Lines.{upgrade_line}
+use Rattle.nofs_sessions.specs.Lines.{upgrade_line}
 use Rattle.nofs.proofs.upgrading.upgrade_outcome.Goals as goal
 
 pub returns-in-Err-clause-says : goal.returns-in-Err-clause-says

@@ -1,5 +1,5 @@
 use Rattle.std.proofs.Common.{◌≡◌, ◌∙◌, sym, ap}
-use Rattle.nofs.specs.Entries.{has_fault}
+use Rattle.nofs_sessions.specs.Entries.{has_fault}
 use Rattle.nofs.specs.Wiring.{wire_status}
 use Rattle.nofs.proofs.Frames.{short-seven, wire-ends, wire-headline, zero-end}
 use Rattle.nofs.proofs.wiring.mounted.Goals as goal

@@ -6,12 +6,12 @@ use Rattle.nofs_machine.specs.Steps.{Made}
 use Rattle.nofs_machine.specs.declared.history.Entry1.{Entry1}
 use Rattle.nofs_shared.specs.Owned.{steps_by}
 use Rattle.nofs_wire.specs.Serves.{Serves}
-use Rattle.nofs.specs.Visits.{IsVisitRun}
-use Rattle.nofs.specs.Whole.{Finished}
+use Rattle.nofs_walks.specs.Visits.{IsVisitRun}
+use Rattle.nofs_sessions.specs.Whole.{Finished}
 use Rattle.nofs.specs.Wiring.{IsWired}
 use Rattle.nofs.proofs.Frames.{serves-wired}
-use Rattle.nofs.proofs.Visits.{visit-steps}
-use Rattle.nofs.proofs.Whole.{mount-finishes}
+use Rattle.nofs_walks.proofs.Visits.{visit-steps}
+use Rattle.nofs_sessions.proofs.Whole.{mount-finishes}
 use Rattle.nofs.proofs.wiring.run_wire.Goals as goal
 
 pub returns-clause-ends : goal.returns-clause-ends

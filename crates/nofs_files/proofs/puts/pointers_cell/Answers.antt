@@ -1,5 +1,5 @@
 use Rattle.std.proofs.Common.{ℕ, List, Some, ap, ◌∙◌}
-use Rattle.nofs_model.specs.Cells.{Leaf, is_null, pointer_at}
+use Rattle.nofs_image.specs.Cells.{Leaf, is_null, pointer_at}
 use Rattle.nofs_state.proofs.ZeroPointers.{zeros-null}
 use Rattle.nofs_files.proofs.puts.pointers_cell.Goals as goal
 

@@ -1,6 +1,6 @@
 use Rattle.std.proofs.Common.{ap}
-use Rattle.nofs_model.specs.Image.{node_in}
-use Rattle.nofs_model.specs.declared.path.PathAnswer.{PathAnswer}
+use Rattle.nofs_image.specs.Image.{node_in}
+use Rattle.nofs_image.specs.declared.path.PathAnswer.{PathAnswer}
 use Rattle.nofs_files.proofs.Damage.{after-reads, child-ruin, ended, goes-lost-above, goes-unread-above, is_ruined, lead-above, reached}
 use Rattle.nofs_files.proofs.storing.put_under_child.Goals as goal
 

@@ -1,6 +1,6 @@
 use Rattle.std.proofs.Common.{ap}
-use Rattle.nofs_model.specs.Image.{node_in}
-use Rattle.nofs_model.specs.declared.path.PathAnswer.{PathAnswer}
+use Rattle.nofs_image.specs.Image.{node_in}
+use Rattle.nofs_image.specs.declared.path.PathAnswer.{PathAnswer}
 use Rattle.nofs_files.proofs.Damage.{after-reads, ended, goes-lost-above, goes-unread-above, is_ruined, lead-above, leaf-path, leaf-ruin}
 use Rattle.nofs_files.proofs.Damage.{reached}
 use Rattle.nofs_files.proofs.storing.put_under_leaf.Goals as goal

@@ -1,5 +1,5 @@
 use Rattle.std.proofs.Common.{ℕ, List, ap, ◌∙◌}
-use Rattle.nofs_model.specs.Cells.{is_null, pointer_at}
+use Rattle.nofs_image.specs.Cells.{is_null, pointer_at}
 use Rattle.nofs_state.proofs.ZeroPointers.{zeros-null}
 use Rattle.nofs_names.proofs.entering.fill_leaf.Goals as goal
 

@@ -2,7 +2,7 @@ use Rattle.std.proofs.Common.{refl, sym, subst}
 use Rattle.nofs_machine.specs.Claims.{no_claims}
 use Rattle.nofs_machine.specs.declared.steps.Step.TheVariants as step
 use Rattle.nofs_machine.specs.declared.replies.Reply.TheVariants as reply
-use Rattle.nofs_model.specs.Cells.{Entry}
+use Rattle.nofs_image.specs.Cells.{Entry}
 use Rattle.nofs_state.specs.Steps.{Goes}
 use Rattle.nofs_state.proofs.Keeping.{goes-after, goes-memory, reads-keep}
 use Rattle.nofs_names.specs.Linking.{MayLink}

@@ -1,6 +1,6 @@
 use Rattle.std.proofs.Common.{◌≡◌, ℕ, ◌+◌, ◌-◌, ◌/◌, ◌≤◌, Bool, IsTrue, Result, refl, arith, ap, ◌∙◌, subst, subst₂, sym}
 use Rattle.nofs_disk.specs.Disk.{cell_at}
-use Rattle.nofs_model.specs.Image.{Image}
+use Rattle.nofs_image.specs.Image.{Image}
 use Rattle.nofs_machine.specs.declared.history.Claims.{Claims}
 use Rattle.nofs_machine.specs.declared.steps.Step.TheVariants as step
 use Rattle.nofs_machine.specs.declared.replies.Refusal.{Refusal}

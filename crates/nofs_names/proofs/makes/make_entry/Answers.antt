@@ -1,5 +1,5 @@
 use Rattle.std.proofs.Common.{◌+◌, ◌/◌, ◌^◌, ◌≤◌, ℕ, Bool, IsTrue, arith, subst, sym}
-use Rattle.nofs_model.specs.Image.{Image}
+use Rattle.nofs_image.specs.Image.{Image}
 use Rattle.nofs_machine.specs.declared.steps.Step.TheVariants as step
 use Rattle.nofs_state.proofs.Keeping.{goes-after, reads-keep}
 use Rattle.nofs_names.specs.Makes.{made_answer}

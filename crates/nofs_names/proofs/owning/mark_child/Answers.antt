@@ -1,6 +1,6 @@
 use Rattle.std.proofs.Common.{◌+◌, ◌*◌}
-use Rattle.nofs_model.specs.Image.{InRecord, Under}
-use Rattle.nofs_model.specs.declared.path.PathAnswer.TheVariants as answer
+use Rattle.nofs_image.specs.Image.{InRecord, Under}
+use Rattle.nofs_image.specs.declared.path.PathAnswer.TheVariants as answer
 use Rattle.nofs_names.proofs.Blocks.{marks-none, none-under-child}
 use Rattle.nofs_names.proofs.owning.mark_child.Goals as goal
 

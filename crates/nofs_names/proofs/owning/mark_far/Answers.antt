@@ -1,6 +1,6 @@
 use Rattle.nofs_ptrs.specs.Paths.{slot_limit}
-use Rattle.nofs_model.specs.Image.{InRecord}
-use Rattle.nofs_model.specs.declared.path.PathAnswer.TheVariants as answer
+use Rattle.nofs_image.specs.Image.{InRecord}
+use Rattle.nofs_image.specs.declared.path.PathAnswer.TheVariants as answer
 use Rattle.nofs_names.proofs.Blocks.{marks-none, none-under-top}
 use Rattle.nofs_names.proofs.owning.mark_far.Goals as goal
 

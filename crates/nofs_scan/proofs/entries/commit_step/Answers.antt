@@ -4,7 +4,7 @@ use Rattle.nofs_state.specs.Books.{IsSafe}
 use Rattle.nofs_state.specs.Standing.{Stands}
 use Rattle.nofs_state.specs.declared.books.Books.{Books}
 use Rattle.nofs_state.proofs.Sessions.{safe-with}
-use Rattle.nofs_scan.specs.Elements.{see_step, verdict_at}
+use Rattle.nofs_sights.specs.Elements.{see_step, verdict_at}
 use Rattle.nofs_scan.proofs.Going.{stands-committed}
 use Rattle.nofs_scan.proofs.entries.commit_step.Goals as goal
 

@@ -2,7 +2,7 @@ use Rattle.std.proofs.Common.{◌-◌, sym, ap, ◌∙◌, subst, subst₂, rule
 use Rattle.nofs_disk.specs.Disk.{DiskState}
 use Rattle.nofs_state.specs.Books.{IsSafe}
 use Rattle.nofs_state.specs.declared.books.Books.{Books}
-use Rattle.nofs_scan.specs.Elements.{see_step, verdict_at}
+use Rattle.nofs_sights.specs.Elements.{see_step, verdict_at}
 use Rattle.nofs_shared.specs.Mounts.{IsMount}
 use Rattle.nofs_shared.proofs.Mounting.{safe-history}
 use Rattle.nofs_machine.specs.declared.replies.Reply.TheVariants as reply

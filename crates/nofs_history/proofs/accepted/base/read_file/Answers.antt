@@ -1,6 +1,6 @@
 use Rattle.std.proofs.Common.{◌≡◌, ap, sym, ◌∙◌, None, Some}
-use Rattle.nofs_model.specs.Cells.{Record}
-use Rattle.nofs_model.specs.Geometry.{inode}
+use Rattle.nofs_image.specs.Cells.{Record}
+use Rattle.nofs_image.specs.Geometry.{inode}
 use Rattle.nofs_history.specs.Kept.{kept_file}
 use Rattle.nofs_history.proofs.BaseFiles.{agreed-file, free-inode, not-agreed}
 use Rattle.nofs_history.proofs.accepted.base.read_file.Goals as goal

@@ -1,6 +1,6 @@
 use Rattle.std.proofs.Common.{◌≡◌, ap, sym, ◌∙◌, length}
-use Rattle.nofs_model.specs.Slots.{value}
-use Rattle.nofs_model.specs.declared.value.Value.TheVariants.{Bytes}
+use Rattle.nofs_image.specs.Slots.{value}
+use Rattle.nofs_image.specs.declared.value.Value.TheVariants.{Bytes}
 use Rattle.nofs_history.proofs.BaseFiles.{value-sized}
 use Rattle.nofs_history.proofs.accepted.base.read_value.Goals as goal
 

@@ -1,6 +1,6 @@
 use Rattle.std.proofs.Common.{◌≡◌, ap, ◌∙◌, inl, inr}
 use Rattle.std.proofs.lemmas.Bool.{cases_lt}
-use Rattle.nofs_model.specs.Cells.{Record, null}
+use Rattle.nofs_image.specs.Cells.{Record, null}
 use Rattle.nofs_history.proofs.BaseFiles.{holes-behind-leaf, holes-behind-top}
 use Rattle.nofs_history.proofs.accepted.base.slot_count.Goals as goal
 

@@ -1,7 +1,7 @@
 -- The base's value, and then what the entries give, of files that are alike.
 use Rattle.std.proofs.Common.{List, [], ◌∷◌, ◌++◌, ◌∙◌, ap, cond}
-use Rattle.nofs_model.specs.Image.{value}
-use Rattle.nofs_model.specs.declared.value.Value.{Value}
+use Rattle.nofs_image.specs.Image.{value}
+use Rattle.nofs_image.specs.declared.value.Value.{Value}
 use Rattle.nofs_machine.specs.History.{agreed_files, is_generation}
 use Rattle.nofs_machine.specs.World.{world_of}
 use Rattle.nofs_history.specs.Kept.{kept_files_of}

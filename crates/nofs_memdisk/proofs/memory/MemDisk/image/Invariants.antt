@@ -1,6 +1,6 @@
 use Rattle.std.proofs.Common.{◌≡◌, ◌<◌, ℕ, length, drop}
 use Rattle.nofs_disk.specs.Disk.{IsSizedCell, cell_at}
-use Rattle.nofs_memdisk.specs.Memory.{held_after, picked, within}
+use Rattle.nofs_versions.specs.Memory.{held_after, picked, within}
 use Rattle.nofs_memdisk.proofs.memory.MemDisk.image.Given as goal
 
 abbrev pub invariant-loop-pick : goal.invariant-loop-pick

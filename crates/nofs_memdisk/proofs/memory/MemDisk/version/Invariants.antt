@@ -1,5 +1,5 @@
 use Rattle.std.proofs.Common.{◌≤◌, ◌+◌, take}
-use Rattle.nofs_memdisk.specs.Memory.{IsSearch, held_after}
+use Rattle.nofs_versions.specs.Memory.{IsSearch, held_after}
 use Rattle.nofs_memdisk.proofs.memory.MemDisk.version.Given as goal
 
 abbrev pub invariant-loop-call : goal.invariant-loop-call

@@ -3,10 +3,10 @@ use Rattle.std.proofs.Math.Logic.{∥∥₁_elim, ∥∥₁_prop}
 use mathlib.Core.List.{IsPrefix}
 use Rattle.nofs_machine.specs.declared.history.Entry1.{Entry1}
 use Rattle.nofs_machine.specs.declared.steps.Step.{Step}
-use Rattle.nofs_scan.specs.Elements.{see_step, verdict_at}
+use Rattle.nofs_sights.specs.Elements.{see_step, verdict_at}
 use Rattle.nofs_shared.specs.Sees.{is_of_sweep}
 use Rattle.nofs_shared.specs.Owned.{TellsStep}
-use Rattle.nofs_turn.proofs.Words.{prefix_self}
+use Rattle.nofs_turn_rule.proofs.Words.{prefix_self}
 use Rattle.nofs_shared.specs.Earlier.{earlier-on}
 use Rattle.nofs_shared.proofs.Owning.{adds-prefix}
 use Rattle.nofs_shared.proofs.Committing.{commit-beside, commit-unmade}

@@ -1,6 +1,6 @@
 use Rattle.std.proofs.Common.{ℕ, Bool, refl, sym, subst}
 use Rattle.std.proofs.Math.Logic.{∥∥₁_elim, ∥∥₁_prop}
-use Rattle.nofs_scan.specs.Elements.{see_step, verdict_at}
+use Rattle.nofs_sights.specs.Elements.{see_step, verdict_at}
 use Rattle.nofs_shared.specs.Commits.{IsCommit}
 use Rattle.nofs_shared.specs.Owned.{TellsStep}
 use Rattle.nofs_shared.proofs.Looking.{item-at, items-length}

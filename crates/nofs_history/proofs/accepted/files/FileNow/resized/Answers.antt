@@ -1,9 +1,9 @@
 -- The list of values is cut, and its last one is trimmed.
 use Rattle.std.proofs.Common.{◌≡◌, ℕ, ◌∙◌, ap, cond, ltb, Bool, true, false, refl, arith, min, Some, unwrap_or, slice_get, List}
 use Rattle.nofs_ptrs.specs.Paths.{slot_limit}
-use Rattle.nofs_model.specs.Files.{Absent}
-use Rattle.nofs_model.specs.declared.value.Value.{Value}
-use Rattle.nofs_model.specs.declared.value.Value.TheVariants.{Hole}
+use Rattle.nofs_image.specs.Files.{Absent}
+use Rattle.nofs_image.specs.declared.value.Value.{Value}
+use Rattle.nofs_image.specs.declared.value.Value.TheVariants.{Hole}
 use Rattle.nofs_machine.specs.Machine.{slots_in}
 use Rattle.nofs_history.specs.Kept.{value_at, end_value, resized_value}
 use Rattle.nofs_history.specs.declared.accepted.files.Kept.{Kept}

@@ -1,5 +1,5 @@
 use Rattle.std.proofs.Common.{ℕ, ◌∙◌, ap, cond, eqb, arith}
-use Rattle.nofs_model.specs.declared.value.Value.{Value}
+use Rattle.nofs_image.specs.declared.value.Value.{Value}
 use Rattle.nofs_history.specs.Kept.{kept_value}
 use Rattle.nofs_history.proofs.Growing.{value-set}
 use Rattle.nofs_history.proofs.accepted.files.FileNow.with_value.Goals as goal
@@ -14,5 +14,5 @@ returns c =
       size = c.args.self.size;
       links = c.args.self.links;
       values = λ k. set k j;
-      nodes = λ path. Rattle.nofs_model.specs.Files.Absent;
+      nodes = λ path. Rattle.nofs_image.specs.Files.Absent;
     }

@@ -1,5 +1,5 @@
 use Rattle.std.proofs.Common.{◌≡◌, Bool, IfOk, sym, subst}
-use Rattle.nofs_model.specs.Files as files
+use Rattle.nofs_image.specs.Files as files
 use Rattle.nofs_history.specs.Kept.{kept_files_of}
 use Rattle.nofs_machine.proofs.Links.{any_same}
 use Rattle.nofs_history.proofs.accepted.files.FilesNow.is_linked.Goals as goal

@@ -1,6 +1,6 @@
 -- The last slot, with zeros behind the old end.
 use Rattle.std.proofs.Common.{◌≡◌, IfOk, subst, Option, ◌∙◌, min}
-use Rattle.nofs_model.specs.declared.value.Value.{Value}
+use Rattle.nofs_image.specs.declared.value.Value.{Value}
 use Rattle.nofs_machine.specs.Machine as machine
 use Rattle.nofs_history.specs.Kept.{kept_files_of}
 use Rattle.nofs_history.proofs.Resizing.{end-gift}

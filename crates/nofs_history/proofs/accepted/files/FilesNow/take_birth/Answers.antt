@@ -1,5 +1,5 @@
 -- The directory's cell, and then the new file.
-use Rattle.nofs_model.specs.declared.value.Value.TheVariants as value
+use Rattle.nofs_image.specs.declared.value.Value.TheVariants as value
 use Rattle.nofs_history.specs.Kept.{file_of, kept_files_of}
 use Rattle.nofs_history.proofs.Taking.{cell_and_birth}
 use Rattle.nofs_history.proofs.accepted.files.FilesNow.take_birth.Goals as goal

@@ -1,5 +1,5 @@
 -- What inodes become, and then the cell.
-use Rattle.nofs_model.specs.declared.value.Value.TheVariants as value
+use Rattle.nofs_image.specs.declared.value.Value.TheVariants as value
 use Rattle.nofs_history.specs.Kept.{kept_files_of}
 use Rattle.nofs_history.specs.Gift.{metas_of}
 use Rattle.nofs_history.proofs.Taking.{meta_and_cell}

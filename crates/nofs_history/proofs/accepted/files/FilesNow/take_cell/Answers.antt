@@ -1,6 +1,6 @@
 -- The slot's file is taken out, gets the cell, and is put back.
 use Rattle.std.proofs.Common.{refl}
-use Rattle.nofs_model.specs.declared.value.Value.TheVariants as value
+use Rattle.nofs_image.specs.declared.value.Value.TheVariants as value
 use Rattle.nofs_machine.specs.Machine.{no_meta}
 use Rattle.nofs_history.specs.Kept.{kept_files_of, file_of}
 use Rattle.nofs_history.specs.Gift.{cell_of}

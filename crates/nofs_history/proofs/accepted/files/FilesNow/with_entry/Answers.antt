@@ -1,6 +1,6 @@
 -- The 64 bytes of an entry stand at its place.
 use Rattle.std.proofs.Common.{◌≡◌, ◌*◌, ◌/◌, ◌%◌, sym, ap, ◌∙◌}
-use Rattle.nofs_model.specs.declared.value.Value.TheVariants as value
+use Rattle.nofs_image.specs.declared.value.Value.TheVariants as value
 use Rattle.nofs_disk.specs.Number.{put_bytes}
 use Rattle.nofs_machine.specs.Machine as machine
 use Rattle.nofs_history.specs.Kept.{kept_files_of}

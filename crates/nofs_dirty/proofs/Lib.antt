@@ -1,0 +1,3 @@
+pub mod WritesBack
+pub mod Settling
+pub mod Reordering

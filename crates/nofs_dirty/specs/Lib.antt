@@ -1,0 +1,4 @@
+pub mod DirtyEntries
+pub mod DirtyBlocks
+pub mod Past
+pub mod Cache

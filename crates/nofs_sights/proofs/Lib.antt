@@ -1,0 +1,4 @@
+pub mod Elements
+pub mod Seeing
+pub mod EntryNames
+pub mod Sighted

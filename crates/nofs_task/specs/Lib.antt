@@ -1,0 +1,5 @@
+pub mod Commands
+pub mod Places
+pub mod Task
+pub mod Asks
+pub mod Answers

@@ -1,0 +1,5 @@
+pub mod Joining
+pub mod Gathering
+pub mod Working
+pub mod Teaming
+pub mod Looking

@@ -1,0 +1,4 @@
+pub mod Lists
+pub mod Views
+pub mod Rules
+pub mod Passes

@@ -1,0 +1,5 @@
+pub mod Calls
+pub mod Held
+pub mod Leaves
+pub mod Sized
+pub mod Versions

@@ -1,0 +1,13 @@
+//! What a disk in memory may hold of each block, and the calls that it is told to fail.
+//!
+//! Promise: `specs/` says which cells a crash may leave of each block, after every row of calls; the
+//! functions count calls and search the picks of these cells, one after the other, as they say.
+#![tactic(auto)]
+
+mod call;
+mod effects;
+mod search;
+
+pub use call::{Call, CallCounts, CallKind, FaultAt, Pick, fault_at};
+pub use effects::{count_fault, keep, put};
+pub use search::{Search, choices_after, search_on};
