@@ -3,14 +3,13 @@ use Rattle.std.proofs.Common.{◌≡◌, ℕ, ◌<◌, ◌≤◌, inl, inr, List
 use Rattle.std.proofs.Common.{Some, None, refl, sym, ap, ◌∙◌, subst, leb-true, arith}
 use Rattle.std.specs.Prelude.{IfOk}
 use Rattle.std.proofs.lemmas.Bool.Decides.{nat_tests}
-use Rattle.nofs_image.specs.Cells.{Entry}
+use Rattle.nofs_image.specs.Cells.{Entry, slot_limit}
 use Rattle.nofs_image.specs.Image.{FileState, Files, entry_at}
 use Rattle.nofs_image.specs.declared.value.Value.{Value}
 use Rattle.nofs_image.specs.declared.value.Value.TheVariants as value
 use Rattle.nofs_machine.specs.Search.{first_of}
 use Rattle.nofs_machine.specs.Machine.{value_of, size_of, found, is_lost, is_refused}
 use Rattle.nofs_machine.specs.World.{World}
-use Rattle.nofs_ptrs.specs.Paths.{slot_limit}
 use Rattle.nofs_machine.specs.Refusals.{rows, row, slots, too_large, stale, is_directory}
 use Rattle.nofs_machine.specs.Answers.{reply_of, found_reply, found_entry, found_file, stat_reply, stat_file, listed_reply, lines_in_slot, got_reply}
 use Rattle.nofs_machine.specs.Next.{Next, AfterFault, ByRow, Done, ByRead, ByWrite}

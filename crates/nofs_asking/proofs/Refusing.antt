@@ -5,9 +5,7 @@ use Rattle.std.specs.Prelude.{All, IfSome, IfOk, zero, suc}
 use Rattle.std.specs.List.{list_any}
 use Rattle.std.proofs.lemmas.List.{append-nil, append_cancel_left}
 use Rattle.std.proofs.lemmas.List.Elements.{All-nil, All-cons, All-head, All-tail, All-append}
-use Rattle.nofs_dirent.specs.Names.{is_name}
-use Rattle.nofs_dirent.specs.Entries.{entry_limit}
-use Rattle.nofs_image.specs.Cells.{Entry}
+use Rattle.nofs_image.specs.Cells.{Entry, is_name, entry_limit}
 use Rattle.nofs_image.specs.Image.{FileState, Files, entry_at, is_pair, links_in_file, links_of}
 use Rattle.nofs_machine.specs.Search.{first_of, least_from}
 use Rattle.nofs_machine.specs.Machine.{found, is_lost, is_folder_at, value_of, is_paired, entry_has_name, generation_of, same_link, link_to}

@@ -1,6 +1,6 @@
 -- The files of an image have roots: inode 1 is agreed as a directory alone, and inode 2 as a file.
 use Rattle.std.proofs.Common.{◌≡◌, Bool, true, false, ◌&&◌, ◌||◌, not, if◌then◌else◌, Option, Some, None, is_some, refl, sym, ap, ◌∙◌}
-use Rattle.nofs_inode.specs.declared.inode.FileKind.TheVariants.{File, Directory as Folder}
+use Rattle.nofs_image.specs.Kinds.{File, Directory as Folder}
 use Rattle.nofs_image.specs.Image.{Image, FileState, Files, files_in, is_folder, is_a, agreed}
 use Rattle.nofs_machine.specs.Since.{agreed_files}
 use Rattle.nofs_machine.specs.History.{FilesMatch, SameFile}

@@ -1,6 +1,6 @@
 -- What the lines of a directory tell, and the handles of a list of directories.
 use Rattle.std.specs.Prelude.{◌≡◌, ℕ, ◌⊎◌, true, false, List, [], ◌∷◌, ◌++◌, All, IsTrue}
-use Rattle.nofs_dirent.specs.Names.{is_name}
+use Rattle.nofs_image.specs.Cells.{is_name}
 use Rattle.nofs_image.specs.Image.{Files, is_folder}
 use Rattle.nofs_machine.specs.declared.replies.NameLine.{NameLine}
 use Rattle.nofs_lost.specs.declared.answers.Listed.{Listed}

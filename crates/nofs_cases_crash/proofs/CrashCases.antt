@@ -7,7 +7,7 @@ use Rattle.std.proofs.lemmas.Bool.{cases_lt}
 use Rattle.std.proofs.lemmas.List.{get_or-replicate}
 use Rattle.nofs_disk.specs.Disk.{IsDisk, IsSettled, IsSizedCell, Picks}
 use Rattle.nofs_disk.specs.Adds.{WasOr}
-use Rattle.nofs_inode.specs.declared.inode.FileKind.TheVariants.{File}
+use Rattle.nofs_image.specs.Kinds.{File}
 use Rattle.nofs_image.specs.Cells.{Cell, Pointer, Record, record_at, is_live, is_null, null, free_record}
 use Rattle.nofs_image.specs.Image.{Image, cell_at, inode, Path, InRecord, path_of, find, leaf, IsSlot, node_in, record_pointer, file_from, value, FileState}
 use Rattle.nofs_image.specs.Image.{Files, CellBelow}

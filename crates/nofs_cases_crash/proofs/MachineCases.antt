@@ -1,6 +1,6 @@
 -- The Put of one byte as a step of the machine.
 use Rattle.std.proofs.Common.{◌≡◌, ℕ, Bool, true, false, cond, eqb, Option, Some, None, refl, ap, ◌∙◌, arith}
-use Rattle.nofs_inode.specs.declared.inode.FileKind.TheVariants.{File}
+use Rattle.nofs_image.specs.Kinds.{File}
 use Rattle.nofs_image.specs.Cells.{Record}
 use Rattle.nofs_image.specs.Image.{FileState}
 use Rattle.nofs_image.specs.declared.value.Value.{Value}

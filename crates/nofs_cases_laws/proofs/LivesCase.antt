@@ -2,7 +2,7 @@
 use Rattle.std.proofs.Common.{◌≡◌, ◌≢◌, ℕ, zero, suc, ◌+◌, ◌/◌, ◌^◌, ◌<◌, inl, inr, Bool, true, false, cond, eqb, leb, ◌&&◌, ◌||◌, [], ◌∷◌, Option, Some}
 use Rattle.std.proofs.Common.{None, is_some, refl, sym, ap, ◌∙◌, subst, arith}
 use Rattle.nofs_disk.specs.Adds.{Adds}
-use Rattle.nofs_inode.specs.declared.inode.FileKind.TheVariants.{File, Directory}
+use Rattle.nofs_image.specs.Kinds.{File, Directory}
 use Rattle.nofs_image.specs.Cells.{Record, SuperBlock, number_at, is_null, is_live}
 use Rattle.nofs_image.specs.Image.{cell_at, super_at, super_in, inode, Path, InRecord, Under, path_of, record_pointer, find, value, value_in, node_in, Absent}
 use Rattle.nofs_image.specs.Image.{is_special, Files, FileState, owner}

@@ -2,12 +2,10 @@
 use Rattle.std.proofs.Common.{◌≡◌, ◌≢◌, ℕ, zero, suc, ◌+◌, ◌-◌, ◌*◌, ◌/◌, ◌^◌, ◌<◌, ◌≤◌, inl, inr, Bool, true, false, eqb, leb, ltb, lt-ltb}
 use Rattle.std.proofs.Common.{le-ltb, List, [], ◌∷◌, ◌++◌, Option, Some, None, refl, sym, ap, ◌∙◌, subst, arith}
 use Rattle.std.proofs.lemmas.Bool.{cases_lt}
-use Rattle.nofs_ptrs.specs.Paths.{slot_limit}
+use Rattle.nofs_image.specs.Kinds.{File, Directory as Folder}
 use Rattle.nofs_disk.specs.Disk.{IsSizedCell}
 use Rattle.nofs_disk.specs.Number.{put_number, put_bytes, zeros}
-use Rattle.nofs_dirent.specs.Names.{is_name}
-use Rattle.nofs_inode.specs.declared.inode.FileKind.TheVariants.{File, Directory as Folder}
-use Rattle.nofs_image.specs.Cells.{FileKind, Pointer, Record, SuperBlock, number_at, entry_of, entry_fields, spelled_entry, null}
+use Rattle.nofs_image.specs.Cells.{FileKind, Pointer, Record, SuperBlock, number_at, entry_of, entry_fields, spelled_entry, null, slot_limit, is_name}
 use Rattle.nofs_image.specs.Image.{super_at, inode, InRecord, Under, child, path_of, slot_of, record_pointer, find, value, value_in, node_in, FileState}
 use Rattle.nofs_image.specs.Image.{Files, files_in, agreed, owner, Home, is_pair, is_special, IsBelow}
 use Rattle.nofs_image.specs.declared.path.PathAnswer.{PathAnswer}

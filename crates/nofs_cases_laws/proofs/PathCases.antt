@@ -1,6 +1,6 @@
 -- The root of the formatted disk, and a disk with one name.
 use Rattle.std.proofs.Common.{Option, ◌≡◌, ◌^◌, ℕ, Bool, true, false, cond, eqb, List, [], ◌∷◌, ◌++◌, Some, is_some, refl, sym, ap, ◌∙◌, subst, arith, Contains}
-use Rattle.nofs_inode.specs.declared.inode.FileKind.TheVariants.{File, Directory}
+use Rattle.nofs_image.specs.Kinds.{File, Directory}
 use Rattle.nofs_image.specs.Cells.{Record, Entry, null, is_live}
 use Rattle.nofs_image.specs.Image.{Image, inode, files_in, agreed, value, names, FileState}
 use Rattle.nofs_image.specs.declared.value.Value.{Value}

@@ -1,7 +1,6 @@
 -- The entries of a cell, each by a test of all its places.
 use Rattle.std.proofs.Common.{◌≡◌, ℕ, ◌<◌, Bool, true, ltb, List, Option, Some, None, IfSome, refl, arith, ltb-true}
-use Rattle.nofs_dirent.specs.Names.{is_name}
-use Rattle.nofs_image.specs.Cells.{Entry, entry_in, entry_of, entry_fields, number_at}
+use Rattle.nofs_image.specs.Cells.{Entry, entry_in, entry_of, entry_fields, number_at, is_name}
 use Rattle.nofs_cases_steps.specs.Images.{z}
 use Rattle.nofs_cases_steps.proofs.Numbers.{all_below, each-below}
 

@@ -1,9 +1,7 @@
 -- Steps on names on a disk with one name.
 use Rattle.std.proofs.Common.{◌≡◌, ◌≢◌, ℕ, zero, suc, ◌+◌, ◌^◌, ◌≤◌, ◌⊎◌, inl, inr, false, ◌++◌, Option, Some, IfSome, refl, sym, ap, ◌∙◌, subst, arith}
 use Rattle.nofs_disk.specs.Number.{put_number, put_bytes, zeros}
-use Rattle.nofs_dirent.specs.EntryLaws.{Spells}
-use Rattle.nofs_dirent.specs.Names.{is_name}
-use Rattle.nofs_image.specs.Cells.{Entry, Tag, Pointer, Record, tag_of, null, number_at, entry_of, entry_fields, spelled_entry, free_record}
+use Rattle.nofs_image.specs.Cells.{Entry, Tag, Pointer, Record, tag_of, null, number_at, entry_of, entry_fields, spelled_entry, free_record, Spells, is_name}
 use Rattle.nofs_image.specs.Image.{cell_at, inode, Path, InRecord, path_of, find, record_pointer, agreed, IsFree}
 use Rattle.nofs_image.specs.declared.path.PathAnswer.TheVariants as answer
 use Rattle.nofs_image.specs.declared.value.Value.TheVariants.{Hole, Bytes}

@@ -1,9 +1,7 @@
 -- What the steps on names leave of a disk whose root has one block of entries, or gets its first.
 use Rattle.std.proofs.Common.{◌≡◌, ◌≢◌, ℕ, ◌/◌, ◌^◌, ◌<◌, true, false, List, Some, None, length, refl, sym, ap, ◌∙◌, arith}
-use Rattle.nofs_dirent.specs.Entries.{entry_limit}
-use Rattle.nofs_dirent.specs.EntryLaws.{Spells}
-use Rattle.nofs_inode.specs.declared.inode.FileKind.TheVariants.{File}
-use Rattle.nofs_image.specs.Cells.{Cell, BackLink, Pointer, Record, spelled_entry, null, is_null}
+use Rattle.nofs_image.specs.Kinds.{File}
+use Rattle.nofs_image.specs.Cells.{Cell, BackLink, Pointer, Record, spelled_entry, null, is_null, entry_limit, Spells}
 use Rattle.nofs_image.specs.Image.{Image, cell_at, is_data_block, inode, InRecord, path_of, find, record_pointer, Files, entry_at}
 use Rattle.nofs_image.specs.declared.value.Value.{Value}
 use Rattle.nofs_image.specs.declared.value.Value.TheVariants.{Bytes}

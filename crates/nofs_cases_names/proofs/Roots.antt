@@ -1,6 +1,7 @@
 -- Disks on which the root has one block of entries.
 use Rattle.std.proofs.Common.{◌≡◌, ℕ, suc, ◌+◌, ◌^◌, ◌<◌, true, List, ◌++◌, Some, refl, sym, ap, ◌∙◌, subst, arith, Contains}
-use Rattle.nofs_inode.specs.declared.inode.FileKind.TheVariants.{File, Directory as Folder}
+use Rattle.nofs_image.specs.Kinds.{File, Directory as Folder}
+use Rattle.nofs_image.specs.Cells.{is_name}
 use Rattle.nofs_image.specs.Cells.{Cell, Directory, BackLink, Record, tag_of, number_at, null, is_live, free_record, record_of, record_at, fields_in, link_in}
 use Rattle.nofs_image.specs.Cells.{pointer_in, entry_in, entry_of, entry_fields}
 use Rattle.nofs_image.specs.Image.{inode, InRecord, path_of, tag_for, find, files_in, agreed}
@@ -9,7 +10,6 @@ use Rattle.nofs_image.specs.declared.value.Value.TheVariants.{Hole, Bytes}
 use Rattle.nofs_law_model.specs.Definitions.{IsPair, IsEntry, named, the_root}
 use Rattle.nofs_law_model.proofs.Meanings.{find-holds}
 use Rattle.nofs_law_model.proofs.NameMeanings.{fact-agreed}
-use Rattle.nofs_dirent.specs.Names.{is_name}
 use Rattle.nofs_machine.specs.Machine.{link_to}
 use Rattle.nofs_machine.specs.History.{FilesMatch}
 use Rattle.nofs_law_untouched.specs.Frames.{OldPointers}

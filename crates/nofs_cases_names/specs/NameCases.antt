@@ -1,6 +1,6 @@
 -- Instances of the laws of steps on names.
 use Rattle.std.specs.Prelude.{◌≡◌, ℕ, ◌+◌, ◌^◌, ◌<◌, List, [], ◌∷◌, ◌++◌, length, None, IfSome}
-use Rattle.nofs_inode.specs.declared.inode.FileKind.TheVariants.{File}
+use Rattle.nofs_image.specs.Kinds.{File}
 use Rattle.nofs_image.specs.Cells.{Entry, null, spelled_entry, entry_of, entry_in}
 use Rattle.nofs_image.specs.Image.{inode, Path, IsSlot, find}
 use Rattle.nofs_image.specs.declared.path.PathAnswer.TheVariants as answer

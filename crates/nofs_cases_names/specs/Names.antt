@@ -1,6 +1,6 @@
 -- Disks with names: the root has block 2, in which the entries of inode 3 stand.
 use Rattle.std.specs.Prelude.{◌^◌, ℕ, List, [], ◌∷◌, ◌++◌, Some, None}
-use Rattle.nofs_inode.specs.declared.inode.FileKind.TheVariants.{File}
+use Rattle.nofs_image.specs.Kinds.{File}
 use Rattle.nofs_image.specs.Cells.{Cell, BackLink, no_link}
 use Rattle.nofs_image.specs.Image.{Image, Absent, FileState, Files}
 use Rattle.nofs_image.specs.declared.value.Value.TheVariants.{Hole, Bytes}

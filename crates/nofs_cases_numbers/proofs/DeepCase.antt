@@ -1,7 +1,7 @@
 -- A Make with a claimed block and a claimed leaf.
 use Rattle.std.proofs.Common.{◌≡◌, ◌≢◌, ℕ, ◌+◌, ◌^◌, ◌∷◌, [], ◌++◌, Some, refl, sym, ap, ◌∙◌, arith}
 use Rattle.nofs_disk.specs.Number.{put_number, put_bytes, zeros}
-use Rattle.nofs_inode.specs.declared.inode.FileKind.TheVariants.{Directory as Folder}
+use Rattle.nofs_image.specs.Kinds.{Directory as Folder}
 use Rattle.nofs_image.specs.Cells.{Directory, Leaf, Record, tag_of, number_at, null, pointer_at, pointer_in, record_of, record_at, fields_in, link_in}
 use Rattle.nofs_image.specs.Cells.{spelled_entry, free_record}
 use Rattle.nofs_image.specs.Image.{cell_at, inode, Under, leaf, path_of, slot_of, tag_for, record_pointer}

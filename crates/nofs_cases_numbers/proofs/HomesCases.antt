@@ -1,8 +1,7 @@
 -- Homes after steps on names, and the numbers before them and before a Put.
 use Rattle.std.proofs.Common.{◌≡◌, ℕ, ◌+◌, ◌^◌, ◌<◌, ◌++◌, Option, Some, IfSome, All, List, true, get_or, refl, sym, ap, subst, arith}
-use Rattle.nofs_dirent.specs.Names.{is_name}
-use Rattle.nofs_inode.specs.declared.inode.FileKind.TheVariants.{File}
-use Rattle.nofs_image.specs.Cells.{Cell, Record, Directory, Leaf, Tag, SuperBlock, number_at, pointer_at, entry_in, entry_of, entry_fields, null}
+use Rattle.nofs_image.specs.Kinds.{File}
+use Rattle.nofs_image.specs.Cells.{Cell, Record, Directory, Leaf, Tag, SuperBlock, number_at, pointer_at, entry_in, entry_of, entry_fields, null, is_name}
 use Rattle.nofs_image.specs.Image.{path_of, TagBelow, IsBelow}
 use Rattle.nofs_machine.specs.Search.{least_from}
 use Rattle.nofs_machine.specs.Machine.{first_dead, place_for}

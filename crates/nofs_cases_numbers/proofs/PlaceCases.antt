@@ -2,10 +2,8 @@
 use Rattle.std.proofs.Common.{◌≡◌, ◌≢◌, ℕ, zero, suc, ◌+◌, ◌^◌, ◌<◌, inl, inr, true, false, [], ◌∷◌, ◌++◌, Option, Some, None, IfSome}
 use Rattle.std.proofs.Common.{refl, sym, ap, subst, arith}
 use Rattle.nofs_disk.specs.Number.{put_number, put_bytes, zeros}
-use Rattle.nofs_dirent.specs.EntryLaws.{Spells}
-use Rattle.nofs_dirent.specs.Names.{is_name}
-use Rattle.nofs_inode.specs.declared.inode.FileKind.TheVariants.{File, Directory as Folder}
-use Rattle.nofs_image.specs.Cells.{Directory, Entry, Record, tag_of, null, free_record, number_at}
+use Rattle.nofs_image.specs.Kinds.{File, Directory as Folder}
+use Rattle.nofs_image.specs.Cells.{Directory, Entry, Record, tag_of, null, free_record, number_at, Spells, is_name}
 use Rattle.nofs_image.specs.Cells.{entry_in, entry_of, entry_fields, spelled_entry, record_of, record_at, fields_in, link_in, pointer_in}
 use Rattle.nofs_image.specs.Image.{cell_at, inode, Path, InRecord, path_of, slot_of, tag_for, find, record_pointer, IsFree}
 use Rattle.nofs_image.specs.declared.path.PathAnswer.TheVariants as answer

@@ -1,6 +1,6 @@
 -- An instance of the law of Make in a hole under a leaf, which is claimed with the cell.
 use Rattle.std.specs.Prelude.{◌+◌, ◌^◌, ◌∷◌, ◌++◌}
-use Rattle.nofs_inode.specs.declared.inode.FileKind.TheVariants.{File}
+use Rattle.nofs_image.specs.Kinds.{File}
 use Rattle.nofs_image.specs.Cells.{Cell, Pointer, null, spelled_entry}
 use Rattle.nofs_image.specs.Image.{Image}
 use Rattle.nofs_image.specs.declared.value.Value.TheVariants.{Hole}

@@ -1,6 +1,6 @@
 -- Instances of the laws of homes and of numbers, each with all the premises of its law.
 use Rattle.std.specs.Prelude.{◌≡◌, ◌^◌, [], ◌∷◌, Some, None}
-use Rattle.nofs_inode.specs.declared.inode.FileKind.TheVariants.{File}
+use Rattle.nofs_image.specs.Kinds.{File}
 use Rattle.nofs_image.specs.Cells.{null}
 use Rattle.nofs_image.specs.declared.value.Value.TheVariants.{Hole}
 use Rattle.nofs_machine.specs.Machine.{place_for}

@@ -1,7 +1,7 @@
 -- Instances of the laws of new entries where the others have none: a Make in place, and a Link in a hole, each with all the
 -- premises of the laws of its homes and of its numbers.
 use Rattle.std.specs.Prelude.{◌≡◌, ℕ, zero, suc, ◌+◌, ◌^◌, List, [], ◌∷◌, ◌++◌, Some, None}
-use Rattle.nofs_inode.specs.declared.inode.FileKind.TheVariants.{File}
+use Rattle.nofs_image.specs.Kinds.{File}
 use Rattle.nofs_image.specs.Cells.{Cell, BackLink, Pointer, no_link, null, spelled_entry}
 use Rattle.nofs_image.specs.Image.{Image, Files}
 use Rattle.nofs_image.specs.declared.value.Value.TheVariants.{Hole, Bytes}

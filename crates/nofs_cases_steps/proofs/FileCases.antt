@@ -2,7 +2,7 @@
 use Rattle.std.proofs.Common.{max, ◌≡◌, ◌≢◌, ℕ, zero, suc, ◌+◌, ◌^◌, ◌<◌, inl, inr, true, false, eqb, [], ◌∷◌, Some, None, refl, sym, ap, ap₂, ◌∙◌, subst}
 use Rattle.std.proofs.Common.{arith, le-leb}
 use Rattle.nofs_disk.specs.Number.{put_bytes}
-use Rattle.nofs_inode.specs.declared.inode.FileKind.TheVariants.{File, Directory}
+use Rattle.nofs_image.specs.Kinds.{File, Directory}
 use Rattle.nofs_image.specs.Cells.{Cell, Pointer, Record, tag_of, null, is_null, is_live, free_record}
 use Rattle.nofs_image.specs.Image.{cell_at, inode, Path, InRecord, Under, path_of, IsSlot, tag_for, record_pointer, find, files_in, agreed, IsFree, Files}
 use Rattle.nofs_image.specs.Image.{FileState, is_folder}

@@ -1,7 +1,7 @@
 -- What the images say: their numbers, records and tags.
 use Rattle.std.proofs.Common.{◌≡◌, ℕ, zero, suc, ◌+◌, ◌/◌, ◌^◌, true, false, leb, ltb, ◌&&◌, List, [], ◌∷◌, Option, Some, refl, ap, arith}
 use Rattle.nofs_super.specs.Geometry.{format_fault}
-use Rattle.nofs_inode.specs.declared.inode.FileKind.TheVariants as file
+use Rattle.nofs_image.specs.Kinds as file
 use Rattle.nofs_image.specs.Cells.{Cell, Content, Nothing, Table, Super, Pointer, FileKind, BackLink, Record, SuperBlock, free_record, null, number_at, tag_of}
 use Rattle.nofs_image.specs.Cells.{record_of, record_at, fields_in, link_in, pointer_in}
 use Rattle.nofs_image.specs.Image.{is_mountable, super_in, is_super, is_geometry, super_at, is_data_block, inode}

@@ -1,7 +1,7 @@
 -- A Put with a claimed block and a claimed leaf.
 use Rattle.std.proofs.Common.{◌≡◌, ℕ, ◌+◌, ◌^◌, ◌⊎◌, inl, inr, true, false, eqb, [], ◌∷◌, Some, refl, sym, ap, ◌∙◌, subst, arith}
 use Rattle.nofs_disk.specs.Number.{put_bytes}
-use Rattle.nofs_inode.specs.declared.inode.FileKind.TheVariants.{File}
+use Rattle.nofs_image.specs.Kinds.{File}
 use Rattle.nofs_image.specs.Cells.{Content, Leaf, Pointer, Record, tag_of, number_at, null, is_null, pointer_at, pointer_in, record_of, record_at, fields_in}
 use Rattle.nofs_image.specs.Cells.{link_in, free_record}
 use Rattle.nofs_image.specs.Image.{cell_at, is_data_block, inode, Path, InRecord, Under, leaf, path_of, slot_of, IsSlot, tag_for, record_pointer, find}

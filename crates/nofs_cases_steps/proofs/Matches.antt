@@ -1,8 +1,7 @@
 -- The machine's files on these images are theirs.
 use Rattle.std.proofs.Common.{◌≡◌, ℕ, zero, suc, ◌<◌, inl, inr, Bool, true, false, cond, eqb, Option, Some, None, refl, sym, ap, ◌∙◌, subst, arith}
-use Rattle.nofs_ptrs.specs.Paths.{slot_limit}
-use Rattle.nofs_inode.specs.declared.inode.FileKind.TheVariants.{File, Directory}
-use Rattle.nofs_image.specs.Cells.{FileKind, Pointer, Record, tag_of, null, is_null, is_live}
+use Rattle.nofs_image.specs.Kinds.{File, Directory}
+use Rattle.nofs_image.specs.Cells.{FileKind, Pointer, Record, tag_of, null, is_null, is_live, slot_limit}
 use Rattle.nofs_image.specs.Image.{Image, cell_at, is_data_block, inode, Path, InRecord, path_of, slot_of, is_pointer_slot, IsSlot, kind_in, tag_for}
 use Rattle.nofs_image.specs.Image.{record_pointer, find, value, value_in, node_in, Absent, FileState, files_in, file_from, agreed}
 use Rattle.nofs_law_model.specs.Definitions.{the_root, the_label}

@@ -1,7 +1,6 @@
 -- Inodes with one pointer at most, in slot 0: what their slots hold.
 use Rattle.std.proofs.Common.{◌≡◌, ℕ, zero, suc, ◌<◌, ◌⊎◌, inl, inr, true, false, eqb, Option, Some, None, refl, sym, ap, ◌∙◌, subst, arith}
-use Rattle.nofs_ptrs.specs.Paths.{slot_limit}
-use Rattle.nofs_image.specs.Cells.{Cell, Pointer, Record, null, is_null}
+use Rattle.nofs_image.specs.Cells.{Cell, Pointer, Record, null, is_null, slot_limit}
 use Rattle.nofs_image.specs.Image.{Image, inode, Path, InRecord, Under, path_of, is_pointer_slot, IsSlot, record_pointer, judged, find, pointer, value}
 use Rattle.nofs_image.specs.Image.{value_in, agreed, IsFree, owner, Home}
 use Rattle.nofs_image.specs.declared.path.PathAnswer.{PathAnswer}

@@ -1,6 +1,6 @@
 -- The machine's files and worlds on these images.
 use Rattle.std.specs.Prelude.{ℕ, Bool, true, false, List, [], ◌∷◌, ◌+◌, ◌^◌, Option, Some, None, if◌then◌else◌, ◌==◌}
-use Rattle.nofs_inode.specs.declared.inode.FileKind.TheVariants.{File, Directory}
+use Rattle.nofs_image.specs.Kinds.{File, Directory}
 use Rattle.nofs_image.specs.Cells.{BackLink, Pointer, no_link, null}
 use Rattle.nofs_image.specs.Image.{Absent, FileState, Files, Home}
 use Rattle.nofs_image.specs.declared.value.Value.{Value}

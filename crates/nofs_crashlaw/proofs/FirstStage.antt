@@ -4,7 +4,7 @@ use Rattle.std.proofs.lemmas.Bool.{cases_lt}
 use Rattle.nofs_disk.specs.Disk.{DiskState, cell_at}
 use Rattle.nofs_disk.specs.Moments.{AtEach}
 use Rattle.nofs_disk.specs.Chains.{settled_image}
-use Rattle.nofs_super.specs.Geometry.{IsGeometry}
+use Rattle.nofs_image.specs.Geometry.{IsGeometry}
 use Rattle.nofs_image.specs.Cells.{Cell}
 use Rattle.nofs_image.specs.Image.{Image, super_at, CellBelow}
 use Rattle.nofs_image.proofs.Sound.{mountable-law}

@@ -1,5 +1,5 @@
 -- A flush that succeeds makes a new mark, from which the next step may begin.
-use Rattle.nofs_super.specs.Geometry.{IsGeometry}
+use Rattle.nofs_image.specs.Geometry.{IsGeometry}
 use Rattle.std.proofs.Common.{◌≡◌, ℕ, suc, ◌+◌, ◌%◌, ◌<◌, ◌≤◌, inl, inr, true, false, cond, is_some, append-nil, eqb, if◌then◌else◌, leb, ◌&&◌, List, [], ◌∷◌}
 use Rattle.std.proofs.Common.{◌++◌, length, Option, Some, None, IsTrue, Ok, refl, sym, ap, ◌∙◌, subst, arith, le_refl}
 use Rattle.std.proofs.lemmas.Bool.{cases_lt}

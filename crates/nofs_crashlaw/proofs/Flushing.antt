@@ -1,7 +1,6 @@
 -- A flush makes a new mark.
 use Rattle.std.proofs.Common.{◌≡◌, ℕ, ◌%◌, ◌<◌, inl, inr, Bool, true, false, eqb, ◌&&◌, List, [], ◌∷◌, Some, is_some, refl, sym, ap, ◌∙◌, subst, subst₂}
 use Rattle.std.proofs.Common.{arith, Contains, eqb-true, eq-eqb}
-use Rattle.nofs_ptrs.specs.Paths.{slot_limit}
 use Rattle.nofs_law_images.specs.Reasons.{IsMark}
 use Rattle.nofs_image.proofs.Find.{and-both}
 use Rattle.nofs_machine.proofs.Era.{IsCurrent, current-accepted}
@@ -11,7 +10,7 @@ use Rattle.nofs_machine.specs.declared.history.Entry1.{Entry1}
 use Rattle.nofs_machine.specs.Machine.{generation_of}
 use Rattle.nofs_machine.specs.History.{agreed_files, files_along, accepted_of, accepted_meta_of, last_in, is_generation, FilesMatch, NoWriteFault, new_mark}
 use Rattle.nofs_machine.specs.Steady.{Untouched, SteadyRest}
-use Rattle.nofs_image.specs.Cells.{Tag, is_live, tag_of}
+use Rattle.nofs_image.specs.Cells.{Tag, is_live, tag_of, slot_limit}
 use Rattle.nofs_image.specs.Image.{Image, super_at, cell_at, is_data_block, inode, files_in, agreed, value, Files}
 use Rattle.nofs_image.specs.declared.value.Value.{Value}
 

@@ -1,5 +1,5 @@
 //! What the definitions say of each example image, derived by hand.
-ghost use Rattle.nofs_ptrs.specs.Paths.{slot_limit};
+ghost use Rattle.nofs_image.specs.Cells.{slot_limit};
 ghost use Rattle.std.specs.Prelude.{◌<◌};
 
 use crate::*;

@@ -16,8 +16,10 @@ pub use Rattle.nofs_inode.specs.declared.inode.Record.{Record}
 pub use Rattle.nofs_inode.specs.InodeRecords.{free_record, is_live, is_empty_link, no_link}
 unfoldable pub use Rattle.nofs_inode.specs.InodeRecords.{record_of, record_at, fields_in, link_in}
 unfoldable pub use Rattle.nofs_ptrs.specs.Cells.{pointer_at}
+pub use Rattle.nofs_ptrs.specs.Paths.{slot_limit}
 pub use Rattle.nofs_dirent.specs.declared.entry.Entry.{Entry}
-pub use Rattle.nofs_dirent.specs.Entries.{entry_in}
+pub use Rattle.nofs_dirent.specs.Entries.{entry_in, entry_limit}
+pub use Rattle.nofs_dirent.specs.EntryLaws.{Spells}
 unfoldable pub use Rattle.nofs_dirent.specs.Entries.{entry_of, entry_fields, spelled_entry}
 unfoldable pub use Rattle.nofs_dirent.specs.Names.{is_name}
 pub use Rattle.nofs_super.specs.declared.superblock.SuperBlock.{SuperBlock}

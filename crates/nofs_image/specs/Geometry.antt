@@ -6,6 +6,7 @@ unfoldable pub use Rattle.nofs_super.specs.Super.{super_in, is_super}
 unfoldable pub use Rattle.nofs_super.specs.Geometry.{is_geometry}
 pub use Rattle.nofs_super.specs.Geometry.{IsGeometry}
 use Rattle.nofs_image.specs.Cells.{Cell, Record, SuperBlock, free_record, record_at}
+pub use Rattle.nofs_super.specs.Geometry.{IsGeometry}
 
 abbrev pub Image : Type 0
 Image = List Cell

@@ -1,4 +1,5 @@
 pub mod Cells
+pub mod Kinds
 pub mod Geometry
 pub mod Slots
 pub mod Files

@@ -1,8 +1,7 @@
 -- The file after a Put, wherever its slot lies.
 use Rattle.std.proofs.Common.{◌≡◌, ◌≢◌, ℕ, ◌+◌, ◌*◌, ◌<◌, max, Bool, true, false, cond, eqb, ◌&&◌, List, length, Option, Some, None, unwrap_or, refl, sym, ap}
 use Rattle.std.proofs.Common.{◌∙◌, subst, subst₂, eqb-true, eq-eqb, ne_eqb}
-use Rattle.nofs_ptrs.specs.Paths.{slot_limit}
-use Rattle.nofs_image.specs.Cells.{FileKind}
+use Rattle.nofs_image.specs.Cells.{FileKind, slot_limit}
 use Rattle.nofs_image.specs.Image.{Image, inode, file_from, files_in, value, node_in, Path, path_of, is_pointer_slot, find, Present, FileState, Files}
 use Rattle.nofs_image.specs.Image.{is_folder, IsSlot}
 use Rattle.nofs_image.specs.declared.value.Value.TheVariants.{Bytes}

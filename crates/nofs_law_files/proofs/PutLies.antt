@@ -1,7 +1,6 @@
 -- A Put at any depth: the files after it, and the homes of what it claims.
 use Rattle.std.proofs.Common.{◌≡◌, ◌≢◌, ℕ, ◌<◌, inl, inr, true, false, eqb, List, refl, sym, ap, ◌∙◌, subst, eqb-true}
-use Rattle.nofs_ptrs.specs.Paths.{slot_limit}
-use Rattle.nofs_image.specs.Cells.{Pointer}
+use Rattle.nofs_image.specs.Cells.{Pointer, slot_limit}
 use Rattle.nofs_image.specs.Image.{Image, files_in, agreed, value, node_in, Path, path_of, is_pointer_slot, find, FileState, Files, Home, home_at, IsAbove}
 use Rattle.nofs_image.specs.Image.{IsSlot}
 use Rattle.nofs_image.specs.declared.value.Value.TheVariants.{Bytes}

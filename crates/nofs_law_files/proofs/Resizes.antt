@@ -3,8 +3,7 @@ use Rattle.std.proofs.Common.{◌≡◌, ◌≢◌, ℕ, ◌+◌, ◌-◌, ◌*�
 use Rattle.std.proofs.Common.{not, ◌++◌, option_to_list, Option, Some, None, unwrap_or, refl, sym, ap, ◌∙◌, subst, subst₂, arith, Contains, eqb-true, ne_eqb}
 use Rattle.std.proofs.lemmas.Bool.{cases_lt, le-leb}
 use Rattle.std.proofs.lemmas.List.Elements.{Contains-push}
-use Rattle.nofs_ptrs.specs.Paths.{slot_limit}
-use Rattle.nofs_image.specs.Cells.{FileKind}
+use Rattle.nofs_image.specs.Cells.{FileKind, slot_limit}
 use Rattle.nofs_image.specs.Image.{Image, cell_at, inode, file_from, files_in, agreed, value, value_in, node_in, Path, InRecord, Under, path_of}
 use Rattle.nofs_image.specs.Image.{is_pointer_slot, find, NodeState, Absent, FileState, Files, is_folder, IsAbove, IsSlot}
 use Rattle.nofs_image.specs.declared.path.PathAnswer.{PathAnswer}

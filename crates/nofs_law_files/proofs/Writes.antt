@@ -3,7 +3,7 @@ use Rattle.std.proofs.Common.{◌≡◌, ◌≢◌, ℕ, ◌<◌, ◌≤◌, inl
 use Rattle.std.proofs.Common.{subst₂, Contains, eqb-true, eq-eqb}
 use Rattle.std.proofs.lemmas.List.Elements.{Contains-push, Contains-append_left}
 use Rattle.nofs_image.specs.Cells.{File, Content, Directory, Leaf, Pointer, Record, tag_of, pointer_at}
-use Rattle.nofs_inode.specs.declared.inode.FileKind.TheVariants.{Directory as Folder}
+use Rattle.nofs_image.specs.Kinds.{Directory as Folder}
 use Rattle.nofs_image.specs.Image.{Image, cell_at, inode, Path, InRecord, Under, path_of, slot_of, kind_in, tag_for, find, pointer, record_pointer, IsAbove}
 use Rattle.nofs_image.specs.declared.path.PathAnswer.TheVariants as answer
 use Rattle.nofs_image.specs.declared.value.Value.{Value}

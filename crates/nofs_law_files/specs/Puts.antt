@@ -1,7 +1,6 @@
 -- What a Put leaves on the disk, wherever its slot lies.
 use Rattle.std.specs.Prelude.{◌≡◌, ◌≢◌, ℕ, ◌+◌, ◌*◌, ◌<◌, ◌⊎◌, max, true, false, List, length, Some, is_some, ◌==◌}
-use Rattle.nofs_ptrs.specs.Paths.{slot_limit}
-use Rattle.nofs_image.specs.Cells.{Pointer, tag_of}
+use Rattle.nofs_image.specs.Cells.{Pointer, tag_of, slot_limit}
 use Rattle.nofs_image.specs.Image.{Image, cell_at, is_data_block, inode, Path, path_of, find, pointer, record_pointer, FileState, Files, is_folder, IsAbove}
 use Rattle.nofs_image.specs.declared.path.PathAnswer.TheVariants as answer
 use Rattle.nofs_machine.specs.Machine.{put_given, put_content, files_after}

@@ -1,7 +1,6 @@
 -- What a Resize leaves on the disk: the slots from the cut on are empty, and every other stays.
 use Rattle.std.specs.Prelude.{◌≡◌, ◌≢◌, ℕ, ◌+◌, ◌*◌, ◌<◌, min, Bool, true, false, ◌||◌, if◌then◌else◌, nat_le, ◌==◌, unwrap_or, is_some, Some}
-use Rattle.nofs_ptrs.specs.Paths.{slot_limit}
-use Rattle.nofs_image.specs.Cells.{Pointer, is_null, pointer_at}
+use Rattle.nofs_image.specs.Cells.{Pointer, is_null, pointer_at, slot_limit}
 use Rattle.nofs_image.specs.Image.{Image, cell_at, inode, Path, InRecord, Under, path_of, find, FileState, Files, is_folder, record_pointer, IsSlot}
 use Rattle.nofs_image.specs.declared.path.PathAnswer.TheVariants as answer
 use Rattle.nofs_image.specs.declared.value.Value.TheVariants.{Bytes}

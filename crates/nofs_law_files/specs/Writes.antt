@@ -1,7 +1,6 @@
 -- Why each write of a step on a file is proper.
 use Rattle.std.specs.Prelude.{◌≡◌, ℕ, ◌<◌, ◌≤◌, ◌⊎◌, true, Some}
-use Rattle.nofs_ptrs.specs.Paths.{slot_limit}
-use Rattle.nofs_image.specs.Cells.{Cell, Pointer, Record, tag_of, is_null, is_live}
+use Rattle.nofs_image.specs.Cells.{Cell, Pointer, Record, tag_of, is_null, is_live, slot_limit}
 use Rattle.nofs_image.specs.Image.{Image, cell_at, is_data_block, inode, Path, InRecord, Under, path_of, is_pointer_slot, tag_for, find, record_pointer}
 use Rattle.nofs_image.specs.Image.{IsAbove, IsSlot, IsFree}
 use Rattle.nofs_image.specs.declared.path.PathAnswer.TheVariants as answer

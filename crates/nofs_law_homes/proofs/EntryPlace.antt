@@ -2,8 +2,7 @@
 use Rattle.std.proofs.Common.{◌≡◌, ◌≢◌, ℕ, ◌*◌, ◌/◌, ◌<◌, ◌⊎◌, inl, inr, true, false, ◌&&◌, not, List, [], ◌∷◌, Option, Some, None, is_some, option_map, refl}
 use Rattle.std.proofs.Common.{sym, ap, ◌∙◌, subst, arith}
 use Rattle.nofs_dirent.specs.Entries.{entry_limit}
-use Rattle.nofs_ptrs.specs.Paths.{slot_limit}
-use Rattle.nofs_image.specs.Cells.{Entry, Pointer}
+use Rattle.nofs_image.specs.Cells.{Entry, Pointer, slot_limit}
 use Rattle.nofs_image.specs.Image.{value_in, path_of, find, FileState, Files, entry_held, entry_at}
 use Rattle.nofs_image.specs.declared.path.PathAnswer.{PathAnswer}
 use Rattle.nofs_image.specs.declared.path.PathAnswer.TheVariants as answer

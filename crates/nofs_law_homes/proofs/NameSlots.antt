@@ -1,7 +1,6 @@
 -- What a step on names leaves in slots that get no block, and how many blocks it claims.
 use Rattle.std.proofs.Common.{◌≡◌, ◌≢◌, ℕ, ◌+◌, ◌/◌, ◌<◌, inl, false, true, cond, ltb, List, Option, Some, None, is_some, refl, sym, ap, ◌∙◌}
-use Rattle.nofs_ptrs.specs.Paths.{slot_limit}
-use Rattle.nofs_image.specs.Cells.{BackLink, Pointer, is_live}
+use Rattle.nofs_image.specs.Cells.{BackLink, Pointer, is_live, slot_limit}
 use Rattle.nofs_image.specs.Image.{Image, inode, files_in, agreed, value_in, node_in, Path, path_of, find, FileState, Files, IsSlot, is_pointer_slot}
 use Rattle.nofs_image.specs.declared.path.PathAnswer.{PathAnswer}
 use Rattle.nofs_image.specs.declared.path.PathAnswer.TheVariants as answer

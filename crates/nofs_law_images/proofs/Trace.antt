@@ -1,7 +1,7 @@
 -- Whatever image a crash leaves, each slot that holds was held so at the mark, or its block was written since.
 use Rattle.std.proofs.Common.{◌≡◌, ℕ, ◌+◌, ◌-◌, ◌/◌, ◌%◌, ◌<◌, inl, inr, Bool, true, false, cond, eqb, List, Option, Some, None, refl, sym, ap, ◌∙◌, subst}
 use Rattle.std.proofs.Common.{subst₂, arith, Contains, eqb-true}
-use Rattle.nofs_ptrs.specs.Paths.{slot_limit}
+use Rattle.nofs_image.specs.Kinds.{Directory as Folder}
 use Rattle.nofs_image.specs.declared.path.PathAnswer.{PathAnswer}
 use Rattle.nofs_law_images.specs.Reasons.{Holes, FromMark, Explained, Emptied, Fresh, Kept, WrittenAs, RecordExplained, Written, IsMark, ReadsSince, FineImage}
 use Rattle.nofs_image.proofs.Find.{and-both, Agrees, HoldsAt, find-held, find-null, judged-null, judged-built-null, null-kept, find-built, agrees-built}
@@ -9,9 +9,8 @@ use Rattle.nofs_image.proofs.Paths.{path_of-slot_of, slot_of-path_of, path_of-sl
 use Rattle.nofs_image.specs.declared.path.PathAnswer.TheVariants as answer
 use Rattle.nofs_machine.specs.Meta.{MayRead}
 use Rattle.nofs_machine.specs.Marks.{Mark}
-use Rattle.nofs_image.specs.Cells.{Cell, Kind, Content, Directory, Leaf, Tag, Pointer, FileKind, File, Record, tag_of, is_null, pointer_at, is_live}
+use Rattle.nofs_image.specs.Cells.{Cell, Kind, Content, Directory, Leaf, Tag, Pointer, FileKind, File, Record, tag_of, is_null, pointer_at, is_live, slot_limit}
 use Rattle.nofs_image.specs.Cells.{record_at, free_record}
-use Rattle.nofs_inode.specs.declared.inode.FileKind.TheVariants.{Directory as Folder}
 use Rattle.nofs_image.specs.Image.{super_in, Image, cell_at, super_at, is_data_block, is_inode, inode, Path, InRecord, Under, path_of, slot_of}
 use Rattle.nofs_image.specs.Image.{is_pointer_slot, kind_in, tag_for, record_pointer, find, pointer, value, value_in, AboveHolds, IsSlot}
 use Rattle.nofs_image.specs.declared.value.Value.{Value}

@@ -1,13 +1,12 @@
 -- The writes of one step.
 use Rattle.std.specs.Prelude.{◌≡◌, ℕ, ◌+◌, ◌-◌, ◌/◌, ◌%◌, ◌<◌, ◌≤◌, ◌⊎◌, true, false, Some, Contains}
-use Rattle.nofs_ptrs.specs.Paths.{slot_limit}
 use Rattle.nofs_law_images.specs.Reasons.{Holes}
 use Rattle.nofs_image.specs.declared.path.PathAnswer.TheVariants as answer
 use Rattle.nofs_machine.specs.Meta.{meta_of}
 use Rattle.nofs_machine.specs.Marks.{Mark}
 use Rattle.nofs_image.specs.Image.{IsSlot, IsFree, Image, cell_at, is_data_block, is_inode, inode, Path, InRecord, Under, slot_of, is_pointer_slot}
 use Rattle.nofs_image.specs.Image.{record_pointer, find, pointer, AboveHolds}
-use Rattle.nofs_image.specs.Cells.{Cell, Kind, Content, Directory, Leaf, Tag, Pointer, Record, tag_of, is_null, pointer_at, record_at, is_live}
+use Rattle.nofs_image.specs.Cells.{Cell, Kind, Content, Directory, Leaf, Tag, Pointer, Record, tag_of, is_null, pointer_at, record_at, is_live, slot_limit}
 use Rattle.nofs_image.specs.declared.value.Value.TheVariants.{Hole, Bytes}
 
 -- why a step that began at X, whose givings m has, writes this pointer

@@ -1,6 +1,6 @@
 -- What a crash may leave, block by block.
 use Rattle.std.specs.Prelude.{◌≡◌, ℕ, ◌+◌, ◌-◌, ◌/◌, ◌%◌, ◌<◌, ◌≤◌, ◌⊎◌, ◌≢◌, true, List, Some, Contains}
-use Rattle.nofs_ptrs.specs.Paths.{slot_limit}
+use Rattle.nofs_image.specs.Cells.{slot_limit}
 use Rattle.nofs_image.specs.declared.path.PathAnswer.TheVariants as answer
 use Rattle.nofs_machine.specs.Meta.{meta_of, AllBytes, MayRead}
 use Rattle.nofs_machine.specs.Marks.{Mark}

@@ -3,7 +3,7 @@ use Rattle.std.proofs.Common.{◌≡◌, ℕ, ◌/◌, ◌^◌, ◌<◌, Bool, t
 use Rattle.std.proofs.Common.{refl, sym, ap, ◌∙◌, subst, eqb-true, eq-eqb, lt-ltb, Contains}
 use Rattle.nofs_dirent.specs.Entries.{entry_limit}
 use Rattle.nofs_image.specs.Cells.{FileKind, File, BackLink, Entry}
-use Rattle.nofs_inode.specs.declared.inode.FileKind.TheVariants.{Directory as Folder}
+use Rattle.nofs_image.specs.Kinds.{Directory as Folder}
 use Rattle.nofs_image.specs.Image.{Files, FileState, Agreed, is_folder, entry_in_file, entry_at, entry_held, names, is_a, is_pair, links_of}
 use Rattle.nofs_image.specs.declared.value.Value.{Value}
 use Rattle.nofs_image.proofs.Find.{and-both}

@@ -1,13 +1,12 @@
 -- What block 0 alone does not change: records, values, files, owners.
 use Rattle.std.proofs.Common.{◌≡◌, ◌≢◌, ℕ, zero, suc, ◌+◌, ◌-◌, ◌/◌, ◌%◌, ◌<◌, Bool, true, false, cond, eqb, leb, ltb, ◌&&◌, ◌||◌, Option, Some, None}
 use Rattle.std.proofs.Common.{is_some, refl, sym, ap, ◌∙◌, arith, leb-true, le-leb}
-use Rattle.nofs_ptrs.specs.Paths.{slot_limit}
 use Rattle.nofs_image.specs.declared.path.PathAnswer.{PathAnswer}
 use Rattle.nofs_law_lives.specs.Lives.{IsNew, OnlySuper, SaysTheSame, LawOnlySuper}
 use Rattle.nofs_image.proofs.Find.{and-both, find-held, judged-built-null}
 use Rattle.nofs_image.proofs.Paths.{path_of-slot}
 use Rattle.nofs_image.specs.declared.path.PathAnswer.TheVariants as answer
-use Rattle.nofs_image.specs.Cells.{FileKind, Cell, Tag, Pointer, Record, tag_of, is_null, pointer_at, record_at, free_record, is_live}
+use Rattle.nofs_image.specs.Cells.{FileKind, Cell, Tag, Pointer, Record, tag_of, is_null, pointer_at, record_at, free_record, is_live, slot_limit}
 use Rattle.nofs_image.specs.Image.{Image, cell_at, super_at, is_data_block, is_inode, inode, Path, InRecord, Under, path_of, slot_of, is_slot, kind_in}
 use Rattle.nofs_image.specs.Image.{is_tag, agrees, record_pointer, judged, find, value, value_in, node_in, file_from, files_in, agreed, Home, home_at, owner}
 use Rattle.nofs_image.specs.Image.{owner_by, owner_found, is_special, is_used_block, IsSlot}

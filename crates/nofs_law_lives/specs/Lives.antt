@@ -1,6 +1,5 @@
 -- Runs with crashes between them.
 use Rattle.std.specs.Prelude.{◌≡◌, ◌≢◌, ℕ, suc, ◌+◌, ◌^◌, ◌<◌, ◌≤◌, ◌⊎◌, true, Some, List, [], ◌∷◌, ◌++◌, length, map, get_or, if◌then◌else◌, ◌==◌, Contains}
-use Rattle.nofs_ptrs.specs.Paths.{slot_limit}
 use Rattle.nofs_machine.specs.declared.history.Claims.{Claims}
 use Rattle.nofs_machine.specs.declared.history.Entry1.{Entry1}
 use Rattle.nofs_machine.specs.Machine.{given_by}
@@ -10,7 +9,7 @@ use Rattle.nofs_machine.specs.World.{World, world_of}
 use Rattle.nofs_machine.specs.Claims.{claimed_blocks}
 use Rattle.nofs_machine.specs.Next.{Run}
 use Rattle.nofs_machine.specs.Good.{IsFresh}
-use Rattle.nofs_image.specs.Cells.{Super, is_null, tag_of}
+use Rattle.nofs_image.specs.Cells.{Super, is_null, tag_of, slot_limit}
 use Rattle.nofs_image.specs.Image.{is_super, Image, cell_at, super_at, inode, record_pointer, value, Files, files_in, agreed, is_used_inode, is_used_block}
 use Rattle.nofs_image.specs.Image.{IsSound}
 use Rattle.nofs_image.specs.declared.value.Value.TheVariants.{Bytes}

@@ -2,7 +2,7 @@
 use Rattle.std.specs.Prelude.{◌≡◌, ℕ, ◌+◌, ◌^◌, true, false, List, [], ◌∷◌, ◌++◌, Some, None, if◌then◌else◌, map, nat_le, nat_lt, replicate}
 use Rattle.nofs_ptrs.specs.Paths.{slot_limit}
 use Rattle.nofs_disk.specs.Pointer.{null}
-use Rattle.nofs_inode.specs.declared.inode.FileKind.TheVariants.{File}
+use Rattle.nofs_image.specs.Kinds.{File}
 use Rattle.nofs_dirent.specs.Entries.{spelled_entry}
 use Rattle.nofs_image.specs.Image.{FileState}
 use Rattle.nofs_image.specs.declared.value.Value.TheVariants.{Hole, Bytes, Lost}

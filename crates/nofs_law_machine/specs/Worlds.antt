@@ -1,7 +1,7 @@
 -- Small worlds for the examples: 64 blocks, 16 inodes, the root, the label file, and two more files.
 use Rattle.std.specs.Prelude.{ℕ, ◌+◌, ◌-◌, true, false, List, [], ◌∷◌, ◌++◌, length, Option, Some, None, if◌then◌else◌, nat_lt, nat_le, ◌==◌, replicate}
-use Rattle.nofs_inode.specs.declared.inode.BackLink.{BackLink}
-use Rattle.nofs_inode.specs.declared.inode.FileKind.TheVariants.{File, Directory}
+use Rattle.nofs_image.specs.Cells.{BackLink}
+use Rattle.nofs_image.specs.Kinds.{File, Directory}
 use Rattle.nofs_image.specs.Image.{Path, InRecord, Under, NodeState, Absent, Present, Damaged, FileState, home_at}
 use Rattle.nofs_image.specs.declared.value.Value.{Value}
 use Rattle.nofs_image.specs.declared.value.Value.TheVariants.{Hole, Bytes}

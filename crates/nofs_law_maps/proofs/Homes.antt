@@ -3,7 +3,6 @@ use Rattle.std.proofs.Common.{◌≡◌, ℕ, ◌+◌, ◌-◌, ◌^◌, ◌/◌
 use Rattle.std.proofs.Common.{refl, sym, ap, ◌∙◌, subst, arith, lt-ltb, le-ltb}
 use Rattle.std.proofs.lemmas.Bool.{cases_lt}
 use Rattle.std.proofs.lemmas.Bool.Decides.{nat_tests}
-use Rattle.nofs_ptrs.specs.Paths.{slot_limit}
 use Rattle.nofs_image.specs.declared.path.PathAnswer.{PathAnswer}
 use Rattle.nofs_law_maps.specs.Homes.{Houses, HomesMove, LawHomes, LawGood}
 use Rattle.nofs_image.proofs.Find.{find-held}
@@ -20,7 +19,7 @@ use Rattle.nofs_machine.specs.declared.history.Claims.{Claims}
 use Rattle.nofs_machine.specs.History.{FilesMatch, SameFile}
 use Rattle.nofs_machine.specs.World.{World}
 use Rattle.nofs_machine.specs.Claims.{claimed_home, is_present, has_block, homes_after}
-use Rattle.nofs_image.specs.Cells.{FileKind, Pointer}
+use Rattle.nofs_image.specs.Cells.{FileKind, Pointer, slot_limit}
 use Rattle.nofs_image.specs.Image.{Image, cell_at, super_at, inode, file_from, files_in, agreed, value_in, Path, path_of, slot_of, is_pointer_slot, find}
 use Rattle.nofs_image.specs.Image.{NodeState, Absent, Present, node_in, FileState, Files, Home, home_at, owner, is_special, IsSlot}
 use Rattle.nofs_image.specs.declared.value.Value.{Value}

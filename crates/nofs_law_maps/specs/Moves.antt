@@ -1,6 +1,5 @@
 -- What the frame lemmas say of the homes.
 use Rattle.std.specs.Prelude.{◌≡◌, ℕ, ◌<◌, ◌⊎◌, Bool, true, false, Some}
-use Rattle.nofs_ptrs.specs.Paths.{slot_limit}
 use Rattle.nofs_law_untouched.specs.Frames.{OldPointers, Touches}
 use Rattle.nofs_law_maps.specs.Homes.{HomesMove}
 use Rattle.nofs_image.specs.declared.path.PathAnswer.TheVariants as answer
@@ -8,7 +7,7 @@ use Rattle.nofs_machine.specs.declared.steps.Step.{Step}
 use Rattle.nofs_machine.specs.declared.history.Claims.{Claims}
 use Rattle.nofs_machine.specs.World.{World}
 use Rattle.nofs_machine.specs.Claims.{is_claimed, cell_slot, slot_above, IsClaim}
-use Rattle.nofs_image.specs.Cells.{Pointer}
+use Rattle.nofs_image.specs.Cells.{Pointer, slot_limit}
 use Rattle.nofs_image.specs.Image.{Image, files_in, agreed, Path, path_of, find, Home, IsAbove, IsSlot}
 
 abbrev pub IsClaimed : Claims → Pointer → Type 0

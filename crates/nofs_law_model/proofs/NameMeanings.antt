@@ -1,9 +1,8 @@
 -- An entry, a pair and an agreed inode are what the computing words say.
 use Rattle.std.proofs.Common.{◌≡◌, ◌≢◌, ℕ, ◌/◌, ◌<◌, ◌⊎◌, inl, inr, Bool, true, false, cond, eqb, ltb, ◌&&◌, ◌||◌, not, List, Option, Some, None, is_some}
 use Rattle.std.proofs.Common.{refl, sym, ap, ◌∙◌, subst, Contains, eqb-true, eq-eqb, ne_eqb, ltb-true, lt-ltb}
-use Rattle.nofs_dirent.specs.Entries.{entry_limit}
-use Rattle.nofs_inode.specs.declared.inode.FileKind.TheVariants.{File, Directory as Folder}
-use Rattle.nofs_image.specs.Cells.{FileKind, BackLink, Entry, is_live}
+use Rattle.nofs_image.specs.Kinds.{File, Directory as Folder}
+use Rattle.nofs_image.specs.Cells.{FileKind, BackLink, Entry, is_live, entry_limit}
 use Rattle.nofs_image.specs.Image.{Image, cell_at, inode, path_of, find, value, value_in, FileState, file_from, files_in, is_folder, entry_held}
 use Rattle.nofs_image.specs.Image.{entry_in_file, names, is_a, pairs, is_pair, links_of, links_in_file, is_root, is_special, agreed, Agreed, root, linked}
 use Rattle.nofs_law_model.specs.Definitions.{bytes, IsEntry, IsPair, IsAgreed, the_root, the_label, named, LawPairs}

@@ -3,9 +3,8 @@
 -- The words that programs and proofs compute with stand in Geometry, Slots, Files, Owners. `law_slots`, `law_names` and
 -- `law_owners` say that each of them is the fact of this file. Mountable and sound images are defined in Geometry and Sound.
 use Rattle.std.specs.Prelude.{◌≡◌, ◌≢◌, ◌↔◌, ℕ, ◌+◌, ◌/◌, ◌%◌, ◌<◌, ◌≤◌, ◌⊎◌, true, ◌&&◌, ◌||◌, not, Some, Contains}
-use Rattle.nofs_dirent.specs.Entries.{entry_limit}
-use Rattle.nofs_image.specs.Cells.{Pointer, BackLink, Entry, tag_of, null, pointer_at, entry_in, is_live}
-use Rattle.nofs_inode.specs.declared.inode.FileKind.TheVariants as kind
+use Rattle.nofs_image.specs.Cells.{Pointer, BackLink, Entry, tag_of, null, pointer_at, entry_in, is_live, entry_limit}
+use Rattle.nofs_image.specs.Kinds as kind
 use Rattle.nofs_image.specs.Geometry.{Image, cell_at, inodes_of, blocks_of, inode}
 use Rattle.nofs_image.specs.Slots.{Path, InRecord, Under, is_slot, path_of, record_pointer, tag_for, find, value}
 use Rattle.nofs_image.specs.Files.{Files, files_in, is_pair, is_root, is_special, has_agreed_link, agreed, Agreed}

@@ -1,10 +1,9 @@
 -- Mounts of one device, with crashes and upgrades between them.
 use Rattle.std.specs.Prelude.{◌≡◌, ◌≢◌, ◌⊎◌, ℕ, ◌<◌, ◌≤◌, IsTrue, true, List, [], ◌∷◌, ◌++◌, length, get_or, slice_set}
-use Rattle.nofs_ptrs.specs.Paths.{slot_limit}
 use Rattle.nofs_disk.specs.Disk.{DiskState, IsSameDisk, IsSettled, KeepsCells, Picks}
 use Rattle.nofs_super.specs.Format.{IsFormatted, super_cell}
 use Rattle.nofs_super.specs.Raise.{raised}
-use Rattle.nofs_image.specs.Cells.{is_null}
+use Rattle.nofs_image.specs.Cells.{is_null, slot_limit}
 use Rattle.nofs_image.specs.Image.{Image, inode, record_pointer, super_at, value}
 use Rattle.nofs_image.specs.declared.value.Value.TheVariants.{Bytes}
 use Rattle.nofs_machine.specs.History.{agreed_files, is_generation}

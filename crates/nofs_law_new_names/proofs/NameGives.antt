@@ -1,7 +1,6 @@
 -- Link and Make: what they give, and the files after them, wherever the directory's cell lies.
 use Rattle.std.proofs.Common.{◌≡◌, ◌≢◌, ℕ, zero, suc, ◌+◌, ◌-◌, ◌/◌, ◌<◌, ◌≤◌, true, false, List, [], ◌∷◌, length, Option, Some, None, is_some, refl, sym, ap}
 use Rattle.std.proofs.Common.{◌∙◌, subst, subst₂, arith, Contains, eq-eqb, ne_eqb}
-use Rattle.nofs_dirent.specs.Entries.{entry_limit}
 use Rattle.nofs_law_images.specs.Proper.{Proper}
 use Rattle.nofs_law_images.specs.Moments.{during}
 use Rattle.nofs_law_untouched.specs.Frames.{OldPointers}
@@ -10,7 +9,6 @@ use Rattle.nofs_law_untouched.proofs.Given.{file-apart, none-apart, value-of, at
 use Rattle.nofs_law_untouched.proofs.EntryCells.{entry-here, entry-there}
 use Rattle.nofs_law_old_names.proofs.NameInPlace.{in-place-writes, cell-proper, directory-in-place, cell-gives, cell-elsewhere}
 use Rattle.nofs_law_old_names.proofs.NameRename.{value-held}
-use Rattle.nofs_dirent.specs.EntryLaws.{Spells}
 use Rattle.nofs_law_old_names.proofs.NameLinks.{table-proper, relinked-proper}
 use Rattle.nofs_law_new_names.proofs.NameNew.{birth-proper, link-matches, make-matches}
 use Rattle.nofs_image.specs.declared.path.PathAnswer.TheVariants as answer
@@ -20,7 +18,7 @@ use Rattle.nofs_machine.specs.declared.history.Claims.{Claims}
 use Rattle.nofs_machine.specs.Machine.{Given, files_after, value_of, bytes_in, with_entry, entry_given, link_given, make_given, meta_given, set_link, link_to}
 use Rattle.nofs_machine.specs.Machine.{is_paired}
 use Rattle.nofs_machine.specs.History.{FilesMatch, SameFile}
-use Rattle.nofs_image.specs.Cells.{FileKind, BackLink, Pointer, spelled_entry}
+use Rattle.nofs_image.specs.Cells.{FileKind, BackLink, Pointer, spelled_entry, entry_limit, Spells}
 use Rattle.nofs_image.specs.Image.{Image, cell_at, super_at, is_data_block, inode, files_in, path_of, find, FileState, Files, is_folder, entry_held, is_special}
 use Rattle.nofs_image.specs.declared.value.Value.{Value}
 use Rattle.nofs_image.specs.declared.value.Value.TheVariants.{Bytes, Lost}

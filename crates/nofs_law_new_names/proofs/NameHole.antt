@@ -1,7 +1,6 @@
 -- The directory's cell in a hole: a block is claimed for it, and a leaf where there is none.
 use Rattle.std.proofs.Common.{◌≡◌, ◌≢◌, ℕ, ◌<◌, ◌≤◌, ◌⊎◌, inl, inr, Bool, true, false, eqb, leb, ◌||◌, Some, refl, sym, ap, ap₂, ◌∙◌, subst, arith, eqb-true}
 use Rattle.std.proofs.Common.{eq-eqb, leb-true}
-use Rattle.nofs_ptrs.specs.Paths.{slot_limit}
 use Rattle.nofs_law_untouched.specs.Frames.{SameIdentity, OldPointers}
 use Rattle.nofs_image.proofs.Find.{find-held}
 use Rattle.nofs_image.proofs.Paths.{path_of-content, path_of-slot_of}
@@ -13,7 +12,7 @@ use Rattle.nofs_law_old_names.proofs.NameFiles.{touches-of, directory-file}
 use Rattle.nofs_image.specs.declared.path.PathAnswer.TheVariants as answer
 use Rattle.nofs_machine.specs.Machine.{Given, files_after}
 use Rattle.nofs_machine.specs.History.{FilesMatch, SameFile}
-use Rattle.nofs_image.specs.Cells.{Tag, Pointer, Record, tag_of, pointer_at, is_null}
+use Rattle.nofs_image.specs.Cells.{Tag, Pointer, Record, tag_of, pointer_at, is_null, slot_limit}
 use Rattle.nofs_image.specs.Image.{super_in, Image, cell_at, super_at, is_data_block, inode, files_in, agreed, value, node_in, tag_for, Path, InRecord, Under}
 use Rattle.nofs_image.specs.Image.{leaf, path_of, slot_of, is_pointer_slot, find, Present, FileState, Files, record_pointer, IsAbove, IsSlot, IsFree}
 use Rattle.nofs_image.specs.declared.value.Value.{Value}

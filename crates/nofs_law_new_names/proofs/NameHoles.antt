@@ -1,6 +1,4 @@
 -- Link and Make in a hole, whole.
-use Rattle.nofs_dirent.specs.Entries.{entry_limit}
-use Rattle.nofs_ptrs.specs.Paths.{slot_limit}
 use Rattle.nofs_law_untouched.proofs.Claiming.{holes-under}
 use Rattle.std.proofs.Common.{◌≡◌, ◌≢◌, ℕ, ◌+◌, ◌-◌, ◌/◌, ◌%◌, ◌<◌, ◌≤◌, ◌⊎◌, inl, inr, true, false, List, length, Some, None, is_some, refl, sym, ap, ◌∙◌}
 use Rattle.std.proofs.Common.{subst, arith, Contains, eq-eqb}
@@ -14,7 +12,6 @@ use Rattle.nofs_law_untouched.proofs.Matching.{matched-file}
 use Rattle.nofs_law_untouched.proofs.Framing.{some-is}
 use Rattle.nofs_law_untouched.proofs.Given.{file-apart, none-apart, meta-stays, value-of}
 use Rattle.nofs_law_old_names.proofs.NameFiles.{file-of}
-use Rattle.nofs_dirent.specs.EntryLaws.{Spells}
 use Rattle.nofs_law_old_names.proofs.NameLinks.{relinked-proper}
 use Rattle.nofs_law_new_names.proofs.NameNew.{birth-proper}
 use Rattle.nofs_law_new_names.proofs.NameGives.{link-cell, link-meta, make-birth, link-files, link-apart, make-gives, make-files, make-apart}
@@ -27,7 +24,7 @@ use Rattle.nofs_machine.specs.Marks.{Mark}
 use Rattle.nofs_machine.specs.declared.history.Claims.{Claims}
 use Rattle.nofs_machine.specs.Machine.{Given, files_after, value_of, bytes_in, with_entry, link_given, make_given, set_link, link_to, is_paired}
 use Rattle.nofs_machine.specs.History.{FilesMatch, SameFile}
-use Rattle.nofs_image.specs.Cells.{Cell, FileKind, Pointer, Record, is_live, record_at, spelled_entry}
+use Rattle.nofs_image.specs.Cells.{Cell, FileKind, Pointer, Record, is_live, record_at, spelled_entry, entry_limit, slot_limit, Spells}
 use Rattle.nofs_image.specs.Image.{Image, cell_at, is_inode, is_data_block, inode, files_in, value_in, Path, InRecord, Under, leaf, path_of, find, FileState}
 use Rattle.nofs_image.specs.Image.{Files, is_folder, is_special}
 use Rattle.nofs_image.specs.declared.value.Value.{Value}

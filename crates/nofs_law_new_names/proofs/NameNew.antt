@@ -2,7 +2,7 @@
 use Rattle.std.proofs.Common.{◌≡◌, ◌≢◌, ℕ, ◌/◌, ◌%◌, ◌<◌, ◌≤◌, inr, Bool, true, false, cond, eqb, ltb, ◌&&◌, ◌||◌, not, List, ◌++◌, option_to_list, Option}
 use Rattle.std.proofs.Common.{Some, None, is_some, unwrap_or, refl, sym, ap, ◌∙◌, subst, subst₂, Contains, eqb-true, eq-eqb, lt-ltb}
 use Rattle.std.proofs.lemmas.List.Elements.{Contains-push}
-use Rattle.nofs_dirent.specs.Entries.{entry_limit}
+use Rattle.nofs_image.specs.Kinds.{Directory as Folder}
 use Rattle.nofs_image.specs.declared.path.PathAnswer.{PathAnswer}
 use Rattle.nofs_law_images.specs.Proper.{RecordProper, Made}
 use Rattle.nofs_law_images.specs.Moments.{during, is_removal}
@@ -18,8 +18,7 @@ use Rattle.nofs_machine.specs.Meta.{Meta, Is, meta_of}
 use Rattle.nofs_machine.specs.Marks.{Mark}
 use Rattle.nofs_machine.specs.Machine.{Given, filled, files_after, file_after, after_meta, born_file, new_file, link_to, is_paired}
 use Rattle.nofs_machine.specs.History.{FilesMatch, SameFile}
-use Rattle.nofs_image.specs.Cells.{FileKind, BackLink, Entry, Record, is_null}
-use Rattle.nofs_inode.specs.declared.inode.FileKind.TheVariants.{Directory as Folder}
+use Rattle.nofs_image.specs.Cells.{FileKind, BackLink, Entry, Record, is_null, entry_limit}
 use Rattle.nofs_image.specs.Image.{Image, inode, file_from, files_in, value_in, node_in, Path, InRecord, Under, path_of, find, FileState, Files, NodeState}
 use Rattle.nofs_image.specs.Image.{Absent, is_folder, entry_held, entry_in_file, pairs, names, is_a, is_pair, is_special, links_in_file, record_pointer}
 use Rattle.nofs_image.specs.Image.{IsSlot}

@@ -2,7 +2,7 @@
 use Rattle.std.proofs.Common.{◌≡◌, ◌≢◌, ℕ, zero, suc, ◌+◌, ◌-◌, ◌*◌, ◌/◌, ◌%◌, ◌<◌, ◌≤◌, ◌⊎◌, Bool, true, false, cond, eqb, ltb, leb, ◌&&◌, ◌||◌, not, List}
 use Rattle.std.proofs.Common.{[], ◌∷◌, length, Option, Some, None, is_some, refl, sym, ap, ◌∙◌, subst, arith, eqb-true, eq-eqb, leb-true}
 use Rattle.std.specs.Prelude.{option_map}
-use Rattle.nofs_dirent.specs.Entries.{entry_limit}
+use Rattle.nofs_image.specs.Kinds.{Directory as Folder}
 use Rattle.nofs_law_images.specs.Proper.{Proper, RecordProper}
 use Rattle.nofs_image.proofs.Find.{and-both}
 use Rattle.nofs_image.proofs.Chains.{agreed-holds}
@@ -18,8 +18,7 @@ use Rattle.nofs_machine.specs.Machine.{drop_given, link_given, make_given, place
 use Rattle.nofs_machine.specs.Search.{first_of, least_from}
 use Rattle.nofs_machine.specs.History.{FilesMatch}
 use Rattle.nofs_machine.specs.declared.steps.Step.TheVariants as step
-use Rattle.nofs_image.specs.Cells.{Cell, Entry, FileKind, BackLink, record_at, free_record, is_empty_link}
-use Rattle.nofs_inode.specs.declared.inode.FileKind.TheVariants.{Directory as Folder}
+use Rattle.nofs_image.specs.Cells.{Cell, Entry, FileKind, BackLink, record_at, free_record, is_empty_link, entry_limit}
 use Rattle.nofs_image.specs.Image.{Image, cell_at, super_at, is_inode, is_data_block, inode, FileState, Files, entry_held, entry_in_file, entry_at, is_folder}
 use Rattle.nofs_image.specs.Image.{files_in, Agreed, root, linked, is_a, is_pair, is_special, links_of}
 use Rattle.nofs_image.specs.declared.value.Value.{Value}

@@ -1,7 +1,6 @@
 -- The laws of Link and Make.
 use Rattle.std.proofs.Common.{◌≡◌, ◌≢◌, ℕ, ◌/◌, ◌<◌, length, Some, ap, ◌∙◌, arith}
-use Rattle.nofs_dirent.specs.Entries.{entry_limit}
-use Rattle.nofs_image.specs.Cells.{Pointer}
+use Rattle.nofs_image.specs.Cells.{Pointer, entry_limit}
 use Rattle.nofs_image.specs.Image.{Image, cell_at, path_of, find, FileState, Files}
 use Rattle.nofs_image.specs.declared.path.PathAnswer.TheVariants as answer
 use Rattle.nofs_image.specs.declared.value.Value.{Value}

@@ -1,8 +1,6 @@
 -- What a new entry leaves on the disk: its slot holds, or gets a block with or without its leaf.
 use Rattle.std.specs.Prelude.{◌≡◌, ◌≢◌, ℕ, ◌+◌, ◌-◌, ◌/◌, ◌%◌, ◌<◌, ◌≤◌, ◌⊎◌, true, false, List, [], ◌∷◌, length, Some, None, is_some, Contains}
-use Rattle.nofs_dirent.specs.Entries.{entry_limit}
-use Rattle.nofs_dirent.specs.EntryLaws.{Spells}
-use Rattle.nofs_image.specs.Cells.{Cell, FileKind, Pointer, BackLink, tag_of, is_null, pointer_at, record_at, spelled_entry}
+use Rattle.nofs_image.specs.Cells.{Cell, FileKind, Pointer, BackLink, tag_of, is_null, pointer_at, record_at, spelled_entry, entry_limit, Spells}
 use Rattle.nofs_image.specs.Image.{Image, cell_at, super_at, is_data_block, is_inode, inode, InRecord, Under, leaf, path_of, find, record_pointer, FileState}
 use Rattle.nofs_image.specs.Image.{Files, is_folder, is_special}
 use Rattle.nofs_image.specs.declared.path.PathAnswer.TheVariants as answer

@@ -2,9 +2,8 @@
 use Rattle.std.proofs.Common.{◌≡◌, ℕ, ◌<◌, inl, inr, Bool, true, false, cond, eqb, List, [], ◌∷◌, ◌++◌, Some, refl, sym, ap, ◌∙◌, subst, arith, Contains}
 use Rattle.std.proofs.Common.{eqb-true}
 use Rattle.std.proofs.lemmas.List.Elements.{Contains-append_left, Contains-append_right}
-use Rattle.nofs_ptrs.specs.Paths.{slot_limit}
-use Rattle.nofs_image.specs.Cells.{Cell, FileKind, File, Content, Directory, Pointer, BackLink, Record, tag_of, pointer_at, is_live}
-use Rattle.nofs_inode.specs.declared.inode.FileKind.TheVariants.{Directory as Folder}
+use Rattle.nofs_image.specs.Kinds.{Directory as Folder}
+use Rattle.nofs_image.specs.Cells.{Cell, FileKind, File, Content, Directory, Pointer, BackLink, Record, tag_of, pointer_at, is_live, slot_limit}
 use Rattle.nofs_image.specs.Image.{Image, cell_at, inode, Path, InRecord, Under, path_of, slot_of, is_pointer_slot, content_kind, kind_in, tag_for, find}
 use Rattle.nofs_image.specs.Image.{pointer, record_pointer, FileState, is_folder, IsAbove, IsSlot}
 use Rattle.nofs_image.specs.declared.path.PathAnswer.TheVariants as answer

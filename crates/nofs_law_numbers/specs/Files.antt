@@ -1,7 +1,6 @@
 -- The numbers in what the steps on files write: Put and Resize.
 use Rattle.std.specs.Prelude.{◌≡◌, ℕ, ◌<◌, ◌⊎◌, true, false, List}
-use Rattle.nofs_ptrs.specs.Paths.{slot_limit}
-use Rattle.nofs_image.specs.Cells.{Pointer, Record}
+use Rattle.nofs_image.specs.Cells.{Pointer, Record, slot_limit}
 use Rattle.nofs_image.specs.Image.{Image, cell_at, inode, Path, path_of, is_pointer_slot, find, record_pointer, FileState, IsAbove, IsSlot}
 use Rattle.nofs_image.specs.declared.path.PathAnswer.TheVariants as answer
 use Rattle.nofs_machine.specs.World.{World}

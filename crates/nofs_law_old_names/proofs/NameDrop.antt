@@ -2,7 +2,7 @@
 use Rattle.std.proofs.Common.{◌≡◌, ◌≢◌, ℕ, suc, ◌+◌, ◌-◌, ◌/◌, ◌<◌, ◌⊎◌, inl, inr, Bool, true, false, cond, eqb, ltb, ◌&&◌, ◌||◌, not, List, [], ◌∷◌, length}
 use Rattle.std.proofs.Common.{Option, Some, None, is_some, refl, sym, ap, ◌∙◌, subst, subst₂, arith, Contains, eqb-true, eq-eqb}
 use Rattle.std.specs.List.{list_any}
-use Rattle.nofs_dirent.specs.Entries.{entry_limit}
+use Rattle.nofs_image.specs.Kinds.{Directory as Folder}
 use Rattle.nofs_law_images.specs.Proper.{Proper}
 use Rattle.nofs_law_images.specs.Moments.{during}
 use Rattle.nofs_law_untouched.specs.Frames.{OldPointers}
@@ -22,8 +22,7 @@ use Rattle.nofs_machine.specs.Marks.{Mark}
 use Rattle.nofs_machine.specs.Machine.{zeros, files_after, with_entry, entry_given, meta_given, drop_given, drop_meta, without_link, link_to, same_link}
 use Rattle.nofs_machine.specs.Machine.{is_paired, generation_of, nothing}
 use Rattle.nofs_machine.specs.History.{FilesMatch}
-use Rattle.nofs_image.specs.Cells.{FileKind, File, BackLink, Entry, Pointer, entry_of}
-use Rattle.nofs_inode.specs.declared.inode.FileKind.TheVariants.{Directory as Folder}
+use Rattle.nofs_image.specs.Cells.{FileKind, File, BackLink, Entry, Pointer, entry_of, entry_limit}
 use Rattle.nofs_image.specs.Image.{Image, cell_at, super_at, is_data_block, inode, files_in, agreed, Agreed, root, linked, Path, path_of, find, FileState}
 use Rattle.nofs_image.specs.Image.{Files, is_folder, entry_in_file, entry_at, pairs, names, is_a, is_pair, is_root, is_special, links_of, links_in_file}
 use Rattle.nofs_image.specs.declared.value.Value.TheVariants.{Bytes}

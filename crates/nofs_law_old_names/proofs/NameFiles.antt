@@ -1,7 +1,6 @@
 -- The files after a step on names: one cell of a directory changes, and the record of one inode.
 use Rattle.std.proofs.Common.{◌≡◌, ◌≢◌, ℕ, ◌<◌, inl, inr, Bool, true, false, cond, eqb, ◌||◌, List, Option, Some, None, unwrap_or, refl, sym, ap, ◌∙◌, subst₂}
 use Rattle.std.proofs.Common.{eqb-true, eq-eqb}
-use Rattle.nofs_ptrs.specs.Paths.{slot_limit}
 use Rattle.nofs_image.specs.declared.path.PathAnswer.{PathAnswer}
 use Rattle.nofs_law_untouched.specs.Frames.{SameIdentity, SamePointers, OldPointers, Touches}
 use Rattle.nofs_image.proofs.Find.{find-held}
@@ -13,7 +12,7 @@ use Rattle.nofs_image.specs.declared.path.PathAnswer.TheVariants as answer
 use Rattle.nofs_machine.specs.Meta.{Meta, Gone, Is}
 use Rattle.nofs_machine.specs.Machine.{Given, filled, after_meta, born_file, file_after, files_after, lies_above}
 use Rattle.nofs_machine.specs.History.{FilesMatch, SameFile}
-use Rattle.nofs_image.specs.Cells.{Cell, FileKind, BackLink, Pointer, pointer_at}
+use Rattle.nofs_image.specs.Cells.{Cell, FileKind, BackLink, Pointer, pointer_at, slot_limit}
 use Rattle.nofs_image.specs.Image.{Image, cell_at, inode, file_from, files_in, agreed, value, value_in, node_in, Path, InRecord, Under, path_of}
 use Rattle.nofs_image.specs.Image.{is_pointer_slot, find, NodeState, Present, FileState, Files, record_pointer, IsSlot}
 use Rattle.nofs_image.specs.declared.value.Value.{Value}

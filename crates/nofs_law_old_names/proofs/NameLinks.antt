@@ -3,8 +3,7 @@ use Rattle.std.proofs.Common.{◌≡◌, ◌≢◌, ℕ, ◌+◌, ◌-◌, ◌/�
 use Rattle.std.proofs.Common.{option_to_list, Option, Some, None, is_some, unwrap_or, refl, sym, ap, ◌∙◌, subst, subst₂, arith, Contains, eqb-true, eq-eqb}
 use Rattle.std.proofs.Common.{ne_eqb}
 use Rattle.std.proofs.lemmas.List.Elements.{Contains-push}
-use Rattle.nofs_dirent.specs.Entries.{entry_limit}
-use Rattle.nofs_ptrs.specs.Paths.{slot_limit}
+use Rattle.nofs_image.specs.Kinds.{Directory as Folder}
 use Rattle.nofs_law_images.specs.Proper.{Proper, OfTable, RecordProper, Unchanged, Changed, Freed, Same}
 use Rattle.nofs_law_images.specs.Moments.{during, is_removal}
 use Rattle.nofs_law_untouched.specs.Frames.{OldPointers}
@@ -23,8 +22,7 @@ use Rattle.nofs_machine.specs.Meta.{Meta, Gone, Is, meta_of}
 use Rattle.nofs_machine.specs.Marks.{Mark}
 use Rattle.nofs_machine.specs.Machine.{Given, filled, files_after, file_after, after_meta, born_file, bytes_in, with_entry, cell_given, entry_given, meta_given}
 use Rattle.nofs_machine.specs.History.{FilesMatch, SameFile}
-use Rattle.nofs_image.specs.Cells.{FileKind, BackLink, Entry, Pointer, Record, is_live, entry_of, record_at}
-use Rattle.nofs_inode.specs.declared.inode.FileKind.TheVariants.{Directory as Folder}
+use Rattle.nofs_image.specs.Cells.{FileKind, BackLink, Entry, Pointer, Record, is_live, entry_of, record_at, entry_limit, slot_limit}
 use Rattle.nofs_image.specs.Image.{super_in, Image, cell_at, super_at, is_inode, is_data_block, inode, file_from, files_in, agreed, value, value_in, Path}
 use Rattle.nofs_image.specs.Image.{InRecord, path_of, find, pointer, FileState, Files, is_folder, entry_held, entry_in_file, entry_at, pairs, names, is_a}
 use Rattle.nofs_image.specs.Image.{is_pair, is_root, is_special, links_of, record_pointer, IsSlot}

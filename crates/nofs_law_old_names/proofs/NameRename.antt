@@ -1,7 +1,4 @@
 -- Rename: the found entry's name is written in place.
-use Rattle.nofs_dirent.specs.Entries.{entry_limit}
-use Rattle.nofs_ptrs.specs.Paths.{slot_limit}
-use Rattle.nofs_dirent.specs.EntryLaws.{Spells}
 use Rattle.std.proofs.Common.{◌≡◌, ◌≢◌, ℕ, ◌/◌, ◌%◌, ◌<◌, Bool, true, false, cond, eqb, ltb, ◌&&◌, List, length, Option, Some, None, is_some, refl, sym, ap}
 use Rattle.std.proofs.Common.{◌∙◌, subst, subst₂, arith, eqb-true, eq-eqb, ltb-true}
 use Rattle.nofs_image.specs.declared.path.PathAnswer.{PathAnswer}
@@ -21,7 +18,7 @@ use Rattle.nofs_machine.specs.Marks.{Mark}
 use Rattle.nofs_machine.specs.Machine.{Given, files_after, file_after, born_file, value_of, bytes_in, with_entry, cell_given, entry_given, rename_given}
 use Rattle.nofs_machine.specs.Machine.{nothing, no_meta}
 use Rattle.nofs_machine.specs.History.{FilesMatch, SameFile}
-use Rattle.nofs_image.specs.Cells.{Entry, Pointer, Record, spelled_entry}
+use Rattle.nofs_image.specs.Cells.{Entry, Pointer, Record, spelled_entry, entry_limit, slot_limit, Spells}
 use Rattle.nofs_image.specs.Image.{Image, cell_at, is_data_block, file_from, files_in, value_in, path_of, find, FileState, Files, is_folder, entry_held}
 use Rattle.nofs_image.specs.Image.{entry_in_file, entry_at, names}
 use Rattle.nofs_image.specs.declared.value.Value.{Value}

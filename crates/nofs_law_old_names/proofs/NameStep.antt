@@ -3,7 +3,7 @@ use Rattle.std.proofs.Common.{◌≡◌, ◌≢◌, ℕ, ◌/◌, ◌%◌, ◌<�
 use Rattle.std.proofs.Common.{unwrap_or, refl, sym, ap, ◌∙◌, subst, subst₂, arith, Contains, eqb-true, eq-eqb, ne_eqb, ltb-true, lt-ltb}
 use Rattle.std.proofs.lemmas.Bool.{cases_eq}
 use Rattle.std.specs.List.{list_any}
-use Rattle.nofs_dirent.specs.Entries.{entry_limit}
+use Rattle.nofs_image.specs.Kinds.{Directory as Folder}
 use Rattle.nofs_law_untouched.specs.Frames.{OldPointers}
 use Rattle.nofs_image.proofs.Find.{and-both}
 use Rattle.nofs_image.proofs.Chains.{pair-of, true-any}
@@ -16,8 +16,7 @@ use Rattle.nofs_law_untouched.proofs.Given.{given-elsewhere, same-trans}
 use Rattle.nofs_law_old_names.proofs.NameFiles.{touches-of}
 use Rattle.nofs_machine.specs.Machine.{Given, filled, files_after, file_after, born_file, link_to, same_link, is_paired, generation_of}
 use Rattle.nofs_machine.specs.History.{FilesMatch, SameFile}
-use Rattle.nofs_image.specs.Cells.{FileKind, BackLink, Entry, Record}
-use Rattle.nofs_inode.specs.declared.inode.FileKind.TheVariants.{Directory as Folder}
+use Rattle.nofs_image.specs.Cells.{FileKind, BackLink, Entry, Record, entry_limit}
 use Rattle.nofs_image.specs.Image.{Image, inode, file_from, files_in, FileState, Files, is_folder, entry_held, entry_in_file, pairs, names, is_a, is_pair}
 use Rattle.nofs_image.specs.Image.{is_root, is_special, links_of}
 use Rattle.nofs_image.specs.declared.value.Value.{Value}

@@ -1,8 +1,6 @@
 -- What the steps on names leave on the disk where the entry's slot holds.
 use Rattle.std.specs.Prelude.{◌≡◌, ◌≢◌, ℕ, ◌+◌, ◌-◌, ◌/◌, ◌<◌, ◌≤◌, ◌⊎◌, true, false, List, length, Some, None, is_some}
-use Rattle.nofs_dirent.specs.Entries.{entry_limit}
-use Rattle.nofs_dirent.specs.EntryLaws.{Spells}
-use Rattle.nofs_image.specs.Cells.{Tag, Pointer, BackLink, Entry, tag_of, spelled_entry}
+use Rattle.nofs_image.specs.Cells.{Tag, Pointer, BackLink, Entry, tag_of, spelled_entry, entry_limit, Spells}
 use Rattle.nofs_image.specs.Image.{Image, cell_at, super_at, is_data_block, inode, Path, path_of, find, record_pointer, FileState, Files, is_folder, entry_at}
 use Rattle.nofs_image.specs.Image.{IsFree}
 use Rattle.nofs_image.specs.declared.path.PathAnswer.TheVariants as answer

@@ -3,10 +3,8 @@ use Rattle.std.proofs.Common.{◌≡◌, ℕ, suc, ◌/◌, ◌%◌, ◌<◌, in
 use Rattle.std.proofs.Common.{is_some, refl, sym, ap, ◌∙◌, subst, arith, Contains, eq-eqb}
 use Rattle.std.proofs.lemmas.Bool.{cases_lt}
 use Rattle.std.proofs.lemmas.List.{get_or_past}
-use Rattle.nofs_dirent.specs.Entries.{entry_limit}
-use Rattle.nofs_ptrs.specs.Paths.{slot_limit}
-use Rattle.nofs_image.specs.Cells.{FileKind, File, BackLink, Record, entry_in}
-use Rattle.nofs_inode.specs.declared.inode.FileKind.TheVariants.{Directory as Folder}
+use Rattle.nofs_image.specs.Kinds.{Directory as Folder}
+use Rattle.nofs_image.specs.Cells.{FileKind, File, BackLink, Record, entry_in, entry_limit, slot_limit}
 use Rattle.nofs_image.specs.Image.{Image, inode, files_in, Agreed, root, linked, value, entry_in_file, entry_at, names, is_pair, links_of}
 use Rattle.nofs_image.specs.declared.value.Value.{Value}
 use Rattle.nofs_image.specs.declared.value.Value.TheVariants.{Bytes}

@@ -4,8 +4,7 @@ use Rattle.std.proofs.Common.{ap, ◌∙◌, subst, arith, Contains, eqb-true, e
 use Rattle.std.specs.Prelude.{bytes_eq}
 use Rattle.std.proofs.lemmas.Slice.Eq.{bytes_eq-Decides}
 use Rattle.std.proofs.lemmas.List.{length-replicate}
-use Rattle.nofs_dirent.specs.Entries.{spelled_entry, entry_limit}
-use Rattle.nofs_image.specs.Cells.{FileKind, BackLink, Entry}
+use Rattle.nofs_image.specs.Cells.{FileKind, BackLink, Entry, spelled_entry, entry_limit}
 use Rattle.nofs_image.specs.Image.{Files, FileState, is_folder, entry_at, entry_in_file, entry_held, is_pair, links_of}
 use Rattle.nofs_image.specs.declared.value.Value.{Value}
 use Rattle.nofs_image.proofs.Find.{and-both}

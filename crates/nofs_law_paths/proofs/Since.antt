@@ -3,8 +3,7 @@ use Rattle.std.proofs.Common.{◌≡◌, ℕ, suc, ◌/◌, ◌%◌, ◌<◌, �
 use Rattle.std.proofs.Common.{ap, ◌∙◌, subst, arith, Contains, eq-eqb}
 use Rattle.std.specs.Prelude.{slice_get}
 use Rattle.std.specs.List.{list_any}
-use Rattle.nofs_dirent.specs.Entries.{entry_limit}
-use Rattle.nofs_image.specs.Cells.{BackLink, Entry, entry_in}
+use Rattle.nofs_image.specs.Cells.{BackLink, Entry, entry_in, entry_limit}
 use Rattle.nofs_image.specs.Image.{Image, Files, FileState, Agreed, root, linked, entry_held, names, links_of}
 use Rattle.nofs_image.specs.declared.value.Value.{Value}
 use Rattle.nofs_image.specs.declared.value.Value.TheVariants.{Hole, Bytes, Lost}

@@ -2,7 +2,7 @@
 use Rattle.std.proofs.Common.{◌≡◌, ℕ, ◌*◌, ◌/◌, ◌<◌, Bool, true, false, eqb, ◌&&◌, not, List, [], ◌∷◌, Option, Some, None, is_some, refl, sym, ◌∙◌, arith}
 use Rattle.std.proofs.Common.{eqb-true}
 use Rattle.std.specs.Prelude.{option_map}
-use Rattle.nofs_dirent.specs.Entries.{entry_limit}
+use Rattle.nofs_image.specs.Cells.{entry_limit}
 use Rattle.nofs_image.specs.Image.{Files, FileState, entry_at}
 use Rattle.nofs_machine.specs.Meta.{is_bytes}
 use Rattle.nofs_machine.specs.Search.{first_of, least_from}

@@ -2,8 +2,7 @@
 use Rattle.std.proofs.Common.{◌≡◌, ℕ, suc, ◌/◌, Bool, true, false, cond, eqb, ◌&&◌, ◌||◌, not, List, [], ◌∷◌, length, Option, Some, None, is_some, unwrap_or}
 use Rattle.std.proofs.Common.{refl, sym, ap, ◌∙◌, subst, arith, Contains, eqb-true, eq-eqb, lt-ltb, ne_eqb}
 use Rattle.std.specs.List.{list_any}
-use Rattle.nofs_dirent.specs.Entries.{spelled_entry, entry_limit}
-use Rattle.nofs_image.specs.Cells.{FileKind, BackLink, Entry}
+use Rattle.nofs_image.specs.Cells.{FileKind, BackLink, Entry, spelled_entry, entry_limit}
 use Rattle.nofs_inode.specs.declared.inode.FileKind.TheVariants.{Directory as Folder}
 use Rattle.nofs_image.specs.Image.{Files, FileState, Agreed, root, linked, is_folder, entry_in_file, entry_at, entry_held, is_a, is_pair, is_root, is_special}
 use Rattle.nofs_image.specs.Image.{links_of}

@@ -4,7 +4,7 @@ use Rattle.std.proofs.Common.{Option, Some, None, is_some, refl, sym, ap, ◌∙
 use Rattle.std.specs.List.{list_all}
 use Rattle.std.proofs.lemmas.List.{length-replicate}
 use Rattle.nofs_inode.specs.InodeRecords.{has_rest, allows_record, allows_kind, is_tidy_link, fields_in}
-use Rattle.nofs_super.specs.Geometry.{IsGeometry}
+use Rattle.nofs_image.specs.Geometry.{IsGeometry}
 use Rattle.nofs_image.specs.Cells.{FileKind, Record, is_live, record_at, record_of}
 use Rattle.nofs_image.specs.declared.path.PathAnswer.{PathAnswer}
 use Rattle.nofs_image.specs.declared.path.PathAnswer.TheVariants as answer

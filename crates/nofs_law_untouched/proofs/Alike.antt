@@ -1,13 +1,12 @@
 -- Agreement depends on kinds, generations, links and the cells of directories alone.
 use Rattle.std.proofs.Common.{◌≡◌, ℕ, ◌/◌, ◌<◌, Bool, true, false, cond, eqb, ltb, ◌&&◌, ◌||◌, List, Option, Some, None, is_some, refl, sym, ap, ◌∙◌, subst}
 use Rattle.std.proofs.Common.{arith, Contains, ltb-true, eqb-true}
-use Rattle.nofs_dirent.specs.Entries.{entry_limit}
+use Rattle.nofs_image.specs.Kinds.{Directory as Folder}
 use Rattle.nofs_image.proofs.Chains.{pair-of, agreed-holds, holds-agreed}
 use Rattle.nofs_law_untouched.proofs.Matching.{matched-file, matched-agreed, agreed-files-is}
 use Rattle.nofs_law_untouched.proofs.Framing.{some-is, files-match}
 use Rattle.nofs_machine.specs.History.{agreed_files, FilesMatch, SameFile}
-use Rattle.nofs_image.specs.Cells.{FileKind, File, BackLink, is_live}
-use Rattle.nofs_inode.specs.declared.inode.FileKind.TheVariants.{Directory as Folder}
+use Rattle.nofs_image.specs.Cells.{FileKind, File, BackLink, is_live, entry_limit}
 use Rattle.nofs_image.specs.Image.{Image, inode, file_from, files_in, agreed, Agreed, root, linked, FileState, Files, is_folder, entry_held, entry_in_file}
 use Rattle.nofs_image.specs.Image.{pairs, is_a, is_pair, links_in_file, links_of, is_root, is_special}
 use Rattle.nofs_image.specs.declared.value.Value.{Value}

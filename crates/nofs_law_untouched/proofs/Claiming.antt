@@ -1,13 +1,12 @@
 -- A block that is claimed for a slot.
-use Rattle.nofs_ptrs.specs.Paths.{slot_limit}
+use Rattle.nofs_image.specs.Kinds.{Directory as Folder}
 use Rattle.nofs_image.specs.declared.path.PathAnswer.{PathAnswer}
 use Rattle.nofs_image.specs.declared.path.PathAnswer.TheVariants as answer
 use Rattle.nofs_law_images.specs.Reasons.{Holes, ReadsSince}
 use Rattle.std.proofs.Common.{◌≡◌, ℕ, ◌<◌, ◌≤◌, ◌⊎◌, inl, inr, Bool, true, false, ◌||◌, ◌++◌, option_to_list, Option, Some, None, refl, sym, ap, ◌∙◌, subst}
 use Rattle.std.proofs.Common.{subst₂, arith, Contains, ne_eqb}
 use Rattle.std.proofs.lemmas.List.Elements.{Contains-push}
-use Rattle.nofs_image.specs.Cells.{Cell, File, Content, Directory, Tag, Pointer, tag_of, is_null, is_live}
-use Rattle.nofs_inode.specs.declared.inode.FileKind.TheVariants.{Directory as Folder}
+use Rattle.nofs_image.specs.Cells.{Cell, File, Content, Directory, Tag, Pointer, tag_of, is_null, is_live, slot_limit}
 use Rattle.nofs_image.specs.Image.{super_in, Image, cell_at, super_at, is_data_block, inode, kind_in, tag_for, Path, InRecord, Under, path_of, find, value}
 use Rattle.nofs_image.specs.Image.{value_in, IsAbove}
 use Rattle.nofs_image.specs.declared.value.Value.{Value}

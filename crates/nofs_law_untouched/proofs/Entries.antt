@@ -9,7 +9,7 @@ use Rattle.nofs_law_untouched.proofs.Alike.{Alike, same-alike, Kin, KinFiles, bo
 use Rattle.nofs_law_untouched.proofs.Alike.{entry-alike, a-alike}
 use Rattle.nofs_machine.specs.History.{FilesMatch, SameFile}
 use Rattle.nofs_image.specs.Cells.{File, BackLink, Entry}
-use Rattle.nofs_inode.specs.declared.inode.FileKind.TheVariants.{Directory as Folder}
+use Rattle.nofs_image.specs.Kinds.{Directory as Folder}
 use Rattle.nofs_image.specs.Image.{Image, files_in, agreed, Agreed, root, linked, FileState, Files, is_folder, entry_in_file, pairs, names, is_a, is_pair}
 use Rattle.nofs_image.specs.Image.{links_of, is_root, is_special}
 

@@ -1,16 +1,14 @@
 -- What a step leaves as it was.
 use Rattle.std.proofs.Common.{◌≡◌, ℕ, ◌/◌, ◌<◌, ◌≤◌, inl, inr, Bool, true, false, cond, eqb, ltb, ◌&&◌, ◌||◌, List, Option, Some, None, is_some, refl, sym}
 use Rattle.std.proofs.Common.{ap, ◌∙◌, subst, arith, Contains, ltb-true}
-use Rattle.nofs_dirent.specs.Entries.{entry_limit}
-use Rattle.nofs_ptrs.specs.Paths.{slot_limit}
+use Rattle.nofs_image.specs.Kinds.{Directory as Folder}
 use Rattle.nofs_image.specs.declared.path.PathAnswer.{PathAnswer}
 use Rattle.nofs_law_untouched.specs.Frames.{Rewrites, SameIdentity, SamePointers, OldPointers}
 use Rattle.nofs_image.proofs.Find.{is_tag-true}
 use Rattle.nofs_image.proofs.Chains.{pair-of, agreed-holds, holds-agreed}
 use Rattle.nofs_image.specs.declared.path.PathAnswer.TheVariants as answer
 use Rattle.nofs_machine.specs.History.{agreed_files, FilesMatch, SameFile}
-use Rattle.nofs_image.specs.Cells.{Cell, File, BackLink, Tag, Pointer, tag_of, is_null, pointer_at, is_live}
-use Rattle.nofs_inode.specs.declared.inode.FileKind.TheVariants.{Directory as Folder}
+use Rattle.nofs_image.specs.Cells.{Cell, File, BackLink, Tag, Pointer, tag_of, is_null, pointer_at, is_live, entry_limit, slot_limit}
 use Rattle.nofs_image.specs.Image.{super_in, Image, cell_at, super_at, is_data_block, inode, files_in, agreed, Agreed, root, linked, Path, InRecord, Under}
 use Rattle.nofs_image.specs.Image.{tag_for, is_tag, agrees, record_pointer, judged, find, pointer, FileState, Files, is_folder, entry_held, entry_in_file}
 use Rattle.nofs_image.specs.Image.{pairs, is_a, is_pair, links_in_file, links_of, is_root, is_special, IsSlot, IsFree}

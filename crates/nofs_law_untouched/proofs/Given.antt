@@ -10,7 +10,7 @@ use Rattle.nofs_machine.specs.Meta.{Meta}
 use Rattle.nofs_machine.specs.Machine.{Given, is_at, filled, after_meta, born_file, file_after, files_after, value_of, size_of, lies_above, same_path}
 use Rattle.nofs_machine.specs.History.{SameFile}
 use Rattle.nofs_image.specs.Cells.{FileKind, File, Record, Pointer, Content, Directory}
-use Rattle.nofs_inode.specs.declared.inode.FileKind.TheVariants.{Directory as Folder}
+use Rattle.nofs_image.specs.Kinds.{Directory as Folder}
 use Rattle.nofs_image.specs.Image.{Image, super_at, is_data_block, inode, is_inode, Path, InRecord, Under, find, NodeState, FileState, Files, is_folder}
 use Rattle.nofs_image.specs.declared.value.Value.{Value}
 

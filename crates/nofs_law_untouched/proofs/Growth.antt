@@ -1,6 +1,5 @@
 -- A slot of content gets a block: the pointer blocks above it are there already, or are claimed with it.
 use Rattle.std.proofs.Common.{◌≡◌, ◌≢◌, ℕ, suc, ◌<◌, ◌≤◌, ◌⊎◌, inl, inr, Bool, true, false, eqb, Some, refl, sym, ap, ap₂, ◌∙◌, subst, arith, eqb-true, eq-eqb}
-use Rattle.nofs_ptrs.specs.Paths.{slot_limit}
 use Rattle.nofs_image.specs.declared.path.PathAnswer.{PathAnswer}
 use Rattle.nofs_law_untouched.specs.Frames.{Rewrites, SameIdentity, OldPointers}
 use Rattle.nofs_image.proofs.Find.{and-both, find-built, agrees-built, judged-built-null}
@@ -8,7 +7,7 @@ use Rattle.nofs_image.proofs.Paths.{path_of-slot, path_of-content, slot_of-path_
 use Rattle.nofs_law_untouched.proofs.Framing.{judged-same}
 use Rattle.nofs_image.specs.declared.path.PathAnswer.TheVariants as answer
 use Rattle.nofs_machine.specs.Machine.{same_path}
-use Rattle.nofs_image.specs.Cells.{Cell, Pointer, tag_of, is_null, pointer_at, is_live}
+use Rattle.nofs_image.specs.Cells.{Cell, Pointer, tag_of, is_null, pointer_at, is_live, slot_limit}
 use Rattle.nofs_image.specs.Image.{Image, cell_at, is_data_block, inode, files_in, agreed, value, value_in, Path, InRecord, Under, path_of, slot_of}
 use Rattle.nofs_image.specs.Image.{is_pointer_slot, tag_for, judged, find, pointer, record_pointer, IsAbove, IsSlot}
 use Rattle.nofs_image.specs.declared.value.Value.TheVariants.{Bytes}

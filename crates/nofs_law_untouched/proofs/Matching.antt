@@ -1,11 +1,10 @@
 -- Where the machine's files are those of an image, each file is an agreed inode, and each agreed inode a file.
 use Rattle.std.proofs.Common.{◌≡◌, ℕ, ◌<◌, ◌⊎◌, inl, inr, Bool, true, false, cond, Option, Some, None, is_some, refl, subst}
-use Rattle.nofs_ptrs.specs.Paths.{slot_limit}
 use Rattle.nofs_machine.proofs.Era.{meta_of_file}
 use Rattle.nofs_machine.specs.Meta.{meta_of}
 use Rattle.nofs_machine.specs.Machine.{generation_of}
 use Rattle.nofs_machine.specs.History.{agreed_files, FilesMatch, SameFile}
-use Rattle.nofs_image.specs.Cells.{FileKind, is_live}
+use Rattle.nofs_image.specs.Cells.{FileKind, is_live, slot_limit}
 use Rattle.nofs_image.specs.Image.{Image, inode, file_from, files_in, agreed, value, FileState, Files}
 
 pub agreed-files-is : (X : Image) (i : ℕ) → agreed_files X i ≡ cond (agreed (files_in X) i) (files_in X i) None

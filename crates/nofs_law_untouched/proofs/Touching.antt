@@ -1,6 +1,5 @@
 -- The files of inodes that a step does not touch stay.
 use Rattle.std.proofs.Common.{◌≡◌, ℕ, ◌<◌, inl, inr, Bool, true, false, Option, Some, None, refl, sym, ap, ◌∙◌, subst}
-use Rattle.nofs_ptrs.specs.Paths.{slot_limit}
 use Rattle.nofs_image.specs.declared.path.PathAnswer.{PathAnswer}
 use Rattle.nofs_law_untouched.specs.Frames.{Rewrites, SameIdentity, SamePointers, OldPointers, Touches}
 use Rattle.nofs_image.proofs.Find.{find-held}
@@ -8,7 +7,7 @@ use Rattle.nofs_image.proofs.Paths.{path_of-slot}
 use Rattle.nofs_law_untouched.proofs.Framing.{frame}
 use Rattle.nofs_image.specs.declared.path.PathAnswer.TheVariants as answer
 use Rattle.nofs_machine.specs.History.{SameFile}
-use Rattle.nofs_image.specs.Cells.{Cell, FileKind, Tag, Pointer, Record, tag_of, pointer_at, is_live}
+use Rattle.nofs_image.specs.Cells.{Cell, FileKind, Tag, Pointer, Record, tag_of, pointer_at, is_live, slot_limit}
 use Rattle.nofs_image.specs.Image.{Image, cell_at, inode, files_in, agreed, value, value_in, node_in, Path, InRecord, Under, path_of, slot_of, tag_for, find}
 use Rattle.nofs_image.specs.Image.{IsSlot}
 use Rattle.nofs_image.specs.declared.value.Value.{Value}

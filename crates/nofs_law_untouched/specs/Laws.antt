@@ -1,7 +1,6 @@
 -- What a step leaves of the files that it does not touch, and of the slots of the one that it changes.
 use Rattle.std.specs.Prelude.{◌≡◌, ◌≢◌, ℕ, ◌<◌, Bool, true, false}
-use Rattle.nofs_ptrs.specs.Paths.{slot_limit}
-use Rattle.nofs_image.specs.Cells.{is_live}
+use Rattle.nofs_image.specs.Cells.{is_live, slot_limit}
 use Rattle.nofs_image.specs.Image.{Image, cell_at, inode, files_in, agreed, value, Path, path_of, find, IsAbove, IsSlot}
 use Rattle.nofs_image.specs.Cells.{Pointer}
 use Rattle.nofs_image.specs.declared.path.PathAnswer.TheVariants as answer

@@ -3,7 +3,7 @@ use Rattle.std.proofs.Common.{◌≡◌, ℕ, ◌+◌, ◌<◌, Bool, true, fals
 use Rattle.std.proofs.Common.{append_assoc, bytes_eq}
 use Rattle.std.proofs.lemmas.List.{append-nil, take_more}
 use Rattle.std.proofs.lemmas.List.Folds.{list_any-append}
-use Rattle.nofs_inode.specs.declared.inode.FileKind.TheVariants as kind
+use Rattle.nofs_image.specs.Kinds as kind
 use Rattle.nofs_image.specs.Image.{Files}
 use Rattle.nofs_machine.specs.World.{World}
 use Rattle.nofs_machine.specs.declared.replies.NameLine.{NameLine}

@@ -1,11 +1,10 @@
 -- The machine's files are what was accepted last, and what stands is in them.
 use Rattle.std.proofs.Common.{if◌then◌else◌, ◌≡◌, ◌≢◌, ℕ, Bool, true, false, cond, eqb, ◌||◌, not, List, [], ◌∷◌, ◌++◌, Option, Some, None, unwrap_or}
 use Rattle.std.proofs.Common.{option_to_list, refl, sym, ap, ◌∙◌, subst, eqb-true, eq-eqb, append_assoc, append-nil, ne_eqb}
-use Rattle.nofs_image.specs.Cells.{FileKind, BackLink, Entry, is_live}
+use Rattle.nofs_image.specs.Cells.{FileKind, BackLink, Entry, is_live, spelled_entry}
 use Rattle.nofs_image.specs.Image.{Image, inode, file_from, files_in, agreed, value, node_in, find, FileState, Files, entry_at}
 use Rattle.nofs_image.specs.declared.value.Value.{Value}
 use Rattle.nofs_image.specs.declared.value.Value.TheVariants.{Hole}
-use Rattle.nofs_dirent.specs.Entries.{spelled_entry}
 use Rattle.nofs_machine.specs.Meta.{Meta, Gone, Is, meta_of}
 use Rattle.nofs_machine.specs.Machine.{Given, nothing, gives, at_place, place_for, found, link_place, make_given, link_given, drop_given, rename_given}
 use Rattle.nofs_machine.specs.Machine.{put_given, resize_given, entry_given, link_to, zeros, meta_given, no_meta, drop_meta, filled, new_file, after_meta}

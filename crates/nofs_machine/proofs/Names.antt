@@ -1,13 +1,11 @@
 -- A name that every version since the mark agrees on is a pair in each image.
 use Rattle.std.proofs.Common.{◌≡◌, ℕ, ◌/◌, ◌%◌, ◌<◌, inl, inr, true, ltb, ◌||◌, not, List, Option, Some, None, is_some, refl, subst, arith, Contains, lt-ltb}
 use Rattle.std.proofs.Common.{eq-eqb}
-use Rattle.nofs_dirent.specs.Entries.{entry_limit}
-use Rattle.nofs_ptrs.specs.Paths.{slot_limit}
 use Rattle.nofs_machine.specs.Meta.{Gone, Is, meta_of, is_bytes, MayRead}
 use Rattle.nofs_machine.specs.declared.history.Entry1.{Entry1}
 use Rattle.nofs_machine.specs.History.{since, since_meta}
 use Rattle.nofs_machine.specs.Allowed.{HasVersions, IsFolderMeta, NamesStay}
-use Rattle.nofs_image.specs.Cells.{FileKind, File, BackLink, Record, is_live, entry_in}
+use Rattle.nofs_image.specs.Cells.{FileKind, File, BackLink, Record, is_live, entry_in, entry_limit, slot_limit}
 use Rattle.nofs_inode.specs.declared.inode.FileKind.TheVariants.{Directory as Folder}
 use Rattle.nofs_image.specs.Image.{Image, inode, value, files_in, is_folder, entry_in_file, entry_at, names, is_a, is_pair}
 use Rattle.nofs_image.specs.declared.value.Value.{Value}

@@ -1,9 +1,7 @@
 -- What a crash may leave of a history: THE PROMISE. The words that it stands on are those of Since.antt and Meta.antt, of
 -- what a step gives (Machine.antt), and of what an image says (nofs_model).
 use Rattle.std.specs.Prelude.{◌≡◌, ◌≢◌, ℕ, ◌/◌, ◌%◌, ◌<◌, true, List, length, get_or, Contains}
-use Rattle.nofs_dirent.specs.Entries.{entry_limit}
-use Rattle.nofs_ptrs.specs.Paths.{slot_limit}
-use Rattle.nofs_image.specs.Cells.{BackLink, is_live, entry_in}
+use Rattle.nofs_image.specs.Cells.{BackLink, is_live, entry_in, entry_limit, slot_limit}
 use Rattle.nofs_image.specs.Image.{Image, cell_at, inode, value, files_in, names, is_folder, is_pair}
 use Rattle.nofs_image.specs.declared.value.Value.{Value}
 use Rattle.nofs_image.specs.declared.value.Value.TheVariants.{Bytes, Lost}

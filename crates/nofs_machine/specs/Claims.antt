@@ -1,8 +1,7 @@
 -- What a step claims, and where each used block belongs after it.
 use Rattle.std.specs.Prelude.{◌≡◌, ◌≢◌, ℕ, ◌+◌, ◌*◌, ◌/◌, ◌^◌, ◌<◌, ◌≤◌, Bool, true, false, ◌&&◌, not, List, [], ◌∷◌, ◌++◌, Option, Some, None, option_map}
 use Rattle.std.specs.Prelude.{if◌then◌else◌, nat_lt, ◌==◌, Contains}
-use Rattle.nofs_ptrs.specs.Paths.{slot_limit}
-use Rattle.nofs_image.specs.Cells.{Pointer, null}
+use Rattle.nofs_image.specs.Cells.{Pointer, null, slot_limit}
 use Rattle.nofs_image.specs.Image.{Path, InRecord, Under, path_of, slot_of, NodeState, Absent, Present, Damaged, Files, Home, home_at}
 use Rattle.nofs_machine.specs.Meta.{is_bytes}
 use Rattle.nofs_machine.specs.Search.{first_of}

@@ -1,7 +1,7 @@
 -- A history and the files of an image: what the machine has is what the image says. The words of what was given since the
 -- last flush and of the mark are here too, each from the file that defines it.
 use Rattle.std.specs.Prelude.{◌≡◌, ℕ, ◌<◌, true, false, List, [], ◌∷◌, Option, Some, None}
-use Rattle.nofs_ptrs.specs.Paths.{slot_limit}
+use Rattle.nofs_image.specs.Cells.{slot_limit}
 use Rattle.nofs_image.specs.Image.{Image, Path, is_pointer_slot, IsSlot, FileState, Files}
 use Rattle.nofs_machine.specs.Machine.{is_write_fault}
 unfoldable pub use Rattle.nofs_machine.specs.Since.{agreed_files}

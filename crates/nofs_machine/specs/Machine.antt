@@ -2,10 +2,8 @@
 use Rattle.std.specs.Prelude.{ℕ, zero, suc, ◌+◌, ◌-◌, ◌*◌, ◌/◌, ◌%◌, min, max, Bool, true, false, ◌&&◌, ◌||◌, not, List, [], ◌∷◌, ◌++◌, length, take, drop}
 use Rattle.std.specs.Prelude.{replicate, map, Option, Some, None, is_some, option_map, if◌then◌else◌, nat_lt, nat_le, ◌==◌, bytes_eq, unwrap_or}
 use Rattle.std.specs.List.{list_any}
-use Rattle.nofs_ptrs.specs.Paths.{slot_limit}
 use Rattle.nofs_disk.specs.Number.{put_bytes}
-use Rattle.nofs_dirent.specs.Entries.{spelled_entry, entry_limit}
-use Rattle.nofs_image.specs.Cells.{FileKind, File, BackLink, is_empty_link}
+use Rattle.nofs_image.specs.Cells.{FileKind, File, BackLink, is_empty_link, slot_limit, spelled_entry, entry_limit}
 use Rattle.nofs_image.specs.Image.{Path, InRecord, Under, path_of, NodeState, Absent, Present, FileState, Files, is_folder, entry_at, is_pair, links_of}
 use Rattle.nofs_image.specs.Image.{is_special}
 use Rattle.nofs_image.specs.declared.value.Value.{Value}

@@ -1,11 +1,8 @@
 -- Why a step is refused: a table for each step, tested from its top.
 use Rattle.std.specs.Prelude.{ℕ, ◌+◌, ◌-◌, ◌*◌, ◌/◌, ◌%◌, ◌^◌, min, Bool, true, false, ◌&&◌, ◌||◌, not, List, [], ◌∷◌, length, Option, Some, None, is_some}
 use Rattle.std.specs.Prelude.{option_map, if◌then◌else◌, nat_lt, nat_le, ◌==◌}
-use Rattle.nofs_dirent.specs.Entries.{entry_limit}
-use Rattle.nofs_ptrs.specs.Paths.{slot_limit}
-use Rattle.nofs_image.specs.Cells.{Entry}
+use Rattle.nofs_image.specs.Cells.{Entry, entry_limit, slot_limit, is_name}
 use Rattle.nofs_image.specs.Image.{InRecord, Under, path_of, NodeState, Absent, Present, Damaged, entry_at}
-use Rattle.nofs_dirent.specs.Names.{is_name}
 use Rattle.nofs_machine.specs.Search.{least_from, first_of}
 use Rattle.nofs_machine.specs.Machine.{generation_of, value_of, size_of, node_of, is_folder_at, is_paired, found, first_dead, is_lost, first_lost_slot}
 use Rattle.nofs_machine.specs.Machine.{place_for, link_place, slots_in, cut_of}

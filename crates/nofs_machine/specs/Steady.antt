@@ -1,8 +1,7 @@
 -- What is the same in all that a crash may leave, and what of the base is left beside the machine's files.
 use Rattle.std.specs.Prelude.{◌≡◌, ℕ, ◌<◌, ◌⊎◌, true, false, List, [], length}
-use Rattle.nofs_ptrs.specs.Paths.{slot_limit}
 use Rattle.nofs_disk.specs.Disk.{Picks}
-use Rattle.nofs_image.specs.Cells.{Cell, is_live}
+use Rattle.nofs_image.specs.Cells.{Cell, is_live, slot_limit}
 use Rattle.nofs_image.specs.Image.{Image, inode, Path, path_of, IsAbove, pointer, value, files_in, agreed}
 use Rattle.nofs_image.specs.declared.value.Value.TheVariants.{Lost}
 use Rattle.nofs_machine.specs.Meta.{meta_of}

@@ -1,6 +1,6 @@
 -- Which replies fit a step, and what a caller has made.
 use Rattle.std.specs.Prelude.{ℕ, ◌≡◌, ◌<◌, ◌≤◌, ◌^◌, ◌++◌, List, [], ◌∷◌, length, All, IsTrue, Bool, true, false, if◌then◌else◌}
-use Rattle.nofs_dirent.specs.Names.{is_name}
+use Rattle.nofs_image.specs.Cells.{is_name}
 use Rattle.nofs_machine.specs.declared.steps.Step.{Step}
 use Rattle.nofs_machine.specs.declared.steps.Step.TheVariants as step
 use Rattle.nofs_machine.specs.declared.replies.NameLine.{NameLine}

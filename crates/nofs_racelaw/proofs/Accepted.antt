@@ -3,8 +3,7 @@ use Rattle.std.proofs.Common.{◌≡◌, ℕ, zero, suc, Bool, true, false, cond
 use Rattle.std.specs.Prelude.{option_map}
 use Rattle.std.specs.List.{list_any}
 use Rattle.std.proofs.lemmas.Bool.{and_parts}
-use Rattle.nofs_dirent.specs.Entries.{entry_limit}
-use Rattle.nofs_image.specs.Cells.{Entry}
+use Rattle.nofs_image.specs.Cells.{Entry, entry_limit}
 use Rattle.nofs_image.specs.Image.{FileState, Files, entry_at, links_in_file, is_pair}
 use Rattle.nofs_image.specs.declared.value.Value.{Value}
 use Rattle.nofs_image.specs.declared.value.Value.TheVariants.{Hole, Bytes, Lost}

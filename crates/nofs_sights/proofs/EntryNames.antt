@@ -2,8 +2,7 @@
 use Rattle.std.proofs.Common.{◌≡◌, ℕ, Bool, true, false, eqb, ◌&&◌, List, Option, Some, None, is_some, refl, sym, ◌∙◌, arith, eqb-true}
 use Rattle.std.proofs.lemmas.Bool.Decides.{nat_tests}
 use Rattle.nofs_disk.specs.Number.{number_at}
-use Rattle.nofs_dirent.specs.Entries.{entry_of}
-use Rattle.nofs_dirent.specs.declared.entry.Entry.{Entry}
+use Rattle.nofs_image.specs.Cells.{entry_of, Entry}
 use Rattle.nofs_image.specs.Files.{names}
 use Rattle.nofs_image.proofs.EntryTests.{names-fields}
 use Rattle.nofs_image.proofs.Find.{and-both}
