@@ -23,7 +23,7 @@ use Rattle.nofs_law_images.specs.Proper.{Proper, OfTable, RecordProper, Unchange
 use Rattle.nofs_law_images.specs.Moments.{during, AllExplained, OnlyProper}
 use Rattle.nofs_law_images.proofs.Moments.{law-flush, law-images, law-moment}
 use Rattle.nofs_law_untouched.proofs.Given.{value-of, size-of}
-use Rattle.nofs_law_maps.proofs.Fresh.{sole-is}
+use Rattle.nofs_law_lives.proofs.Handed.{sole-is}
 use Rattle.nofs_law_files.specs.Writes.{ContentLies, RecordLies}
 use Rattle.nofs_law_files.proofs.Writes.{law-content, law-record}
 use Rattle.nofs_law_files.proofs.PutLies.{law-put-files}

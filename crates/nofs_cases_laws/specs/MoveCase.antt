@@ -9,7 +9,7 @@ use Rattle.nofs_machine.specs.declared.history.Entry1.{Entry1}
 use Rattle.nofs_machine.specs.declared.steps.Step.TheVariants as step
 use Rattle.nofs_machine.specs.declared.replies.Reply.TheVariants as reply
 use Rattle.nofs_law_runs.specs.Bases.{IsHistory}
-use Rattle.nofs_law_links.specs.Pairs.{is_drop, IsDirectory, Filled}
+use Rattle.nofs_law_runs.specs.Handed.{is_drop, IsDirectory, Filled}
 use Rattle.nofs_law_runs.specs.Runs.{files_before, HasPair}
 use Rattle.nofs_law_paths.specs.Moves.{IsMove, HasDrop, IsAlone}
 use Rattle.nofs_cases_steps.specs.Worlds.{entry_of_step}

@@ -7,7 +7,7 @@ use Rattle.nofs_machine.specs.Machine.{place_for}
 use Rattle.nofs_machine.specs.Claims.{IsClaim, no_claims}
 use Rattle.nofs_machine.specs.declared.steps.Step.TheVariants as step
 use Rattle.nofs_law_files.specs.Puts.{PutLies, ClaimsPlaced}
-use Rattle.nofs_law_homes.specs.Homes.{EntryClaims}
+use Rattle.nofs_law_numbers.specs.Handed.{EntryClaims}
 use Rattle.nofs_law_numbers.specs.Cells.{OldNumbers}
 use Rattle.nofs_cases_steps.specs.Images.{first_image, put_image}
 use Rattle.nofs_cases_steps.specs.Worlds.{label_file, first_files, world, first_world, block_two}

@@ -11,7 +11,7 @@ use Rattle.nofs_machine.specs.Claims.{IsClaim}
 use Rattle.nofs_machine.specs.declared.history.Claims.{Claims}
 use Rattle.nofs_machine.specs.declared.steps.Step.TheVariants as step
 use Rattle.nofs_law_new_names.specs.Holes.{LinkLies, MakeLies, EntryInPlace, EntryInHole}
-use Rattle.nofs_law_homes.specs.Homes.{EntryClaims}
+use Rattle.nofs_law_numbers.specs.Handed.{EntryClaims}
 use Rattle.nofs_law_numbers.specs.Cells.{OldNumbers}
 use Rattle.nofs_cases_steps.specs.Images.{z, blank, image_of, label_bytes, pointer_bytes, stamp_bytes, table_of}
 use Rattle.nofs_cases_steps.specs.Worlds.{root_file, label_file, three_files, world, block_two, cell_claim}

@@ -10,3 +10,4 @@ pub mod Below
 pub mod Staging
 pub mod FlushStage
 pub mod FirstStage
+pub mod Handed

@@ -21,7 +21,7 @@ use Rattle.nofs_image.proofs.Sound.{mountable-law, supers}
 use Rattle.nofs_law_images.specs.Proper.{Proper, OfTable, RecordProper, Unchanged}
 use Rattle.nofs_law_images.specs.Moments.{during}
 use Rattle.nofs_law_images.specs.Reasons.{ReadsSince}
-use Rattle.nofs_crashlaw.proofs.Histories.{now-picks}
+use Rattle.nofs_state.proofs.Handed.{now-picks, law-rest}
 use Rattle.nofs_law_images.proofs.Moments.{law-images}
 use Rattle.nofs_machine.specs.Steady.{SteadyRest}
 use Rattle.nofs_machine.specs.Meta.{meta_of, Is}
@@ -50,8 +50,7 @@ use Rattle.nofs_law_maps.specs.Fresh.{Numbered, CellNumbers}
 use Rattle.nofs_law_maps.proofs.Fresh.{law-old}
 use Rattle.nofs_law_maps.proofs.Good.{law-claims}
 use Rattle.nofs_law_maps.proofs.Homes.{uses-inode, law-good}
-use Rattle.nofs_crashlaw.specs.Stage.{AddsProper}
-use Rattle.nofs_crashlaw.proofs.Resting.{law-rest}
+use Rattle.nofs_state.specs.Handed.{AddsProper}
 use Rattle.nofs_law_files.specs.Puts.{PutLies, ClaimsPlaced}
 use Rattle.nofs_law_files.proofs.PutLies.{law-put-files, law-put-homes, as-before}
 use Rattle.nofs_law_files.proofs.PutFile.{file-in, put-new, put-gives, put-slot, put-meta}

@@ -10,7 +10,7 @@ use Rattle.nofs_image.specs.declared.path.PathAnswer.TheVariants as answer
 use Rattle.nofs_image.proofs.Paths.{slot_of-path_of, path_of-content}
 use Rattle.nofs_machine.specs.Meta.{is_bytes}
 use Rattle.nofs_machine.specs.Machine.{put_content}
-use Rattle.nofs_crashlaw.proofs.Below.{live-stands}
+use Rattle.nofs_state.proofs.Handed.{live-stands}
 use Rattle.nofs_law_numbers.specs.Cells.{table_tag}
 use Rattle.nofs_state.specs.declared.books.Books.{Books}
 use Rattle.nofs_state.proofs.Machine.{agreed-live}

@@ -15,7 +15,7 @@ use Rattle.nofs_image.proofs.Sound.{supers}
 use Rattle.nofs_law_images.specs.Proper.{Proper, OfPointers, OfTable, PointerProper, Same, Cut, RecordProper, Unchanged}
 use Rattle.nofs_law_images.specs.Moments.{during}
 use Rattle.nofs_law_images.specs.Reasons.{ReadsSince, Holes}
-use Rattle.nofs_crashlaw.proofs.Histories.{now-picks}
+use Rattle.nofs_state.proofs.Handed.{now-picks, law-rest}
 use Rattle.nofs_law_images.proofs.Moments.{law-images}
 use Rattle.nofs_machine.specs.Steady.{SteadyRest}
 use Rattle.nofs_machine.specs.Meta.{meta_of, Is}
@@ -35,8 +35,7 @@ use Rattle.nofs_law_untouched.proofs.Given.{at-itself}
 use Rattle.nofs_law_maps.specs.Homes.{HomesMove}
 use Rattle.nofs_law_maps.specs.Fresh.{Numbered, CellNumbers}
 use Rattle.nofs_law_maps.proofs.Homes.{uses-inode}
-use Rattle.nofs_crashlaw.specs.Stage.{AddsProper}
-use Rattle.nofs_crashlaw.proofs.Resting.{law-rest}
+use Rattle.nofs_state.specs.Handed.{AddsProper}
 use Rattle.nofs_law_files.specs.Resizes.{is_cut}
 use Rattle.nofs_law_files.proofs.Resizes.{law-resize-files, law-resize-homes, law-resize-holes, as-before, meta-here, resize-gives, resize-made}
 use Rattle.nofs_law_files.proofs.OneFile.{GivesFile}

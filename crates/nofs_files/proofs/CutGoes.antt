@@ -16,7 +16,7 @@ use Rattle.nofs_machine.specs.declared.replies.Refusal.{Refusal}
 use Rattle.nofs_machine.specs.declared.replies.Refusal.TheVariants as refusal
 use Rattle.nofs_agree.specs.Chains.{AreTrue}
 use Rattle.nofs_agree.proofs.Climbs.{KnowsInode-on}
-use Rattle.nofs_crashlaw.proofs.Below.{live-stands}
+use Rattle.nofs_state.proofs.Handed.{live-stands}
 use Rattle.nofs_law_numbers.specs.Cells.{table_tag}
 use Rattle.nofs_state.specs.Books.{IsSafe}
 use Rattle.nofs_state.specs.Standing.{IsOpen, Past}

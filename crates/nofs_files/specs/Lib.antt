@@ -1,3 +1,4 @@
 pub mod Answers
 pub mod Putting
 pub mod Resizing
+pub mod Handed

@@ -7,3 +7,4 @@ pub mod Places
 pub mod Owners
 pub mod Sound
 pub mod Image
+pub mod Handed

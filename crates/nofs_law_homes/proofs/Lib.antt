@@ -3,3 +3,4 @@ pub mod NameStands
 pub mod OldHomes
 pub mod NewHomes
 pub mod EntryPlace
+pub mod Handed

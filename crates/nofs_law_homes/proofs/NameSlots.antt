@@ -18,8 +18,8 @@ use Rattle.nofs_law_untouched.specs.Frames.{OldPointers}
 use Rattle.nofs_law_untouched.proofs.Matching.{matched-file}
 use Rattle.nofs_law_untouched.proofs.Framing.{some-is}
 use Rattle.nofs_law_untouched.proofs.Given.{value-of}
-use Rattle.nofs_law_maps.specs.Moves.{HeldMove}
-use Rattle.nofs_law_maps.proofs.Homes.{uses-inode}
+use Rattle.nofs_law_new_names.specs.Handed.{HeldMove}
+use Rattle.nofs_law_new_names.proofs.Handed.{uses-inode}
 use Rattle.nofs_law_old_names.specs.Names.{InPlace, Relinked, NameWrites}
 use Rattle.nofs_law_old_names.proofs.NameFiles.{file-of, find-stays}
 use Rattle.nofs_law_old_names.proofs.NameInPlace.{find-in-place}

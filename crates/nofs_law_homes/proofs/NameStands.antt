@@ -17,8 +17,8 @@ use Rattle.nofs_law_untouched.proofs.Framing.{some-is}
 use Rattle.nofs_law_untouched.proofs.Touching.{rewrites}
 use Rattle.nofs_law_untouched.proofs.Growth.{on-path, off-path}
 use Rattle.nofs_law_untouched.proofs.Given.{data-positive}
-use Rattle.nofs_law_maps.specs.Moves.{IsClaimed, ClaimsStand, HeldMove}
-use Rattle.nofs_law_maps.proofs.Moves.{law-grow}
+use Rattle.nofs_law_new_names.specs.Handed.{IsClaimed, ClaimsStand, HeldMove}
+use Rattle.nofs_law_new_names.proofs.Handed.{law-grow}
 use Rattle.nofs_law_old_names.specs.Names.{NameWrites}
 use Rattle.nofs_law_old_names.proofs.NameFiles.{touches-of}
 use Rattle.nofs_law_new_names.specs.Holes.{HoleInRecord, HoleUnderLeaf, HoleWithLeaf, HoleClaimed, Direct, UnderLeaf, WithLeaf}

@@ -10,8 +10,7 @@ use Rattle.nofs_machine.specs.declared.history.Claims.{Claims}
 use Rattle.nofs_machine.specs.declared.steps.Step.TheVariants as step
 use Rattle.nofs_law_untouched.proofs.Framing.{some-is}
 use Rattle.nofs_law_untouched.proofs.Given.{file-apart, none-apart}
-use Rattle.nofs_law_maps.specs.Homes.{HomesMove}
-use Rattle.nofs_law_maps.specs.Moves.{IsClaimed, ClaimsStand, HeldMove}
+use Rattle.nofs_law_new_names.specs.Handed.{HomesMove, IsClaimed, ClaimsStand, HeldMove}
 use Rattle.nofs_law_old_names.specs.Names.{NameWrites}
 use Rattle.nofs_law_old_names.proofs.NameInPlace.{in-place-writes}
 use Rattle.nofs_law_new_names.specs.Holes.{HoleWithLeaf, LinkLies, MakeLies, EntryInHole}
@@ -19,7 +18,7 @@ use Rattle.nofs_law_new_names.proofs.NameNew.{all-null}
 use Rattle.nofs_law_new_names.proofs.NameHoles.{hole-writes}
 use Rattle.nofs_law_new_names.proofs.NewLaws.{law-link-in-place, law-link-in-hole, law-make-in-place, law-make-in-hole}
 use Rattle.nofs_law_new_names.proofs.NameHomes.{law-name-homes}
-use Rattle.nofs_law_maps.proofs.Moves.{law-bare}
+use Rattle.nofs_law_new_names.proofs.Handed.{law-bare}
 use Rattle.nofs_law_homes.specs.Homes.{EntryClaims, LawLinkInPlaceHomes, LawLinkInHoleHomes, LawMakeInPlaceHomes, LawMakeInHoleHomes}
 use Rattle.nofs_law_homes.proofs.NameSlots.{directory-kept, inode-kept, agreed-after, Counted, counted, needed-at, needed-held}
 use Rattle.nofs_law_homes.proofs.NameStands.{hole-stands, cell-claimed, leaf-claimed}

@@ -11,8 +11,7 @@ use Rattle.nofs_machine.specs.Claims.{IsClaim}
 use Rattle.nofs_machine.specs.declared.history.Claims.{Claims}
 use Rattle.nofs_machine.specs.declared.steps.Step.TheVariants as step
 use Rattle.nofs_law_untouched.proofs.Framing.{some-is}
-use Rattle.nofs_law_maps.specs.Homes.{HomesMove}
-use Rattle.nofs_law_maps.specs.Moves.{HeldMove}
+use Rattle.nofs_law_new_names.specs.Handed.{HomesMove, HeldMove}
 use Rattle.nofs_law_old_names.specs.Names.{DropLies, NameWrites}
 use Rattle.nofs_law_old_names.proofs.NameInPlace.{in-place-writes, no-zero, no-file-zero}
 use Rattle.nofs_law_old_names.proofs.NameRename.{entry-parts}

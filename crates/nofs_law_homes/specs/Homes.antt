@@ -8,7 +8,7 @@ use Rattle.nofs_machine.specs.World.{World}
 use Rattle.nofs_machine.specs.Claims.{is_claimed, IsClaim}
 use Rattle.nofs_machine.specs.declared.history.Claims.{Claims}
 use Rattle.nofs_machine.specs.declared.steps.Step.TheVariants as step
-use Rattle.nofs_law_maps.specs.Homes.{HomesMove}
+use Rattle.nofs_law_new_names.specs.Handed.{HomesMove}
 use Rattle.nofs_law_old_names.specs.Names.{Relinked, RenameLies, DropLies}
 use Rattle.nofs_law_new_names.specs.Holes.{LinkLies, EntryInPlace, EntryInHole, MakeLies}
 

@@ -2,3 +2,4 @@ pub mod Trace
 pub mod Steady
 pub mod Writes
 pub mod Moments
+pub mod Handed

@@ -3,7 +3,7 @@ use Rattle.std.proofs.Common.{◌≡◌, ℕ, inl, inr, true, not, List, option_
 use Rattle.std.proofs.lemmas.Bool.{cases_lt}
 use Rattle.std.proofs.lemmas.List.{get_or_past}
 use Rattle.std.proofs.lemmas.List.Elements.{Contains-append_left}
-use Rattle.nofs_disk.specs.Disk.{Picks, no_cell}
+use Rattle.nofs_image.specs.Handed.{Picks, no_cell}
 use Rattle.nofs_law_images.specs.Reasons.{Holes, Explained, Emptied, Fresh, Kept, WrittenAs, RecordExplained, Fine, IsKept, RecordStands, Solid, IsMark}
 use Rattle.nofs_law_images.specs.Reasons.{FineImage, SolidImage}
 use Rattle.nofs_law_images.specs.Moments.{is_removal, during, AllExplained, LawFlush, LawMoment, LawImages}

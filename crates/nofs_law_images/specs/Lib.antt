@@ -1,3 +1,4 @@
 pub mod Reasons
 pub mod Proper
 pub mod Moments
+pub mod Handed

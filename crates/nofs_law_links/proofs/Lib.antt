@@ -4,3 +4,4 @@ pub mod Gives
 pub mod Slots
 pub mod Links
 pub mod Sane
+pub mod Handed

@@ -18,8 +18,7 @@ use Rattle.nofs_machine.specs.Claims.{IsClaim, next_stamp}
 use Rattle.nofs_machine.specs.Next.{Next}
 use Rattle.nofs_machine.specs.declared.history.Entry1.{Entry1}
 use Rattle.nofs_machine.specs.declared.steps.Step.TheVariants as step
-use Rattle.nofs_law_old_names.proofs.NameRename.{entry-parts}
-use Rattle.nofs_law_old_names.proofs.NameStep.{pair-paired}
+use Rattle.nofs_law_new_names.proofs.Handed.{entry-parts, pair-paired}
 use Rattle.nofs_law_links.specs.Pairs.{HasAt, Filled, IsDirectory}
 use Rattle.nofs_law_links.proofs.Places.{at-contains}
 use Rattle.nofs_law_links.proofs.Acts.{Acts, Idle, Acting, acts, files-next}

@@ -23,7 +23,7 @@ use Rattle.nofs_machine.specs.declared.steps.Step.TheVariants as step
 use Rattle.nofs_machine.specs.declared.replies.Refusal.TheVariants as refusal
 use Rattle.nofs_machine.proofs.Era.{IsBirth}
 use Rattle.nofs_machine.proofs.EntryPut.{with-entry-put}
-use Rattle.nofs_law_untouched.proofs.Given.{value-of}
+use Rattle.nofs_crashlaw.proofs.Handed.{value-of}
 use Rattle.nofs_law_links.proofs.Gives.{none-at, row-none, put-elsewhere, resize-elsewhere, other-inode, OfKind}
 use Rattle.nofs_law_links.proofs.Slots.{Spelled, entry-slot, short-entry}
 use Rattle.nofs_law_links.proofs.Links.{IsSane}

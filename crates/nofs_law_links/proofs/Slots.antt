@@ -24,9 +24,8 @@ use Rattle.nofs_machine.specs.declared.history.Claims.{Claims}
 use Rattle.nofs_machine.specs.declared.steps.Step.{Step}
 use Rattle.nofs_machine.specs.declared.steps.Step.TheVariants as step
 use Rattle.nofs_machine.specs.declared.replies.Refusal.TheVariants as refusal
-use Rattle.nofs_law_untouched.proofs.Given.{value-of}
-use Rattle.nofs_law_untouched.proofs.EntryCells.{entry-here, entry-there}
-use Rattle.nofs_law_old_names.proofs.NameRename.{entry-parts}
+use Rattle.nofs_crashlaw.proofs.Handed.{value-of, entry-here, entry-there}
+use Rattle.nofs_law_new_names.proofs.Handed.{entry-parts}
 use Rattle.nofs_law_new_names.proofs.NameRows.{place-unpaired}
 use Rattle.nofs_law_links.specs.Pairs.{HasAt}
 use Rattle.nofs_law_links.proofs.Places.{at-contains, set-beside, cleared-beside, place-passes}

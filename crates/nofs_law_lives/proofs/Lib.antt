@@ -3,3 +3,4 @@ pub mod Numbers
 pub mod Values
 pub mod Begin
 pub mod Within
+pub mod Handed

@@ -18,7 +18,7 @@ use Rattle.nofs_law_lives.proofs.Begin.{law-given}
 use Rattle.nofs_law_lives.proofs.Numbers.{law-once}
 use Rattle.nofs_law_lives.proofs.OnlySuper.{same-inode}
 use Rattle.nofs_law_lives.proofs.Values.{law-lives}
-use Rattle.nofs_crashlaw.proofs.Unflushed.{law-unflushed}
+use Rattle.nofs_shared.proofs.Handed.{law-unflushed}
 use Rattle.nofs_law_mounts.specs.Mounts.{AreLives, GivenOver, IsBlank, IsOfRaise, LawMountContents, LawMountLives, LawMountOnce, Leaves, Mount, Mounts}
 use Rattle.nofs_law_mounts.specs.Mounts.{claimed_over, base_of, life_in}
 use Rattle.nofs_law_mounts.proofs.After.{upgrade-again, upgraded-of}

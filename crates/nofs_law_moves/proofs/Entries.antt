@@ -8,7 +8,7 @@ use Rattle.nofs_image.specs.Image.{Image}
 use Rattle.nofs_machine.specs.Steps.{Made}
 use Rattle.nofs_machine.specs.declared.history.Entry1.{Entry1}
 use Rattle.nofs_task.specs.declared.commands.Command.{Command}
-use Rattle.nofs_law_runs.proofs.Along.{SaneRun, moment-at}
+use Rattle.nofs_law_paths.proofs.Handed.{SaneRun, moment-at}
 use Rattle.nofs_law_moves.specs.Own.{done_of, steps_by, own_place, RunBy, place_in, end_of}
 use Rattle.nofs_law_moves.proofs.Own.{OwnEntry, own-entry, OwnStep, own-step, own-rises}
 use Rattle.nofs_law_moves.proofs.Stages.{Told, AllTold}

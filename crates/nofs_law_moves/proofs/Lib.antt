@@ -7,3 +7,4 @@ pub mod Replies
 pub mod Entries
 pub mod Scripts
 pub mod MoveSteps
+pub mod Handed

@@ -2,7 +2,7 @@
 use Rattle.std.proofs.Common.{inl, inr}
 use Rattle.nofs_task.specs.declared.commands.Command.TheVariants as command
 use Rattle.nofs_client.specs.Drive.{drive_of, start_of}
-use Rattle.nofs_law_runs.proofs.Base.{sane-run}
+use Rattle.nofs_law_paths.proofs.Handed.{sane-run}
 use Rattle.nofs_law_moves.specs.Steps.{LawSteps, LawMovedSteps}
 use Rattle.nofs_law_moves.proofs.Driver.{Says}
 use Rattle.nofs_law_moves.proofs.Looks.{located, linked-steps}

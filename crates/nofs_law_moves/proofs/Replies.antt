@@ -17,7 +17,7 @@ use Rattle.nofs_machine.specs.declared.steps.Step.{Step}
 use Rattle.nofs_machine.specs.declared.steps.Step.TheVariants as step
 use Rattle.nofs_machine.specs.declared.replies.Reply.{Reply}
 use Rattle.nofs_machine.specs.declared.replies.Reply.TheVariants as reply
-use Rattle.nofs_law_links.proofs.Acts.{accepted-acts}
+use Rattle.nofs_law_paths.proofs.Handed.{accepted-acts}
 use Rattle.nofs_law_paths.specs.Moves.{KeepsEntry}
 use Rattle.nofs_law_moves.specs.Own.{done_of}
 use Rattle.nofs_law_moves.specs.Linked.{only_looks, is_idle}

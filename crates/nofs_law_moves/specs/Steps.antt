@@ -16,7 +16,7 @@ use Rattle.nofs_task.specs.Commands.{HasName}
 use Rattle.nofs_task.specs.Places.{last_name}
 use Rattle.nofs_client.specs.Drive.{drive_of}
 use Rattle.nofs_client.specs.Runs.{made_reply, IsCommandRun, IsPartlyDriven}
-use Rattle.nofs_law_runs.specs.Bases.{IsHistory}
+use Rattle.nofs_law_paths.specs.Handed.{IsHistory}
 use Rattle.nofs_law_moves.specs.Own.{steps_by, RunBy}
 use Rattle.nofs_law_moves.specs.Linked.{DropMade, LinkedSteps}
 

@@ -6,3 +6,4 @@ pub mod NameHoles
 pub mod NameRows
 pub mod NewLaws
 pub mod NameHomes
+pub mod Handed

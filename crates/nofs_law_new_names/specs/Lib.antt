@@ -1,2 +1,3 @@
 pub mod Holes
 pub mod Moves
+pub mod Handed

@@ -3,3 +3,4 @@ pub mod WrittenTables
 pub mod FileNumbers
 pub mod NameNumbers
 pub mod NewNumbers
+pub mod Handed

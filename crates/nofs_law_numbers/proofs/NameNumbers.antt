@@ -20,9 +20,8 @@ use Rattle.nofs_law_untouched.proofs.EntryCells.{no-entry}
 use Rattle.nofs_law_maps.specs.Fresh.{Numbered, Old, CellNumbers}
 use Rattle.nofs_law_maps.specs.Pieces.{Before}
 use Rattle.nofs_law_maps.proofs.Fresh.{sole-is}
-use Rattle.nofs_law_old_names.specs.Names.{Relinked}
-use Rattle.nofs_law_old_names.proofs.NameFiles.{file-of}
-use Rattle.nofs_law_old_names.proofs.NameRename.{entry-parts, value-held}
+use Rattle.nofs_law_homes.specs.Handed.{Relinked}
+use Rattle.nofs_law_homes.proofs.Handed.{file-of, entry-parts, value-held}
 use Rattle.nofs_law_numbers.specs.Cells.{OldNumbers, Held, RecordWritten, AsBefore, Changed, Freed}
 use Rattle.nofs_law_numbers.specs.Names.{LawRenameNumbers, LawDropNumbers}
 use Rattle.nofs_law_numbers.proofs.FileNumbers.{entries-here}

@@ -21,9 +21,8 @@ use Rattle.nofs_law_maps.specs.Moves.{IsClaimed}
 use Rattle.nofs_law_maps.specs.Pieces.{PointerFrom, Before, Empty, Claimed}
 use Rattle.nofs_law_maps.proofs.Fresh.{sole-is}
 use Rattle.nofs_law_untouched.proofs.Given.{file-apart, none-apart, meta-stays}
-use Rattle.nofs_law_old_names.proofs.NameFiles.{file-of}
-use Rattle.nofs_law_new_names.specs.Holes.{first_links, HoleUnderLeaf, HoleWithLeaf, HoleClaimed, Direct, UnderLeaf, WithLeaf, LinkLies, MakeLies}
-use Rattle.nofs_law_new_names.proofs.NameHoles.{hole-writes, hole-cell}
+use Rattle.nofs_law_homes.proofs.Handed.{file-of, hole-writes, hole-cell}
+use Rattle.nofs_law_homes.specs.Handed.{first_links, HoleUnderLeaf, HoleWithLeaf, HoleClaimed, Direct, UnderLeaf, WithLeaf, LinkLies, MakeLies}
 use Rattle.nofs_law_homes.proofs.NewHomes.{link-claims, make-claims}
 use Rattle.nofs_law_numbers.specs.Cells.{OldNumbers, Zeros, RecordWritten, AsBefore, Changed, Made}
 use Rattle.nofs_law_numbers.specs.Names.{LawLinkInPlaceNumbers, LawLinkInHoleNumbers, LawMakeInPlaceNumbers, LawMakeInHoleNumbers}

@@ -8,8 +8,7 @@ use Rattle.nofs_machine.specs.Claims.{IsClaim}
 use Rattle.nofs_machine.specs.declared.history.Claims.{Claims}
 use Rattle.nofs_machine.specs.declared.steps.Step.TheVariants as step
 use Rattle.nofs_law_maps.specs.Fresh.{Numbered, CellNumbers}
-use Rattle.nofs_law_old_names.specs.Names.{Relinked, RenameLies, DropLies}
-use Rattle.nofs_law_new_names.specs.Holes.{LinkLies, MakeLies, EntryInPlace, EntryInHole}
+use Rattle.nofs_law_homes.specs.Handed.{Relinked, RenameLies, DropLies, LinkLies, MakeLies, EntryInPlace, EntryInHole}
 use Rattle.nofs_law_homes.specs.Homes.{EntryClaims}
 use Rattle.nofs_law_numbers.specs.Cells.{OldNumbers, RecordWritten}
 

@@ -3,8 +3,7 @@ use Rattle.std.proofs.Common.{◌≡◌, ◌≢◌, ℕ, suc, ◌+◌, ◌-◌, 
 use Rattle.std.proofs.Common.{Option, Some, None, is_some, refl, sym, ap, ◌∙◌, subst, subst₂, arith, Contains, eqb-true, eq-eqb}
 use Rattle.std.specs.List.{list_any}
 use Rattle.nofs_image.specs.Kinds.{Directory as Folder}
-use Rattle.nofs_law_images.specs.Proper.{Proper}
-use Rattle.nofs_law_images.specs.Moments.{during}
+use Rattle.nofs_law_untouched.specs.Handed.{Proper, during}
 use Rattle.nofs_law_untouched.specs.Frames.{OldPointers}
 use Rattle.nofs_image.proofs.Find.{and-both}
 use Rattle.nofs_image.proofs.Chains.{pair-of, any-true, agreed-holds}

@@ -4,8 +4,7 @@ use Rattle.std.proofs.Common.{sym, ap, ◌∙◌, subst, subst₂, Contains, eqb
 use Rattle.std.proofs.lemmas.List.Elements.{Contains-push}
 use Rattle.nofs_image.specs.Kinds.{Directory as Folder}
 use Rattle.nofs_image.specs.declared.path.PathAnswer.{PathAnswer}
-use Rattle.nofs_law_images.specs.Proper.{IsContentKind, Proper, OfContent}
-use Rattle.nofs_law_images.specs.Moments.{during}
+use Rattle.nofs_law_untouched.specs.Handed.{IsContentKind, Proper, OfContent, during}
 use Rattle.nofs_law_untouched.specs.Frames.{SamePointers, OldPointers}
 use Rattle.nofs_image.proofs.Find.{find-held}
 use Rattle.nofs_image.proofs.Paths.{path_of-slot, path_of-slot_of, path_of-content, slot_of-path_of}

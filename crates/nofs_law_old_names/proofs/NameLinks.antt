@@ -4,8 +4,7 @@ use Rattle.std.proofs.Common.{option_to_list, Option, Some, None, is_some, unwra
 use Rattle.std.proofs.Common.{ne_eqb}
 use Rattle.std.proofs.lemmas.List.Elements.{Contains-push}
 use Rattle.nofs_image.specs.Kinds.{Directory as Folder}
-use Rattle.nofs_law_images.specs.Proper.{Proper, OfTable, RecordProper, Unchanged, Changed, Freed, Same}
-use Rattle.nofs_law_images.specs.Moments.{during, is_removal}
+use Rattle.nofs_law_untouched.specs.Handed.{Proper, OfTable, RecordProper, Unchanged, Changed, Freed, Same, during, is_removal}
 use Rattle.nofs_law_untouched.specs.Frames.{OldPointers}
 use Rattle.nofs_image.proofs.Chains.{pair-of}
 use Rattle.nofs_law_untouched.proofs.Matching.{matched-file}

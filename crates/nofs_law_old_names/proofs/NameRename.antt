@@ -2,8 +2,7 @@
 use Rattle.std.proofs.Common.{◌≡◌, ◌≢◌, ℕ, ◌/◌, ◌%◌, ◌<◌, Bool, true, false, cond, eqb, ltb, ◌&&◌, List, length, Option, Some, None, is_some, refl, sym, ap}
 use Rattle.std.proofs.Common.{◌∙◌, subst, subst₂, arith, eqb-true, eq-eqb, ltb-true}
 use Rattle.nofs_image.specs.declared.path.PathAnswer.{PathAnswer}
-use Rattle.nofs_law_images.specs.Proper.{Proper}
-use Rattle.nofs_law_images.specs.Moments.{during}
+use Rattle.nofs_law_untouched.specs.Handed.{Proper, during}
 use Rattle.nofs_law_untouched.specs.Frames.{OldPointers}
 use Rattle.nofs_image.proofs.Find.{and-both}
 use Rattle.nofs_law_untouched.proofs.Framing.{some-is}

@@ -9,8 +9,7 @@ use Rattle.nofs_machine.specs.Meta.{Gone, Is}
 use Rattle.nofs_machine.specs.Marks.{Mark}
 use Rattle.nofs_machine.specs.Machine.{zeros, is_paired, with_entry, link_to, without_link, drop_meta, drop_given, rename_given, files_after}
 use Rattle.nofs_machine.specs.History.{FilesMatch}
-use Rattle.nofs_law_images.specs.Proper.{Proper}
-use Rattle.nofs_law_images.specs.Moments.{during}
+use Rattle.nofs_law_untouched.specs.Handed.{Proper, during}
 use Rattle.nofs_law_untouched.specs.Frames.{OldPointers}
 
 -- one block is written in place, and the record of inode i

@@ -3,3 +3,4 @@ pub mod Since
 pub mod Moving
 pub mod Moves
 pub mod Alone
+pub mod Handed

@@ -28,8 +28,7 @@ use Rattle.nofs_machine.specs.declared.replies.Refusal.TheVariants as refusal
 use Rattle.nofs_law_untouched.proofs.Given.{value-of, at-itself}
 use Rattle.nofs_law_untouched.proofs.Matching.{gen-of}
 use Rattle.nofs_law_untouched.proofs.EntryCells.{no-entry, entry-here}
-use Rattle.nofs_law_old_names.proofs.NameDrop.{paired-link}
-use Rattle.nofs_law_new_names.proofs.NameRows.{least-passes, least-none, found-parts, drop-gives, link-gives, link-place-parts}
+use Rattle.nofs_law_links.proofs.Handed.{paired-link, least-passes, least-none, found-parts, drop-gives, link-gives, link-place-parts}
 use Rattle.nofs_law_links.specs.Pairs.{HasAt, IsDirectory}
 use Rattle.nofs_law_links.proofs.Places.{contains-at, set-here}
 use Rattle.nofs_law_links.proofs.Acts.{Acts, Idle, Acting, acts, accepted-acts, files-next}

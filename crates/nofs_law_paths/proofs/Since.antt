@@ -15,7 +15,7 @@ use Rattle.nofs_machine.specs.World.{World}
 use Rattle.nofs_machine.specs.Next.{Next}
 use Rattle.nofs_machine.specs.declared.history.Entry1.{Entry1}
 use Rattle.nofs_law_untouched.proofs.Matching.{gen-of}
-use Rattle.nofs_law_old_names.proofs.NameRename.{entry-parts}
+use Rattle.nofs_law_links.proofs.Handed.{entry-parts}
 use Rattle.nofs_law_links.specs.Pairs.{Filled, IsDirectory}
 use Rattle.nofs_law_runs.specs.Runs.{files_before}
 use Rattle.nofs_law_links.proofs.Places.{at-get, contains-at}

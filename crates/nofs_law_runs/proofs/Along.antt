@@ -18,7 +18,7 @@ use Rattle.nofs_machine.specs.declared.history.Claims.{Claims}
 use Rattle.nofs_machine.specs.declared.history.Entry1.{Entry1}
 use Rattle.nofs_machine.specs.declared.steps.Step.{Step}
 use Rattle.nofs_machine.specs.declared.steps.Step.TheVariants as step
-use Rattle.nofs_law_new_names.proofs.NameRows.{drop-gives}
+use Rattle.nofs_law_links.proofs.Handed.{drop-gives}
 use Rattle.nofs_law_links.specs.Pairs.{Filled, is_drop, IsDirectory}
 use Rattle.nofs_law_runs.specs.Runs.{files_before}
 use Rattle.nofs_law_links.proofs.Acts.{Acts, Idle, Acting, acts}

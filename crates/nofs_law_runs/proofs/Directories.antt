@@ -11,7 +11,7 @@ use Rattle.nofs_machine.specs.World.{World}
 use Rattle.nofs_machine.specs.Refusals.{stale, not_directory}
 use Rattle.nofs_machine.specs.declared.replies.Refusal.TheVariants as refusal
 use Rattle.nofs_law_untouched.proofs.Matching.{gen-of}
-use Rattle.nofs_law_new_names.proofs.NameRows.{least-passes}
+use Rattle.nofs_law_links.proofs.Handed.{least-passes}
 use Rattle.nofs_law_links.specs.Pairs.{IsDirectory}
 use Rattle.nofs_law_links.proofs.Gives.{row-none, folder-at}
 

@@ -21,7 +21,7 @@ use Rattle.nofs_machine.specs.declared.steps.Step.{Step}
 use Rattle.nofs_machine.specs.declared.steps.Step.TheVariants as step
 use Rattle.nofs_machine.proofs.Era.{gives-birth}
 use Rattle.nofs_law_untouched.proofs.Given.{value-of, at-itself}
-use Rattle.nofs_law_new_names.proofs.NameRows.{drop-gives, make-given-is}
+use Rattle.nofs_law_links.proofs.Handed.{drop-gives, make-given-is}
 use Rattle.nofs_law_links.specs.Pairs.{HasAt, Filled, is_drop, IsDirectory}
 use Rattle.nofs_law_links.proofs.Places.{at-contains, contains-at}
 use Rattle.nofs_law_links.proofs.Acts.{accepted-acts, files-next, Acts, Idle, Acting, acts}

@@ -19,7 +19,7 @@ use Rattle.nofs_machine.specs.declared.replies.Refusal.TheVariants as refusal
 use Rattle.nofs_machine.proofs.Era.{current-accepted}
 use Rattle.nofs_machine.proofs.Lives.{along-append, begun-take}
 use Rattle.nofs_image.proofs.Find.{and-both}
-use Rattle.nofs_law_machine.proofs.Faultless.{answer-free}
+use Rattle.nofs_law_links.proofs.Handed.{answer-free}
 use Rattle.nofs_law_runs.specs.Runs.{files_before}
 use Rattle.nofs_law_links.proofs.Places.{take-more, part-get}
 use Rattle.nofs_law_links.proofs.Acts.{faultless, row-faultless, files-next}

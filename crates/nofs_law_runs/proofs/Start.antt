@@ -19,9 +19,7 @@ use Rattle.nofs_machine.specs.World.{world_of}
 use Rattle.nofs_law_untouched.proofs.Alike.{agreed-machine}
 use Rattle.nofs_law_untouched.proofs.Framing.{some-is}
 use Rattle.nofs_law_untouched.proofs.Matching.{Matched, matched-file}
-use Rattle.nofs_crashlaw.proofs.Unflushed.{self-match}
-use Rattle.nofs_crashlaw.proofs.Below.{live-stands, live-below}
-use Rattle.nofs_law_old_names.proofs.NameInPlace.{no-file-zero}
+use Rattle.nofs_law_links.proofs.Handed.{self-match, live-stands, live-below, no-file-zero}
 use Rattle.nofs_law_runs.specs.Bases.{IsBase}
 use Rattle.nofs_law_links.proofs.Slots.{Spelled}
 use Rattle.nofs_law_links.proofs.Links.{IsSane}

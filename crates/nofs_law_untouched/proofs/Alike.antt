@@ -5,7 +5,7 @@ use Rattle.nofs_image.specs.Kinds.{Directory as Folder}
 use Rattle.nofs_image.proofs.Chains.{pair-of, agreed-holds, holds-agreed}
 use Rattle.nofs_law_untouched.proofs.Matching.{matched-file, matched-agreed, agreed-files-is}
 use Rattle.nofs_law_untouched.proofs.Framing.{some-is, files-match}
-use Rattle.nofs_machine.specs.History.{agreed_files, FilesMatch, SameFile}
+use Rattle.nofs_law_images.specs.Handed.{agreed_files, FilesMatch, SameFile}
 use Rattle.nofs_image.specs.Cells.{FileKind, File, BackLink, is_live, entry_limit}
 use Rattle.nofs_image.specs.Image.{Image, inode, file_from, files_in, agreed, Agreed, root, linked, FileState, Files, is_folder, entry_held, entry_in_file}
 use Rattle.nofs_image.specs.Image.{pairs, is_a, is_pair, links_in_file, links_of, is_root, is_special}

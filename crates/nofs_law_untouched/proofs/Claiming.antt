@@ -12,8 +12,7 @@ use Rattle.nofs_image.specs.Image.{value_in, IsAbove}
 use Rattle.nofs_image.specs.declared.value.Value.{Value}
 use Rattle.nofs_image.specs.declared.value.Value.TheVariants.{Hole, Bytes}
 use Rattle.nofs_image.proofs.Paths.{below-null, above-refl, path_of-content, slot_of-path_of}
-use Rattle.nofs_machine.specs.Marks.{Mark}
-use Rattle.nofs_machine.specs.Machine.{Given, lies_above, same_path}
+use Rattle.nofs_law_images.specs.Handed.{Mark, Given, lies_above, same_path}
 use Rattle.nofs_law_images.specs.Proper.{IsContentKind, Proper, OfContent}
 use Rattle.nofs_law_images.specs.Moments.{during}
 use Rattle.nofs_law_untouched.specs.Grows.{ClaimedCell}

@@ -7,7 +7,7 @@ use Rattle.nofs_law_untouched.proofs.Matching.{matched-file, matched-agreed}
 use Rattle.nofs_law_untouched.proofs.Framing.{some-is, files-match}
 use Rattle.nofs_law_untouched.proofs.Alike.{Alike, same-alike, Kin, KinFiles, both-same, kin-sym, same-of, agreed-machine, agreed-some, live-some, links-kin, a-kin}
 use Rattle.nofs_law_untouched.proofs.Alike.{entry-alike, a-alike}
-use Rattle.nofs_machine.specs.History.{FilesMatch, SameFile}
+use Rattle.nofs_law_images.specs.Handed.{FilesMatch, SameFile}
 use Rattle.nofs_image.specs.Cells.{File, BackLink, Entry}
 use Rattle.nofs_image.specs.Kinds.{Directory as Folder}
 use Rattle.nofs_image.specs.Image.{Image, files_in, agreed, Agreed, root, linked, FileState, Files, is_folder, entry_in_file, pairs, names, is_a, is_pair}

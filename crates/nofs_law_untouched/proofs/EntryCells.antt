@@ -4,7 +4,7 @@ use Rattle.std.proofs.lemmas.List.{length-take-le, length-append, take_at, drop_
 use Rattle.std.proofs.lemmas.List.{length-drop, length-replicate, replicate-append-replicate}
 use Rattle.std.proofs.lemmas.Bool.{cases_lt}
 use Rattle.std.proofs.lemmas.Slice.{drop-append-drop}
-use Rattle.nofs_machine.specs.Machine.{bytes_in, zeros, with_entry}
+use Rattle.nofs_law_images.specs.Handed.{bytes_in, zeros, with_entry}
 use Rattle.nofs_image.specs.Cells.{number_at, entry_fields, entry_of, entry_in}
 use Rattle.nofs_image.specs.declared.value.Value.{Value}
 use Rattle.nofs_image.specs.declared.value.Value.TheVariants.{Hole, Bytes, Lost}

@@ -7,7 +7,7 @@ use Rattle.nofs_law_untouched.specs.Frames.{Rewrites, SameIdentity, SamePointers
 use Rattle.nofs_image.proofs.Find.{is_tag-true}
 use Rattle.nofs_image.proofs.Chains.{pair-of, agreed-holds, holds-agreed}
 use Rattle.nofs_image.specs.declared.path.PathAnswer.TheVariants as answer
-use Rattle.nofs_machine.specs.History.{agreed_files, FilesMatch, SameFile}
+use Rattle.nofs_law_images.specs.Handed.{agreed_files, FilesMatch, SameFile}
 use Rattle.nofs_image.specs.Cells.{Cell, File, BackLink, Tag, Pointer, tag_of, is_null, pointer_at, is_live, entry_limit, slot_limit}
 use Rattle.nofs_image.specs.Image.{super_in, Image, cell_at, super_at, is_data_block, inode, files_in, agreed, Agreed, root, linked, Path, InRecord, Under}
 use Rattle.nofs_image.specs.Image.{tag_for, is_tag, agrees, record_pointer, judged, find, pointer, FileState, Files, is_folder, entry_held, entry_in_file}

@@ -6,9 +6,9 @@ use Rattle.nofs_image.proofs.Find.{and-both, find-held}
 use Rattle.nofs_law_untouched.specs.Frames.{SameMeta}
 use Rattle.nofs_law_untouched.proofs.Growth.{same_path-true}
 use Rattle.nofs_image.specs.declared.path.PathAnswer.TheVariants as answer
-use Rattle.nofs_machine.specs.Meta.{Meta}
-use Rattle.nofs_machine.specs.Machine.{Given, is_at, filled, after_meta, born_file, file_after, files_after, value_of, size_of, lies_above, same_path}
-use Rattle.nofs_machine.specs.History.{SameFile}
+use Rattle.nofs_law_images.specs.Handed.{Meta}
+use Rattle.nofs_law_images.specs.Handed.{Given, is_at, filled, after_meta, born_file, file_after, files_after, value_of, size_of, lies_above, same_path}
+use Rattle.nofs_law_images.specs.Handed.{SameFile}
 use Rattle.nofs_image.specs.Cells.{FileKind, File, Record, Pointer, Content, Directory}
 use Rattle.nofs_image.specs.Kinds.{Directory as Folder}
 use Rattle.nofs_image.specs.Image.{Image, super_at, is_data_block, inode, is_inode, Path, InRecord, Under, find, NodeState, FileState, Files, is_folder}

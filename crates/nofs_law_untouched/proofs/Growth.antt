@@ -6,7 +6,7 @@ use Rattle.nofs_image.proofs.Find.{and-both, find-built, agrees-built, judged-bu
 use Rattle.nofs_image.proofs.Paths.{path_of-slot, path_of-content, slot_of-path_of, above-refl, above-up}
 use Rattle.nofs_law_untouched.proofs.Framing.{judged-same}
 use Rattle.nofs_image.specs.declared.path.PathAnswer.TheVariants as answer
-use Rattle.nofs_machine.specs.Machine.{same_path}
+use Rattle.nofs_law_images.specs.Handed.{same_path}
 use Rattle.nofs_image.specs.Cells.{Cell, Pointer, tag_of, is_null, pointer_at, is_live, slot_limit}
 use Rattle.nofs_image.specs.Image.{Image, cell_at, is_data_block, inode, files_in, agreed, value, value_in, Path, InRecord, Under, path_of, slot_of}
 use Rattle.nofs_image.specs.Image.{is_pointer_slot, tag_for, judged, find, pointer, record_pointer, IsAbove, IsSlot}

@@ -6,7 +6,7 @@ use Rattle.nofs_image.proofs.Find.{find-held}
 use Rattle.nofs_image.proofs.Paths.{path_of-slot}
 use Rattle.nofs_law_untouched.proofs.Framing.{frame}
 use Rattle.nofs_image.specs.declared.path.PathAnswer.TheVariants as answer
-use Rattle.nofs_machine.specs.History.{SameFile}
+use Rattle.nofs_law_images.specs.Handed.{SameFile}
 use Rattle.nofs_image.specs.Cells.{Cell, FileKind, Tag, Pointer, Record, tag_of, pointer_at, is_live, slot_limit}
 use Rattle.nofs_image.specs.Image.{Image, cell_at, inode, files_in, agreed, value, value_in, node_in, Path, InRecord, Under, path_of, slot_of, tag_for, find}
 use Rattle.nofs_image.specs.Image.{IsSlot}

@@ -5,7 +5,7 @@ use Rattle.nofs_image.specs.Image.{Image, cell_at, inode, files_in, agreed, valu
 use Rattle.nofs_image.specs.Cells.{Pointer}
 use Rattle.nofs_image.specs.declared.path.PathAnswer.TheVariants as answer
 use Rattle.nofs_image.specs.declared.value.Value.TheVariants.{Bytes}
-use Rattle.nofs_machine.specs.History.{SameFile}
+use Rattle.nofs_law_images.specs.Handed.{SameFile}
 use Rattle.nofs_law_untouched.specs.Frames.{Rewrites, SameIdentity, OldPointers, Touches}
 use Rattle.nofs_law_untouched.specs.Grows.{Grows}
 

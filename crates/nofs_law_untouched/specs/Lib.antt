@@ -1,3 +1,4 @@
 pub mod Frames
 pub mod Grows
 pub mod Laws
+pub mod Handed

@@ -18,14 +18,10 @@ use Rattle.nofs_machine.specs.declared.replies.Reply.TheVariants as reply
 use Rattle.nofs_task.specs.declared.commands.Command.TheVariants as command
 use Rattle.nofs_task.specs.declared.commands.Path.{Path}
 use Rattle.nofs_task.specs.Places.{last_name}
-use Rattle.nofs_law_runs.specs.Runs.{files_before}
-use Rattle.nofs_law_runs.proofs.Runs.{files-after}
-use Rattle.nofs_law_links.proofs.Links.{IsSane, Linked, linked-range, linked-paired}
-use Rattle.nofs_law_runs.proofs.Along.{Guard, SaneRun, moment-at, linked-along}
-use Rattle.nofs_law_runs.proofs.Base.{sane-run}
-use Rattle.nofs_law_paths.specs.Moves.{KeepsEntry, named_entry}
-use Rattle.nofs_law_paths.proofs.Alone.{Places, look-places, link-place-is}
-use Rattle.nofs_law_paths.proofs.Moving.{Only, plain-guard, keeping-guard, found-name, name-finds, look-linked, link-linked}
+use Rattle.nofs_law_moves.specs.Handed.{files_before, KeepsEntry, named_entry}
+use Rattle.nofs_law_moves.proofs.Handed.{files-after, IsSane, Linked, linked-range, linked-paired, Guard, SaneRun, moment-at, linked-along, sane-run}
+use Rattle.nofs_law_moves.proofs.Handed.{Places, look-places, link-place-is}
+use Rattle.nofs_law_moves.proofs.Handed.{Only, plain-guard, keeping-guard, found-name, name-finds, look-linked, link-linked}
 use Rattle.nofs_law_moves.specs.Own.{done_of, RunBy, place_in, end_of}
 use Rattle.nofs_law_moves.specs.Linked.{is_idle, DropMade, LinkedSteps}
 use Rattle.nofs_move.specs.Laws.{NamesStay, LeavesName, NamesLeft, LawNamesLeft}

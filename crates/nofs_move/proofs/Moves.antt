@@ -13,12 +13,8 @@ use Rattle.nofs_machine.specs.declared.replies.Reply.TheVariants as reply
 use Rattle.nofs_task.specs.declared.commands.Command.TheVariants as command
 use Rattle.nofs_task.specs.declared.commands.Path.{Path}
 use Rattle.nofs_task.specs.Places.{last_name}
-use Rattle.nofs_law_runs.specs.Runs.{files_before}
-use Rattle.nofs_law_runs.proofs.Along.{SaneRun, moment-at}
-use Rattle.nofs_law_runs.proofs.Base.{sane-run}
-use Rattle.nofs_law_paths.specs.Moves.{KeepsEntry, named_entry, IsMove, HasDrop}
-use Rattle.nofs_law_paths.proofs.Alone.{Places, look-places, link-place-is}
-use Rattle.nofs_law_paths.proofs.Moves.{law-move, law-moved}
+use Rattle.nofs_law_moves.specs.Handed.{files_before, KeepsEntry, named_entry, IsMove, HasDrop}
+use Rattle.nofs_law_moves.proofs.Handed.{SaneRun, moment-at, sane-run, Places, look-places, link-place-is, law-move, law-moved}
 use Rattle.nofs_law_moves.specs.Own.{done_of, RunBy, place_in, end_of}
 use Rattle.nofs_law_moves.specs.Linked.{is_idle, DropMade, LinkedSteps}
 use Rattle.nofs_move.specs.Laws.{NamesStay, MoveAt, LawIsMove, LawOneName, LawNewName}

@@ -14,10 +14,7 @@ use Rattle.nofs_machine.specs.declared.steps.Step.TheVariants as step
 use Rattle.nofs_task.specs.declared.commands.Command.TheVariants as command
 use Rattle.nofs_task.specs.declared.commands.Path.{Path}
 use Rattle.nofs_task.specs.Places.{last_name}
-use Rattle.nofs_law_runs.specs.Bases.{IsHistory}
-use Rattle.nofs_law_runs.specs.Runs.{files_before}
-use Rattle.nofs_law_paths.specs.Finds.{Finds}
-use Rattle.nofs_law_paths.specs.Moves.{KeepsEntry, named_entry, IsMove, DropIsLate}
+use Rattle.nofs_law_moves.specs.Handed.{IsHistory, files_before, Finds, KeepsEntry, named_entry, IsMove, DropIsLate}
 use Rattle.nofs_law_moves.specs.Own.{RunBy, place_in, end_of}
 use Rattle.nofs_law_moves.specs.Linked.{DropMade, LinkedSteps}
 

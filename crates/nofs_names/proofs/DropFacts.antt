@@ -7,7 +7,7 @@ use Rattle.nofs_image.specs.Image.{Image, files_in, find, path_of, agreed, Files
 use Rattle.nofs_image.specs.declared.path.PathAnswer.TheVariants as answer
 use Rattle.nofs_machine.specs.History.{FilesMatch}
 use Rattle.nofs_machine.specs.declared.history.Entry1.{Entry1}
-use Rattle.nofs_crashlaw.proofs.Below.{live-stands}
+use Rattle.nofs_state.proofs.Handed.{live-stands}
 use Rattle.nofs_agree.specs.Reading.{KnowsInode, KnowsDirectory}
 use Rattle.nofs_agree.proofs.Climbs.{KnowsInode-on}
 use Rattle.nofs_law_numbers.specs.Cells.{table_tag}

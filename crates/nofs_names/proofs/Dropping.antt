@@ -39,7 +39,7 @@ use Rattle.nofs_law_maps.specs.Fresh.{Numbered, CellNumbers}
 use Rattle.nofs_law_old_names.specs.Names.{InPlace, Relinked, DropLies}
 use Rattle.nofs_law_old_names.proofs.NameLaws.{law-drop-entry, law-drop-name, law-drop-file}
 use Rattle.nofs_law_old_names.proofs.NameInPlace.{cell-elsewhere, in-place-writes}
-use Rattle.nofs_law_homes.proofs.OldHomes.{law-drop-name-homes, law-drop-file-homes}
+use Rattle.nofs_law_numbers.proofs.Handed.{law-drop-name-homes, law-drop-file-homes}
 use Rattle.nofs_law_numbers.specs.Cells.{RecordWritten, AsBefore, table_tag}
 use Rattle.nofs_law_numbers.proofs.NameNumbers.{law-drop-numbers}
 use Rattle.nofs_law_numbers.proofs.WrittenTables.{law-table-numbers}

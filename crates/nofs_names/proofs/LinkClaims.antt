@@ -17,7 +17,7 @@ use Rattle.nofs_machine.specs.History.{FilesMatch}
 use Rattle.nofs_machine.specs.declared.history.Claims.{Claims}
 use Rattle.nofs_machine.specs.declared.history.Entry1.{Entry1}
 use Rattle.nofs_machine.specs.declared.steps.Step.TheVariants as step
-use Rattle.nofs_law_files.proofs.PutFile.{file-in}
+use Rattle.nofs_law_numbers.proofs.Handed.{file-in}
 use Rattle.nofs_law_untouched.proofs.Matching.{matched-agreed}
 use Rattle.nofs_law_maps.specs.Homes.{ClaimsFree}
 use Rattle.nofs_law_maps.specs.Moves.{IsClaimed}

@@ -21,7 +21,7 @@ use Rattle.nofs_machine.specs.declared.steps.Step.TheVariants as step
 use Rattle.nofs_machine.specs.declared.replies.Reply.TheVariants as reply
 use Rattle.nofs_machine.specs.declared.replies.Refusal.{Refusal}
 use Rattle.nofs_machine.specs.declared.replies.Refusal.TheVariants as refusal
-use Rattle.nofs_crashlaw.proofs.Below.{live-stands}
+use Rattle.nofs_state.proofs.Handed.{live-stands}
 use Rattle.nofs_state.specs.Books.{IsSafe, claimed_books, claimed_pointer}
 use Rattle.nofs_state.specs.Standing.{IsOpen, Past}
 use Rattle.nofs_state.specs.Steps.{Goes, entry}

@@ -26,7 +26,7 @@ use Rattle.nofs_machine.specs.declared.history.Claims.{Claims}
 use Rattle.nofs_machine.specs.declared.history.Entry1.{Entry1}
 use Rattle.nofs_machine.specs.declared.steps.Step.TheVariants as step
 use Rattle.nofs_machine.specs.declared.replies.Reply.TheVariants as reply
-use Rattle.nofs_crashlaw.proofs.Below.{live-stands}
+use Rattle.nofs_state.proofs.Handed.{live-stands}
 use Rattle.nofs_machine.specs.Gives.{GivesNothing}
 use Rattle.nofs_law_untouched.proofs.Matching.{Matched, matched-agreed, matched-file}
 use Rattle.nofs_law_maps.specs.Fresh.{Numbered, CellNumbers}
@@ -38,9 +38,8 @@ use Rattle.nofs_law_new_names.specs.Holes.{LinkLies, EntryInPlace, EntryInHole}
 use Rattle.nofs_law_new_names.proofs.NameHoles.{hole-cell, hole-leaf-proper, hole-writes}
 use Rattle.nofs_law_new_names.proofs.NameRows.{link-gives, link-place-parts, link-plain}
 use Rattle.nofs_law_new_names.proofs.NewLaws.{law-link-in-place, law-link-in-hole}
-use Rattle.nofs_law_homes.specs.Homes.{EntryClaims}
-use Rattle.nofs_law_homes.proofs.EntryPlace.{law-entry-place}
-use Rattle.nofs_law_homes.proofs.NewHomes.{law-link-in-place-homes, law-link-in-hole-homes}
+use Rattle.nofs_law_numbers.specs.Handed.{EntryClaims}
+use Rattle.nofs_law_numbers.proofs.Handed.{law-entry-place, law-link-in-place-homes, law-link-in-hole-homes}
 use Rattle.nofs_law_numbers.specs.Cells.{RecordWritten, table_tag}
 use Rattle.nofs_law_numbers.proofs.NewNumbers.{law-link-in-place-numbers, law-link-in-hole-numbers}
 use Rattle.nofs_state.specs.Standing.{IsOpen, Past}

@@ -18,7 +18,7 @@ use Rattle.nofs_law_maps.specs.Homes.{ClaimsFree}
 use Rattle.nofs_law_maps.specs.Moves.{IsClaimed}
 use Rattle.nofs_law_maps.proofs.Good.{law-claims}
 use Rattle.nofs_law_maps.proofs.Homes.{law-good}
-use Rattle.nofs_crashlaw.proofs.Below.{live-stands}
+use Rattle.nofs_state.proofs.Handed.{live-stands}
 use Rattle.nofs_law_old_names.proofs.NameLinks.{record-in}
 use Rattle.nofs_law_new_names.specs.Holes.{EntryInHole}
 use Rattle.nofs_law_numbers.proofs.FileNumbers.{listed}

@@ -24,7 +24,7 @@ use Rattle.nofs_machine.specs.declared.replies.Refusal.{Refusal}
 use Rattle.nofs_machine.specs.declared.replies.Refusal.TheVariants as refusal
 use Rattle.nofs_agree.specs.declared.reads.LastRead.{LastRead}
 use Rattle.nofs_agree.proofs.Climbs.{told-on}
-use Rattle.nofs_law_homes.proofs.EntryPlace.{law-entry-place}
+use Rattle.nofs_law_numbers.proofs.Handed.{law-entry-place}
 use Rattle.nofs_state.specs.Books.{IsSafe, Says}
 use Rattle.nofs_state.specs.Standing.{IsOpen, Past}
 use Rattle.nofs_state.specs.Steps.{Goes}

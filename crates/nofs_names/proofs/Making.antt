@@ -30,8 +30,7 @@ use Rattle.nofs_machine.specs.declared.replies.Reply.TheVariants as reply
 use Rattle.nofs_law_untouched.proofs.Matching.{Matched, matched-agreed, matched-file}
 use Rattle.nofs_law_maps.specs.Fresh.{Numbered, CellNumbers}
 use Rattle.nofs_law_maps.proofs.Fresh.{old-record}
-use Rattle.nofs_crashlaw.proofs.Marks.{stands-none}
-use Rattle.nofs_crashlaw.proofs.Staging.{all-begun}
+use Rattle.nofs_state.proofs.Handed.{stands-none, all-begun}
 use Rattle.nofs_law_old_names.specs.Names.{NameWrites}
 use Rattle.nofs_law_old_names.proofs.NameFiles.{file-of}
 use Rattle.nofs_law_old_names.proofs.NameInPlace.{in-place-writes}
@@ -41,9 +40,8 @@ use Rattle.nofs_law_new_names.proofs.NameHoles.{hole-cell, hole-leaf-proper, hol
 use Rattle.nofs_law_new_names.proofs.NameNew.{birth-is}
 use Rattle.nofs_law_new_names.proofs.NameRows.{make-given-is}
 use Rattle.nofs_law_new_names.proofs.NewLaws.{law-make-in-place, law-make-in-hole}
-use Rattle.nofs_law_homes.specs.Homes.{EntryClaims}
-use Rattle.nofs_law_homes.proofs.EntryPlace.{law-entry-place}
-use Rattle.nofs_law_homes.proofs.NewHomes.{law-make-in-place-homes, law-make-in-hole-homes}
+use Rattle.nofs_law_numbers.specs.Handed.{EntryClaims}
+use Rattle.nofs_law_numbers.proofs.Handed.{law-entry-place, law-make-in-place-homes, law-make-in-hole-homes}
 use Rattle.nofs_law_numbers.specs.Cells.{RecordWritten, table_tag}
 use Rattle.nofs_law_numbers.proofs.NewNumbers.{law-make-in-place-numbers, law-make-in-hole-numbers}
 use Rattle.nofs_law_numbers.proofs.WrittenTables.{law-table-moment}

@@ -34,9 +34,8 @@ use Rattle.nofs_law_untouched.specs.Frames.{OldPointers}
 use Rattle.nofs_law_maps.specs.Homes.{HomesMove}
 use Rattle.nofs_law_maps.specs.Fresh.{Numbered, CellNumbers}
 use Rattle.nofs_law_maps.proofs.Fresh.{law-old}
-use Rattle.nofs_crashlaw.specs.Stage.{AddsProper}
-use Rattle.nofs_crashlaw.proofs.Histories.{now-picks}
-use Rattle.nofs_crashlaw.proofs.Resting.{law-rest}
+use Rattle.nofs_state.specs.Handed.{AddsProper}
+use Rattle.nofs_state.proofs.Handed.{now-picks, law-rest}
 use Rattle.nofs_law_old_names.specs.Names.{NameWrites}
 use Rattle.nofs_law_old_names.proofs.NameFiles.{touches-of}
 use Rattle.nofs_law_old_names.proofs.NameLinks.{record-in}

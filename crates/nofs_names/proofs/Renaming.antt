@@ -30,7 +30,7 @@ use Rattle.nofs_law_maps.specs.Fresh.{Numbered, CellNumbers}
 use Rattle.nofs_law_old_names.specs.Names.{InPlace, RenameLies}
 use Rattle.nofs_law_old_names.proofs.NameLaws.{law-rename}
 use Rattle.nofs_law_old_names.proofs.NameInPlace.{cell-elsewhere, in-place-writes, no-zero}
-use Rattle.nofs_law_homes.proofs.OldHomes.{law-rename-homes}
+use Rattle.nofs_law_numbers.proofs.Handed.{law-rename-homes}
 use Rattle.nofs_law_numbers.proofs.NameNumbers.{law-rename-numbers}
 use Rattle.nofs_state.specs.Standing.{IsOpen, Past}
 use Rattle.nofs_state.specs.Writing.{OneOf, image_after}

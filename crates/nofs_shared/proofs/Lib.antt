@@ -17,3 +17,4 @@ pub mod Looking
 pub mod Scanning
 pub mod WritingOut
 pub mod Causing
+pub mod Handed

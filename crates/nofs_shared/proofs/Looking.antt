@@ -4,7 +4,7 @@ use Rattle.std.proofs.lemmas.List.{get_or-map, length-map}
 use Rattle.std.specs.Prelude.{Result, Ok, Err, IfOk}
 use mathlib.Core.List.{IsPrefix}
 use Rattle.nofs_disk.specs.Disk.{DiskState, StaysButFaults}
-use Rattle.nofs_agree.specs.Chains.{Learns}
+use Rattle.nofs_state.specs.Handed.{Learns}
 use Rattle.nofs_state.specs.Books.{IsSafe}
 use Rattle.nofs_state.specs.Knowing.{with_agreement}
 use Rattle.nofs_state.specs.declared.books.Books.{Books}

@@ -18,8 +18,8 @@ use Rattle.nofs_machine.specs.declared.steps.Step.{Step}
 use Rattle.nofs_machine.specs.declared.replies.Reply.{Reply}
 use Rattle.nofs_machine.specs.declared.replies.Reply.TheVariants as reply
 use Rattle.nofs_machine.specs.declared.replies.Refusal.TheVariants as refusal
-use Rattle.nofs_crashlaw.specs.Stage.{AllBy}
-use Rattle.nofs_crashlaw.proofs.Later.{law-later}
+use Rattle.nofs_state.specs.Handed.{AllBy}
+use Rattle.nofs_state.proofs.Handed.{law-later}
 use Rattle.nofs_state.specs.Books.{IsSafe, with_history}
 use Rattle.nofs_state.specs.Standing.{IsOpen, IsStopped, Past, Sounds}
 use Rattle.nofs_state.specs.Steps.{Follows, Goes, IsSafeStep, Moves, entry, goes-safely}

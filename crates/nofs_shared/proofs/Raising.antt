@@ -18,7 +18,7 @@ use Rattle.nofs_machine.specs.Allowed.{IsAllowed}
 use Rattle.nofs_machine.specs.World.{world_of}
 use Rattle.nofs_law_lives.specs.Lives as lives
 use Rattle.nofs_law_lives.proofs.Begin.{law-begin}
-use Rattle.nofs_agree.specs.Reading.{IsAt}
+use Rattle.nofs_state.specs.Handed.{IsAt}
 use Rattle.nofs_state.specs.Books.{IsSafe}
 use Rattle.nofs_state.specs.Standing.{IsOpen, IsStopped, Sounds}
 use Rattle.nofs_state.specs.Beginning.{HasBegun, first_past}

@@ -3,17 +3,15 @@ use Rattle.std.proofs.Common.{◌≡◌, ℕ, ◌+◌, ◌<◌, ◌⊎◌, inl, 
 use Rattle.std.specs.List.{list_any}
 use Rattle.nofs_disk.specs.Disk.{DiskState, Picks}
 use Rattle.nofs_image.specs.Image.{Image}
-use Rattle.nofs_law_images.specs.Moments.{AllExplained}
-use Rattle.nofs_law_images.specs.Reasons.{IsMark}
+use Rattle.nofs_files.specs.Handed.{AllExplained, IsMark}
 use Rattle.nofs_machine.specs.Allowed.{IsAllowed}
 use Rattle.nofs_machine.specs.History.{agreed_files, begun, files_along, mark, mark_at, values_given, metas_given, accepted_of, accepted_meta_of, last_in}
 use Rattle.nofs_machine.specs.Machine.{generation_of}
 use Rattle.nofs_machine.specs.Marks.{Mark}
 use Rattle.nofs_machine.specs.Meta.{is_gone}
 use Rattle.nofs_machine.specs.declared.history.Entry1.{Entry1}
-use Rattle.nofs_crashlaw.specs.Stage.{AllBy, Lasts}
-use Rattle.nofs_crashlaw.proofs.Histories.{allowed-image}
-use Rattle.nofs_crashlaw.proofs.Staging.{all-begun, begun-append, same-marks}
+use Rattle.nofs_state.specs.Handed.{AllBy, Lasts}
+use Rattle.nofs_state.proofs.Handed.{allowed-image, all-begun, begun-append, same-marks}
 use Rattle.nofs_state.specs.Standing.{IsOpen, IsStopped, Past}
 use Rattle.nofs_state.specs.declared.books.Books.{Books}
 

@@ -14,3 +14,4 @@ pub mod Served
 pub mod Passes
 pub mod Commits
 pub mod Settling
+pub mod Handed

@@ -5,9 +5,8 @@ use Rattle.nofs_disk.specs.Chains.{Rose-within, StaysButFaults-trans}
 use Rattle.nofs_disk.specs.declared.Failed.{Failed}
 use Rattle.nofs_image.specs.Image.{Image}
 use Rattle.nofs_image.specs.Files.{agreed, files_in}
-use Rattle.nofs_agree.specs.Chains.{AreTrue, Learns}
-use Rattle.nofs_agree.proofs.Climbs.{told-on}
-use Rattle.nofs_agree.proofs.Learning.{learns-more, learns-none}
+use Rattle.nofs_state.specs.Handed.{AreTrue, Learns}
+use Rattle.nofs_state.proofs.Handed.{told-on, learns-more, learns-none}
 use Rattle.nofs_sights.specs.Seeing.{ReadsAnswer, Sees}
 
 -- what a disk has after it stayed it had before

@@ -11,11 +11,10 @@ use Rattle.nofs_image.specs.Image.{path_of, IsSlot, is_slot, record_pointer, is_
 use Rattle.nofs_image.specs.Image.{names, pairs, is_pair, is_special, agreed, Home, home_at, owner, owner_by, owner_found}
 use Rattle.nofs_image.specs.declared.path.PathAnswer.{PathAnswer}
 use Rattle.nofs_image.specs.declared.path.PathAnswer.TheVariants as answer
-use Rattle.nofs_model.proofs.Parents.{any-links, linked-is}
+use Rattle.nofs_state.proofs.Handed.{any-links, linked-is, four-links}
 use Rattle.nofs_image.proofs.Paths.{path_of-number}
 use Rattle.nofs_machine.specs.declared.steps.ElementKind.{ElementKind}
 use Rattle.nofs_machine.specs.declared.steps.ElementKind.TheVariants as element
-use Rattle.nofs_agree.proofs.Links.{four-links}
 use Rattle.nofs_state.specs.Verdicts.{names_block}
 use Rattle.nofs_sights.specs.Elements.{HasElement, is_used}
 use Rattle.nofs_sights.specs.Sights.{above_in, block_sight, holds_down, holds_with, inode_sight, sight_verdict, judged_inode, judged_tag, leads_up}

@@ -3,7 +3,7 @@ use Rattle.std.specs.Prelude.{◌≡◌, Bool, List, Option, IsTrue, Result, IfO
 use Rattle.nofs_disk.specs.declared.Failed.{Failed}
 use Rattle.nofs_disk.specs.Disk.{DiskState, StaysButFaults, Rose}
 use Rattle.nofs_image.specs.Image.{Image}
-use Rattle.nofs_agree.specs.Chains.{AreTrue, Learns}
+use Rattle.nofs_state.specs.Handed.{AreTrue, Learns}
 
 -- what was read is this of the image, where the disk tells
 pub record ReadsAnswer {T : Type 0} (old new : DiskState) (answer : Image → T) (result : Result T Failed) : Type 0 where

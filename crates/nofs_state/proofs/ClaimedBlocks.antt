@@ -10,7 +10,7 @@ use Rattle.nofs_machine.specs.World.{World, is_free_block}
 use Rattle.nofs_machine.specs.Claims.{cell_slot, claimed_home, is_claimed, next_stamp, slot_above, IsClaim, IsBlockClaim, Claimed, Unclaimed}
 use Rattle.nofs_machine.specs.declared.history.Claims.{Claims}
 use Rattle.nofs_machine.specs.declared.steps.Step.{Step}
-use Rattle.nofs_law_maps.specs.Moves.{IsClaimed}
+use Rattle.nofs_law_lives.specs.Handed.{IsClaimed}
 use Rattle.nofs_state.specs.declared.books.Books.{Books}
 
 -- the books after so many claims of blocks

@@ -8,8 +8,7 @@ use Rattle.nofs_image.specs.Cells.{Cell, SuperBlock}
 use Rattle.nofs_image.specs.Image.{super_at, is_super, is_mountable, Files, Home}
 use Rattle.nofs_image.proofs.Sound.{supers, mountable-law}
 use Rattle.nofs_image.proofs.Find.{and-both, find-held}
-use Rattle.nofs_law_images.specs.Proper.{Proper}
-use Rattle.nofs_law_images.specs.Moments.{during}
+use Rattle.nofs_crashlaw.specs.Handed.{Proper, during}
 use Rattle.nofs_machine.specs.Search.{first_of}
 use Rattle.nofs_machine.specs.Machine.{gives, given_by, files_by, files_after, is_refused}
 use Rattle.nofs_machine.specs.World.{World, inodes_needed, blocks_needed}
@@ -25,10 +24,8 @@ use Rattle.nofs_machine.specs.declared.history.Entry1.{Entry1}
 use Rattle.nofs_machine.specs.declared.steps.Step.{Step}
 use Rattle.nofs_machine.specs.declared.replies.Reply.{Reply}
 use Rattle.nofs_machine.proofs.Lives.{along-append}
-use Rattle.nofs_law_maps.specs.Fresh.{Numbered, CellNumbers}
-use Rattle.nofs_law_maps.specs.Homes.{HomesMove, HomesMatch}
-use Rattle.nofs_law_maps.proofs.Fresh.{law-fresh}
-use Rattle.nofs_law_maps.proofs.Homes.{law-homes}
+use Rattle.nofs_law_lives.specs.Handed.{Numbered, CellNumbers, HomesMove, HomesMatch}
+use Rattle.nofs_law_lives.proofs.Handed.{law-fresh, law-homes}
 use Rattle.nofs_crashlaw.specs.Stage.{AddsProper, Stage}
 use Rattle.nofs_crashlaw.proofs.Staging.{law-stage}
 use Rattle.nofs_state.specs.Books.{IsSafe, Says, knows_inode, knows_block}

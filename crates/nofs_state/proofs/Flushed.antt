@@ -5,8 +5,7 @@ use Rattle.nofs_disk.specs.Disk.{DiskState, IsDisk, Flushes}
 use Rattle.nofs_disk.specs.Adds.{Adds-flushes}
 use Rattle.nofs_disk.specs.declared.Failed.{Failed}
 use Rattle.nofs_image.specs.Image.{Image, super_at, is_mountable, Files, owner}
-use Rattle.nofs_law_images.specs.Proper.{Proper}
-use Rattle.nofs_law_images.specs.Moments.{during}
+use Rattle.nofs_crashlaw.specs.Handed.{Proper, during}
 use Rattle.nofs_machine.specs.Search.{first_of}
 use Rattle.nofs_machine.specs.Machine.{gives, given_by, files_by, nothing}
 use Rattle.nofs_machine.specs.World.{World}
@@ -19,7 +18,7 @@ use Rattle.nofs_machine.specs.declared.steps.Step.TheVariants as step
 use Rattle.nofs_machine.specs.declared.replies.Reply.TheVariants as reply
 use Rattle.nofs_machine.specs.declared.replies.Refusal.TheVariants as refusal
 use Rattle.nofs_machine.proofs.Lives.{along-append}
-use Rattle.nofs_law_maps.specs.Fresh.{CellNumbers, Numbered}
+use Rattle.nofs_law_lives.specs.Handed.{CellNumbers, Numbered}
 use Rattle.nofs_crashlaw.specs.Stage.{flush_entry}
 use Rattle.nofs_crashlaw.proofs.FlushStage.{law-flush-stage, files-stay}
 use Rattle.nofs_state.specs.Books.{IsSafe}

@@ -4,7 +4,7 @@ use Rattle.nofs_disk.specs.Disk.{DiskState, KeepsCells, KeepsPast}
 use Rattle.nofs_disk.specs.Moments.{AtEach-stays}
 use Rattle.nofs_image.specs.Cells.{Cell}
 use Rattle.nofs_image.specs.Image.{Image, super_at, is_mountable, owner, CellBelow}
-use Rattle.nofs_law_images.specs.Moments.{AllExplained}
+use Rattle.nofs_crashlaw.specs.Handed.{AllExplained}
 use Rattle.nofs_machine.specs.History.{FilesMatch, agreed_files, files_along, mark_at}
 use Rattle.nofs_machine.specs.Allowed.{IsAllowed}
 use Rattle.nofs_machine.specs.Steady.{SteadyRest}

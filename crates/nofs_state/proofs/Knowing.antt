@@ -2,7 +2,7 @@
 use Rattle.std.proofs.Common.{Bool, List, Option, IsTrue, refl, ◌∙◌}
 use Rattle.nofs_disk.specs.Disk.{DiskState}
 use Rattle.nofs_machine.specs.declared.history.Entry1.{Entry1}
-use Rattle.nofs_law_maps.proofs.Homes.{uses-inode}
+use Rattle.nofs_law_lives.proofs.Handed.{uses-inode}
 use Rattle.nofs_agree.specs.Chains.{Learns}
 use Rattle.nofs_agree.proofs.Learning.{is-told}
 use Rattle.nofs_state.specs.Books.{IsSafe}

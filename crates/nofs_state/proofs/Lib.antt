@@ -34,3 +34,4 @@ pub mod ZeroPointers
 pub mod ClaimedBooks
 pub mod ClaimedBlocks
 pub mod CurrentFiles
+pub mod Handed

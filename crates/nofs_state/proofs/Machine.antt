@@ -11,9 +11,8 @@ use Rattle.nofs_machine.specs.Good.{MatchesSuper}
 use Rattle.nofs_machine.specs.declared.history.Entry1.{Entry1}
 use Rattle.nofs_machine.specs.declared.replies.Refusal.TheVariants as refusal
 use Rattle.nofs_image.proofs.Chains.{agreed-holds}
-use Rattle.nofs_law_untouched.proofs.Matching.{agreed-files-is, matched-agreed, gen-of}
-use Rattle.nofs_law_untouched.proofs.Alike.{same-of, same-alike, pairs-alike, agreed-some, live-some}
-use Rattle.nofs_law_maps.proofs.Homes.{uses-inode}
+use Rattle.nofs_crashlaw.proofs.Handed.{agreed-files-is, matched-agreed, gen-of, same-of, same-alike, pairs-alike, agreed-some, live-some}
+use Rattle.nofs_law_lives.proofs.Handed.{uses-inode}
 use Rattle.nofs_agree.specs.Chains.{AreTrue, is_agreed_link, told}
 use Rattle.nofs_agree.proofs.Learning.{if-told}
 use Rattle.nofs_state.specs.Books.{IsSafe}

@@ -23,8 +23,8 @@ use Rattle.nofs_machine.specs.declared.replies.Reply.{Reply}
 use Rattle.nofs_machine.specs.declared.replies.Reply.TheVariants as reply
 use Rattle.nofs_machine.specs.declared.replies.Refusal.{Refusal}
 use Rattle.nofs_machine.specs.declared.replies.Refusal.TheVariants as refusal
-use Rattle.nofs_law_maps.specs.Homes.{HomesMatch}
-use Rattle.nofs_law_maps.proofs.Homes.{holds-has}
+use Rattle.nofs_law_lives.specs.Handed.{HomesMatch}
+use Rattle.nofs_law_lives.proofs.Handed.{holds-has}
 use Rattle.nofs_crashlaw.proofs.FlushStage.{files-stay}
 use Rattle.nofs_state.specs.Books.{IsSafe}
 use Rattle.nofs_state.specs.Standing.{IsOpen, IsStopped, Past, Sounds}

@@ -4,7 +4,7 @@ use Rattle.std.proofs.Common.{arith}
 use Rattle.nofs_disk.specs.Disk.{DiskState, StaysButFaults}
 use Rattle.nofs_image.specs.Cells.{Cell}
 use Rattle.nofs_image.specs.Image.{Image, inode}
-use Rattle.nofs_law_images.specs.Moments.{during}
+use Rattle.nofs_crashlaw.specs.Handed.{during, IsMark, AllExplained}
 use Rattle.nofs_machine.specs.Marks.{Mark}
 use Rattle.nofs_machine.specs.World.{World}
 use Rattle.nofs_machine.specs.Machine.{Given, given_by, nothing, is_write_fault}
@@ -18,8 +18,6 @@ use Rattle.nofs_crashlaw.specs.Stage.{Lasts}
 use Rattle.nofs_crashlaw.proofs.Histories.{mark-during}
 use Rattle.nofs_crashlaw.proofs.Later.{law-later, mark-within}
 use Rattle.nofs_crashlaw.proofs.Staging.{all-begun, same-marks, by-more, by-append, begun-append, mark-plain}
-use Rattle.nofs_law_images.specs.Reasons.{IsMark}
-use Rattle.nofs_law_images.specs.Moments.{AllExplained}
 use Rattle.nofs_state.specs.Standing.{ends_at}
 
 pub run-append : (H : List Entry1) (start : ℕ) (W U V : World) (e : Entry1) → Run start W H U → e.from ≡ ends_at start H → e.from ≤ e.to

@@ -19,7 +19,7 @@ use Rattle.nofs_machine.specs.declared.history.Entry1.{Entry1}
 use Rattle.nofs_machine.specs.declared.steps.Step.{Step}
 use Rattle.nofs_machine.specs.declared.steps.Step.TheVariants as step
 use Rattle.nofs_machine.specs.declared.replies.Reply.TheVariants as reply
-use Rattle.nofs_law_maps.proofs.Homes.{uses-inode}
+use Rattle.nofs_law_lives.proofs.Handed.{uses-inode}
 use Rattle.nofs_crashlaw.proofs.FlushStage.{files-stay}
 use Rattle.nofs_state.specs.Books.{IsSafe, Says}
 use Rattle.nofs_state.specs.Standing.{IsOpen, Past}

@@ -8,16 +8,15 @@ use Rattle.nofs_image.specs.Cells.{Cell, SuperBlock}
 use Rattle.nofs_image.specs.Image.{Image, IsSound, cell_at, super_at}
 use Rattle.nofs_image.proofs.Find.{and-both}
 use Rattle.nofs_image.proofs.Sound.{law-sound, mountable-law}
-use Rattle.nofs_law_images.specs.Proper.{Proper, OfContent, OfPointers, OfTable}
-use Rattle.nofs_law_images.specs.Reasons.{Fine}
+use Rattle.nofs_crashlaw.specs.Handed.{Proper, OfContent, OfPointers, OfTable, Fine}
 use Rattle.nofs_machine.specs.Marks.{Mark}
 use Rattle.nofs_machine.specs.World.{World}
 use Rattle.nofs_machine.specs.Next.{Next}
 use Rattle.nofs_machine.specs.Good.{IsFresh}
 use Rattle.nofs_machine.specs.declared.history.Claims.{Claims}
 use Rattle.nofs_machine.specs.declared.history.Entry1.{Entry1}
-use Rattle.nofs_law_maps.specs.Fresh.{Numbered, CellNumbers, OnlyNumbered}
-use Rattle.nofs_law_maps.proofs.Fresh.{sole-is}
+use Rattle.nofs_law_lives.specs.Handed.{Numbered, CellNumbers, OnlyNumbered}
+use Rattle.nofs_law_lives.proofs.Handed.{sole-is}
 use Rattle.nofs_law_lives.proofs.Within.{law-mount-stamps}
 use Rattle.nofs_state.specs.Books.{IsSafe}
 use Rattle.nofs_state.specs.Standing.{IsOpen, Past, Sounds}

@@ -11,3 +11,4 @@ pub mod Owing
 pub mod WritingOut
 pub mod Pointing
 pub mod Knowing
+pub mod Handed

@@ -9,7 +9,7 @@ use Rattle.nofs_machine.specs.Next.{Run}
 use Rattle.nofs_machine.specs.History.{NoWriteFault, agreed_files, files_along}
 use Rattle.nofs_machine.specs.Steady.{SteadyRest}
 use Rattle.nofs_machine.specs.declared.history.Entry1.{Entry1}
-use Rattle.nofs_law_maps.specs.Homes.{HomesMatch}
+use Rattle.nofs_law_lives.specs.Handed.{HomesMatch}
 use Rattle.nofs_crashlaw.specs.Stage.{Lasts, Stage}
 use Rattle.nofs_state.specs.Books.{Says}
 use Rattle.nofs_state.specs.declared.books.Books.{Books}

@@ -2,7 +2,7 @@
 use Rattle.std.proofs.Common.{◌≡◌, ℕ, refl}
 use Rattle.nofs_machine.specs.declared.steps.ElementKind.{ElementKind}
 use Rattle.nofs_machine.specs.declared.steps.ElementKind.TheVariants.{Inode, Block}
-use Rattle.nofs_sights.specs.Elements.{see_step}
+use Rattle.nofs_shared.specs.Handed.{see_step}
 use Rattle.nofs_workers.specs.Sweeps.{see_of}
 
 pub same-see : (kind : ElementKind) (item : ℕ) → see_step kind item ≡ see_of kind item

@@ -1,6 +1,6 @@
 use Rattle.std.proofs.Common.{ℕ, sym, ap, subst, arith, length}
 use Rattle.nofs_disk.specs.Chains.{IsSameDisk-trans, KeepsPast-trans}
-use Rattle.nofs_agree.specs.Reading.{IsAt}
+use Rattle.nofs_state.specs.Handed.{IsAt}
 use Rattle.nofs_image.specs.Cells.{SuperBlock}
 use Rattle.nofs_state.specs.Standing.{Sounds}
 use Rattle.nofs_state.specs.Books.{IsSafe}
