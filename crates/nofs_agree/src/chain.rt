@@ -33,7 +33,8 @@ pub fn check_chain<D: Disk>(
     requires known { length known.now ≡ at.now.inodes }
     requires numbers { IsAt (D.state disk.old) at.now }
     ensures stays { StaysButFaults (D.state disk.old) (D.state disk.new) }
-    ensures agreed { IfOk result (λ answer. IsTrue (D.state disk.old).tells → AreTrue (D.state disk.old).now known.now → answer ≡ files.agreed (files.files_in (D.state disk.old).now) inode) }
+    ensures agreed { IfOk result (λ answer. IsTrue (D.state disk.old).tells → AreTrue (D.state disk.old).now known.now
+        → answer ≡ files.agreed (files.files_in (D.state disk.old).now) inode) }
     ensures cause { OnErr result (Rose (D.state disk.old).faults (D.state disk.new).faults) }
 {
     if let Some(agreed) = known.told(inode) {
@@ -85,7 +86,8 @@ fn any_agreed_link<D: Disk>(
     requires known { length known.now ≡ at.now.inodes }
     requires record { KnowsInode (D.state disk.old) at.now inode it.now }
     requires last { IsLast (D.state disk.old) last.old }
-    ensures { TellsAgreed (D.state disk.old) (D.state disk.new) known.now (λ X. list_any (is_agreed_link (files.files_in X) inode) it.now.links) last.new result }
+    ensures { TellsAgreed (D.state disk.old) (D.state disk.new) known.now
+        (λ X. list_any (is_agreed_link (files.files_in X) inode) it.now.links) last.new result }
 {
     if it.kind.is_none() {
         return Ok(false);

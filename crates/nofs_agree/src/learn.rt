@@ -33,7 +33,8 @@ pub fn learn_chain<D: Disk>(
     requires known { length known.old ≡ at.now.inodes }
     ensures stays { StaysButFaults (D.state disk.old) (D.state disk.new) }
     ensures learns { Learns (D.state disk.old) known.old known.new }
-    ensures agreed { IfOk result (λ answer. IsTrue (D.state disk.old).tells → AreTrue (D.state disk.old).now known.old → answer ≡ files.agreed (files.files_in (D.state disk.old).now) inode) }
+    ensures agreed { IfOk result (λ answer. IsTrue (D.state disk.old).tells → AreTrue (D.state disk.old).now known.old
+        → answer ≡ files.agreed (files.files_in (D.state disk.old).now) inode) }
     ensures knows { IfOk result (λ answer. 1 ≤ inode → inode ≤ at.now.inodes → told known.new inode ≡ Some answer) }
     ensures cause { OnErr result (Rose (D.state disk.old).faults (D.state disk.new).faults) }
 {
@@ -123,7 +124,8 @@ fn keep_way<D: Disk>(
     last: &mut LastRead,
 ) -> Result<(), Failed>
     requires record { KnowsDirectory (D.state disk.old) at.now directory.inode directory.record.generation directory.record }
-    requires agreed { IsTrue (D.state disk.old).tells → AreTrue (D.state disk.old).now known.old → agreed ≡ files.agreed (files.files_in (D.state disk.old).now) directory.inode }
+    requires agreed { IsTrue (D.state disk.old).tells → AreTrue (D.state disk.old).now known.old
+        → agreed ≡ files.agreed (files.files_in (D.state disk.old).now) directory.inode }
     requires last { IsLast (D.state disk.old) last.old }
     ensures { LearnsChain (D.state disk.old) (D.state disk.new) known.old known.new last.new result }
 {

@@ -35,7 +35,8 @@ impl Model for Bits {
 
     ghost view = { λ bits. truths bits.words.items bits.places };
 
-    ghost invariant = { λ bits. (vec_len bits.words ≡ (bits.places + 63) / 64) × (bits.set_places ≡ count_set (truths bits.words.items bits.places)) × IsFirst (truths bits.words.items bits.places) bits.first };
+    ghost invariant = { λ bits. (vec_len bits.words ≡ (bits.places + 63) / 64)
+        × (bits.set_places ≡ count_set (truths bits.words.items bits.places)) × IsFirst (truths bits.words.items bits.places) bits.first };
 }
 
 impl Bits {

@@ -113,7 +113,8 @@ impl<D: Disk + Drop> Cached<D> {
     /// and where none is, a read gives the same below.
     pub fn below(self) -> D
         ensures now { (⟦<Cached<D> as Disk>⟧.state self).dirty ≡ [] → (D.state result).now ≡ (⟦<Cached<D> as Disk>⟧.state self).now }
-        ensures clean { (b : ℕ) → (Contains (⟦<Cached<D> as Disk>⟧.state self).dirty b → ⊥) → cell_at (D.state result).now b ≡ cell_at (⟦<Cached<D> as Disk>⟧.state self).now b }
+        ensures clean { (b : ℕ) → (Contains (⟦<Cached<D> as Disk>⟧.state self).dirty b → ⊥)
+            → cell_at (D.state result).now b ≡ cell_at (⟦<Cached<D> as Disk>⟧.state self).now b }
         ensures under { result ≡ self.under }
         ensures left { LeavesAll (D.state result).moment (D.state result) (⟦<Cached<D> as Disk>⟧.state self) (⟦<Cached<D> as Disk>⟧.state self).moment }
     {
@@ -127,7 +128,8 @@ impl<D: Disk + Drop> Disk for Cached<D> {
 
     ghost state = { λ c. cache_state (D.state c.under) (D.state c.first.value) (past_calls c.past.value) (entries_of c.dirty) c.spare };
 
-    ghost is_disk = { λ c. cache_is (D.state c.under) (D.state c.first.value) (past_calls c.past.value) (entries_of c.dirty) c.spare (D.is_disk c.under) (D.is_disk c.first.value) c.blocks c.tells c.made c.room c.kept };
+    ghost is_disk = { λ c. cache_is (D.state c.under) (D.state c.first.value) (past_calls c.past.value) (entries_of c.dirty)
+        c.spare (D.is_disk c.under) (D.is_disk c.first.value) c.blocks c.tells c.made c.room c.kept };
 
     fn blocks(&self) -> u64 {
         self.under.blocks()
@@ -175,7 +177,8 @@ impl<D: Disk + Drop> Disk for Cached<D> {
         requires spare { 1 ≤ (⟦<Cached<D> as Disk>⟧.state self.old).spare }
         ensures writes { Writes (⟦<Cached<D> as Disk>⟧.state self.old) (⟦<Cached<D> as Disk>⟧.state self.new) block cell.now result }
         ensures memory { self.new.under ≡ self.old.under }
-        ensures left { LeavesAll (D.state self.old.under).moment (D.state self.new.under) (⟦<Cached<D> as Disk>⟧.state self.new) ((⟦<Cached<D> as Disk>⟧.state self.old).moment + 1) }
+        ensures left { LeavesAll (D.state self.old.under).moment (D.state self.new.under)
+            (⟦<Cached<D> as Disk>⟧.state self.new) ((⟦<Cached<D> as Disk>⟧.state self.old).moment + 1) }
     {
         cell.note_sizes();
         let at = self.under.moment();
@@ -199,7 +202,8 @@ impl<D: Disk + Drop> Disk for Cached<D> {
         requires { 1 ≤ (⟦<Cached<D> as Disk>⟧.state self.old).spare }
         ensures rising { WritesRising (⟦<Cached<D> as Disk>⟧.state self.old).dirty (⟦<Cached<D> as Disk>⟧.state self.new).dirty }
         ensures flushes { Flushes (⟦<Cached<D> as Disk>⟧.state self.old) (⟦<Cached<D> as Disk>⟧.state self.new) result }
-        ensures left { LeavesAll (D.state self.old.under).moment (D.state self.new.under) (⟦<Cached<D> as Disk>⟧.state self.new) ((⟦<Cached<D> as Disk>⟧.state self.old).moment + 1) }
+        ensures left { LeavesAll (D.state self.old.under).moment (D.state self.new.under)
+            (⟦<Cached<D> as Disk>⟧.state self.new) ((⟦<Cached<D> as Disk>⟧.state self.old).moment + 1) }
     {
         let began = self.under.moment();
         self.moment += 2;
@@ -222,7 +226,8 @@ impl<D: Disk + Drop> Disk for Cached<D> {
     fn write_out(&mut self) -> Result<Option<u64>, Failed>
         requires { 1 ≤ (⟦<Cached<D> as Disk>⟧.state self.old).spare }
         ensures writes_out { WritesOut (⟦<Cached<D> as Disk>⟧.state self.old) (⟦<Cached<D> as Disk>⟧.state self.new) result }
-        ensures left { LeavesAll (D.state self.old.under).moment (D.state self.new.under) (⟦<Cached<D> as Disk>⟧.state self.new) (⟦<Cached<D> as Disk>⟧.state self.new).moment }
+        ensures left { LeavesAll (D.state self.old.under).moment (D.state self.new.under)
+            (⟦<Cached<D> as Disk>⟧.state self.new) (⟦<Cached<D> as Disk>⟧.state self.new).moment }
     {
         self.spare -= 1;
         write_back(&mut self.under, &mut self.dirty)

@@ -31,7 +31,8 @@ now-left d X e =
 fresh-now : (d : MemDisk) (X : Image) → parts_of d ≡ fresh_parts X → (memory_state d).now ≡ X
 fresh-now d X e = after_none d.base.items d.calls.items (ap (λ (p : Parts). p.calls) e) ∙ ap (λ (p : Parts). p.base) e
 
-module _ (found last left : MemDisk) (first : ℕ) (h : HistoryState) (q : IsSoundDisk (memory_state found)) (blank : IsBlankDisk (memory_state found)) (steps : SeesAndPuts 5 (codes "ab") h.entries) where
+module _ (found last left : MemDisk) (first : ℕ) (h : HistoryState) (q : IsSoundDisk (memory_state found))
+    (blank : IsBlankDisk (memory_state found)) (steps : SeesAndPuts 5 (codes "ab") h.entries) where
   after-put : LawSettledAfter memory_state → IsSettled (memory_state left) → parts_of left ≡ fresh_parts (memory_state last).now
       → Ends (memory_state found) (memory_state last) first h → Crashed left
   after-put law settled parts e = (k, record { steps = steps; first = blank }, law k left (memory_state left).now refl settled leaves (inl refl))

@@ -1,5 +1,6 @@
 -- What a drill leaves, put together.
-use Rattle.std.proofs.Common.{◌≡◌, ◌≢◌, ℕ, ◌≤◌, Bool, true, false, not, List, [], ◌∷◌, ◌++◌, length, map, drop, Result, Ok, Err, None, Some, refl, sym, ap, ◌-◌, subst, arith}
+use Rattle.std.proofs.Common.{◌≡◌, ◌≢◌, ℕ, ◌≤◌, Bool, true, false, not, List, [], ◌∷◌, ◌++◌, length}
+use Rattle.std.proofs.Common.{map, drop, Result, Ok, Err, None, Some, refl, sym, ap, ◌-◌, subst, arith}
 use Rattle.std.proofs.Common.{◌∙◌, subst, arith}
 use Rattle.std.specs.Prelude.{IfOk, IfSome, count_by, sum_by}
 use Rattle.std.specs.Result.{result_ok}
@@ -21,7 +22,8 @@ use Rattle.nofs_script.specs.Sessions.{IsSession}
 use Rattle.nofs_gen.proofs.Drawing.{script-formed}
 use Rattle.nofs_sessions.specs.Entries.{has_fault}
 use Rattle.nofs_drills.specs.declared.reads.FileRead.{FileRead}
-use Rattle.nofs_drills.specs.Drill.{AddsOwn, AreRead, IsDrillDone, IsDrilled, IsReadOut, drill_line, drill_session, is_refused_line, size_told, sum_told, wrong_told, IsDrillRun}
+use Rattle.nofs_drills.specs.Drill.{AddsOwn, AreRead, IsDrillDone, IsDrilled, IsReadOut, drill_line}
+use Rattle.nofs_drills.specs.Drill.{drill_session, is_refused_line, size_told, sum_told, wrong_told, IsDrillRun}
 use Rattle.nofs_sessions.proofs.Sessions.{adds-others}
 use Rattle.nofs_drills.proofs.Tallies.{refusals-from}
 use Rattle.nofs_image.specs.Cells.{SuperBlock}

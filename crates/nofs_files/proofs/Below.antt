@@ -123,7 +123,8 @@ pub below-ends : {old mid new : DiskState} {k l' l : Books} {p : Put} {r : Recor
     → (IsTrue old.tells → cu0 ≡ cell_at old.now y.block) → OtherPointer cu0 cu n c.cell → (IsTrue old.tells → c20 ≡ cell_at old.now (table_block p.inode))
     → IsRecordCell c20 p.inode (sized r (size_after p r.size)) c2 → t ≡ table_block p.inode
     → Stores mid l' new l ((c.cell.block, c1) ∷ (y.block, cu) ∷ (t, c2) ∷ []) result → Goes old k new l (step_of_put p) c (put_answer result)
-below-ends {old} {mid} {new} {k} {l'} {l} {p} {r} {c} {a} {n} {t} {y} {c1} {cu0} {cu} {c20} {c2} {result} asked room taking is_mid is_new stays held path content
+below-ends {old} {mid} {new} {k} {l'} {l} {p} {r} {c} {a} {n} {t} {y} {c1} {cu0} {cu} {c20} {c2} {result} asked room taking
+    is_mid is_new stays held path content
     upper-read upper read table at-table stores =
     asked-ends (Under a n) (below_at old.now p.inode a n c.cell y) (below_cells a n c1 cu) asked room taking.0 is_mid is_new stays
     (subst (λ (ws : List (ℕ × Cell)). IsApart ws 0) (sym (same-writes (table_block p.inode)))

@@ -115,7 +115,8 @@ pub asked-ends : {old mid new : DiskState} {k l' l : Books} {p : Put} {r r' : Re
     → Climbs old.now p.inode p.generation p.slot p.at p.bytes.now r r' m way places cells c c2)
     → {t : ℕ} → t ≡ table_block p.inode → Stores mid l' new l (way_writes places cells (t, c2) m way) result
     → Goes old k new l (step_of_put p) c (put_answer result)
-asked-ends {old} {mid} {new} {k} {l'} {l} {p} {r} {r'} {m} {c} {c2} {result} way places cells a room taking is_mid is_new stays apart climbs {t} at-table stores =
+asked-ends {old} {mid} {new} {k} {l'} {l} {p} {r} {r'} {m} {c} {c2} {result} way places cells a room taking is_mid is_new
+    stays apart climbs {t} at-table stores =
     ways-end old mid new k l' l p.inode p.generation p.slot p.at p.bytes.now r r' m way places cells c c2 result is_mid is_new stays a.safe taking.safe
     a.going apart taking.takes
     (λ t H q o. record {

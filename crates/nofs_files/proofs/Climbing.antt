@@ -326,7 +326,8 @@ module _ (old new : DiskState) (k l : Books) (H : List Entry1) (p : Past) (i g s
 
   -- the slot of content has none below
   not-way : (b : Path) (n : ℕ) → IsSlot (Under b n) → b ≡ way → ⊥
-  not-way b n s e = let t : IsSlot (Under (path_of slot) n) = subst (λ (q : Path). IsSlot (Under q n)) (e ∙ sym h.file.path) s in content-slot slot h.file.range t.0
+  not-way b n s e = let t : IsSlot (Under (path_of slot) n) = subst (λ (q : Path). IsSlot (Under q n)) (e ∙ sym h.file.path)
+      s in content-slot slot h.file.range t.0
     where
       content-slot : (q : ℕ) → q < slot_limit → is_pointer_slot (path_of q) ≡ true → ⊥
       content-slot q lt t = let z = path_of-content q lt in cc (z, t)

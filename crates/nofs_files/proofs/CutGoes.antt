@@ -35,7 +35,8 @@ use Rattle.nofs_state.proofs.TwoWrites.{safe-writes}
 use Rattle.nofs_files.specs.Answers.{IsFile}
 use Rattle.nofs_state.specs.Owing.{RecordIn, RowsPass}
 use Rattle.nofs_files.specs.Putting.{IsRecordCell}
-use Rattle.nofs_files.specs.Resizing.{EdgeInData, CellInData, IsCutMap, IsEdge, IsTail, MayCut, cut_record, cut_writes, first_cut, kept_slots, maybe, resize_answer}
+use Rattle.nofs_files.specs.Resizing.{EdgeInData, CellInData, IsCutMap, IsEdge, IsTail, MayCut}
+use Rattle.nofs_files.specs.Resizing.{cut_record, cut_writes, first_cut, kept_slots, maybe, resize_answer}
 use Rattle.nofs_files.specs.declared.cutting.NewCell.{NewCell}
 use Rattle.nofs_files.specs.declared.cutting.Edge.{Edge}
 use Rattle.nofs_files.proofs.FileRows.{current-agreed}

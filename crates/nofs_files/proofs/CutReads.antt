@@ -104,7 +104,8 @@ module _ {d a : DiskState} {k : Books} {i size kk : ℕ} {r : Record} {one : Las
       -- the end of the content was not read
       pub ends-untailed : {new : DiskState} {three : LastRead} {failed : Failed} → FindsTail b new k.at i r.size size three (Err failed)
           → Goes d k new k (step.Resize i r.generation size) no_claims (reply.Refused refusal.ReadFault)
-      ends-untailed {new} {three} {failed} tail = goes-read d new k (step.Resize i r.generation size) is may.safe (StaysButFaults-trans d b new two-reads tail.stays)
+      ends-untailed {new} {three} {failed} tail = goes-read d new k (step.Resize i r.generation size) is may.safe
+          (StaysButFaults-trans d b new two-reads tail.stays)
           may.going
           (Rose-within d.faults b.faults new.faults new.faults two-reads.disk.faults tail.cause (le_refl new.faults))
           (λ tells H p o. late d k i r.generation size r is may.safe may.going may.file may.current may.fits (most-kept kk r size most ek) tells H p o)
@@ -136,7 +137,8 @@ module _ {d a : DiskState} {k : Books} {i size kk : ℕ} {r : Record} {one : Las
         cut-map = subst (λ (n : ℕ). IsCutMap mid k.at i n freed) ek (map-after b mid k i kk freed finds-tail.stays marks.map)
 
         pub cut-rows : RowsPass mid k (step.Resize i r.generation size)
-        cut-rows t H p o V = rows-pass d k i r.generation size r is may.safe may.going may.file may.current may.fits (most-kept kk r size most ek) edge is-edge (told t) H p
+        cut-rows t H p o V = rows-pass d k i r.generation size r is may.safe may.going may.file may.current may.fits
+            (most-kept kk r size most ek) edge is-edge (told t) H p
             (open-back d mid (reads-keep d mid all-reads) k H p o) V
 
         pub may-cut : r.size ≤ largest_size → length r.direct ≡ 8 → MayCut mid k i r.generation size r tail edge freed
@@ -159,5 +161,6 @@ module _ {d a : DiskState} {k : Books} {i size kk : ℕ} {r : Record} {one : Las
         pub cut-goes : {new : DiskState} {l : Books} (result : Result (Unit {0}) Refusal)
             → Goes mid k new l (step.Resize i r.generation size) no_claims (resize_answer result)
             → Goes d k new l (step.Resize i r.generation size) no_claims (resize_answer result)
-        cut-goes {new} {l} result goes = goes-after d mid (reads-keep d mid all-reads) new k l (step.Resize i r.generation size) no_claims (resize_answer result)
+        cut-goes {new} {l} result goes = goes-after d mid (reads-keep d mid all-reads) new k l
+            (step.Resize i r.generation size) no_claims (resize_answer result)
             goes

@@ -1,5 +1,6 @@
 -- Blocks of pointers that are lost above a slot, and what a Put answers then.
-use Rattle.std.proofs.Common.{◌≡◌, ℕ, ◌+◌, ◌-◌, ◌/◌, ◌%◌, ◌^◌, ◌<◌, ◌≤◌, Bool, true, false, ltb, List, [], ◌∷◌, IsTrue, Err, inr, refl, sym, ap, ◌∙◌, subst, arith}
+use Rattle.std.proofs.Common.{◌≡◌, ℕ, ◌+◌, ◌-◌, ◌/◌, ◌%◌, ◌^◌, ◌<◌, ◌≤◌, Bool, true, false}
+use Rattle.std.proofs.Common.{ltb, List, [], ◌∷◌, IsTrue, Err, inr, refl, sym, ap, ◌∙◌, subst, arith}
 use Rattle.nofs_ptrs.specs.Paths.{slot_limit}
 use Rattle.nofs_disk.specs.Disk.{DiskState, IsDisk, StaysButFaults, Rose}
 use Rattle.nofs_image.specs.Cells.{Pointer, Record}

@@ -114,17 +114,19 @@ top-climbs X i g slot at bytes r j n c c1 cc1 ct c2 f hole child top names = rec
   empty = each-new (λ q. (w : Pointer) → find X i q ≡ answer.Holds w → ⊥) 3 way
       ((λ w e. holds-nothing f w e), ((λ w e. cc (child-hole, e)), (λ w e. cc (hole, e))));
   hole = λ q t u. each-next (λ q t. IsNew 3 way q → find X i q ≡ answer.Hole) 3 way ((λ v. child-hole), ((λ v. hole), tt)) q t u;
-  claimed = each-new (λ q. IsClaimed c (three_at c.cell c.leaf c.top q)) 3 way ((names.cell, inl refl), ((names.leaf, inr (inl refl)), (names.top, inr (inr refl))));
-  distinct = λ q w u v. each-new (λ q. (w : Path) → IsNew 3 way w → (three_at c.cell c.leaf c.top q).block ≡ (three_at c.cell c.leaf c.top w).block → q ≡ w) 3 way (
-    each-new (λ w. c.cell.block ≡ (three_at c.cell c.leaf c.top w).block → way ≡ w) 3 way
-        ((λ e. refl), ((λ e. absurd (names.cell_leaf e)), (λ e. absurd (names.cell_top e)))),
-    (
-      each-new (λ w. c.leaf.block ≡ (three_at c.cell c.leaf c.top w).block → Under (InRecord 9) j ≡ w) 3 way
-          ((λ e. absurd (names.cell_leaf (sym e))), ((λ e. refl), (λ e. absurd (names.leaf_top e)))),
-      each-new (λ w. c.top.block ≡ (three_at c.cell c.leaf c.top w).block → InRecord 9 ≡ w) 3 way
-          ((λ e. absurd (names.cell_top (sym e))), ((λ e. absurd (names.leaf_top (sym e))), (λ e. refl))),
-    ),
-  ) q u w v;
+  claimed = each-new (λ q. IsClaimed c (three_at c.cell c.leaf c.top q)) 3 way
+      ((names.cell, inl refl), ((names.leaf, inr (inl refl)), (names.top, inr (inr refl))));
+  distinct = λ q w u v. each-new (λ q. (w : Path) → IsNew 3 way w
+      → (three_at c.cell c.leaf c.top q).block ≡ (three_at c.cell c.leaf c.top w).block → q ≡ w) 3 way (
+        each-new (λ w. c.cell.block ≡ (three_at c.cell c.leaf c.top w).block → way ≡ w) 3 way
+            ((λ e. refl), ((λ e. absurd (names.cell_leaf e)), (λ e. absurd (names.cell_top e)))),
+        (
+          each-new (λ w. c.leaf.block ≡ (three_at c.cell c.leaf c.top w).block → Under (InRecord 9) j ≡ w) 3 way
+              ((λ e. absurd (names.cell_leaf (sym e))), ((λ e. refl), (λ e. absurd (names.leaf_top e)))),
+          each-new (λ w. c.top.block ≡ (three_at c.cell c.leaf c.top w).block → InRecord 9 ≡ w) 3 way
+              ((λ e. absurd (names.cell_top (sym e))), ((λ e. absurd (names.leaf_top (sym e))), (λ e. refl))),
+        ),
+      ) q u w v;
   tag_new = each-new (λ q. tag_of (three_of c1 cc1 ct q).tag ≡ Some (tag_for X i q (three_at c.cell c.leaf c.top q).stamp)) 3 way
       (new-tag f, (node-tag X f.file.rec f.file.generation refl child, node-tag X f.file.rec f.file.generation refl top));
   tag_old = λ q u v. absurd v;

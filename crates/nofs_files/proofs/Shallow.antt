@@ -165,7 +165,8 @@ place-ends {old} {mid} {new} {k} {l} {p} {r} {last} {writes} {t} {x} {before} {c
     (λ t H q o.
     let agrees = current-agreed old.now p.inode p.generation (may.current t (are-agreed old k H q may.safe o)) in
     let v : is_bytes (value_of q.world.files p.inode p.slot) ≡ true = ap is_bytes
-    (value-is q.world.files old.now p.inode p.slot (open-files old k H q o) agrees low) ∙ ap (λ (a : PathAnswer). is_bytes (value_in old.now a)) (held.held t) in
+    (value-is q.world.files old.now p.inode p.slot (open-files old k H q o) agrees low)
+    ∙ ap (λ (a : PathAnswer). is_bytes (value_in old.now a)) (held.held t) in
     let needs : blocks_for q.world.files p.inode p.slot ≡ 0 = rw v refl in
     record {
       climbs = place-climbs old.now p.inode p.generation p.slot p.at p.bytes.now r x c1 c2

@@ -1,5 +1,6 @@
 -- What a change of size cuts off, what it reads and writes, and what it answers.
-use Rattle.std.specs.Prelude.{◌≡◌, ◌≢◌, ℕ, ◌+◌, ◌-◌, ◌*◌, ◌/◌, ◌%◌, ◌^◌, ◌<◌, ◌≤◌, ◌⊎◌, min, nat_lt, nat_le, Bool, true, false, List, [], ◌∷◌, ◌++◌, length, take}
+use Rattle.std.specs.Prelude.{◌≡◌, ◌≢◌, ℕ, ◌+◌, ◌-◌, ◌*◌, ◌/◌, ◌%◌, ◌^◌, ◌<◌, ◌≤◌, ◌⊎◌}
+use Rattle.std.specs.Prelude.{min, nat_lt, nat_le, Bool, true, false, List, [], ◌∷◌, ◌++◌, length, take}
 use Rattle.std.specs.Prelude.{replicate, Option, None, Some, if◌then◌else◌, IsTrue, Result, Ok, Err, IfOk, IfErr, IfSome, OnOk}
 use Rattle.nofs_ptrs.specs.Paths.{slot_limit}
 use Rattle.nofs_bits.specs.Bits.{is_set}

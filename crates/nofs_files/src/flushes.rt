@@ -16,7 +16,8 @@ use nofs_state::{Core, open_inode};
 /// gives.
 pub fn flush<D: Disk + Drop>(core: &mut Core<D>, inode: u32, generation: u64) -> Result<(), Refusal>
     requires { IsSafe (D.state core.old.disk) core.old.books }
-    ensures goes { Goes (D.state core.old.disk) core.old.books (D.state core.new.disk) core.new.books (step.Flush inode generation) no_claims (flush_answer result) }
+    ensures goes { Goes (D.state core.old.disk) core.old.books (D.state core.new.disk) core.new.books
+        (step.Flush inode generation) no_claims (flush_answer result) }
     ensures settled { OnOk result (IsSettled (D.state core.new.disk)) }
 {
     match core.disk.ready(1) {
@@ -32,7 +33,8 @@ fn flush_with_room<D: Disk + Drop>(
 ) -> Result<(), Refusal>
     requires safe { IsSafe (D.state core.old.disk) core.old.books }
     requires spare { 1 ≤ (D.state core.old.disk).spare }
-    ensures goes { Goes (D.state core.old.disk) core.old.books (D.state core.new.disk) core.new.books (step.Flush inode generation) no_claims (flush_answer result) }
+    ensures goes { Goes (D.state core.old.disk) core.old.books (D.state core.new.disk) core.new.books
+        (step.Flush inode generation) no_claims (flush_answer result) }
     ensures settled { OnOk result (IsSettled (D.state core.new.disk)) }
 {
     if core.books.stopped {

@@ -32,7 +32,8 @@ pub fn get<D: Disk + Drop>(
     into: &mut [u8; 1024],
 ) -> Result<Got, Refusal>
     requires { IsSafe (D.state core.old.disk) core.old.books }
-    ensures { Goes (D.state core.old.disk) core.old.books (D.state core.new.disk) core.new.books (step.Get inode generation slot) no_claims (got_answer into.new result) }
+    ensures { Goes (D.state core.old.disk) core.old.books (D.state core.new.disk) core.new.books
+        (step.Get inode generation slot) no_claims (got_answer into.new result) }
 {
     if core.books.stopped {
         return Err(Refusal::Stopped);

@@ -33,7 +33,8 @@ fn flush_reply(done: Result<(), Refusal>) -> Reply
 pub fn flush_step<D: Disk + Drop>(core: &mut Core<D>, caller: u32, inode: u32, generation: u64)
     requires { IsSafe (D.state core.old.disk) core.old.books }
     ensures safe { IsSafe (D.state core.new.disk) core.new.books }
-    ensures stands { IsTrue (D.state core.old.disk).tells → (base : Image) → (first : ℕ) → Stands (D.state core.old.disk) core.old.books base first → Stands (D.state core.new.disk) core.new.books base first }
+    ensures stands { IsTrue (D.state core.old.disk).tells → (base : Image) → (first : ℕ)
+        → Stands (D.state core.old.disk) core.old.books base first → Stands (D.state core.new.disk) core.new.books base first }
 {
     match core.books.history.reserve(1) {
         Ok(()) => flush_and_keep(core, caller, inode, generation),
@@ -45,7 +46,8 @@ fn flush_and_keep<D: Disk + Drop>(core: &mut Core<D>, caller: u32, inode: u32, g
     requires safe { IsSafe (D.state core.old.disk) core.old.books }
     requires room { 0 < core.old.books.history.spare }
     ensures safe { IsSafe (D.state core.new.disk) core.new.books }
-    ensures stands { IsTrue (D.state core.old.disk).tells → (base : Image) → (first : ℕ) → Stands (D.state core.old.disk) core.old.books base first → Stands (D.state core.new.disk) core.new.books base first }
+    ensures stands { IsTrue (D.state core.old.disk).tells → (base : Image) → (first : ℕ)
+        → Stands (D.state core.old.disk) core.old.books base first → Stands (D.state core.new.disk) core.new.books base first }
 {
     let from = core.disk.moment();
     let done = flush(core, inode, generation);

@@ -54,7 +54,8 @@ pub fn put<D: Disk + Drop>(
     bytes: &[u8],
 ) -> Ended
     requires { IsSafe (D.state core.old.disk) core.old.books }
-    ensures { Goes (D.state core.old.disk) core.old.books (D.state core.new.disk) core.new.books (step.Put inode generation slot at bytes.now) result.claims (put_answer result.result) }
+    ensures { Goes (D.state core.old.disk) core.old.books (D.state core.new.disk) core.new.books
+        (step.Put inode generation slot at bytes.now) result.claims (put_answer result.result) }
 {
     let put = Put {
         inode,

@@ -304,7 +304,8 @@ HasNumbers-beside at to n r old new behind same has = record {
 }
 
 -- one more element of sixteen bytes is written
-elements-more : {A : Type 0} (none : A) (read : ℕ → List ℕ → A) → ((p q : ℕ) (old new : List ℕ) → SameBeside p 16 old new → q + 16 ≤ p → read q new ≡ read q old)
+elements-more : {A : Type 0} (none : A) (read : ℕ → List ℕ → A)
+    → ((p q : ℕ) (old new : List ℕ) → SameBeside p 16 old new → q + 16 ≤ p → read q new ≡ read q old)
     → (n at j : ℕ) (xs : List A) (d : A) (first old new : List ℕ) → length xs ≡ n → j < n
     → SameBeside at (16 * n) first old × ((k : ℕ) → k < j → read (at + 16 * k) old ≡ get_or xs k none)
     → read (at + 16 * j) new ≡ get_or xs j d → SameBeside (at + 16 * j) 16 old new

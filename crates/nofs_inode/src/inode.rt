@@ -79,7 +79,8 @@ pub fn read_record(payload: &[u8; 1024], index: u32) -> Option<Record>
     requires { index < 4 }
     ensures value { result ≡ record_of index payload.now }
     ensures spelling { IfSome result HasRecordSpelling }
-    ensures one_spelling { IfSome result (λ r. (other : List ℕ) → IsBytes 1024 other → record_of index other ≡ Some r → SameRange (256 * index) 256 other payload.now) }
+    ensures one_spelling { IfSome result
+        (λ r. (other : List ℕ) → IsBytes 1024 other → record_of index other ≡ Some r → SameRange (256 * index) 256 other payload.now) }
 {
     spelled_record(payload, index)
 }

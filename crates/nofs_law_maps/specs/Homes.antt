@@ -28,7 +28,8 @@ pub record Houses (X : Image) (home : Home) (p : ℕ) : Type 0 where
 pub record HomesMove (F : Files) (step : Step) (c : Claims) (X Y : Image) : Type 0 where
   pub claimed : (p : ℕ) (home : Home) → claimed_home F step c p ≡ Some home → Houses Y home p
   pub held : (j : ℕ) (a : Path) (y : Pointer) → IsSlot a → agreed (files_in Y) j ≡ true → find Y j a ≡ answer.Holds y
-      → ((agreed (files_in X) j ≡ true) × (find X j a ≡ answer.Holds y)) ⊎ ((is_some (claimed_home F step c y.block) ≡ true) × ((x : Pointer) → find X j a ≡ answer.Holds x → ⊥))
+      → ((agreed (files_in X) j ≡ true) × (find X j a ≡ answer.Holds y))
+      ⊎ ((is_some (claimed_home F step c y.block) ≡ true) × ((x : Pointer) → find X j a ≡ answer.Holds x → ⊥))
 
 abbrev pub HomesMatch : World → Image → Type 0
 HomesMatch W X = (p : ℕ) → p < W.blocks → W.homes p ≡ owner X p

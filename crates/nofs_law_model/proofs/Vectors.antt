@@ -1,7 +1,8 @@
 -- The formats, at bytes that stand in their document.
 use Rattle.std.proofs.Common.{◌≡◌, ℕ, ◌+◌, ◌^◌, List, [], ◌∷◌, ◌++◌, Some, replicate, refl, true}
 use Rattle.nofs_image.specs.Cells.{no_link}
-use Rattle.nofs_image.specs.Cells.{FileKind, Record, number_at, fields_in, record_at, Cell, Content, File, tag_of, pointer_at, pointer_in, record_of, entry_of, null, link_in}
+use Rattle.nofs_image.specs.Cells.{FileKind, Record, number_at, fields_in, record_at, Cell, Content}
+use Rattle.nofs_image.specs.Cells.{File, tag_of, pointer_at, pointer_in, record_of, entry_of, null, link_in}
 use Rattle.nofs_image.specs.Image.{is_super, is_geometry}
 use Rattle.nofs_super.specs.Geometry.{format_fault}
 use Rattle.nofs_image.specs.Image.{Image, find, InRecord, value, files_in, agreed, owner, inode, super_at, is_mountable, path_of, slot_of, home_at}

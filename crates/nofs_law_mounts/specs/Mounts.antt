@@ -73,7 +73,8 @@ OneEmptyMore rest lives = (lives ≡ rest) ⊎ ((l : Life) × (l.history ≡ [])
 -- the lives of these mounts, in order: a mount without a step may have a life without entries in the place of its own, or none
 abbrev pub AreLives : {D : Type 0} {state : D → DiskState} → List (Mount state) → List Life → Type 0
 AreLives [] lives = lives ≡ []
-AreLives (mount ∷ mounts) lives = (rest : List Life) × AreLives mounts rest × (((W : World) × (lives ≡ life_in mount W ∷ rest)) ⊎ ((mount.history.entries ≡ []) × OneEmptyMore rest lives))
+AreLives (mount ∷ mounts) lives = (rest : List Life) × AreLives mounts rest
+    × (((W : World) × (lives ≡ life_in mount W ∷ rest)) ⊎ ((mount.history.entries ≡ []) × OneEmptyMore rest lives))
 
 -- what these mounts claimed, in order
 abbrev pub claimed_over : {D : Type 0} {state : D → DiskState} → List (Mount state) → List ℕ

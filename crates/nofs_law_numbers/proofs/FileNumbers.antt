@@ -169,7 +169,8 @@ module _ (W : World) (X Y : Image) (i g size : ℕ) (f : FileState) (s : ℕ) (c
   resize-content k y range held = law-content-numbers W c X i (path_of k) y (cell_at Y y.block) o (resize-cell (path_of k) y (path_of-slot k range) held)
       (content-here X i k f (file-in W.files X i f p.files p.is).0 p.file range)
 
-  resize-pointers : (b : Path) (y : Pointer) → IsSlot b → is_pointer_slot b ≡ true → is_cut (cut_at f size) b ≡ false → find X i b ≡ answer.Holds y → CellNumbers (Numbered W c) X y.block (cell_at Y y.block)
+  resize-pointers : (b : Path) (y : Pointer) → IsSlot b → is_pointer_slot b ≡ true → is_cut (cut_at f size) b ≡ false
+      → find X i b ≡ answer.Holds y → CellNumbers (Numbered W c) X y.block (cell_at Y y.block)
   resize-pointers b y slot points stays held = law-pointer-numbers W c X i b y (cell_at Y y.block) o (resize-cell b y slot held) points
       (λ n lt. go n (points, lt, slot) (is_cut (cut_at f size) (Under b n)) refl)
     where

@@ -150,7 +150,8 @@ module _ (W : World) (X Y : Image) (d g e i of b s : ℕ) (name : List ℕ) (f h
   link-record = relinked-record W c X Y i h (set_link h.links b (link_to d e g)) p.files p.is_file p.linked
       (λ l has. elim (set-cases h.links b (link_to d e g) l has) [
         | inl there ↦ inl there
-        | inr new ↦ inr (subst (λ (q : BackLink). Numbered W c q.generation) (sym new) (subst (Numbered W c) p.generation (file-number W c X d f o p.files p.is)))
+        | inr new ↦ inr (subst (λ (q : BackLink). Numbered W c q.generation) (sym new)
+            (subst (Numbered W c) p.generation (file-number W c X d f o p.files p.is)))
       ])
 
   -- a file is no directory

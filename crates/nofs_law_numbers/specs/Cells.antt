@@ -48,7 +48,8 @@ LawPointerNumbers = (W : World) (c : Claims) (X : Image) (i : ℕ) (a : Path) (x
 
 -- what a directory's cell had before one entry is written: the bytes of its slot, or zeros in a claimed block
 pub data EntriesFrom (X : Image) (d : ℕ) (a : Path) (old : Value) : Type 0 where
-  Held : (y : Pointer) → find X d a ≡ answer.Holds y → length (cell_at X y.block).payload ≡ 1024 → old ≡ Bytes (cell_at X y.block).payload → EntriesFrom X d a old
+  Held : (y : Pointer) → find X d a ≡ answer.Holds y → length (cell_at X y.block).payload ≡ 1024
+      → old ≡ Bytes (cell_at X y.block).payload → EntriesFrom X d a old
   Zeros : old ≡ Hole → EntriesFrom X d a old
 
 -- one entry of a directory's cell is written or cleared
@@ -102,5 +103,6 @@ LawTableNumbers = (W : World) (c : Claims) (X : Image) (b : ℕ) (cell : Cell) �
 -- At any moment of a step: each record of the cell is the one before it or the one after it, also between two writes.
 abbrev pub LawTableMoment : Type 0
 LawTableMoment = (W : World) (c : Claims) (X Y : Image) (b : ℕ) (cell : Cell) → OldNumbers W X → tag_of cell.tag ≡ Some (table_tag b)
-    → ((j : ℕ) → is_inode X j ≡ true → 1 + (j - 1) / 4 ≡ b → (record_at cell.payload ((j - 1) % 4) ≡ inode X j) ⊎ (record_at cell.payload ((j - 1) % 4) ≡ inode Y j))
+    → ((j : ℕ) → is_inode X j ≡ true → 1 + (j - 1) / 4 ≡ b → (record_at cell.payload ((j - 1) % 4) ≡ inode X j)
+    ⊎ (record_at cell.payload ((j - 1) % 4) ≡ inode Y j))
     → ((j : ℕ) → RecordWritten W c X j (inode Y j)) → CellNumbers (Numbered W c) X b cell

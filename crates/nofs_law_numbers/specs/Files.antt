@@ -33,7 +33,8 @@ LawPutRecord = (W : World) (X Y : Image) (i g k at : ℕ) (bytes : List ℕ) (f 
 abbrev pub LawResizeCells : Type 0
 LawResizeCells = (W : World) (X Y : Image) (i g size : ℕ) (f : FileState) (s : ℕ) (c : Claims) → OldNumbers W X → ResizeLies W.files X Y i g size f s
     → ((k : ℕ) (y : Pointer) → k < slot_limit → find X i (path_of k) ≡ answer.Holds y → CellNumbers (Numbered W c) X y.block (cell_at Y y.block))
-    × ((b : Path) (y : Pointer) → IsSlot b → is_pointer_slot b ≡ true → is_cut (cut_at f size) b ≡ false → find X i b ≡ answer.Holds y → CellNumbers (Numbered W c) X y.block (cell_at Y y.block))
+    × ((b : Path) (y : Pointer) → IsSlot b → is_pointer_slot b ≡ true → is_cut (cut_at f size) b ≡ false
+    → find X i b ≡ answer.Holds y → CellNumbers (Numbered W c) X y.block (cell_at Y y.block))
 
 -- And its record.
 abbrev pub LawResizeRecord : Type 0

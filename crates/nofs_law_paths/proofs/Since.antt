@@ -136,7 +136,9 @@ module _ (B : Image) (H : List Entry1) (m s n : ℕ) (within : MarkWithin B H m 
       entry = λ v c. let h = cells v c in named v h.0 h.1 (one h.0 h.2);
     }
       where
-        named : (v : Value) (x : Entry) → entry_held v link.entry ≡ Some x → x ≡ record { inode = i; generation = g; name = name } → (content : List ℕ) × (v ≡ Bytes content) × (entry_in content (link.entry % 16) ≡ Some (record { inode = i; generation = g; name = name }))
+        named : (v : Value) (x : Entry) → entry_held v link.entry ≡ Some x
+            → x ≡ record { inode = i; generation = g; name = name } → (content : List ℕ) × (v ≡ Bytes content)
+            × (entry_in content (link.entry % 16) ≡ Some (record { inode = i; generation = g; name = name }))
         named Hole x h e = cc h
         named Lost x h e = cc h
         named (Bytes content) x h e = (content, refl, h ∙ ap Some e)

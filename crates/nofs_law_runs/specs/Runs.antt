@@ -38,4 +38,5 @@ LawRooted = (B : Image) (H : HistoryState) (p : ℕ) → IsHistory B H → p ≤
 abbrev pub LawPair : Type 0
 LawPair = (B : Image) (H : HistoryState) (p : ℕ) (e : Entry1) → IsHistory B H → slice_get H.entries p ≡ Some e → (i g b : ℕ) (link : BackLink)
     → HasPair (files_before B H.entries p) i g b link
-    → ((of : ℕ) (name : List ℕ) → e.step ≡ step.Drop link.directory of name → found (files_before B H.entries p) link.directory name ≡ Some link.entry → ⊥) → HasPair (files_before B H.entries (suc p)) i g b link
+    → ((of : ℕ) (name : List ℕ) → e.step ≡ step.Drop link.directory of name
+    → found (files_before B H.entries p) link.directory name ≡ Some link.entry → ⊥) → HasPair (files_before B H.entries (suc p)) i g b link

@@ -5,7 +5,8 @@ use Rattle.std.proofs.lemmas.Bool.{cases_eq}
 use Rattle.nofs_image.proofs.Chains.{pair-of, agreed-holds, holds-agreed}
 use Rattle.nofs_law_untouched.proofs.Matching.{matched-file, matched-agreed}
 use Rattle.nofs_law_untouched.proofs.Framing.{some-is, files-match}
-use Rattle.nofs_law_untouched.proofs.Alike.{Alike, same-alike, Kin, KinFiles, both-same, kin-sym, same-of, agreed-machine, agreed-some, live-some, links-kin, a-kin}
+use Rattle.nofs_law_untouched.proofs.Alike.{Alike, same-alike, Kin, KinFiles, both-same, kin-sym}
+use Rattle.nofs_law_untouched.proofs.Alike.{same-of, agreed-machine, agreed-some, live-some, links-kin, a-kin}
 use Rattle.nofs_law_untouched.proofs.Alike.{entry-alike, a-alike}
 use Rattle.nofs_law_images.specs.Handed.{FilesMatch, SameFile}
 use Rattle.nofs_image.specs.Cells.{File, BackLink, Entry}

@@ -1,5 +1,6 @@
 -- What is given to a file, and small facts of blocks and slots that each step needs.
-use Rattle.std.proofs.Common.{◌≡◌, ◌≢◌, ℕ, ◌+◌, ◌<◌, ◌≤◌, inl, inr, Bool, true, false, ltb, ◌||◌, Option, Some, None, unwrap_or, refl, sym, ap, ◌∙◌, subst, arith}
+use Rattle.std.proofs.Common.{◌≡◌, ◌≢◌, ℕ, ◌+◌, ◌<◌, ◌≤◌, inl, inr, Bool, true, false}
+use Rattle.std.proofs.Common.{ltb, ◌||◌, Option, Some, None, unwrap_or, refl, sym, ap, ◌∙◌, subst, arith}
 use Rattle.std.proofs.Common.{eq-eqb, leb, leb-true, ◌-◌, ◌/◌, ◌%◌}
 use Rattle.nofs_law_images.specs.Proper.{IsContentKind}
 use Rattle.nofs_image.proofs.Find.{and-both, find-held}

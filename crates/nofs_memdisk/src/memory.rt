@@ -106,7 +106,8 @@ impl MemDisk {
     pub fn choices(&self, block: u64) -> u64
         requires { block < (memory_state self.now).blocks }
         ensures count { result ≡ length ((memory_state self.now).may block) }
-        ensures leaves { (image : List Cell) → Picks (memory_state self.now).may (memory_state self.now).blocks image → (memory_state self.now).left (memory_state self.now).moment image }
+        ensures leaves { (image : List Cell) → Picks (memory_state self.now).may (memory_state self.now).blocks image
+            → (memory_state self.now).left (memory_state self.now).moment image }
     {
         let mut count = 1;
         for call in &self.calls {
@@ -229,7 +230,8 @@ impl Disk for MemDisk {
         ensures does { Writes (memory_state self.old) (memory_state self.new) block cell.now result }
         ensures made { parts_of self.new ≡ has_written (parts_of self.old) block cell.now }
         ensures fails { IsErr result ↔ IsSome (write_fault (parts_of self.old)) }
-        ensures leaves { (image : List Cell) → Picks (memory_state self.new).may (memory_state self.new).blocks image → (memory_state self.new).left ((memory_state self.old).moment + 1) image }
+        ensures leaves { (image : List Cell) → Picks (memory_state self.new).may (memory_state self.new).blocks image
+            → (memory_state self.new).left ((memory_state self.old).moment + 1) image }
     {
         cell.note_sizes();
         self.writes = self.writes.saturating_add(1);
@@ -257,7 +259,8 @@ impl Disk for MemDisk {
         ensures does { Flushes (memory_state self.old) (memory_state self.new) result }
         ensures made { parts_of self.new ≡ has_flushed (parts_of self.old) }
         ensures fails { IsErr result ↔ IsSome (flush_fault (parts_of self.old)) }
-        ensures leaves { (image : List Cell) → Picks (memory_state self.old).may (memory_state self.old).blocks image → (memory_state self.new).left ((memory_state self.old).moment + 1) image }
+        ensures leaves { (image : List Cell) → Picks (memory_state self.old).may (memory_state self.old).blocks image
+            → (memory_state self.new).left ((memory_state self.old).moment + 1) image }
     {
         self.flushes = self.flushes.saturating_add(1);
         self.spare -= 1;

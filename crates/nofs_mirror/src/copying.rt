@@ -27,7 +27,8 @@ fn copy_cell<A: Disk, B: Disk>(
     requires other { block < (B.state other.old).blocks }
     requires spare { 1 ≤ (B.state other.old).spare }
     ensures copies { Copies (A.state lead.old) (A.state lead.new) (B.state other.old) (B.state other.new) }
-    ensures copied { OnOk result ((k : ℕ) → HasCopied (A.state lead.old) (B.state other.old) k → block ≡ k → HasCopied (A.state lead.old) (B.state other.new) (k + 1)) }
+    ensures copied { OnOk result ((k : ℕ) → HasCopied (A.state lead.old) (B.state other.old) k → block ≡ k
+        → HasCopied (A.state lead.old) (B.state other.new) (k + 1)) }
     ensures spare { OnOk result ((B.state other.old).spare ≤ (B.state other.new).spare + 1) }
     ensures cause { IfErr result (λ fault. CopyCause fault (A.state lead.old) (A.state lead.new) (B.state other.old) (B.state other.new)) }
 {

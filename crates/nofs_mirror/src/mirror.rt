@@ -111,7 +111,8 @@ impl<A: Disk + Drop, B: Disk + Drop> Mirror<A, B> {
     /// A mirror of so many blocks over a lead and an other, onto which the lead's cells are copied.
     /// Where the other could not be written or flushed it starts out.
     pub fn open(lead: A, other: B, blocks: u64) -> Result<Mirror<A, B>, MirrorFault<A, B>>
-        ensures opens { IfOk result (λ m. OpensMirror (A.state lead) (B.state other) (A.state m.lead) (B.state m.other) (⟦<Mirror<A, B> as Disk>⟧.state m) blocks m.log.sides) }
+        ensures opens { IfOk result (λ m. OpensMirror (A.state lead) (B.state other) (A.state m.lead) (B.state m.other)
+            (⟦<Mirror<A, B> as Disk>⟧.state m) blocks m.log.sides) }
         ensures refuses { IfErr result (λ fault. Refuses fault.cause blocks (A.state lead) (B.state other) (A.state fault.lead) (B.state fault.other)) }
         ensures lead_back { IfErr result (λ fault. LeadBack fault.cause lead fault.lead) }
         ensures other_back { IfErr result (λ fault. OtherBack fault.cause other fault.other) }
@@ -141,7 +142,8 @@ impl<A: Disk + Drop, B: Disk + Drop> Mirror<A, B> {
         requires lead { blocks ≤ (A.state lead).blocks }
         requires other { blocks ≤ (B.state other).blocks }
         requires spare { blocks + 1 ≤ (B.state other).spare }
-        ensures opens { IfOk result (λ m. OpensMirror (A.state lead) (B.state other) (A.state m.lead) (B.state m.other) (⟦<Mirror<A, B> as Disk>⟧.state m) blocks m.log.sides) }
+        ensures opens { IfOk result (λ m. OpensMirror (A.state lead) (B.state other) (A.state m.lead) (B.state m.other)
+            (⟦<Mirror<A, B> as Disk>⟧.state m) blocks m.log.sides) }
         ensures refuses { IfErr result (λ fault. Refuses fault.cause blocks (A.state lead) (B.state other) (A.state fault.lead) (B.state fault.other)) }
         ensures cause { IfErr result (λ fault. IsReadFault fault.cause) }
     {
@@ -219,9 +221,12 @@ impl<A: Disk + Drop, B: Disk + Drop> Disk for Mirror<A, B> {
     ghost use Rattle.nofs_law_mirror.specs.Mirror.{mirror_state};
     ghost use Rattle.nofs_law_mirror.specs.Laws.{mirror_is};
 
-    ghost state = { λ m. mirror_state (A.state m.lead) (B.state m.other) (A.state m.first.value) m.opening (past_calls m.log.past.value) m.log.spare m.log.faults };
+    ghost state = { λ m. mirror_state (A.state m.lead) (B.state m.other) (A.state m.first.value) m.opening
+        (past_calls m.log.past.value) m.log.spare m.log.faults };
 
-    ghost is_disk = { λ m. mirror_is (A.state m.lead) (B.state m.other) (A.state m.first.value) m.opening (past_calls m.log.past.value) m.log.spare m.log.faults (A.is_disk m.lead) (B.is_disk m.other) m.lead_side m.other_side m.lead_in m.other_in m.some_in m.log.made m.log.room m.log.counted m.kept };
+    ghost is_disk = { λ m. mirror_is (A.state m.lead) (B.state m.other) (A.state m.first.value) m.opening
+        (past_calls m.log.past.value) m.log.spare m.log.faults (A.is_disk m.lead) (B.is_disk m.other)
+        m.lead_side m.other_side m.lead_in m.other_in m.some_in m.log.made m.log.room m.log.counted m.kept };
 
     fn blocks(&self) -> u64 {
         self.opening.blocks
@@ -251,7 +256,8 @@ impl<A: Disk + Drop, B: Disk + Drop> Disk for Mirror<A, B> {
         requires { block < (⟦<Mirror<A, B> as Disk>⟧.state self.old).blocks }
         ensures does { Reads (⟦<Mirror<A, B> as Disk>⟧.state self.old) (⟦<Mirror<A, B> as Disk>⟧.state self.new) block into.new result }
         ensures sides { self.new.log.sides ≡ self.old.log.sides }
-        ensures lead_first { IsTrue self.old.log.sides.lead_in → (self.new.other ≡ self.old.other) ⊎ Rose (A.state self.old.lead).faults (A.state self.new.lead).faults }
+        ensures lead_first { IsTrue self.old.log.sides.lead_in → (self.new.other ≡ self.old.other)
+            ⊎ Rose (A.state self.old.lead).faults (A.state self.new.lead).faults }
         ensures fails { ReadFails self.old.log.sides (A.state self.old.lead) (A.state self.new.lead) (B.state self.old.other) (B.state self.new.other) result }
         ensures out { LeavesOut self.old.log.sides self.old.lead self.new.lead self.old.other self.new.other }
         ensures counts { Counts self.old.log.faults self.new.log.faults result }
@@ -271,11 +277,14 @@ impl<A: Disk + Drop, B: Disk + Drop> Disk for Mirror<A, B> {
         requires block { block < (⟦<Mirror<A, B> as Disk>⟧.state self.old).blocks }
         requires spare { 1 ≤ (⟦<Mirror<A, B> as Disk>⟧.state self.old).spare }
         ensures does { Writes (⟦<Mirror<A, B> as Disk>⟧.state self.old) (⟦<Mirror<A, B> as Disk>⟧.state self.new) block cell.now result }
-        ensures sides { ChangesSides self.old.log.sides self.new.log.sides (A.state self.old.lead) (A.state self.new.lead) (B.state self.old.other) (B.state self.new.other) result }
+        ensures sides { ChangesSides self.old.log.sides self.new.log.sides (A.state self.old.lead) (A.state self.new.lead)
+            (B.state self.old.other) (B.state self.new.other) result }
         ensures out { LeavesOut self.old.log.sides self.old.lead self.new.lead self.old.other self.new.other }
         ensures counts { Counts self.old.log.faults self.new.log.faults result }
-        ensures lead_left { SideLeaves self.old.log.sides.lead_in (A.state self.old.lead).moment (⟦<Mirror<A, B> as Disk>⟧.state self.new) (A.state self.new.lead) ((⟦<Mirror<A, B> as Disk>⟧.state self.old).moment + 1) }
-        ensures other_left { SideLeaves self.old.log.sides.other_in (B.state self.old.other).moment (⟦<Mirror<A, B> as Disk>⟧.state self.new) (B.state self.new.other) ((⟦<Mirror<A, B> as Disk>⟧.state self.old).moment + 1) }
+        ensures lead_left { SideLeaves self.old.log.sides.lead_in (A.state self.old.lead).moment
+            (⟦<Mirror<A, B> as Disk>⟧.state self.new) (A.state self.new.lead) ((⟦<Mirror<A, B> as Disk>⟧.state self.old).moment + 1) }
+        ensures other_left { SideLeaves self.old.log.sides.other_in (B.state self.old.other).moment
+            (⟦<Mirror<A, B> as Disk>⟧.state self.new) (B.state self.new.other) ((⟦<Mirror<A, B> as Disk>⟧.state self.old).moment + 1) }
     {
         cell.note_sizes();
         let sides = self.log.sides;
@@ -293,11 +302,14 @@ impl<A: Disk + Drop, B: Disk + Drop> Disk for Mirror<A, B> {
     fn flush(&mut self) -> Result<(), Failed>
         requires { 1 ≤ (⟦<Mirror<A, B> as Disk>⟧.state self.old).spare }
         ensures does { Flushes (⟦<Mirror<A, B> as Disk>⟧.state self.old) (⟦<Mirror<A, B> as Disk>⟧.state self.new) result }
-        ensures sides { ChangesSides self.old.log.sides self.new.log.sides (A.state self.old.lead) (A.state self.new.lead) (B.state self.old.other) (B.state self.new.other) result }
+        ensures sides { ChangesSides self.old.log.sides self.new.log.sides (A.state self.old.lead) (A.state self.new.lead)
+            (B.state self.old.other) (B.state self.new.other) result }
         ensures out { LeavesOut self.old.log.sides self.old.lead self.new.lead self.old.other self.new.other }
         ensures counts { Counts self.old.log.faults self.new.log.faults result }
-        ensures lead_left { SideLeaves self.old.log.sides.lead_in (A.state self.old.lead).moment (⟦<Mirror<A, B> as Disk>⟧.state self.new) (A.state self.new.lead) ((⟦<Mirror<A, B> as Disk>⟧.state self.old).moment + 1) }
-        ensures other_left { SideLeaves self.old.log.sides.other_in (B.state self.old.other).moment (⟦<Mirror<A, B> as Disk>⟧.state self.new) (B.state self.new.other) ((⟦<Mirror<A, B> as Disk>⟧.state self.old).moment + 1) }
+        ensures lead_left { SideLeaves self.old.log.sides.lead_in (A.state self.old.lead).moment
+            (⟦<Mirror<A, B> as Disk>⟧.state self.new) (A.state self.new.lead) ((⟦<Mirror<A, B> as Disk>⟧.state self.old).moment + 1) }
+        ensures other_left { SideLeaves self.old.log.sides.other_in (B.state self.old.other).moment
+            (⟦<Mirror<A, B> as Disk>⟧.state self.new) (B.state self.new.other) ((⟦<Mirror<A, B> as Disk>⟧.state self.old).moment + 1) }
     {
         let sides = self.log.sides;
         let lead = flush_side(&mut self.lead, sides.lead_in);

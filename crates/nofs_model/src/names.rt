@@ -97,7 +97,8 @@ fn is_file(it: &Record, generation: u64) -> bool
 fn has_agreed_link(cells: &[Cell], at: &SuperBlock, known: &[bool], inode: u32, it: &Record) -> bool
     requires record { IsRecord cells.now at.now inode it.now }
     requires known { AreAgreed cells.now known.now }
-    ensures { result ≡ list_any (λ link. files.is_pair (files.files_in cells.now) inode link && files.agreed (files.files_in cells.now) link.directory) it.now.links }
+    ensures { result ≡ list_any (λ link. files.is_pair (files.files_in cells.now) inode link
+        && files.agreed (files.files_in cells.now) link.directory) it.now.links }
 {
     it.links
         .iter()

@@ -65,7 +65,8 @@ fn agreed_inodes(alloc: Global, cells: &[Cell], at: &SuperBlock) -> Result<Vec<b
 fn used_inodes(alloc: Global, of: &Scanned<'_>) -> Result<Bits, AllocError>
     requires numbers { IsRead of.now.cells.now of.now.at.now }
     requires known { AreAgreed of.now.cells.now of.now.known.now }
-    ensures { IfOk result (λ bits. (length bits ≡ of.now.at.now.inodes) × ((k : ℕ) → k < of.now.at.now.inodes → is_set bits k ≡ owners.is_used_inode of.now.cells.now (k + 1))) }
+    ensures { IfOk result (λ bits. (length bits ≡ of.now.at.now.inodes)
+        × ((k : ℕ) → k < of.now.at.now.inodes → is_set bits k ≡ owners.is_used_inode of.now.cells.now (k + 1))) }
 {
     let mut bits = Bits::new(alloc, of.at.inodes)?;
     for place in 0..of.at.inodes {
@@ -77,7 +78,8 @@ fn used_inodes(alloc: Global, of: &Scanned<'_>) -> Result<Bits, AllocError>
 fn used_blocks(alloc: Global, of: &Scanned<'_>) -> Result<Bits, AllocError>
     requires numbers { IsRead of.now.cells.now of.now.at.now }
     requires known { AreAgreed of.now.cells.now of.now.known.now }
-    ensures { IfOk result (λ bits. (length bits ≡ of.now.at.now.blocks) × ((p : ℕ) → p < of.now.at.now.blocks → is_set bits p ≡ owners.is_used_block of.now.cells.now p)) }
+    ensures { IfOk result (λ bits. (length bits ≡ of.now.at.now.blocks)
+        × ((p : ℕ) → p < of.now.at.now.blocks → is_set bits p ≡ owners.is_used_block of.now.cells.now p)) }
 {
     let mut bits = Bits::new(alloc, of.at.blocks)?;
     for block in 0..of.at.blocks {

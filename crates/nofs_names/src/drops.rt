@@ -60,7 +60,8 @@ pub fn drop_name<D: Disk + Drop>(
     name: &[u8],
 ) -> Result<bool, Refusal>
     requires { IsSafe (D.state core.old.disk) core.old.books }
-    ensures { Goes (D.state core.old.disk) core.old.books (D.state core.new.disk) core.new.books (step.Drop directory generation name.now) no_claims (drop_answer result) }
+    ensures { Goes (D.state core.old.disk) core.old.books (D.state core.new.disk) core.new.books
+        (step.Drop directory generation name.now) no_claims (drop_answer result) }
 {
     let at = NameIn {
         directory,
@@ -244,7 +245,8 @@ fn drop_link<D: Disk + Drop>(
     requires cleared { IsCleared (D.state core.old.disk) core.old.books it }
     requires keeps { KeepsName (D.state core.old.disk) core.old.books it.pair.at.directory it.pair.at.generation it.pair.found }
     requires last { IsLast (D.state core.old.disk) records.old }
-    ensures { DropGoes (D.state core.old.disk) core.old.books (D.state core.new.disk) core.new.books it.entry.pair.at (done_answer (reply.Dropped false) result) }
+    ensures { DropGoes (D.state core.old.disk) core.old.books (D.state core.new.disk) core.new.books it.entry.pair.at
+        (done_answer (reply.Dropped false) result) }
 {
     let found = it.pair.found;
     let rest = without_name(it.pair);

@@ -222,7 +222,8 @@ fn named_table(new: NewEntry<'_>) -> Cell
 fn enter_held<D: Disk + Drop>(core: &mut Core<D>, new: NewEntry<'_>, pointer: Pointer) -> Ended
     requires slot { new.place.now.slot ≡ EntrySlot.Held pointer }
     requires entering { IsEntering 2 (D.state core.old.disk) core.old.books new }
-    ensures { EntersHeld (D.state core.old.disk) core.old.books (D.state core.new.disk) core.new.books new.entry.place.now pointer new.entry.named.now new.entry.record.now new.entry.tables.now result }
+    ensures { EntersHeld (D.state core.old.disk) core.old.books (D.state core.new.disk)
+        core.new.books new.entry.place.now pointer new.entry.named.now new.entry.record.now new.entry.tables.now result }
 {
     let mut cell = new.place.cell;
     add_entry(&mut cell.payload, new.place.entry % 16, new.named);
@@ -237,7 +238,9 @@ fn enter_held<D: Disk + Drop>(core: &mut Core<D>, new: NewEntry<'_>, pointer: Po
 fn enter_direct<D: Disk + Drop>(core: &mut Core<D>, new: NewEntry<'_>) -> Ended
     requires slot { new.place.now.slot ≡ EntrySlot.Direct }
     requires entering { IsEntering 3 (D.state core.old.disk) core.old.books new }
-    ensures { EntersDirect (D.state core.old.disk) core.old.books (D.state core.new.disk) core.new.books new.entry.directory new.entry.it.now new.entry.place.now new.entry.named.now new.entry.record.now new.entry.tables.now result }
+    ensures { EntersDirect (D.state core.old.disk) core.old.books (D.state core.new.disk)
+        core.new.books new.entry.directory new.entry.it.now new.entry.place.now new.entry.named.now new.entry.record.now
+        new.entry.tables.now result }
 {
     let block = new.place.blocks.cell;
     let pointer = core.books.claim_block(block);
@@ -263,7 +266,9 @@ fn enter_direct<D: Disk + Drop>(core: &mut Core<D>, new: NewEntry<'_>) -> Ended
 fn enter_under_leaf<D: Disk + Drop>(core: &mut Core<D>, new: NewEntry<'_>, leaf: Pointer) -> Ended
     requires slot { new.place.now.slot ≡ EntrySlot.UnderLeaf leaf }
     requires entering { IsEntering 3 (D.state core.old.disk) core.old.books new }
-    ensures { EntersUnderLeaf (D.state core.old.disk) core.old.books (D.state core.new.disk) core.new.books new.entry.directory new.entry.it.now new.entry.place.now leaf new.entry.named.now new.entry.record.now new.entry.tables.now result }
+    ensures { EntersUnderLeaf (D.state core.old.disk) core.old.books (D.state core.new.disk)
+        core.new.books new.entry.directory new.entry.it.now new.entry.place.now leaf new.entry.named.now
+        new.entry.record.now new.entry.tables.now result }
 {
     let block = new.place.blocks.cell;
     let pointer = core.books.claim_block(block);
@@ -281,7 +286,9 @@ fn enter_under_leaf<D: Disk + Drop>(core: &mut Core<D>, new: NewEntry<'_>, leaf:
 fn enter_with_leaf<D: Disk + Drop>(core: &mut Core<D>, new: NewEntry<'_>) -> Ended
     requires slot { new.place.now.slot ≡ EntrySlot.WithLeaf }
     requires entering { IsEntering 4 (D.state core.old.disk) core.old.books new }
-    ensures { EntersWithLeaf (D.state core.old.disk) core.old.books (D.state core.new.disk) core.new.books new.entry.directory new.entry.it.now new.entry.place.now new.entry.named.now new.entry.record.now new.entry.tables.now result }
+    ensures { EntersWithLeaf (D.state core.old.disk) core.old.books (D.state core.new.disk)
+        core.new.books new.entry.directory new.entry.it.now new.entry.place.now new.entry.named.now new.entry.record.now
+        new.entry.tables.now result }
 {
     let blocks = new.place.blocks;
     let pointer = core.books.claim_block(blocks.cell);
@@ -313,7 +320,9 @@ fn enter_with_leaf<D: Disk + Drop>(core: &mut Core<D>, new: NewEntry<'_>) -> End
 /// else into a block that it claims, with a leaf where there is none.
 pub(crate) fn enter<D: Disk + Drop>(core: &mut Core<D>, new: NewEntry<'_>) -> Ended
     requires { IsEntering 4 (D.state core.old.disk) core.old.books new }
-    ensures { Enters (D.state core.old.disk) core.old.books (D.state core.new.disk) core.new.books new.entry.directory new.entry.it.now new.entry.place.now new.entry.named.now new.entry.record.now new.entry.tables.now new.entry.place.now.slot result }
+    ensures { Enters (D.state core.old.disk) core.old.books (D.state core.new.disk)
+        core.new.books new.entry.directory new.entry.it.now new.entry.place.now new.entry.named.now new.entry.record.now
+        new.entry.tables.now new.entry.place.now.slot result }
 {
     match new.place.slot {
         EntrySlot::Held(pointer) => enter_held(core, new, pointer),

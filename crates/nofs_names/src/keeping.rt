@@ -42,7 +42,8 @@ fn has_agreed_link<D: Disk>(
     requires last { IsLast (D.state disk.old) last.old }
     requires record { Knows (D.state disk.old) it }
     requires known { length known.now ≡ it.at.inodes }
-    ensures { TellsAgreed (D.state disk.old) (D.state disk.new) known.now (λ X. list_any (is_agreed_link (files.files_in X) it.inode) links.now) last.new result }
+    ensures { TellsAgreed (D.state disk.old) (D.state disk.new) known.now
+        (λ X. list_any (is_agreed_link (files.files_in X) it.inode) links.now) last.new result }
 {
     for place in 0..4 {
         if is_agreed_link(

@@ -61,7 +61,8 @@ pub fn link<D: Disk + Drop>(
     of: u64,
 ) -> Ended
     requires { IsSafe (D.state core.old.disk) core.old.books }
-    ensures { Goes (D.state core.old.disk) core.old.books (D.state core.new.disk) core.new.books (step.Link directory generation name.now inode of) result.claims (done_answer reply.Linked result.result) }
+    ensures { Goes (D.state core.old.disk) core.old.books (D.state core.new.disk) core.new.books
+        (step.Link directory generation name.now inode of) result.claims (done_answer reply.Linked result.result) }
 {
     let at = NameIn {
         directory,
@@ -241,7 +242,8 @@ fn link_named<D: Disk + Drop>(
     requires safe { IsSafe (D.state core.old.disk) core.old.books }
     requires spare { 4 ≤ (D.state core.old.disk).spare }
     requires going { core.old.books.stopped ≡ false }
-    requires may { MayEnter (D.state core.old.disk) core.old.books at.directory both.now.directory place.now.entry place.now.slot place.now.blocks named.now both.now.file }
+    requires may { MayEnter (D.state core.old.disk)
+        core.old.books at.directory both.now.directory place.now.entry place.now.slot place.now.blocks named.now both.now.file }
     requires known { MayLink (D.state core.old.disk) core.old.books at.directory at.generation both.now place.now named.now link }
     requires link { link < 4 }
     ensures { LinkEnds (D.state core.old.disk) core.old.books (D.state core.new.disk) core.new.books (entry_step at.entry named.now) result }

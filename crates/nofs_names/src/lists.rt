@@ -52,8 +52,10 @@ pub fn list<D: Disk + Drop>(
     slot: u64,
 ) -> Result<Listed, Refusal>
     requires { IsSafe (D.state core.old.disk) core.old.books }
-    ensures goes { Goes (D.state core.old.disk) core.old.books (D.state core.new.disk) core.new.books (step.List directory generation slot) no_claims (list_answer result) }
-    ensures memory { Goes (D.state core.old.disk) core.old.books (D.state core.new.disk) core.new.books (step.List directory generation slot) no_claims (reply.Refused refusal.OutOfMemory) }
+    ensures goes { Goes (D.state core.old.disk) core.old.books (D.state core.new.disk) core.new.books
+        (step.List directory generation slot) no_claims (list_answer result) }
+    ensures memory { Goes (D.state core.old.disk) core.old.books (D.state core.new.disk) core.new.books
+        (step.List directory generation slot) no_claims (reply.Refused refusal.OutOfMemory) }
     ensures listed { IfOk result HasListed }
 {
     if core.books.stopped {

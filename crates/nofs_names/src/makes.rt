@@ -39,7 +39,8 @@ pub fn make<D: Disk + Drop>(
     kind: FileKind,
 ) -> Ended
     requires { IsSafe (D.state core.old.disk) core.old.books }
-    ensures { Goes (D.state core.old.disk) core.old.books (D.state core.new.disk) core.new.books (step.Make directory generation name.now kind) result.claims (made_answer result.claims result.result) }
+    ensures { Goes (D.state core.old.disk) core.old.books (D.state core.new.disk) core.new.books
+        (step.Make directory generation name.now kind) result.claims (made_answer result.claims result.result) }
 {
     let owned = match Name::from_slice(alloc, name) {
         Ok(owned) => owned,
@@ -65,7 +66,8 @@ fn make_with_room<D: Disk + Drop>(
     requires owned { owned ≡ at.name.now }
     requires safe { IsSafe (D.state core.old.disk) core.old.books }
     requires spare { 4 ≤ (D.state core.old.disk).spare }
-    ensures { MakeGoes (D.state core.old.disk) core.old.books (D.state core.new.disk) core.new.books (step.Make at.entry.directory at.entry.generation at.entry.name.now kind) result }
+    ensures { MakeGoes (D.state core.old.disk) core.old.books (D.state core.new.disk) core.new.books
+        (step.Make at.entry.directory at.entry.generation at.entry.name.now kind) result }
 {
     let mut names = LastRead::NONE;
     let it = match open_named(&mut core.disk, &core.books, at, &mut names) {
@@ -110,7 +112,8 @@ fn make_entry<D: Disk + Drop>(
     requires rows { RowsLeft (D.state core.old.disk) core.old.books to.directory to.generation name to.kind }
     requires names { IsLast (D.state core.old.disk) names.old }
     requires records { IsLast (D.state core.old.disk) records.old }
-    ensures { MakeGoes (D.state core.old.disk) core.old.books (D.state core.new.disk) core.new.books (step.Make to.directory to.generation name to.kind) result }
+    ensures { MakeGoes (D.state core.old.disk) core.old.books (D.state core.new.disk) core.new.books
+        (step.Make to.directory to.generation name to.kind) result }
 {
     let read = ReadInode {
         at: core.books.at,
@@ -188,7 +191,8 @@ fn make_at<D: Disk + Drop>(
     requires going { core.old.books.stopped ≡ false }
     requires rows { RowsPass (D.state core.old.disk) core.old.books (step.Make to.directory to.generation name to.kind) }
     requires records { IsLast (D.state core.old.disk) records.old }
-    ensures { MakeGoes (D.state core.old.disk) core.old.books (D.state core.new.disk) core.new.books (step.Make to.directory to.generation name to.kind) result }
+    ensures { MakeGoes (D.state core.old.disk) core.old.books (D.state core.new.disk) core.new.books
+        (step.Make to.directory to.generation name to.kind) result }
 {
     let tables = match read_tables(&mut core.disk, to.directory, inode, records) {
         Ok(tables) => tables,

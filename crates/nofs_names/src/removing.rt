@@ -40,7 +40,8 @@ pub(crate) fn remove_file<D: Disk + Drop>(
     requires loses { LosesName (D.state core.old.disk) core.old.books it.pair.at.directory it.pair.at.generation it.pair.found }
     requires freed { BlocksOf (D.state core.old.disk) core.old.books.at it.pair.found.inode freed.now }
     requires last { IsLast (D.state core.old.disk) records.old }
-    ensures { DropGoes (D.state core.old.disk) core.old.books (D.state core.new.disk) core.new.books it.entry.pair.at (done_answer (reply.Dropped true) result) }
+    ensures { DropGoes (D.state core.old.disk) core.old.books (D.state core.new.disk) core.new.books it.entry.pair.at
+        (done_answer (reply.Dropped true) result) }
 {
     let inode = it.pair.found.inode;
     let block = table_block(inode);

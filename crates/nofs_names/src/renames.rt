@@ -27,7 +27,8 @@ pub fn rename<D: Disk + Drop>(
     new: &[u8],
 ) -> Result<(), Refusal>
     requires { IsSafe (D.state core.old.disk) core.old.books }
-    ensures { Goes (D.state core.old.disk) core.old.books (D.state core.new.disk) core.new.books (step.Rename directory generation old.now new.now) no_claims (done_answer reply.Renamed result) }
+    ensures { Goes (D.state core.old.disk) core.old.books (D.state core.new.disk) core.new.books
+        (step.Rename directory generation old.now new.now) no_claims (done_answer reply.Renamed result) }
 {
     let at = NameIn {
         directory,

@@ -155,7 +155,8 @@ fn search_cell<D: Disk>(
     requires slot { slot < 72 }
     requires cell { IsTrue (D.state disk.old).tells → value (D.state disk.old).now directory.inode slot ≡ Bytes payload.now }
     requires last { IsLast (D.state disk.old) records.old }
-    ensures { SearchesOn (D.state disk.old) (D.state disk.new) directory.at directory.inode name.now (16 * slot) slot (16 * (slot + 1)) (slot + 1) unfound.old unfound.new records.new result }
+    ensures { SearchesOn (D.state disk.old) (D.state disk.new) directory.at directory.inode name.now (16 * slot) slot
+        (16 * (slot + 1)) (slot + 1) unfound.old unfound.new records.new result }
 {
     for place in 0..16 {
         let link = BackLink {
@@ -187,7 +188,8 @@ fn search_slot<D: Disk>(
     requires slot { slot < 72 }
     requires names { IsLast (D.state disk.old) names.old }
     requires last { IsLast (D.state disk.old) records.old }
-    ensures search { SearchesOn (D.state disk.old) (D.state disk.new) directory.at directory.inode name.now (16 * slot) slot (16 * (slot + 1)) (slot + 1) unfound.old unfound.new records.new result }
+    ensures search { SearchesOn (D.state disk.old) (D.state disk.new) directory.at directory.inode name.now (16 * slot) slot
+        (16 * (slot + 1)) (slot + 1) unfound.old unfound.new records.new result }
     ensures kept { OnOk result (IsLast (D.state disk.new) names.new) }
 {
     match directory.find(disk, slot, names)? {

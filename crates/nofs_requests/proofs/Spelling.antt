@@ -15,7 +15,8 @@ use Rattle.nofs_inode.specs.declared.inode.FileKind.TheVariants.{File, Directory
 use Rattle.nofs_machine.specs.declared.steps.Step.{Step}
 use Rattle.nofs_machine.specs.declared.steps.Step.TheVariants as step
 use Rattle.nofs_requests.specs.Fields.{number_bytes, kind_byte, name_bytes}
-use Rattle.nofs_requests.specs.Requests.{◌>>=◌, where_ends, name_length, has_name, name_at, kind_of, inode_of, generation_of, look_of, make_of, link_of, drop_of}
+use Rattle.nofs_requests.specs.Requests.{◌>>=◌, where_ends, name_length, has_name, name_at, kind_of}
+use Rattle.nofs_requests.specs.Requests.{inode_of, generation_of, look_of, make_of, link_of, drop_of}
 use Rattle.nofs_requests.specs.Requests.{rename_of, list_of, get_of, put_of, resize_of, stat_of, flush_of, see_inode_of, see_block_of, named_of, handled_of}
 use Rattle.nofs_requests.specs.Requests.{step_by, step_of}
 use Rattle.nofs_requests.specs.Spelled.{head_bytes, request_bytes}

@@ -20,7 +20,8 @@ pub fn commit<D: Disk + Drop>(
 ) -> bool
     requires { MayCommit (D.state core.old.disk) core.old.books evidence.now.core.value.books evidence.now.verdicts at used }
     ensures disk { core.new.disk ≡ core.old.disk }
-    ensures commits { Commits (D.state evidence.now.core.value.disk) evidence.now.core.value.books (D.state core.old.disk) core.old.books core.new.books evidence.now.kind (verdict_at evidence.now.verdicts at).item used result }
+    ensures commits { Commits (D.state evidence.now.core.value.disk) evidence.now.core.value.books (D.state core.old.disk)
+        core.old.books core.new.books evidence.now.kind (verdict_at evidence.now.verdicts at).item used result }
 {
     let item = evidence.verdicts.item(at);
     settle(&mut core.books, evidence.kind, item, used)

@@ -23,7 +23,9 @@ pub fn commit_step<D: Disk + Drop>(
     requires may { MayCommit (D.state core.old.disk) core.old.books evidence.now.core.value.books evidence.now.verdicts at used }
     requires room { 0 < core.old.books.history.spare }
     ensures safe { IsSafe (D.state core.new.disk) core.new.books }
-    ensures stands { IsTrue (D.state core.old.disk).tells → (base : Image) → (first : ℕ) → IsOfMount (D.state evidence.now.core.value.disk) evidence.now.core.value.books core.old.books base first → Stands (D.state core.old.disk) core.old.books base first → Stands (D.state core.new.disk) core.new.books base first }
+    ensures stands { IsTrue (D.state core.old.disk).tells → (base : Image) → (first : ℕ)
+        → IsOfMount (D.state evidence.now.core.value.disk) evidence.now.core.value.books core.old.books base first
+        → Stands (D.state core.old.disk) core.old.books base first → Stands (D.state core.new.disk) core.new.books base first }
 {
     let from = core.disk.moment();
     let stands = commit(core, evidence, at, used);

@@ -162,7 +162,8 @@ fn read_entry_of<D: Disk>(
 ) -> Result<Option<Named>, Failed>
     requires directory { KnowsDirectory (D.state disk.old) at.now link.now.directory link.now.generation directory.now }
     requires last { IsLast (D.state disk.old) last.old }
-    ensures { ReadsAnswer (D.state disk.old) (D.state disk.new) (λ X. sights.named_inode (files.entry_at (files.files_in X) link.now.directory link.now.entry)) result }
+    ensures { ReadsAnswer (D.state disk.old) (D.state disk.new)
+        (λ X. sights.named_inode (files.entry_at (files.files_in X) link.now.directory link.now.entry)) result }
 {
     if link.entry >= 1152 {
         return Ok(None);

@@ -13,7 +13,10 @@ use std::test::Fail;
 
 // Looks at block 24.
 fn look(alloc: Global, mount: &mut Mount<MemDisk>) -> Result<Evidence<MemDisk>, Fail>
-    ensures { IfOk result (λ evidence. IsEarlier (memory_state mount.new.found.value) (memory_state evidence.core.value.disk) evidence.core.value.books mount.new.first mount.new.core.books.history.start mount.new.core.books.at mount.new.core.books.history.entries) }
+    ensures { IfOk result (λ evidence. IsEarlier (memory_state mount.new.found.value)
+        (memory_state evidence.core.value.disk)
+        evidence.core.value.books mount.new.first mount.new.core.books.history.start mount.new.core.books.at
+        mount.new.core.books.history.entries) }
 {
     match mount.look_batch(alloc, ElementKind::Block, &[24]) {
         Ok(evidence) => Ok(evidence),
@@ -28,8 +31,12 @@ fn step_after(
     evidence: &Evidence<MemDisk>,
     step: Step,
 ) -> Reply
-    requires { IsEarlier (memory_state mount.old.found.value) (memory_state evidence.now.core.value.disk) evidence.now.core.value.books mount.old.first mount.old.core.books.history.start mount.old.core.books.at mount.old.core.books.history.entries }
-    ensures { IsEarlier (memory_state mount.new.found.value) (memory_state evidence.now.core.value.disk) evidence.now.core.value.books mount.new.first mount.new.core.books.history.start mount.new.core.books.at mount.new.core.books.history.entries }
+    requires { IsEarlier (memory_state mount.old.found.value) (memory_state evidence.now.core.value.disk)
+        evidence.now.core.value.books mount.old.first mount.old.core.books.history.start mount.old.core.books.at
+        mount.old.core.books.history.entries }
+    ensures { IsEarlier (memory_state mount.new.found.value) (memory_state evidence.now.core.value.disk)
+        evidence.now.core.value.books mount.new.first mount.new.core.books.history.start mount.new.core.books.at
+        mount.new.core.books.history.entries }
 {
     let _ = evidence;
     mount.step(alloc, 1, step)
@@ -41,8 +48,12 @@ fn claim(
     mount: &mut Mount<MemDisk>,
     evidence: &Evidence<MemDisk>,
 ) -> Result<bool, AllocError>
-    requires { IsEarlier (memory_state mount.old.found.value) (memory_state evidence.now.core.value.disk) evidence.now.core.value.books mount.old.first mount.old.core.books.history.start mount.old.core.books.at mount.old.core.books.history.entries }
-    ensures { IsEarlier (memory_state mount.new.found.value) (memory_state evidence.now.core.value.disk) evidence.now.core.value.books mount.new.first mount.new.core.books.history.start mount.new.core.books.at mount.new.core.books.history.entries }
+    requires { IsEarlier (memory_state mount.old.found.value) (memory_state evidence.now.core.value.disk)
+        evidence.now.core.value.books mount.old.first mount.old.core.books.history.start mount.old.core.books.at
+        mount.old.core.books.history.entries }
+    ensures { IsEarlier (memory_state mount.new.found.value) (memory_state evidence.now.core.value.disk)
+        evidence.now.core.value.books mount.new.first mount.new.core.books.history.start mount.new.core.books.at
+        mount.new.core.books.history.entries }
 {
     let step = put_step(alloc, 18)?;
     step_after(alloc, mount, evidence, Step::SeeBlock { block: 24 });
@@ -51,7 +62,9 @@ fn claim(
 
 // Commits what was found, where that is a free block: whether it stands as used then.
 fn settle(alloc: Global, mount: &mut Mount<MemDisk>, evidence: &Evidence<MemDisk>) -> Option<bool>
-    requires { IsEarlier (memory_state mount.old.found.value) (memory_state evidence.now.core.value.disk) evidence.now.core.value.books mount.old.first mount.old.core.books.history.start mount.old.core.books.at mount.old.core.books.history.entries }
+    requires { IsEarlier (memory_state mount.old.found.value) (memory_state evidence.now.core.value.disk)
+        evidence.now.core.value.books mount.old.first mount.old.core.books.history.start mount.old.core.books.at
+        mount.old.core.books.history.entries }
 {
     if evidence.verdicts.len() != 1 {
         return None;

@@ -77,7 +77,8 @@ pub struct Evidence<D: Disk + Drop> {
 pub fn judge<D: Disk + Drop>(evidence: &Evidence<D>, at: u32) -> bool
     requires { at < length evidence.now.verdicts }
     ensures value { result ≡ (verdict_at evidence.now.verdicts at).used }
-    ensures right { IsRight (D.state evidence.now.core.value.disk) evidence.now.core.value.books evidence.now.kind (record { item = (verdict_at evidence.now.verdicts at).item; used = result }) }
+    ensures right { IsRight (D.state evidence.now.core.value.disk) evidence.now.core.value.books evidence.now.kind
+        (record { item = (verdict_at evidence.now.verdicts at).item; used = result }) }
 {
     evidence.verdicts.is_used(at)
 }

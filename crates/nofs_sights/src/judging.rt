@@ -30,7 +30,8 @@ impl Sight {
     /// Whether the element is used.
     pub fn is_used(&self) -> bool
         ensures value { result ≡ sights.sight_verdict self.now }
-        ensures scan { (X : Image) (kind : ElementKind) (item : ℕ) → HasElement kind (super_at X) item → self.now ≡ sights.sight_in kind X item → result ≡ is_used kind X item }
+        ensures scan { (X : Image) (kind : ElementKind) (item : ℕ) → HasElement kind (super_at X) item
+            → self.now ≡ sights.sight_in kind X item → result ≡ is_used kind X item }
     {
         judged(self)
     }
@@ -146,7 +147,8 @@ fn holds_down(block: u64, sight: &TagSight, place: Place) -> bool
 // Whether the leaf or the top holds.
 fn holds_upper(sight: &TagSight, at: u64) -> bool
     requires { at < 10 }
-    ensures { result ≡ sights.holds_with sight.now.in_table sight.now.tag.inode (slots.InRecord at) (slots.record_pointer sight.now.in_table at) sight.now.way.upper.tag }
+    ensures { result ≡ sights.holds_with sight.now.in_table sight.now.tag.inode (slots.InRecord at)
+        (slots.record_pointer sight.now.in_table at) sight.now.way.upper.tag }
 {
     let pointer = record_pointer(&sight.in_table, at);
     holds_with(sight, Place::InRecord(at), pointer, sight.way.upper.tag)

@@ -7,7 +7,8 @@ use Rattle.nofs_disk.specs.Number.{number_at}
 use Rattle.nofs_super.specs.Geometry.{IsGeometry, is_geometry}
 use Rattle.nofs_super.specs.declared.superblock.SuperBlock.{SuperBlock}
 use Rattle.nofs_super.specs.declared.superblock.MountFault.{MountFault}
-use Rattle.nofs_super.specs.declared.superblock.MountFault.TheVariants.{BadMagic, BadVersion, BadGeometry, DeviceTooSmall, MountsSpent, BadRest, WriteFault, OutOfMemory}
+use Rattle.nofs_super.specs.declared.superblock.MountFault.TheVariants.{BadMagic, BadVersion, BadGeometry, DeviceTooSmall}
+use Rattle.nofs_super.specs.declared.superblock.MountFault.TheVariants.{MountsSpent, BadRest, WriteFault, OutOfMemory}
 
 -- the first eight bytes
 abbrev pub magic : List ℕ

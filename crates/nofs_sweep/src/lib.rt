@@ -25,7 +25,8 @@ pub struct SweepOrder {
     pub ghost item_below: { (place item : ℕ) → place < count → ToItem.post to_item count place item → item < count },
     pub ghost place_may: { (item : ℕ) → item < count → ToPlace.pre to_place count item },
     pub ghost place_below: { (item place : ℕ) → item < count → ToPlace.post to_place count item place → place < count },
-    pub ghost inverse: { (item place found : ℕ) → item < count → ToPlace.post to_place count item place → ToItem.post to_item count place found → found ≡ item },
+    pub ghost inverse: { (item place found : ℕ) → item < count → ToPlace.post to_place count item place
+        → ToItem.post to_item count place found → found ≡ item },
     pub ghost each: { ∥ EachHasPlace count (ToItem.post to_item count) ∥₁ },
 }
 
@@ -37,7 +38,8 @@ impl SweepOrder {
         requires item_below { (place item : ℕ) → place < count → ToItem.post to_item count place item → item < count }
         requires place_may { (item : ℕ) → item < count → ToPlace.pre to_place count item }
         requires place_below { (item place : ℕ) → item < count → ToPlace.post to_place count item place → place < count }
-        requires inverse { (item place found : ℕ) → item < count → ToPlace.post to_place count item place → ToItem.post to_item count place found → found ≡ item }
+        requires inverse { (item place found : ℕ) → item < count → ToPlace.post to_place count item place
+            → ToItem.post to_item count place found → found ≡ item }
         requires each { EachHasPlace count (ToItem.post to_item count) }
         ensures { (result.count ≡ count) × (result.to_item ≡ to_item) × (result.to_place ≡ to_place) }
     {

@@ -60,7 +60,8 @@ refusal_words refusal.OutOfMemory = codes "21 out of memory"
 abbrev pub refusal_rest : Refusal → List ℕ
 refusal_rest (refusal.LostEntry entry) = decimal entry
 refusal_rest (refusal.LostSlot slot) = decimal slot
-refusal_rest (refusal.Full needed free unverified next) = codes ", needed " ++ decimal needed ++ codes ", free " ++ decimal free ++ codes ", unchecked " ++ decimal unverified
+refusal_rest (refusal.Full needed free unverified next) = codes ", needed " ++ decimal needed ++ codes ", free "
+    ++ decimal free ++ codes ", unchecked " ++ decimal unverified
 refusal_rest (refusal.InodesFull unverified next) = codes ", unchecked " ++ decimal unverified
 refusal_rest _ = []
 

@@ -125,7 +125,8 @@ fn push_full(
     free: u64,
     unverified: u64,
 ) -> Result<(), AllocError>
-    ensures { OnOk result (text.new.items ≡ text.old.items ++ (codes ", needed " ++ decimal needed ++ codes ", free " ++ decimal free ++ codes ", unchecked " ++ decimal unverified)) }
+    ensures { OnOk result (text.new.items ≡ text.old.items
+        ++ (codes ", needed " ++ decimal needed ++ codes ", free " ++ decimal free ++ codes ", unchecked " ++ decimal unverified)) }
 {
     push_number(alloc, text, ", needed ", needed)?;
     push_number(alloc, text, ", free ", free)?;

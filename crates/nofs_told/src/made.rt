@@ -28,7 +28,10 @@ impl Model for MadeSteps {
 
     ghost Value = { List Made };
 
-    ghost view = { λ made. fold-Past (List Made) (λ past. elim past [ Past-F.Start ↦ [] | Past-F.Made step reply earlier ↦ earlier.value ++ (step.value, reply.value) ∷ [] ]) made.past };
+    ghost view = { λ made. fold-Past (List Made) (λ past. elim past [
+      | Past-F.Start ↦ []
+      | Past-F.Made step reply earlier ↦ earlier.value ++ (step.value, reply.value) ∷ []
+    ]) made.past };
 }
 
 fn found_memory(reply: &Reply) -> bool

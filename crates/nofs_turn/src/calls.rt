@@ -99,7 +99,8 @@ impl<V: Kept> Turn<V> {
         requires of { seat.old.table_id ≡ self.now.table.shared.table_id }
         requires carries { (x : V) × (seat.old.me.1 ≡ (0, Some x) ∷ []) × S.asks section (V.fixed x) (V.entries x) }
         ensures same { (seat.new.table_id ≡ seat.old.table_id) × (seat.new.id ≡ seat.old.id) × (seat.new.me.0 ≡ seat.old.me.0) }
-        ensures ran { (x y : V) × (seat.old.me.1 ≡ (0, Some x) ∷ []) × (seat.new.me.1 ≡ (0, Some y) ∷ []) × RanOnce V.entries V.fixed (S.tells section) x y result }
+        ensures ran { (x y : V) × (seat.old.me.1 ≡ (0, Some x) ∷ []) × (seat.new.me.1 ≡ (0, Some y) ∷ [])
+            × RanOnce V.entries V.fixed (S.tells section) x y result }
     {
         match seat.slot_mut(&self.table.shared, 0) {
             Some(value) => {

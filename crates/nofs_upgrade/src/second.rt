@@ -23,7 +23,8 @@ pub(crate) fn write_second<D: Disk>(disk: &mut D, old: &SuperBlock) -> Result<()
     ensures cause { OnErr result (Rose (D.state disk.old).faults (D.state disk.new).faults) }
     ensures began { OnErr result ((D.state disk.old).moment < (D.state disk.new).moment) }
     ensures most { (D.state disk.new).moment ≤ (D.state disk.old).moment + 4 }
-    ensures now { OnErr result (((D.state disk.new).now ≡ (D.state disk.old).now) ⊎ ((D.state disk.new).now ≡ slice_set (D.state disk.old).now 0 (super_cell (second old.now)))) }
+    ensures now { OnErr result (((D.state disk.new).now ≡ (D.state disk.old).now)
+        ⊎ ((D.state disk.new).now ≡ slice_set (D.state disk.old).now 0 (super_cell (second old.now)))) }
 {
     let it = SuperBlock {
         version: 2,

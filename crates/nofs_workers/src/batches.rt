@@ -39,7 +39,8 @@ pub trait Batches: Steps {
         requires own { owns self.old evidence.now }
         requires at { at < length (looked evidence.now).items }
         requires judged { used ≡ (looked evidence.now).verdict at }
-        ensures made { Self.made self.new ≡ with_made (Self.made self.old) (see_of (looked evidence.now).kind (get_or (looked evidence.now).items at 0)) result }
+        ensures made { Self.made self.new ≡ with_made (Self.made self.old)
+            (see_of (looked evidence.now).kind (get_or (looked evidence.now).items at 0)) result }
         ensures fits { Fits (see_of (looked evidence.now).kind (get_or (looked evidence.now).items at 0)) result }
         ensures own { owns self.new evidence.now }
         ensures goes { Self.goes self.old self.new };

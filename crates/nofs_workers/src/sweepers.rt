@@ -54,7 +54,8 @@ impl<S: Batches, O: Course, T: Gate> Sweeper<S, O, T> {
     /// Makes one step for each place of the order. It ends early for want of memory alone.
     pub fn work(&mut self)
         ensures elements { self.new.elements ≡ self.old.elements }
-        ensures swept { Sweeps (O.has_item self.old.elements.order) self.old.elements.kind 0 (O.count_of self.old.elements.order) self.new.out_of_memory (S.made self.old.steps) (S.made self.new.steps) }
+        ensures swept { Sweeps (O.has_item self.old.elements.order) self.old.elements.kind 0
+            (O.count_of self.old.elements.order) self.new.out_of_memory (S.made self.old.steps) (S.made self.new.steps) }
         ensures goes { S.goes self.old.steps self.new.steps }
     {
         let Sweeper {

@@ -1,4 +1,5 @@
-use Rattle.nofs_cases_numbers.proofs.CellCases.{content-cell-case, entry-in-hole-case, entry-in-place-case, table-changed-case, table-made-case, table-freed-case}
+use Rattle.nofs_cases_numbers.proofs.CellCases.{content-cell-case, entry-in-hole-case, entry-in-place-case}
+use Rattle.nofs_cases_numbers.proofs.CellCases.{table-changed-case, table-made-case, table-freed-case}
 use Rattle.nofs_cases_numbers.proofs.law_cell_cases.Goals as goal
 
 pub returns : goal.returns

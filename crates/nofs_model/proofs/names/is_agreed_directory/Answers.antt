@@ -15,12 +15,14 @@ returns-then-is_special c = sym (c.loop-directory.invariant.0
 
 pub returns-in-None : goal.returns-in-None
 returns-in-None c =
-    sym (c.loop-directory.invariant.0 ∙ linked-is (files_in c.args.cells.now) c.loop-directory.here (c.if-is_agreed_at_once.ensures.no refl) (sym c.if-is_special.ensures)
+    sym (c.loop-directory.invariant.0 ∙ linked-is (files_in c.args.cells.now) c.loop-directory.here
+    (c.if-is_agreed_at_once.ensures.no refl) (sym c.if-is_special.ensures)
     ∙ c.in-None.ensures.none refl)
 
 pub loop-directory-preserved : goal.loop-directory-preserved
 loop-directory-preserved c = (
-  c.loop-directory.invariant.0 ∙ linked-is (files_in c.args.cells.now) c.loop-directory.here (c.if-is_agreed_at_once.ensures.no refl) (sym c.if-is_special.ensures)
+  c.loop-directory.invariant.0 ∙ linked-is (files_in c.args.cells.now) c.loop-directory.here
+      (c.if-is_agreed_at_once.ensures.no refl) (sym c.if-is_special.ensures)
       ∙ c.in-Some.ensures.parent.same,
   c.in-Some.ensures.parent.directory,
 )
