@@ -21,8 +21,8 @@ use Rattle.nofs_image.specs.declared.value.Value.TheVariants.{Hole, Bytes}
 use Rattle.nofs_machine.specs.History.{agreed_files}
 use Rattle.nofs_history.specs.Kept.{file_at, kept_files_of, kept_file, kept_files}
 use Rattle.nofs_history.specs.BaseFiles.{AreFiles}
-use Rattle.nofs_history.specs.declared.accepted.files.FileNow.{FileNow}
-use Rattle.nofs_history.specs.declared.accepted.files.FilesNow.{FilesNow}
+use Rattle.nofs_history.specs.declared.files.FileNow.{FileNow}
+use Rattle.nofs_history.specs.declared.files.FilesNow.{FilesNow}
 
 -- Slots
 

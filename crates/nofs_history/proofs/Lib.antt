@@ -1,11 +1,11 @@
 pub mod Keeping
-pub mod Gifts
-pub mod Growing
+pub mod Alike
+pub mod Padded
 pub mod Aimed
 pub mod LinkLists
-pub mod Resizing
+pub mod Resized
 pub mod BaseFiles
-pub mod Changes
+pub mod Changed
 pub mod Taking
 pub mod Fit
 pub mod Gathered

@@ -3,8 +3,8 @@ use Rattle.std.specs.Prelude.{◌≡◌, ℕ, ◌+◌, ◌<◌, List, length, Op
 use Rattle.nofs_image.specs.Image.{Image, value}
 use Rattle.nofs_machine.specs.History.{agreed_files}
 use Rattle.nofs_history.specs.Kept.{file_at, value_at, kept_file, kept_files}
-use Rattle.nofs_history.specs.declared.accepted.files.Kept.{Kept}
-use Rattle.nofs_history.specs.declared.accepted.files.FileNow.{FileNow}
+use Rattle.nofs_history.specs.declared.files.Kept.{Kept}
+use Rattle.nofs_history.specs.declared.files.FileNow.{FileNow}
 
 -- the values of the first n slots of an inode
 pub record AreValues (X : Image) (i n : ℕ) (values : List Kept) : Type 0 where

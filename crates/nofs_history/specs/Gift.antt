@@ -12,14 +12,14 @@ use Rattle.nofs_machine.specs.declared.history.Claims.{Claims}
 use Rattle.nofs_machine.specs.declared.history.Entry1.{Entry1}
 use Rattle.nofs_machine.specs.declared.steps.Step.{Step}
 use Rattle.nofs_machine.specs.declared.steps.Step.TheVariants as step
-use Rattle.nofs_history.specs.declared.accepted.gift.CellGift.{CellGift}
-use Rattle.nofs_history.specs.declared.accepted.gift.MetaNow.{MetaNow}
-use Rattle.nofs_history.specs.declared.accepted.gift.MetaNow.TheVariants as now
-use Rattle.nofs_history.specs.declared.accepted.gift.MetaGift.{MetaGift}
-use Rattle.nofs_history.specs.declared.accepted.gift.Birth.{Birth}
-use Rattle.nofs_history.specs.declared.accepted.gift.Gift.{Gift}
-use Rattle.nofs_history.specs.declared.accepted.gifts.Wanted.{Wanted}
-use Rattle.nofs_history.specs.declared.accepted.gift.Gift.TheVariants as gift
+use Rattle.nofs_history.specs.declared.gift.CellGift.{CellGift}
+use Rattle.nofs_history.specs.declared.gift.MetaNow.{MetaNow}
+use Rattle.nofs_history.specs.declared.gift.MetaNow.TheVariants as now
+use Rattle.nofs_history.specs.declared.gift.MetaGift.{MetaGift}
+use Rattle.nofs_history.specs.declared.gift.Birth.{Birth}
+use Rattle.nofs_history.specs.declared.gift.Gift.{Gift}
+use Rattle.nofs_history.specs.declared.gifts.Wanted.{Wanted}
+use Rattle.nofs_history.specs.declared.gift.Gift.TheVariants as gift
 
 -- what a file becomes
 abbrev pub meta_of : MetaNow → Meta

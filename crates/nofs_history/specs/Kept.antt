@@ -12,10 +12,10 @@ use Rattle.nofs_machine.specs.declared.history.Claims.{Claims}
 use Rattle.nofs_machine.specs.declared.history.Entry1.{Entry1}
 use Rattle.nofs_machine.specs.declared.steps.Step.{Step}
 use Rattle.nofs_machine.specs.declared.steps.Step.TheVariants as step
-use Rattle.nofs_history.specs.declared.accepted.files.Kept.{Kept}
-use Rattle.nofs_history.specs.declared.accepted.files.Kept.TheVariants as kept
-use Rattle.nofs_history.specs.declared.accepted.files.FileNow.{FileNow}
-use Rattle.nofs_history.specs.declared.accepted.files.FilesNow.{FilesNow}
+use Rattle.nofs_history.specs.declared.files.Kept.{Kept}
+use Rattle.nofs_history.specs.declared.files.Kept.TheVariants as kept
+use Rattle.nofs_history.specs.declared.files.FileNow.{FileNow}
+use Rattle.nofs_history.specs.declared.files.FilesNow.{FilesNow}
 
 -- what is kept of a slot
 abbrev pub kept_value : Kept → Value

@@ -3,9 +3,26 @@
 //! Promise: the list is that of the definition, entry by entry.
 #![tactic(auto)]
 
-mod accepted;
+mod base;
+mod cells;
+mod changes;
+mod entries;
+mod files;
+mod gift;
+mod gifts;
+mod giving;
+mod growing;
+mod links;
+mod list;
+mod metas;
+mod names;
+mod places;
+mod resizing;
+mod steps;
+#[cfg(test)]
+mod tests;
 
-pub use accepted::accepted_of;
+pub use list::accepted_of;
 pub use nofs_machine::{
     Claims, ElementKind, Entry1, FileKind, Found, History, NameLine, NameList, Refusal, Reply,
     Stat, Step, Steps,
