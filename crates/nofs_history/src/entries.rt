@@ -1,14 +1,14 @@
-//! What one entry of a history does to files, and gives to one slot.
-ghost use Rattle.std.specs.Prelude.{◌≡◌, ◌<◌, ◌+◌, ◌&&◌, nat_lt, nat_le, true, IfOk, OnOk};
+//! What one entry of a history gives, to files and to one slot.
+ghost use Rattle.std.specs.Prelude.{◌≡◌, ◌<◌, ◌+◌, ◌&&◌, nat_lt, nat_le, true, IfOk};
 ghost use Rattle.nofs_ptrs.specs.Paths.{slot_limit};
 ghost use Rattle.nofs_machine.specs.Machine as machine;
-ghost use Rattle.nofs_history.specs.Kept.{kept_files_of, kept_files, is_fit, IsFit};
+ghost use Rattle.nofs_history.specs.Kept.{kept_files_of, is_fit, IsFit};
 ghost use Rattle.nofs_history.specs.Gift.{given_of, is_sound, name_gives, value_for};
 
 use crate::files::FilesNow;
 use crate::gift::Gift;
-use crate::gifts::Wanted;
-use crate::giving::BytesIn;
+use crate::gifts::{Wanted, value_for};
+use crate::giving::{BytesIn, drop_gift, link_gift, make_gift, put_gift, rename_gift};
 use crate::names::NameIn;
 use nofs_image::Value;
 use nofs_lists::Name;
@@ -16,7 +16,8 @@ use nofs_machine::{Claims, Entry1, Refusal, Reply, Step};
 use nofs_ptrs::SLOT_LIMIT;
 use std::alloc::{AllocError, Global};
 
-fn is_fit(step: &Step, claims: &Claims) -> bool
+/// Whether a step keeps the bounds without which its gift is no cell or no file.
+pub(crate) fn is_fit(step: &Step, claims: &Claims) -> bool
     ensures { result ≡ is_fit step.now claims.now }
 {
     match step {
@@ -66,120 +67,125 @@ fn is_write_fault(reply: &Reply) -> bool
     matches!(reply, Reply::Refused(Refusal::WriteFault))
 }
 
-fn is_refused(reply: &Reply) -> bool
+/// Whether a reply is a refusal.
+pub(crate) fn is_refused(reply: &Reply) -> bool
     ensures { result ≡ machine.is_refused reply.now }
 {
     matches!(reply, Reply::Refused(_))
 }
 
-impl FilesNow {
-    /// What a step on the names of a directory gives: nothing by another.
-    fn name_gift(&self, alloc: Global, step: &Step, claims: &Claims) -> Result<Gift, AllocError>
-        requires { is_fit step.now claims.now ≡ true }
-        ensures given { IfOk result (λ it. given_of (kept_files_of self.now) it ≡ name_gives (kept_files_of self.now) step.now claims.now) }
-        ensures sound { IfOk result (λ it. is_sound it ≡ true) }
-    {
-        match step {
-            Step::Make {
-                directory,
-                generation,
-                name,
-                kind,
-            } => {
-                let name = name_in(*directory, *generation, name);
-                self.make_gift(alloc, &name, *kind, claims)
-            }
-            Step::Link {
-                directory,
-                generation,
-                name,
-                inode,
-                of,
-            } => self.link_gift(alloc, &name_in(*directory, *generation, name), *inode, *of),
-            Step::Drop {
-                directory,
-                generation,
-                name,
-            } => self.drop_gift(alloc, &name_in(*directory, *generation, name)),
-            Step::Rename {
-                directory,
-                generation,
-                old,
-                new,
-            } => self.rename_gift(
-                alloc,
-                &name_in(*directory, *generation, old),
-                new.as_slice(),
-            ),
-            _ => Ok(Gift::Nothing),
+/// What a step on the names of a directory gives: nothing by another.
+fn name_gift(
+    alloc: Global,
+    files: &FilesNow,
+    step: &Step,
+    claims: &Claims,
+) -> Result<Gift, AllocError>
+    requires { is_fit step.now claims.now ≡ true }
+    ensures given { IfOk result (λ it. given_of (kept_files_of files.now) it ≡ name_gives (kept_files_of files.now) step.now claims.now) }
+    ensures sound { IfOk result (λ it. is_sound it ≡ true) }
+{
+    match step {
+        Step::Make {
+            directory,
+            generation,
+            name,
+            kind,
+        } => {
+            let name = name_in(*directory, *generation, name);
+            make_gift(alloc, files, &name, *kind, claims)
         }
+        Step::Link {
+            directory,
+            generation,
+            name,
+            inode,
+            of,
+        } => link_gift(
+            alloc,
+            files,
+            &name_in(*directory, *generation, name),
+            *inode,
+            *of,
+        ),
+        Step::Drop {
+            directory,
+            generation,
+            name,
+        } => drop_gift(alloc, files, &name_in(*directory, *generation, name)),
+        Step::Rename {
+            directory,
+            generation,
+            old,
+            new,
+        } => rename_gift(
+            alloc,
+            files,
+            &name_in(*directory, *generation, old),
+            new.as_slice(),
+        ),
+        _ => Ok(Gift::Nothing),
     }
+}
 
-    /// What an accepted step gives.
-    #[tactic(auto, unfolding(nofs_machine::specs::Machine::gives))]
-    fn gift(&self, alloc: Global, step: &Step, claims: &Claims) -> Result<Gift, AllocError>
-        requires { is_fit step.now claims.now ≡ true }
-        ensures given { IfOk result (λ it. given_of (kept_files_of self.now) it ≡ machine.gives (kept_files_of self.now) step.now claims.now) }
-        ensures sound { IfOk result (λ it. is_sound it ≡ true) }
-    {
-        match step {
-            Step::Put {
-                inode,
-                generation,
-                slot,
-                at,
-                bytes,
-            } => self.put_gift(
-                alloc,
-                &BytesIn {
-                    inode: *inode,
-                    generation: *generation,
-                    slot: *slot,
-                    at: *at,
-                    bytes: bytes.as_slice(),
-                },
-            ),
-            Step::Resize {
-                inode,
-                generation,
-                size,
-            } => Ok(Gift::Size {
+/// What an accepted step gives.
+#[tactic(auto, unfolding(nofs_machine::specs::Machine::gives))]
+pub(crate) fn step_gift(
+    alloc: Global,
+    files: &FilesNow,
+    step: &Step,
+    claims: &Claims,
+) -> Result<Gift, AllocError>
+    requires { is_fit step.now claims.now ≡ true }
+    ensures given { IfOk result (λ it. given_of (kept_files_of files.now) it ≡ machine.gives (kept_files_of files.now) step.now claims.now) }
+    ensures sound { IfOk result (λ it. is_sound it ≡ true) }
+{
+    match step {
+        Step::Put {
+            inode,
+            generation,
+            slot,
+            at,
+            bytes,
+        } => put_gift(
+            alloc,
+            files,
+            &BytesIn {
                 inode: *inode,
                 generation: *generation,
-                size: *size,
-            }),
-            _ => self.name_gift(alloc, step, claims),
-        }
+                slot: *slot,
+                at: *at,
+                bytes: bytes.as_slice(),
+            },
+        ),
+        Step::Resize {
+            inode,
+            generation,
+            size,
+        } => Ok(Gift::Size {
+            inode: *inode,
+            generation: *generation,
+            size: *size,
+        }),
+        _ => name_gift(alloc, files, step, claims),
     }
+}
 
-    /// What an entry gives to a slot: nothing where its step was refused for good.
-    pub fn entry_gift(
-        &self,
-        alloc: Global,
-        wanted: &Wanted,
-        entry: &Entry1,
-    ) -> Result<Option<Value>, AllocError>
-        requires { wanted.now.slot < slot_limit }
-        ensures { IfOk result (λ it. IsFit entry.now → it ≡ value_for (machine.given_by (kept_files_of self.now) entry.now) wanted.now) }
-    {
-        let may_give = !is_refused(&entry.reply) || is_write_fault(&entry.reply);
-        if may_give && is_fit(&entry.step, &entry.claims) {
-            let gift = self.gift(alloc, &entry.step, &entry.claims)?;
-            self.value_for(alloc, wanted, &gift)
-        } else {
-            Ok(None)
-        }
-    }
-
-    /// Does an entry's step, where it was accepted.
-    pub fn do_entry(&mut self, alloc: Global, entry: &Entry1) -> Result<(), AllocError>
-        ensures { OnOk result (IsFit entry.now → kept_files (kept_files_of self.new) ≡ kept_files (machine.files_by (kept_files_of self.old) entry.now)) }
-    {
-        if !is_refused(&entry.reply) && is_fit(&entry.step, &entry.claims) {
-            let gift = self.gift(alloc, &entry.step, &entry.claims)?;
-            self.take_gift(alloc, gift)
-        } else {
-            Ok(())
-        }
+/// What an entry gives to a slot: nothing where its step was refused for good.
+pub(crate) fn entry_gift(
+    alloc: Global,
+    files: &FilesNow,
+    wanted: &Wanted,
+    entry: &Entry1,
+) -> Result<Option<Value>, AllocError>
+    requires { wanted.now.slot < slot_limit }
+    ensures { IfOk result (λ it. IsFit entry.now → it ≡ value_for (machine.given_by (kept_files_of files.now) entry.now) wanted.now) }
+{
+    let may_give = !is_refused(&entry.reply) || is_write_fault(&entry.reply);
+    if may_give && is_fit(&entry.step, &entry.claims) {
+        let gift = step_gift(alloc, files, &entry.step, &entry.claims)?;
+        value_for(alloc, files, wanted, &gift)
+    } else {
+        Ok(None)
     }
 }

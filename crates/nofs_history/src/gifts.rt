@@ -70,85 +70,83 @@ impl CellGift {
     }
 }
 
-impl FilesNow {
-    // The last slot of a file with zeros behind its old end, where it has bytes.
-    fn end_gift(
-        &self,
-        alloc: Global,
-        inode: u32,
-        slot: u64,
-        cut: u64,
-    ) -> Result<Option<Value>, AllocError>
-        requires { cut < 1024 }
-        ensures { IfOk result (λ it. it ≡ (if meta.is_bytes (machine.value_of (kept_files_of self.now) inode slot)
-            then Some (value.Bytes (machine.trimmed cut (machine.bytes_in (machine.value_of (kept_files_of self.now) inode slot)))) else None)) }
-    {
-        if !self.has_bytes(inode, slot) {
-            return Ok(None);
-        }
-        let mut cell = self.bytes_in(alloc, inode, slot)?;
-        trim(&mut cell, cut as usize);
-        Ok(Some(bytes_value(alloc, &cell)?))
+// The last slot of a file with zeros behind its old end, where it has bytes.
+fn end_gift(
+    alloc: Global,
+    files: &FilesNow,
+    inode: u32,
+    slot: u64,
+    cut: u64,
+) -> Result<Option<Value>, AllocError>
+    requires { cut < 1024 }
+    ensures { IfOk result (λ it. it ≡ (if meta.is_bytes (machine.value_of (kept_files_of files.now) inode slot)
+        then Some (value.Bytes (machine.trimmed cut (machine.bytes_in (machine.value_of (kept_files_of files.now) inode slot)))) else None)) }
+{
+    if !files.has_bytes(inode, slot) {
+        return Ok(None);
     }
+    let mut cell = files.bytes_in(alloc, inode, slot)?;
+    trim(&mut cell, cut as usize);
+    Ok(Some(bytes_value(alloc, &cell)?))
+}
 
-    fn size_gift(
-        &self,
-        alloc: Global,
-        inode: u32,
-        size: u64,
-        slot: u64,
-    ) -> Result<Option<Value>, AllocError>
-        requires { slot < slot_limit }
-        ensures { IfOk result (λ it. it ≡ machine.resize_slot (kept_files_of self.now) inode size slot) }
-    {
-        let old = self.size(inode);
-        let slots = slots_in(old).min(slots_in(size));
-        if slots <= slot {
-            return Ok(Some(Value::Hole));
-        }
-        if old <= size && slot + 1 == slots && old % 1024 != 0 {
-            return self.end_gift(alloc, inode, slot, old % 1024);
-        }
-        Ok(None)
+fn size_gift(
+    alloc: Global,
+    files: &FilesNow,
+    inode: u32,
+    size: u64,
+    slot: u64,
+) -> Result<Option<Value>, AllocError>
+    requires { slot < slot_limit }
+    ensures { IfOk result (λ it. it ≡ machine.resize_slot (kept_files_of files.now) inode size slot) }
+{
+    let old = files.size(inode);
+    let slots = slots_in(old).min(slots_in(size));
+    if slots <= slot {
+        return Ok(Some(Value::Hole));
     }
-
-    // What a change of size gives.
-    fn resize_gift(
-        &self,
-        alloc: Global,
-        wanted: &Wanted,
-        inode: u32,
-        generation: u64,
-        size: u64,
-    ) -> Result<Option<Value>, AllocError>
-        requires { wanted.now.slot < slot_limit }
-        ensures { IfOk result (λ it. it ≡ value_for (machine.resize_given (kept_files_of self.now) inode generation size) wanted.now) }
-    {
-        if !wanted.is_in(inode, generation) {
-            return Ok(None);
-        }
-        self.size_gift(alloc, inode, size, wanted.slot)
+    if old <= size && slot + 1 == slots && old % 1024 != 0 {
+        return end_gift(alloc, files, inode, slot, old % 1024);
     }
+    Ok(None)
+}
 
-    /// The value that a gift has for a slot.
-    pub fn value_for(
-        &self,
-        alloc: Global,
-        wanted: &Wanted,
-        gift: &Gift,
-    ) -> Result<Option<Value>, AllocError>
-        requires { wanted.now.slot < slot_limit }
-        ensures { IfOk result (λ it. it ≡ value_for (given_of (kept_files_of self.now) gift.now) wanted.now) }
-    {
-        match gift {
-            Gift::Nothing => Ok(None),
-            Gift::Size {
-                inode,
-                generation,
-                size,
-            } => self.resize_gift(alloc, wanted, *inode, *generation, *size),
-            Gift::Cell { cell, .. } => cell.value_for(alloc, wanted),
-            Gift::Make { cell, birth } => cell.value_beside(alloc, wanted, birth),
-        }
+// What a change of size gives.
+fn resize_gift(
+    alloc: Global,
+    files: &FilesNow,
+    wanted: &Wanted,
+    inode: u32,
+    generation: u64,
+    size: u64,
+) -> Result<Option<Value>, AllocError>
+    requires { wanted.now.slot < slot_limit }
+    ensures { IfOk result (λ it. it ≡ value_for (machine.resize_given (kept_files_of files.now) inode generation size) wanted.now) }
+{
+    if !wanted.is_in(inode, generation) {
+        return Ok(None);
+    }
+    size_gift(alloc, files, inode, size, wanted.slot)
+}
+
+/// The value that a gift has for a slot.
+pub(crate) fn value_for(
+    alloc: Global,
+    files: &FilesNow,
+    wanted: &Wanted,
+    gift: &Gift,
+) -> Result<Option<Value>, AllocError>
+    requires { wanted.now.slot < slot_limit }
+    ensures { IfOk result (λ it. it ≡ value_for (given_of (kept_files_of files.now) gift.now) wanted.now) }
+{
+    match gift {
+        Gift::Nothing => Ok(None),
+        Gift::Size {
+            inode,
+            generation,
+            size,
+        } => resize_gift(alloc, files, wanted, *inode, *generation, *size),
+        Gift::Cell { cell, .. } => cell.value_for(alloc, wanted),
+        Gift::Make { cell, birth } => cell.value_beside(alloc, wanted, birth),
     }
 }

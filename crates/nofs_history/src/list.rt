@@ -11,8 +11,10 @@ ghost use Rattle.nofs_history.specs.Kept.{kept_files_of, kept_files, IsFit, AreF
 ghost use Rattle.nofs_history.specs.Gift.{value_for, values_for};
 
 use crate::base::{files_at, inodes_of, note_sizes, read_inode};
+use crate::entries::entry_gift;
 use crate::files::FilesNow;
 use crate::gifts::Wanted;
+use crate::steps::do_entry;
 use nofs_disk::Cell;
 use nofs_image::Value;
 use nofs_machine::{Entry1, History};
@@ -95,10 +97,10 @@ fn note_entry(
         ≡ values.old.items ++ option_to_list (value_for (machine.given_by (kept_files_of files.old) entry.now) wanted.now)) }
     ensures files { OnOk result (IsFit entry.now → kept_files (kept_files_of files.new) ≡ kept_files (machine.files_by (kept_files_of files.old) entry.now)) }
 {
-    if let Some(value) = files.entry_gift(alloc, wanted, entry)? {
+    if let Some(value) = entry_gift(alloc, files, wanted, entry)? {
         values.push(value)?;
     }
-    files.do_entry(alloc, entry)
+    do_entry(alloc, files, entry)
 }
 
 // Adds what the entry at a place gives, and does its step.

@@ -4,7 +4,7 @@ use Rattle.nofs_machine.specs.Machine as machine
 use Rattle.nofs_history.specs.Kept.{kept_files_of}
 use Rattle.nofs_history.specs.Gift.{with_birth}
 use Rattle.nofs_history.specs.declared.gift.Birth.{Birth}
-use Rattle.nofs_history.proofs.files.FilesNow.make_gift_at.Goals as goal
+use Rattle.nofs_history.proofs.giving.make_gift_at.Goals as goal
 
 pub returns-clause-given : goal.returns-clause-given
 returns-clause-given c =
@@ -12,4 +12,4 @@ returns-clause-given c =
     ap (λ (base : machine.Given). with_birth base birth)
     (c.in_ok-cell.ensures.given machine.no_meta
     ∙ ap (λ (bytes : List ℕ). machine.entry_given
-    (kept_files_of c.args.self.now) c.args.at.directory c.args.at.generation c.args.at.entry bytes machine.no_meta) c.bytes.ensures)
+    (kept_files_of c.args.files.now) c.args.at.directory c.args.at.generation c.args.at.entry bytes machine.no_meta) c.bytes.ensures)

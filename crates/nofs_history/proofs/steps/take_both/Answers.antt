@@ -3,9 +3,9 @@ use Rattle.nofs_image.specs.declared.value.Value.TheVariants as value
 use Rattle.nofs_history.specs.Kept.{kept_files_of}
 use Rattle.nofs_history.specs.Gift.{metas_of}
 use Rattle.nofs_history.proofs.Taking.{meta_and_cell}
-use Rattle.nofs_history.proofs.files.FilesNow.take_both.Goals as goal
+use Rattle.nofs_history.proofs.steps.take_both.Goals as goal
 
 pub returns : goal.returns
-returns c = meta_and_cell (kept_files_of c.args.self.now) (kept_files_of c.take_metas.new.self) (kept_files_of c.take_cell.new.self)
+returns c = meta_and_cell (kept_files_of c.args.files.now) (kept_files_of c.take_metas.new.files) (kept_files_of c.take_cell.new.files)
     c.args.cell.inode c.args.cell.generation c.args.cell.slot (value.Bytes c.args.cell.cell.value) (metas_of c.args.meta)
     c.in_ok-take_metas.ensures c.in_ok-take_cell.ensures

@@ -6,16 +6,16 @@ use Rattle.nofs_history.specs.Kept.{kept_files_of, file_of}
 use Rattle.nofs_history.specs.Gift.{cell_of}
 use Rattle.nofs_history.proofs.Aimed.{cell-aimed}
 use Rattle.nofs_history.proofs.Changed.{change-none, change-there, cell-there}
-use Rattle.nofs_history.proofs.files.FilesNow.take_cell.Goals as goal
+use Rattle.nofs_history.proofs.steps.take_cell.Goals as goal
 
 pub returns-in-None : goal.returns-in-None
-returns-in-None c = change-none (kept_files_of c.args.self.now) (kept_files_of c.take.new.self)
+returns-in-None c = change-none (kept_files_of c.args.files.now) (kept_files_of c.take.new.self)
     (cell_of c.args.gift no_meta) c.args.gift.inode c.args.gift.generation
     (cell-aimed c.args.gift.inode c.args.gift.generation c.args.gift.slot (value.Bytes c.args.gift.cell.value)) (c.in-None.ensures.none refl)
     (c.in-None.ensures.missing refl)
 
 pub returns-in_ok-put-in-Some : goal.returns-in_ok-put-in-Some
-returns-in_ok-put-in-Some c = change-there (kept_files_of c.args.self.now) (kept_files_of c.take.new.self) (kept_files_of c.put.new.self)
+returns-in_ok-put-in-Some c = change-there (kept_files_of c.args.files.now) (kept_files_of c.take.new.self) (kept_files_of c.put.new.self)
     (cell_of c.args.gift no_meta) c.args.gift.inode c.args.gift.generation
     (file_of c.in-Some.file) (file_of c.in_ok-changed-in-Some.changed)
     (cell-aimed c.args.gift.inode c.args.gift.generation c.args.gift.slot (value.Bytes c.args.gift.cell.value)) c.in-Some.ensures.taken
