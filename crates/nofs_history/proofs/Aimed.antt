@@ -4,8 +4,9 @@ use Rattle.nofs_image.specs.Files.{FileState, Files}
 use Rattle.nofs_image.specs.declared.value.Value.{Value}
 use Rattle.nofs_machine.specs.Meta.{Meta, Gone, Is}
 use Rattle.nofs_machine.specs.Machine.{Given, is_at, cell_given, meta_given, no_meta, resize_given, filled, after_meta, file_after, born_file, files_after}
-use Rattle.nofs_history.specs.Kept.{kept_file, kept_files, with_file, has_generation, metas_alone}
-use Rattle.nofs_history.proofs.Alike.{ends, held, ends-after}
+use Rattle.nofs_kept.specs.Kept.{kept_file, kept_files, with_file, has_generation}
+use Rattle.nofs_history.specs.Taken.{metas_alone}
+use Rattle.nofs_gifts.proofs.Alike.{ends, held, ends-after}
 
 -- nothing is given to other inodes and generations
 pub record IsAimed (a : Given) (i g : ℕ) : Type 0 where

@@ -19,10 +19,10 @@ use Rattle.nofs_image.specs.declared.path.PathAnswer.{PathAnswer}
 use Rattle.nofs_image.specs.declared.path.PathAnswer.TheVariants as answer
 use Rattle.nofs_image.specs.declared.value.Value.TheVariants.{Hole, Bytes}
 use Rattle.nofs_machine.specs.History.{agreed_files}
-use Rattle.nofs_history.specs.Kept.{file_at, kept_files_of, kept_file, kept_files}
+use Rattle.nofs_kept.specs.Kept.{file_at, kept_files_of, kept_file, kept_files}
 use Rattle.nofs_history.specs.BaseFiles.{AreFiles}
-use Rattle.nofs_history.specs.declared.files.FileNow.{FileNow}
-use Rattle.nofs_history.specs.declared.files.FilesNow.{FilesNow}
+use Rattle.nofs_kept.specs.declared.files.FileNow.{FileNow}
+use Rattle.nofs_kept.specs.declared.files.FilesNow.{FilesNow}
 
 -- Slots
 

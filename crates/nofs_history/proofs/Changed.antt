@@ -6,8 +6,9 @@ use Rattle.nofs_image.specs.declared.value.Value.{Value}
 use Rattle.nofs_machine.specs.Meta.{Meta, Is}
 use Rattle.nofs_machine.specs.Machine.{Given, is_at, value_of, size_of, cell_given, meta_given, no_meta, meta_with, resize_slot, resize_given}
 use Rattle.nofs_machine.specs.Machine.{with_meta, after_meta, file_after, files_after}
-use Rattle.nofs_history.specs.Kept.{kept_file, kept_files, with_file, with_value, has_generation, metas_alone, resized_value, resized_file}
-use Rattle.nofs_history.proofs.Alike.{ends, held, ends-after}
+use Rattle.nofs_kept.specs.Kept.{kept_file, kept_files, with_file, with_value, has_generation, resized_value, resized_file}
+use Rattle.nofs_history.specs.Taken.{metas_alone}
+use Rattle.nofs_gifts.proofs.Alike.{ends, held, ends-after}
 use Rattle.nofs_history.proofs.Aimed.{IsAimed, aimed-missing, aimed-there, aimed-gone}
 
 pub change-none : (F M : Files) (a : Given) (i g : ℕ) → IsAimed a i g → M ≡ F → has_generation F i g ≡ false → kept_files M ≡ kept_files (files_after F a)

@@ -10,7 +10,7 @@ use Rattle.nofs_machine.specs.Refusals.{row, rows, slots}
 use Rattle.nofs_machine.specs.Claims.{IsClaim, IsInodeClaim, ClaimedInode, next_stamp}
 use Rattle.nofs_machine.specs.Next.{Next, AfterFault, ByRow, Done, ByRead, ByWrite, Run}
 use Rattle.nofs_law_machine.proofs.Faultless.{FaultFree, NoFault, first-free, rows-free}
-use Rattle.nofs_history.specs.Kept.{is_fit, AreFit}
+use Rattle.nofs_gifts.specs.Fit.{is_fit, AreFit}
 use Rattle.nofs_machine.specs.declared.history.Claims.{Claims}
 use Rattle.nofs_machine.specs.declared.history.Entry1.{Entry1}
 use Rattle.nofs_machine.specs.declared.steps.Step.{Step}

@@ -6,9 +6,10 @@ use Rattle.nofs_image.specs.Files.{Files}
 use Rattle.nofs_image.specs.declared.value.Value.{Value}
 use Rattle.nofs_machine.specs.Machine.{nothing, gives, files_after, given_by, files_by, is_refused, may_give}
 use Rattle.nofs_machine.specs.History.{values_given}
-use Rattle.nofs_history.specs.Kept.{kept_files, is_fit, AreFit}
+use Rattle.nofs_kept.specs.Kept.{kept_files}
+use Rattle.nofs_gifts.specs.Fit.{is_fit, AreFit}
 use Rattle.nofs_machine.specs.declared.history.Entry1.{Entry1}
-use Rattle.nofs_history.proofs.Alike.{SameGiven, gives-same, after-same}
+use Rattle.nofs_gifts.proofs.Alike.{SameGiven, gives-same, after-same}
 
 -- alike files give alike
 step-same : (F G : Files) → kept_files F ≡ kept_files G → (e : Entry1) → SameGiven (gives F e.step e.claims) (gives G e.step e.claims)

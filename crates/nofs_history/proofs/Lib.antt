@@ -1,9 +1,4 @@
-pub mod Keeping
-pub mod Alike
-pub mod Padded
 pub mod Aimed
-pub mod LinkLists
-pub mod Resized
 pub mod BaseFiles
 pub mod Changed
 pub mod Taking

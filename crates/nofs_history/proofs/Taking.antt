@@ -7,10 +7,11 @@ use Rattle.nofs_image.specs.declared.value.Value.{Value}
 use Rattle.nofs_image.specs.declared.value.Value.TheVariants.{Hole}
 use Rattle.nofs_machine.specs.Meta.{Meta, Is}
 use Rattle.nofs_machine.specs.Machine.{Given, nothing, link_to, cell_given, no_meta, file_after, born_file, new_file, files_after}
-use Rattle.nofs_history.specs.Kept.{kept_file, kept_files, with_file, metas_alone, made_file}
-use Rattle.nofs_history.specs.Gift.{with_birth}
-use Rattle.nofs_history.specs.declared.gift.Birth.{Birth}
-use Rattle.nofs_history.proofs.Alike.{ends, held, ends-after, after-same, same-given}
+use Rattle.nofs_kept.specs.Kept.{kept_file, kept_files, with_file}
+use Rattle.nofs_history.specs.Taken.{metas_alone, made_file}
+use Rattle.nofs_gifts.specs.Gift.{with_birth}
+use Rattle.nofs_gifts.specs.declared.gift.Birth.{Birth}
+use Rattle.nofs_gifts.proofs.Alike.{ends, held, ends-after, after-same, same-given}
 use Rattle.nofs_history.proofs.Aimed.{cell-last}
 
 pub nothing_after : (F : Files) → kept_files F ≡ kept_files (files_after F nothing)

@@ -2,9 +2,9 @@
 use Rattle.std.specs.Prelude.{◌≡◌, ℕ, ◌+◌, ◌<◌, List, length, Option, slice_get}
 use Rattle.nofs_image.specs.Image.{Image, value}
 use Rattle.nofs_machine.specs.History.{agreed_files}
-use Rattle.nofs_history.specs.Kept.{file_at, value_at, kept_file, kept_files}
-use Rattle.nofs_history.specs.declared.files.Kept.{Kept}
-use Rattle.nofs_history.specs.declared.files.FileNow.{FileNow}
+use Rattle.nofs_kept.specs.Kept.{file_at, value_at, kept_file, kept_files}
+use Rattle.nofs_kept.specs.declared.files.Kept.{Kept}
+use Rattle.nofs_kept.specs.declared.files.FileNow.{FileNow}
 
 -- the values of the first n slots of an inode
 pub record AreValues (X : Image) (i n : ℕ) (values : List Kept) : Type 0 where

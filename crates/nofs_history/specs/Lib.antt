@@ -1,3 +1,2 @@
-pub mod Kept
+pub mod Taken
 pub mod BaseFiles
-pub mod Gift

@@ -10,13 +10,13 @@ ghost use Rattle.nofs_image.specs.Geometry as image;
 ghost use Rattle.nofs_image.specs.Slots as slots;
 ghost use Rattle.nofs_image.specs.declared.value.Value.TheVariants as value;
 ghost use Rattle.nofs_history.specs.BaseFiles.{AreFiles, AreValues};
-ghost use Rattle.nofs_history.specs.Kept.{file_at, file_of, kept_files_of, kept_value, kept_file, kept_files};
+ghost use Rattle.nofs_kept.specs.Kept.{file_at, file_of, kept_files_of, kept_value, kept_file, kept_files};
 
-use crate::files::{FileNow, FilesNow, Kept};
 use nofs_disk::{Cell, read_u64_at};
 use nofs_image::Value;
 use nofs_inode::inode::FileKind;
 use nofs_inode::{Record, record_at};
+use nofs_kept::{FileNow, FilesNow, Kept};
 use nofs_model::{agreed, value_of};
 use nofs_ptrs::SLOT_LIMIT;
 use std::alloc::{AllocError, Global};

@@ -4,20 +4,7 @@
 #![tactic(auto)]
 
 mod base;
-mod cells;
-mod changes;
-mod entries;
-mod files;
-mod gift;
-mod gifts;
-mod giving;
-mod growing;
-mod links;
 mod list;
-mod metas;
-mod names;
-mod places;
-mod resizing;
 mod steps;
 #[cfg(test)]
 mod tests;

@@ -2,13 +2,14 @@
 ghost use Rattle.std.specs.Prelude.{◌≡◌, ◌<◌, ℕ, OnOk, option_map, true};
 ghost use Rattle.nofs_ptrs.specs.Paths.{slot_limit};
 ghost use Rattle.nofs_machine.specs.Machine as machine;
-ghost use Rattle.nofs_history.specs.Kept.{HasTaken, IsFit, file_of, kept_files, kept_files_of, made_file, metas_alone};
-ghost use Rattle.nofs_history.specs.Gift.{cell_of, given_of, is_sound, meta_of, metas_of, with_birth};
+ghost use Rattle.nofs_kept.specs.Kept.{file_of, kept_files, kept_files_of};
+ghost use Rattle.nofs_history.specs.Taken.{HasTaken, made_file, metas_alone};
+ghost use Rattle.nofs_gifts.specs.Fit.{IsFit};
+ghost use Rattle.nofs_gifts.specs.Gift.{cell_of, given_of, is_sound, meta_of, metas_of, with_birth};
 
-use crate::entries::{is_fit, is_refused, step_gift};
-use crate::files::{FileNow, FilesNow, Kept};
-use crate::gift::{Birth, CellGift, Gift, MetaGift, MetaNow};
+use nofs_gifts::{Birth, CellGift, Gift, MetaGift, MetaNow, is_fit, is_refused, step_gift};
 use nofs_inode::inode::BackLink;
+use nofs_kept::{FileNow, FilesNow, Kept};
 use nofs_machine::Entry1;
 use std::alloc::{AllocError, Global};
 

@@ -1,7 +1,7 @@
 use Rattle.std.proofs.Common.{◌≡◌, ap, sym, ◌∙◌, None, Some}
 use Rattle.nofs_image.specs.Cells.{Record}
 use Rattle.nofs_image.specs.Geometry.{inode}
-use Rattle.nofs_history.specs.Kept.{kept_file}
+use Rattle.nofs_kept.specs.Kept.{kept_file}
 use Rattle.nofs_history.proofs.BaseFiles.{agreed-file, free-inode, not-agreed}
 use Rattle.nofs_history.proofs.base.read_file.Goals as goal
 

@@ -4,7 +4,7 @@ use Rattle.nofs_image.specs.Image.{value}
 use Rattle.nofs_image.specs.declared.value.Value.{Value}
 use Rattle.nofs_machine.specs.History.{agreed_files, is_generation}
 use Rattle.nofs_machine.specs.World.{world_of}
-use Rattle.nofs_history.specs.Kept.{kept_files_of}
+use Rattle.nofs_kept.specs.Kept.{kept_files_of}
 use Rattle.nofs_history.proofs.Fit.{run-fit}
 use Rattle.nofs_history.proofs.Gathered.{values-same}
 use Rattle.nofs_history.proofs.list.accepted_of.Goals as goal

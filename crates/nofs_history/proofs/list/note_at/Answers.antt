@@ -1,6 +1,6 @@
 -- What one entry gives is what the list grows by.
 use Rattle.std.proofs.Common.{sym}
-use Rattle.nofs_history.specs.Kept.{kept_files_of}
+use Rattle.nofs_kept.specs.Kept.{kept_files_of}
 use Rattle.nofs_history.proofs.Gathered.{gather-next, fit-at, is-there}
 use Rattle.nofs_history.proofs.list.note_at.Goals as goal
 

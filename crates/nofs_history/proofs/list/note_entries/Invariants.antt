@@ -1,6 +1,7 @@
 use Rattle.std.proofs.Common.{◌≡◌, ◌++◌, drop}
 use Rattle.nofs_machine.specs.History.{values_given}
-use Rattle.nofs_history.specs.Kept.{kept_files_of, AreFit}
+use Rattle.nofs_kept.specs.Kept.{kept_files_of}
+use Rattle.nofs_gifts.specs.Fit.{AreFit}
 use Rattle.nofs_history.proofs.list.note_entries.Given as goal
 
 abbrev pub invariant-loop-at : goal.invariant-loop-at

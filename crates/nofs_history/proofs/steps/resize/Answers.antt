@@ -1,7 +1,7 @@
 -- The file is taken out, gets its size, and is put back.
 use Rattle.std.proofs.Common.{refl}
 use Rattle.nofs_machine.specs.Machine as machine
-use Rattle.nofs_history.specs.Kept.{kept_files_of, file_of}
+use Rattle.nofs_kept.specs.Kept.{kept_files_of, file_of}
 use Rattle.nofs_history.proofs.Aimed.{resize-aimed}
 use Rattle.nofs_history.proofs.Changed.{change-none, change-there, resize-there}
 use Rattle.nofs_history.proofs.steps.resize.Goals as goal

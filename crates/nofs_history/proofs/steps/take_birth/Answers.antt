@@ -1,6 +1,6 @@
 -- The directory's cell, and then the new file.
 use Rattle.nofs_image.specs.declared.value.Value.TheVariants as value
-use Rattle.nofs_history.specs.Kept.{file_of, kept_files_of}
+use Rattle.nofs_kept.specs.Kept.{file_of, kept_files_of}
 use Rattle.nofs_history.proofs.Taking.{cell_and_birth}
 use Rattle.nofs_history.proofs.steps.take_birth.Goals as goal
 

@@ -1,7 +1,7 @@
 -- What inodes become, and then the cell.
 use Rattle.nofs_image.specs.declared.value.Value.TheVariants as value
-use Rattle.nofs_history.specs.Kept.{kept_files_of}
-use Rattle.nofs_history.specs.Gift.{metas_of}
+use Rattle.nofs_kept.specs.Kept.{kept_files_of}
+use Rattle.nofs_gifts.specs.Gift.{metas_of}
 use Rattle.nofs_history.proofs.Taking.{meta_and_cell}
 use Rattle.nofs_history.proofs.steps.take_both.Goals as goal
 

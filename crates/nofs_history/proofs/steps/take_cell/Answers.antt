@@ -2,8 +2,8 @@
 use Rattle.std.proofs.Common.{refl}
 use Rattle.nofs_image.specs.declared.value.Value.TheVariants as value
 use Rattle.nofs_machine.specs.Machine.{no_meta}
-use Rattle.nofs_history.specs.Kept.{kept_files_of, file_of}
-use Rattle.nofs_history.specs.Gift.{cell_of}
+use Rattle.nofs_kept.specs.Kept.{kept_files_of, file_of}
+use Rattle.nofs_gifts.specs.Gift.{cell_of}
 use Rattle.nofs_history.proofs.Aimed.{cell-aimed}
 use Rattle.nofs_history.proofs.Changed.{change-none, change-there, cell-there}
 use Rattle.nofs_history.proofs.steps.take_cell.Goals as goal

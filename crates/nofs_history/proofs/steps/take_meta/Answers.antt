@@ -1,8 +1,9 @@
 -- The file is taken out, and what is left of it is put back.
 use Rattle.std.proofs.Common.{refl, sym, ◌∙◌, ap}
 use Rattle.nofs_machine.specs.Machine as machine
-use Rattle.nofs_history.specs.Kept.{kept_file, kept_files_of, file_of, metas_alone}
-use Rattle.nofs_history.specs.Gift.{meta_of}
+use Rattle.nofs_kept.specs.Kept.{kept_file, kept_files_of, file_of}
+use Rattle.nofs_history.specs.Taken.{metas_alone}
+use Rattle.nofs_gifts.specs.Gift.{meta_of}
 use Rattle.nofs_history.proofs.Aimed.{meta-aimed}
 use Rattle.nofs_history.proofs.Changed.{change-none, change-there, change-gone, meta-there}
 use Rattle.nofs_history.proofs.steps.take_meta.Goals as goal

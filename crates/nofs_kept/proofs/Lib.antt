@@ -1,0 +1,3 @@
+pub mod Padded
+pub mod LinkLists
+pub mod Resized
