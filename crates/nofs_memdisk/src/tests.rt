@@ -5,6 +5,7 @@ ghost use Rattle.nofs_memdisk.specs.Parts.{memory_state};
 
 use super::*;
 use nofs_disk::{Cell, Disk};
+use nofs_versions::{CallCounts, CallKind, FaultAt, Pick};
 use std::alloc::{AllocError, Global};
 use std::test::Fail;
 
