@@ -302,12 +302,12 @@ impl<A: Disk + Drop, B: Disk + Drop> Disk for Mirror<A, B> {
     fn flush(&mut self) -> Result<(), Failed>
         requires { 1 ≤ (⟦<Mirror<A, B> as Disk>⟧.state self.old).spare }
         ensures does { Flushes (⟦<Mirror<A, B> as Disk>⟧.state self.old) (⟦<Mirror<A, B> as Disk>⟧.state self.new) result }
-        ensures sides { ChangesSides self.old.log.sides self.new.log.sides (A.state self.old.lead) (A.state self.new.lead)
-            (B.state self.old.other) (B.state self.new.other) result }
+        ensures sides { ChangesSides self.old.log.sides self.new.log.sides
+            (A.state self.old.lead) (A.state self.new.lead) (B.state self.old.other) (B.state self.new.other) result }
         ensures out { LeavesOut self.old.log.sides self.old.lead self.new.lead self.old.other self.new.other }
         ensures counts { Counts self.old.log.faults self.new.log.faults result }
-        ensures lead_left { SideLeaves self.old.log.sides.lead_in (A.state self.old.lead).moment
-            (⟦<Mirror<A, B> as Disk>⟧.state self.new) (A.state self.new.lead) ((⟦<Mirror<A, B> as Disk>⟧.state self.old).moment + 1) }
+        ensures lead_left { SideLeaves self.old.log.sides.lead_in (A.state self.old.lead).moment (⟦<Mirror<A, B> as Disk>⟧.state self.new)
+            (A.state self.new.lead) ((⟦<Mirror<A, B> as Disk>⟧.state self.old).moment + 1) }
         ensures other_left { SideLeaves self.old.log.sides.other_in (B.state self.old.other).moment
             (⟦<Mirror<A, B> as Disk>⟧.state self.new) (B.state self.new.other) ((⟦<Mirror<A, B> as Disk>⟧.state self.old).moment + 1) }
     {

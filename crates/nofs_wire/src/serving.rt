@@ -54,8 +54,8 @@ pub fn serve<S: Steps, Q: Source, K: Sink>(
     source: &mut Q,
     sink: &mut K,
 ) -> WireEnd
-    ensures serves { Serves 16777216 result (Q.state source.old).left (Q.state source.new).left
-        (K.state sink.old).given (K.state sink.new).given (S.made steps.old) (S.made steps.new) }
+    ensures serves { Serves 16777216 result (Q.state source.old).left (Q.state source.new).left (K.state sink.old).given
+        (K.state sink.new).given (S.made steps.old) (S.made steps.new) }
     ensures goes { S.goes steps.old steps.new }
     ensures source_fault { result ≡ WireEnd.SourceFault → Rose (Q.state source.old).faults (Q.state source.new).faults }
     ensures sink_fault { result ≡ WireEnd.SinkFault → Rose (K.state sink.old).faults (K.state sink.new).faults }
