@@ -3,14 +3,13 @@
 //! Promise: the headline holds of them word for word, of the cached disk.
 
 ghost use Rattle.std.specs.Prelude.{IfSome, map, string_bytes};
-ghost use Rattle.nofs.specs.Headline.{HeadlineIn};
-ghost use Rattle.nofs_sessions.specs.Words.{task_in};
+ghost use Rattle.nofs_tool.specs.Handed.{HeadlineIn, task_in};
 
-use crate::tool::{Outcome, tool};
 use nofs_cache::Cached;
 use nofs_disk::Disk;
 use nofs_io::{Sink, Source, TEXT_LIMIT};
 use nofs_mirror::Mirror;
+use nofs_tool::{Outcome, tool};
 use std::alloc::Global;
 use std::sync::Wait;
 use std::thread::Threads;

@@ -1,30 +1,24 @@
 //! `nofs IMAGE WORDS`: serves a session on a disk image.
 //!
-//! Promise: what holds of a run is the contract of `tool` in `tool.rt`. What stands here takes the words, makes the disk, puts a
+//! Promise: what holds of a run is the contract of `tool` in `nofs_tool`. What stands here takes the words, makes the disk, puts a
 //! write-back cache before it, hands over standard input and output, and ends with the status. Nothing goes to standard error.
 #![tactic(auto)]
 
 mod cached;
 mod image;
 #[cfg(test)]
-mod instance;
-#[cfg(test)]
 mod tests;
-mod tool;
-mod upgrading;
-mod wiring;
 
 use crate::cached::{tool_cached, tool_mirrored};
 use crate::image::{Image, image_of};
-use crate::tool::Outcome;
 use nofs_cache::Cached;
 use nofs_disk::Disk;
 use nofs_filedisk::{FileDisk, HostFile};
 use nofs_io::{ReadSource, Sink, Source, WriteSink, write_all};
 use nofs_memdisk::MemDisk;
 use nofs_mirror::{Mirror, MirrorFault};
-use nofs_sessions::{FixedLine, fixed_text, task_of};
 use nofs_sides::MirrorCause;
+use nofs_tool::{FixedLine, Outcome, fixed_text, task_of};
 use std::alloc::Global;
 use std::fs::File;
 use std::process::ExitCode;

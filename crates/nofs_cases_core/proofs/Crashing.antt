@@ -10,9 +10,8 @@ use Rattle.nofs_memdisk.specs.declared.memory.MemDisk.{MemDisk}
 use Rattle.nofs_versions.proofs.Held.{after_none}
 use Rattle.nofs_versions.proofs.Leaves.{leaves_rest}
 use Rattle.nofs_machine.specs.HistoryState.{HistoryState}
-use Rattle.nofs_shared.specs.Ends.{Ends}
-use Rattle.nofs_shared.specs.Mounts.{IsSoundDisk}
-use Rattle.nofs_shared.proofs.Mounting.{forms-later}
+use Rattle.nofs_shared.specs.Handed.{Ends, IsSoundDisk}
+use Rattle.nofs_shared.proofs.Handed.{forms-later}
 use Rattle.nofs_law_mounts.specs.Mounts.{IsBlankDisk, LawFoundSound, LawSettledAfter, Leaves, Mount}
 use Rattle.nofs_cases_core.specs.Replies.{SeesAndPuts}
 use Rattle.nofs_cases_core.specs.TwoMounts.{Crashed, TwoMounts}

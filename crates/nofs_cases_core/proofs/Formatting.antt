@@ -6,7 +6,7 @@ use Rattle.nofs_super.specs.Geometry.{IsGeometry, is_geometry, is_geometry-parts
 use Rattle.nofs_super.specs.Format.{FormatEnds, formatted_cell}
 use Rattle.nofs_super.specs.declared.geometry.FormatFault.{FormatFault}
 use Rattle.nofs_image.specs.Sound.{LawFormatted}
-use Rattle.nofs_shared.specs.Mounts.{IsSoundDisk}
+use Rattle.nofs_shared.specs.Handed.{IsSoundDisk}
 use Rattle.nofs_law_mounts.specs.Mounts.{IsBlankDisk, LawFirstDisk}
 
 accepted-geometry : (device blocks inodes : ℕ) → format_fault device blocks inodes ≡ None → IsGeometry device blocks inodes

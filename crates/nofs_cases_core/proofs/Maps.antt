@@ -11,8 +11,7 @@ use Rattle.nofs_machine.specs.World.{uses_block, uses_inode}
 use Rattle.nofs_machine.specs.Good.{MatchesSuper}
 use Rattle.nofs_machine.specs.declared.history.Entry1.{Entry1}
 use Rattle.nofs_law_maps.specs.Homes.{GoodMaps, LawGood}
-use Rattle.nofs_state.specs.Standing.{IsOpen, Past}
-use Rattle.nofs_state.specs.declared.books.Books.{Books}
+use Rattle.nofs_shared.specs.Handed.{IsOpen, Past, Books}
 use Rattle.nofs_cases_core.specs.OpenMount.{MapsGood}
 
 -- known, and not used

@@ -9,11 +9,7 @@ use Rattle.nofs_machine.specs.declared.steps.Step.TheVariants as step
 use Rattle.nofs_machine.specs.declared.replies.Reply.{Reply}
 use Rattle.nofs_machine.specs.declared.replies.Reply.TheVariants as reply
 use Rattle.nofs_law_maps.specs.Homes.{LawGood}
-use Rattle.nofs_state.specs.Standing.{IsOpen, IsStopped}
-use Rattle.nofs_state.specs.declared.books.Books.{Books}
-use Rattle.nofs_shared.specs.Added.{AddsStep}
-use Rattle.nofs_shared.specs.Forms.{Forms}
-use Rattle.nofs_shared.specs.Mounts.{IsMount, IsSoundDisk, MountStands}
+use Rattle.nofs_shared.specs.Handed.{IsOpen, IsStopped, Books, AddsStep, Forms, IsMount, IsSoundDisk, MountStands}
 use Rattle.nofs_cases_core.specs.OpenMount.{StandsOpen}
 use Rattle.nofs_cases_core.specs.Replies.{AddsOne, SeesAndPuts, tells_free, is_stored}
 use Rattle.nofs_cases_core.proofs.Maps.{maps-good}

@@ -6,9 +6,7 @@ use Rattle.nofs_super.specs.Raise.{raised}
 use Rattle.nofs_image.specs.Image.{Image, super_at}
 use Rattle.nofs_machine.specs.World.{World}
 use Rattle.nofs_machine.specs.Good.{IsGood}
-use Rattle.nofs_state.specs.Books.{knows_block, knows_inode}
-use Rattle.nofs_state.specs.Standing.{IsOpen, Past, Sounds}
-use Rattle.nofs_state.specs.declared.books.Books.{Books}
+use Rattle.nofs_shared.specs.Handed.{knows_block, knows_inode, IsOpen, Past, Sounds, Books}
 
 -- the maps of the core are right for the disk: what they have as free the scan has as not used
 abbrev pub MapsGood : Books → World → Image → Type 0

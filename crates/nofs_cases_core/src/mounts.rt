@@ -3,7 +3,7 @@ ghost use Rattle.std.specs.Prelude.{◌≡◌, [], false, true, codes, IfOk, IsT
 ghost use Rattle.nofs_memdisk.specs.Parts.{memory_state};
 ghost use Rattle.nofs_machine.specs.declared.replies.Reply.TheVariants as reply;
 ghost use Rattle.nofs_machine.specs.declared.steps.Step.TheVariants as step;
-ghost use Rattle.nofs_shared.specs.Mounts.{IsSoundDisk};
+ghost use Rattle.nofs_shared.specs.Handed.{IsSoundDisk};
 ghost use Rattle.nofs_law_mounts.specs.Mounts.{IsBlankDisk};
 ghost use Rattle.nofs_cases_core.specs.OpenMount.{StandsOpen};
 ghost use Rattle.nofs_cases_core.specs.Replies.{AddsOne, SeesAndPuts, tells_free, is_stored};

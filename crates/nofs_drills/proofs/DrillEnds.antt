@@ -12,19 +12,16 @@ use Rattle.nofs_machine.specs.declared.replies.Reply.{Reply}
 use Rattle.nofs_task.specs.declared.commands.Command.{Command}
 use Rattle.nofs_task.specs.declared.lines.Line.{Line}
 use Rattle.nofs_client.specs.Runs.{LinesFollow}
-use Rattle.nofs_shared.specs.Added.{AddsStep}
-use Rattle.nofs_shared.specs.Owned.{steps_by}
-use Rattle.nofs_teams.specs.Served.{TeamMade, TeamServed}
+use Rattle.nofs_drill_reads.specs.Handed.{AddsStep, steps_by, TeamMade, TeamServed, has_fault, IsWholeScan, ShowsDisk}
 use Rattle.nofs_machine.specs.HistoryState.{HistoryState}
 use Rattle.nofs_io.specs.Calls.{SinkState}
 use Rattle.nofs_io.specs.Texts.{AppendsAll}
 use Rattle.nofs_script.specs.Sessions.{IsSession}
 use Rattle.nofs_gen.proofs.Drawing.{script-formed}
-use Rattle.nofs_sessions.specs.Entries.{has_fault}
-use Rattle.nofs_drills.specs.declared.reads.FileRead.{FileRead}
-use Rattle.nofs_drills.specs.Drill.{AddsOwn, AreRead, IsDrillDone, IsDrilled, IsReadOut, drill_line}
-use Rattle.nofs_drills.specs.Drill.{drill_session, is_refused_line, size_told, sum_told, wrong_told, IsDrillRun}
-use Rattle.nofs_sessions.proofs.Sessions.{adds-others}
+use Rattle.nofs_drill_reads.specs.declared.reads.FileRead.{FileRead}
+use Rattle.nofs_drill_reads.specs.Drill.{AddsOwn, AreRead, IsDrillDone, IsDrilled, IsReadOut, drill_line}
+use Rattle.nofs_drill_reads.specs.Drill.{drill_session, is_refused_line, size_told, sum_told, wrong_told, IsDrillRun}
+use Rattle.nofs_drill_reads.proofs.Handed.{adds-others, whole-by}
 use Rattle.nofs_drills.proofs.Tallies.{refusals-from}
 use Rattle.nofs_image.specs.Cells.{SuperBlock}
 use Rattle.nofs_image.specs.Image.{Image}
@@ -32,8 +29,6 @@ use Rattle.nofs_machine.specs.Next.{Run}
 use Rattle.nofs_machine.specs.World.{World, world_of}
 use Rattle.nofs_machine.specs.declared.steps.ElementKind.TheVariants.{Inode, Block}
 use Rattle.nofs_workers.specs.Sweeps.{Sweeps}
-use Rattle.nofs_sessions.specs.Whole.{IsWholeScan, ShowsDisk}
-use Rattle.nofs_sessions.proofs.Whole.{whole-by}
 
 twice : (b : Bool) → not (not b) ≡ false → b ≡ false
 twice true e = e

@@ -1,3 +1,3 @@
-pub mod Drills
 pub mod Tallies
 pub mod DrillEnds
+pub mod Handed

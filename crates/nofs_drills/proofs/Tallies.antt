@@ -12,10 +12,8 @@ use Rattle.nofs_task.specs.declared.commands.Command.{Command}
 use Rattle.nofs_task.specs.declared.lines.Line.{Line}
 use Rattle.nofs_client.specs.Runs.{LinesFollow, lines_of, made_reply}
 use Rattle.nofs_gen.specs.Replay.{slot_value}
-use Rattle.nofs_shared.specs.Owned.{steps_by}
-use Rattle.nofs_teams.specs.Teams.{UsersServed}
-use Rattle.nofs_sessions.specs.Entries.{session_lines}
-use Rattle.nofs_drills.specs.Drill.{is_refused_line, is_value_read, slot_sum, slots_sum, slots_wrong}
+use Rattle.nofs_drill_reads.specs.Handed.{steps_by, UsersServed, session_lines}
+use Rattle.nofs_drill_reads.specs.Drill.{is_refused_line, is_value_read, slot_sum, slots_sum, slots_wrong}
 
 next-slot : (rs : List Reply) (k : ℕ) (r : Reply) → k < length rs → r ≡ get_or rs k r → drop k rs ≡ r ∷ drop (k + 1) rs
 next-slot rs k r low is =

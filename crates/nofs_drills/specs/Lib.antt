@@ -1,1 +1,1 @@
-pub mod Drill
+pub mod Handed

@@ -7,21 +7,16 @@
 ghost use Rattle.std.specs.Prelude.{◌≡◌, ◌≤◌, ◌∷◌, ◌++◌, ◌+◌, [], false, sum_by, count_by, All, List, map, vec_len, IfOk, IfSome, OnOk};
 ghost use Rattle.nofs_task.specs.Commands.{AreWellFormed};
 ghost use Rattle.nofs_gen.specs.Script.{script_of as script_in};
-ghost use Rattle.nofs_sessions.specs.Serving.{IsClosed};
-ghost use Rattle.nofs_sessions.specs.Whole.{Finished};
-ghost use Rattle.nofs_drills.specs.Drill.{IsDrillFollowed, IsDrilled, IsReadFollowed, IsReadOut, drill_line, drill_session, is_refused_line, size_told, sum_told, wrong_told};
+ghost use Rattle.nofs_drill_reads.specs.Handed.{IsClosed, Finished};
+ghost use Rattle.nofs_drill_reads.specs.Drill.{IsDrillFollowed, IsDrilled, IsReadFollowed, IsReadOut, drill_line, drill_session, is_refused_line, size_told, sum_told, wrong_told};
 
-use crate::reads::{FileRead, read_files};
 use crate::tally::{drill_text, numbers_of};
 use nofs_disk::Disk;
+use nofs_drill_reads::{FileRead, Mount, Plan, Ran, Served, close, ended, read_files, serve_users};
 use nofs_gen::script_of;
 use nofs_lists::Content;
 use nofs_machine::History;
-use nofs_serve::Served;
-use nofs_sessions::{Ran, close, ended, serve_users};
-use nofs_shared::Mount;
 use nofs_task::LineList;
-use nofs_teams::Plan;
 use nofs_workers::OpenGate;
 use std::alloc::{AllocError, Global};
 use std::sync::Wait;

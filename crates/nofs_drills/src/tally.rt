@@ -6,9 +6,9 @@
 ghost use Rattle.std.specs.Prelude.{◌≡◌, ◌≤◌, ◌<◌, ◌+◌, ◌*◌, IfOk, take, flat_map, if◌then◌else◌, sum, sum_by, count_by};
 ghost use Rattle.nofs_machine.specs.Machine.{cut_of};
 ghost use Rattle.nofs_gen.specs.Replay.{slot_value};
-ghost use Rattle.nofs_drills.specs.Drill.{drill_line, is_bytes_read as is_bytes_in, is_hole_read as is_hole_in, is_refused_line, is_value_read as is_value_in, size_told as size_of, slot_sum as slot_sum_of, slots_sum as slots_sum_of, slots_wrong as slots_wrong_of, sum_told as sum_of, wrong_told as wrong_of};
+ghost use Rattle.nofs_drill_reads.specs.Drill.{drill_line, is_bytes_read as is_bytes_in, is_hole_read as is_hole_in, is_refused_line, is_value_read as is_value_in, size_told as size_of, slot_sum as slot_sum_of, slots_sum as slots_sum_of, slots_wrong as slots_wrong_of, sum_told as sum_of, wrong_told as wrong_of};
 
-use crate::reads::FileRead;
+use nofs_drill_reads::FileRead;
 use nofs_gen::{ValueList, replay};
 use nofs_image::Value;
 use nofs_lists::Content;
@@ -248,7 +248,7 @@ pub fn numbers_of(
 }
 
 /// The line of a drill.
-#[tactic(auto, unfolding(crate::specs::Drill::drill_line))]
+#[tactic(auto, unfolding(nofs_drill_reads::specs::Drill::drill_line))]
 pub fn drill_text(alloc: Global, start: u64, steps: u64, told: &Told) -> Result<Content, AllocError>
     requires { steps ≤ 4000 }
     ensures { IfOk result (λ text. text ≡ drill_line start steps told.now.refused told.now.bytes told.now.sum told.now.wrong) }

@@ -14,8 +14,7 @@ use Rattle.nofs_machine.specs.Next.{Run}
 use Rattle.nofs_machine.specs.World.{world_of}
 use Rattle.nofs_law_lives.specs.Lives.{IsLife, Raised}
 use Rattle.nofs_law_lives.proofs.Begin.{law-upgraded}
-use Rattle.nofs_shared.specs.Ends.{Contents}
-use Rattle.nofs_shared.specs.Mounts.{IsFound, IsSoundDisk}
+use Rattle.nofs_shared.specs.Handed.{Contents, IsFound, IsSoundDisk}
 use Rattle.nofs_law_mounts.specs.Mounts.{ComesAfter, IsOfRaise, LawFoundSound, LawInRaise, LawMountLife, LawNextMount, Leaves, Mount, SameOrSecond, base_of}
 use Rattle.nofs_law_mounts.specs.Mounts.{life_in}
 use Rattle.nofs_law_mounts.proofs.Raised.{has-cell, is-raised, raised-of, some}

@@ -10,8 +10,7 @@ use Rattle.nofs_machine.specs.History.{agreed_files, is_generation}
 use Rattle.nofs_machine.specs.HistoryState.{HistoryState}
 use Rattle.nofs_machine.specs.World.{World}
 use Rattle.nofs_law_lives.specs.Lives.{GivenBy, HasSuperCell, IsLife, Life, Lives, NextLife, Raised, Rising, SameOrUpgraded, Upgraded, claimed_in}
-use Rattle.nofs_shared.specs.Ends.{Ends}
-use Rattle.nofs_shared.specs.Mounts.{IsSoundDisk}
+use Rattle.nofs_shared.specs.Handed.{Ends, IsSoundDisk}
 use Rattle.nofs_upgrade.specs.Upgrades.{StaysOrUpgrades}
 
 -- A mount that found a sound disk, and what it said at its end: `found` is the disk as the mount found it, `last` the disk at its end

@@ -12,12 +12,8 @@ use Rattle.nofs_machine.specs.declared.history.Entry1.{Entry1}
 use Rattle.nofs_machine.specs.declared.steps.ElementKind.{ElementKind}
 use Rattle.nofs_machine.specs.declared.steps.ElementKind.TheVariants as element
 use Rattle.nofs_racelaw.proofs.OneRun.{law-late}
-use Rattle.nofs_state.specs.Books.{IsSafe}
-use Rattle.nofs_state.specs.Standing.{IsOpen, Past}
-use Rattle.nofs_state.specs.Verdicts.{Settles, StaysSo, LearnsIt}
-use Rattle.nofs_state.specs.declared.books.Books.{Books}
-use Rattle.nofs_state.proofs.Machine.{are-agreed}
-use Rattle.nofs_state.proofs.Seeing.{machine-block, machine-inode, seen-causes}
+use Rattle.nofs_state.specs.Handed.{IsSafe, IsOpen, Past, Settles, StaysSo, LearnsIt, Books}
+use Rattle.nofs_state.proofs.Handed.{are-agreed, machine-block, machine-inode, seen-causes}
 use Rattle.nofs_sights.specs.Elements.{HasElement, IsRight, MayLearn, is_used, learned, least_free, see_step, verdict_of}
 use Rattle.nofs_scan.specs.Late.{Commits, WasOpen}
 use Rattle.nofs_sights.specs.declared.evidence.Verdict.{Verdict}

@@ -2,3 +2,4 @@ pub mod Committing
 pub mod Lookups
 pub mod Going
 pub mod Swept
+pub mod Handed

@@ -12,8 +12,7 @@ use Rattle.nofs_machine.specs.declared.steps.ElementKind.TheVariants as element
 use Rattle.nofs_machine.specs.declared.steps.Step.{Step}
 use Rattle.nofs_machine.specs.declared.replies.Reply.TheVariants as reply
 use Rattle.nofs_racelaw.proofs.Verdicts.{run-unchanged}
-use Rattle.nofs_state.specs.Standing.{IsOpen, Past}
-use Rattle.nofs_state.specs.declared.books.Books.{Books}
+use Rattle.nofs_state.specs.Handed.{IsOpen, Past, Books}
 use Rattle.nofs_sights.specs.Elements.{see_step, verdict_of}
 use Rattle.nofs_scan.specs.Scanned.{IsExamined, LawScanned}
 use Rattle.nofs_scan.proofs.Committing.{element-of}

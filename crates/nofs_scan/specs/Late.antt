@@ -6,11 +6,7 @@ use Rattle.nofs_machine.specs.Claims.{no_claims}
 use Rattle.nofs_machine.specs.declared.history.Entry1.{Entry1}
 use Rattle.nofs_machine.specs.declared.steps.ElementKind.{ElementKind}
 use Rattle.nofs_machine.specs.declared.replies.Reply.TheVariants as reply
-use Rattle.nofs_state.specs.Books.{IsSafe}
-use Rattle.nofs_state.specs.Standing.{IsOpen, Past, Stands}
-use Rattle.nofs_state.specs.Steps.{Causes, Follows, SameMount, entry}
-use Rattle.nofs_state.specs.Verdicts.{Settles}
-use Rattle.nofs_state.specs.declared.books.Books.{Books}
+use Rattle.nofs_state.specs.Handed.{IsSafe, IsOpen, Past, Stands, Causes, Follows, SameMount, entry, Settles, Books}
 use Rattle.nofs_sights.specs.Elements.{is_used, learned, see_step, verdict_at, verdict_of}
 use Rattle.nofs_sights.specs.declared.evidence.Verdict.{Verdict}
 

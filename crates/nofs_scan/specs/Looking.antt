@@ -6,8 +6,7 @@ use Rattle.nofs_image.specs.Cells.{SuperBlock}
 use Rattle.nofs_machine.specs.declared.steps.ElementKind.{ElementKind}
 use Rattle.nofs_machine.specs.declared.replies.Refusal.{Refusal}
 use Rattle.nofs_machine.specs.declared.replies.Refusal.TheVariants as refusal
-use Rattle.nofs_state.specs.Knowing.{with_agreement}
-use Rattle.nofs_state.specs.declared.books.Books.{Books}
+use Rattle.nofs_state.specs.Handed.{with_agreement, Books}
 use Rattle.nofs_agree.specs.Chains.{AreTrue, Learns}
 use Rattle.nofs_sights.specs.Elements.{HasElement, IsSeen, items_of}
 use Rattle.nofs_sights.specs.Seeing.{Sees}

@@ -6,9 +6,7 @@ use Rattle.nofs_image.specs.Image.{Image}
 use Rattle.nofs_machine.specs.declared.history.Entry1.{Entry1}
 use Rattle.nofs_machine.specs.declared.steps.ElementKind.{ElementKind}
 use Rattle.nofs_machine.specs.declared.replies.Reply.TheVariants as reply
-use Rattle.nofs_state.specs.Books.{IsSafe}
-use Rattle.nofs_state.specs.Standing.{IsOpen, Past}
-use Rattle.nofs_state.specs.declared.books.Books.{Books}
+use Rattle.nofs_state.specs.Handed.{IsSafe, IsOpen, Past, Books}
 use Rattle.nofs_sights.specs.Elements.{HasElement, is_used, see_step, verdict_of}
 
 -- an entry of the history has its verdict

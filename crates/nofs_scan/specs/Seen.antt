@@ -7,8 +7,7 @@ use Rattle.nofs_machine.specs.declared.replies.Reply.{Reply}
 use Rattle.nofs_machine.specs.declared.replies.Reply.TheVariants as reply
 use Rattle.nofs_machine.specs.declared.replies.Refusal.{Refusal}
 use Rattle.nofs_machine.specs.declared.steps.Step.{Step}
-use Rattle.nofs_state.specs.Steps.{Goes}
-use Rattle.nofs_state.specs.declared.books.Books.{Books}
+use Rattle.nofs_state.specs.Handed.{Goes, Books}
 
 abbrev pub seen_answer : Result Bool Refusal → Reply
 seen_answer (Ok used) = reply.Seen used

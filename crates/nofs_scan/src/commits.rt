@@ -1,6 +1,6 @@
 //! A verdict that was found before is committed.
 ghost use Rattle.std.specs.Prelude.{◌≡◌, ◌<◌, ◌^◌, length};
-ghost use Rattle.nofs_state.specs.Verdicts.{Settles};
+ghost use Rattle.nofs_state.specs.Handed.{Settles};
 ghost use Rattle.nofs_sights.specs.Elements.{HasElement, learned, verdict_at, verdict_of};
 ghost use Rattle.nofs_scan.specs.Late.{Commits, MayCommit};
 

@@ -1,8 +1,7 @@
 //! A commit as a mount takes it: with its entry.
 ghost use Rattle.std.specs.Prelude.{◌≡◌, ℕ, ◌<◌, ◌^◌, IsTrue};
 ghost use Rattle.nofs_image.specs.Image.{Image};
-ghost use Rattle.nofs_state.specs.Books.{IsSafe};
-ghost use Rattle.nofs_state.specs.Standing.{Stands};
+ghost use Rattle.nofs_state.specs.Handed.{IsSafe, Stands};
 ghost use Rattle.nofs_sights.specs.Elements.{see_step};
 ghost use Rattle.nofs_scan.specs.Late.{IsOfMount, MayCommit};
 

@@ -2,7 +2,7 @@
 ghost use Rattle.std.specs.Prelude.{◌≡◌, ◌<◌, ◌^◌, length, false, true, All, Err, IfErr, IfOk};
 ghost use Rattle.nofs_agree.specs.Reading.{IsAt};
 ghost use Rattle.nofs_machine.specs.declared.replies.Refusal.TheVariants as refusal;
-ghost use Rattle.nofs_state.specs.Books.{IsSafe};
+ghost use Rattle.nofs_state.specs.Handed.{IsSafe};
 ghost use Rattle.nofs_sights.specs.Elements.{HasElement, items_of};
 ghost use Rattle.nofs_scan.specs.Looking.{IsBatch, LookFails, LooksAll, OnlyLearns};
 

@@ -1,7 +1,7 @@
 //! One element is examined in one step.
 ghost use Rattle.std.specs.Prelude.{◌≡◌, ◌||◌, ◌==◌, nat_lt};
 ghost use Rattle.nofs_machine.specs.declared.steps.Step.TheVariants as step;
-ghost use Rattle.nofs_state.specs.Books.{IsSafe};
+ghost use Rattle.nofs_state.specs.Handed.{IsSafe};
 ghost use Rattle.nofs_scan.specs.Seen.{Examines};
 
 use nofs_disk::Disk;

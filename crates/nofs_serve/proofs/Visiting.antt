@@ -8,13 +8,12 @@ use Rattle.nofs_machine.specs.Steps.{Made}
 use Rattle.nofs_machine.specs.declared.history.Entry1.{Entry1}
 use Rattle.nofs_machine.specs.declared.steps.ElementKind.TheVariants.{Inode, Block}
 use Rattle.nofs_task.specs.declared.lines.Line.{Line}
-use Rattle.nofs_shared.specs.Owned.{is_by, own_steps, steps_by}
-use Rattle.nofs_shared.specs.Seats.{SameSeat}
-use Rattle.nofs_shared.proofs.Collecting.{steps_of}
+use Rattle.nofs_teams.specs.Handed.{is_by, own_steps, steps_by, SameSeat}
+use Rattle.nofs_teams.proofs.Handed.{steps_of}
 use Rattle.nofs_workers.specs.Sweeps.{Sweeps}
 use Rattle.nofs_teams.specs.Joins.{JoinsOwn, Gathers, made_by}
 use Rattle.nofs_teams.specs.Served.{TeamGathered}
-use Rattle.nofs_serve.specs.Visits.{VisitMade, VisitGathered, VisitServed}
+use Rattle.nofs_serve.specs.Visiting.{VisitMade, VisitGathered, VisitServed}
 use Rattle.nofs_teams.proofs.Joining.{joins-own, joins-other, gathers-more}
 
 module _ {F : Type 0} (Visits : List Made → Type 0) (inodes blocks : ℕ) (short : Bool) where

@@ -7,5 +7,6 @@
 mod session;
 mod visit;
 
+pub use nofs_teams::{Counts, Mount, Plan, Sweeps, Visits, WriteOuts};
 pub use session::{Served, serve};
 pub use visit::{Visited, attend};

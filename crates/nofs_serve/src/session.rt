@@ -6,9 +6,10 @@ ghost use Rattle.std.specs.Prelude.{◌≡◌, ◌<◌, ◌≤◌, ◌^◌, true
 ghost use Rattle.nofs_task.specs.Commands.{AreWellFormed};
 ghost use Rattle.nofs_teams.specs.Served.{TeamServed};
 
-use nofs_shared::{Serves, ShareFault, SharedMount};
 use nofs_task::LineList;
-use nofs_teams::{Gathered, Plan, Sweeps, TeamRoom, WriteOuts, run_team};
+use nofs_teams::{
+    Gathered, Plan, Serves, ShareFault, SharedMount, Sweeps, TeamRoom, WriteOuts, run_team,
+};
 use nofs_workers::Gate;
 use std::alloc::Global;
 use std::sync::Wait;

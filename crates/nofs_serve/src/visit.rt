@@ -6,10 +6,11 @@ ghost use Rattle.std.specs.Prelude.{◌≡◌, ℕ, ◌+◌, ◌<◌, ◌^◌, [
 ghost use Rattle.nofs_turn_rule.specs.declared.view.View.{View};
 ghost use Rattle.nofs_turn.specs.Turns.{view_of, IsPassOf};
 ghost use Rattle.nofs_machine.specs.declared.history.Entry1.{Entry1};
-ghost use Rattle.nofs_serve.specs.Visits.{VisitGathered, VisitServed};
+ghost use Rattle.nofs_serve.specs.Visiting.{VisitGathered, VisitServed};
 
-use nofs_shared::{Serves, ShareFault, SharedMount};
-use nofs_teams::{Sweeps, Visits, WriteOuts, either, join_way, seat, work_beside};
+use nofs_teams::{
+    Serves, ShareFault, SharedMount, Sweeps, Visits, WriteOuts, either, join_way, seat, work_beside,
+};
 use nofs_turn::Pass;
 use nofs_workers::{Downwards, Flusher, Gate, Sweeper, Upwards};
 use std::alloc::Global;

@@ -16,16 +16,12 @@ use Rattle.nofs_io.specs.Texts.{AppendsAll}
 use Rattle.nofs_machine.specs.declared.history.Entry1.{Entry1}
 use Rattle.nofs_task.specs.declared.commands.Command.{Command}
 use Rattle.nofs_task.specs.declared.lines.Line.{Line}
-use Rattle.nofs_state.specs.Books.{Says}
-use Rattle.nofs_state.specs.Counted.{CountsBlocks, CountsInodes}
-use Rattle.nofs_state.specs.declared.books.Books.{Books}
-use Rattle.nofs_state.specs.declared.books.Counts.{Counts}
-use Rattle.nofs_state.proofs.Counting.{count-same}
-use Rattle.nofs_shared.specs.Mounts.{IsMount}
+use Rattle.nofs_serve.specs.Handed.{Says, CountsBlocks, CountsInodes, Books, Counts, IsMount}
+use Rattle.nofs_serve.proofs.Handed.{count-same}
 use Rattle.nofs_sessions.specs.Counts.{CountsDisk, counts_line, IsScanned}
-use Rattle.nofs_sessions.specs.Entries.{has_fault}
+use Rattle.nofs_beginning.specs.Entries.{has_fault}
 use Rattle.nofs_sessions.specs.Serving.{IsSessionRun}
-use Rattle.nofs_sessions.specs.Whole.{IsMet, IsWholeScan, ShowsDisk}
+use Rattle.nofs_beginning.specs.Whole.{IsMet, IsWholeScan, ShowsDisk}
 use Rattle.nofs_sessions.proofs.Whole.{open-still, shows-past, whole-scan}
 
 count-none : (P : ℕ → Bool) (n : ℕ) → ((m : ℕ) → m < n → P m ≡ false) → count_below P n ≡ 0

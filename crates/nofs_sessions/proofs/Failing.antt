@@ -6,9 +6,9 @@ use native.Mathlib.Bridge.{le_prop}
 use Rattle.nofs_disk.specs.Disk.{DiskState, Rose}
 use Rattle.nofs_machine.specs.HistoryState.{HistoryState}
 use Rattle.nofs_machine.specs.declared.history.Entry1.{Entry1}
-use Rattle.nofs_shared.specs.Forms.{is_fault, faults_in}
-use Rattle.nofs_sessions.specs.Entries.{has_fault}
-use Rattle.nofs_sessions.specs.Whole.{Finished}
+use Rattle.nofs_serve.specs.Handed.{is_fault, faults_in}
+use Rattle.nofs_beginning.specs.Entries.{has_fault}
+use Rattle.nofs_beginning.specs.Whole.{Finished}
 
 -- a fault in some entry is one at least
 pub faults-some : (es : List Entry1) → has_fault es ≡ true → 1 ≤ faults_in es

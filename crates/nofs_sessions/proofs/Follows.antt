@@ -6,7 +6,7 @@ use Rattle.nofs_machine.specs.declared.replies.Reply.TheVariants as reply
 use Rattle.nofs_machine.specs.declared.replies.Refusal.TheVariants as refusal
 use Rattle.nofs_task.specs.declared.commands.Command.{Command}
 use Rattle.nofs_task.specs.declared.lines.Line.{Line}
-use Rattle.nofs_teams.proofs.Teaming.{team-unserved}
+use Rattle.nofs_serve.proofs.Handed.{team-unserved}
 use Rattle.nofs_sessions.specs.Serving.{IsFollowed, IsSessionRun}
 use Rattle.nofs_sessions.proofs.Sessions.{run-closed}
 

@@ -17,11 +17,9 @@ use Rattle.nofs_machine.specs.declared.replies.Reply.{Reply}
 use Rattle.nofs_machine.specs.declared.replies.Reply.TheVariants as reply
 use Rattle.nofs_machine.specs.declared.replies.Refusal.{Refusal}
 use Rattle.nofs_machine.specs.declared.replies.Refusal.TheVariants as refusal
-use Rattle.nofs_shared.specs.Added.{AddsStep}
-use Rattle.nofs_shared.specs.Forms.{is_fault}
-use Rattle.nofs_shared.specs.Owned.{done_of, is_by, steps_by}
+use Rattle.nofs_serve.specs.Handed.{AddsStep, is_fault, done_of, is_by, steps_by}
 use Rattle.nofs_workers.specs.Sweeps.{Sweeps, see_of, step_of}
-use Rattle.nofs_sessions.specs.Entries.{has_fault}
+use Rattle.nofs_beginning.specs.Entries.{has_fault}
 
 -- from W to V the mount was not stopped, nothing known was forgotten, and what these steps examine is known
 pub record GoesOn (W : World) (has : Step → Type 0) (V : World) : Type 0 where

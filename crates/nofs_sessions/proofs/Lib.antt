@@ -1,9 +1,7 @@
 pub mod Sessions
 pub mod Failing
-pub mod Tasks
 pub mod Follows
-pub mod Formatted
 pub mod Known
 pub mod Whole
 pub mod Counted
-pub mod Causes
+pub mod Handed

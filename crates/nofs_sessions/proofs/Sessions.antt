@@ -18,14 +18,11 @@ use Rattle.nofs_task.specs.Commands.{AreWellFormed}
 use Rattle.nofs_task.specs.declared.lines.Line.{Line}
 use Rattle.nofs_client.specs.Runs.{LinesFollow, lines_of, made_reply}
 use Rattle.nofs_text.specs.Text.{text_of}
-use Rattle.nofs_shared.specs.Added.{AddsStep}
-use Rattle.nofs_shared.specs.Owned.{done_of, is_by, steps_by}
+use Rattle.nofs_serve.specs.Handed.{AddsStep, done_of, is_by, steps_by, UsersServed, TeamMade, TeamServed}
 use Rattle.nofs_script.specs.Sessions.{IsSession}
 use Rattle.nofs_workers.specs.Sweeps.{Sweeps}
-use Rattle.nofs_teams.specs.Teams.{UsersServed}
-use Rattle.nofs_teams.specs.Served.{TeamMade, TeamServed}
-use Rattle.nofs_teams.proofs.Gathering.{length-scripts, neither}
-use Rattle.nofs_sessions.specs.Entries.{session_lines, session_text}
+use Rattle.nofs_serve.proofs.Handed.{length-scripts, neither}
+use Rattle.nofs_beginning.specs.Entries.{session_lines, session_text}
 use Rattle.nofs_sessions.specs.Serving.{IsSessionRun}
 
 module _ {W : Type 0} (f : W → List Command) where

@@ -18,21 +18,15 @@ use Rattle.nofs_machine.specs.declared.steps.Step.TheVariants as step
 use Rattle.nofs_law_maps.proofs.Homes.{law-good}
 use Rattle.nofs_racelaw.specs.Laws.{SameState}
 use Rattle.nofs_racelaw.proofs.OneRun.{law-one-run}
-use Rattle.nofs_state.specs.Standing.{IsOpen, IsStopped, Past}
-use Rattle.nofs_state.specs.declared.books.Books.{Books}
-use Rattle.nofs_shared.specs.Ends.{Contents}
-use Rattle.nofs_shared.specs.Forms.{Forms, is_fault}
-use Rattle.nofs_shared.specs.Mounts.{IsMount, IsSoundDisk}
-use Rattle.nofs_shared.proofs.Ending.{mount-ends}
+use Rattle.nofs_serve.specs.Handed.{IsOpen, IsStopped, Past, Books, Contents, Forms, is_fault, IsMount, IsSoundDisk, AddsStep, steps_by}
+use Rattle.nofs_serve.proofs.Handed.{mount-ends}
 use Rattle.nofs_task.specs.declared.commands.Command.{Command}
 use Rattle.nofs_task.specs.declared.lines.Line.{Line}
-use Rattle.nofs_sessions.specs.Entries.{has_fault}
+use Rattle.nofs_beginning.specs.Entries.{has_fault}
 use Rattle.nofs_machine.specs.declared.steps.ElementKind.TheVariants.{Inode, Block}
-use Rattle.nofs_shared.specs.Added.{AddsStep}
-use Rattle.nofs_shared.specs.Owned.{steps_by}
 use Rattle.nofs_workers.specs.Sweeps.{Sweeps}
 use Rattle.nofs_sessions.specs.Serving.{IsClosed, IsSessionRun}
-use Rattle.nofs_sessions.specs.Whole.{Finished, IsWholeScan, ShowsDisk}
+use Rattle.nofs_beginning.specs.Whole.{Finished, IsWholeScan, ShowsDisk}
 use Rattle.nofs_sessions.proofs.Known.{flushed-last, blocks-seen, has-added, inodes-seen, no-fault, run-goes}
 
 pub not-write : (r : Reply) → is_fault r ≡ false → is_write_fault r ≡ false

@@ -3,14 +3,14 @@ use Rattle.std.specs.Prelude.{◌≡◌, ℕ, suc, not, List, codes, ◌++◌, f
 use Rattle.std.specs.Fmt.{decimal}
 use Rattle.nofs_image.specs.Image.{Image, super_at, is_used_block, is_used_inode}
 use Rattle.nofs_machine.specs.Search.{count_below}
-use Rattle.nofs_state.specs.declared.books.Counts.{Counts}
+use Rattle.nofs_serve.specs.Handed.{Counts}
 use Rattle.std.specs.declared.option.Option.{Option}
 use Rattle.nofs_disk.specs.Disk.{DiskState}
 use Rattle.nofs_io.specs.Calls.{SinkState}
 use Rattle.nofs_io.specs.Texts.{AppendsAll}
 use Rattle.nofs_machine.specs.HistoryState.{HistoryState}
-use Rattle.nofs_sessions.specs.Entries.{has_fault}
-use Rattle.nofs_sessions.specs.Whole.{IsMet}
+use Rattle.nofs_beginning.specs.Entries.{has_fault}
+use Rattle.nofs_beginning.specs.Whole.{IsMet}
 
 -- so many of one kind are used, free and not examined
 abbrev pub kind_text : List ℕ → ℕ → ℕ → ℕ → List ℕ

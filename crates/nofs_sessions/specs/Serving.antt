@@ -8,9 +8,7 @@ use Rattle.nofs_machine.specs.declared.replies.Reply.{Reply}
 use Rattle.nofs_machine.specs.declared.replies.Reply.TheVariants as reply
 use Rattle.nofs_task.specs.declared.commands.Command.{Command}
 use Rattle.nofs_task.specs.declared.lines.Line.{Line}
-use Rattle.nofs_shared.specs.Added.{AddsStep}
-use Rattle.nofs_shared.specs.Owned.{steps_by}
-use Rattle.nofs_teams.specs.Served.{TeamMade}
+use Rattle.nofs_serve.specs.Handed.{AddsStep, steps_by, TeamMade}
 use Rattle.std.specs.declared.option.Option.{Option}
 use Rattle.nofs_image.specs.Cells.{SuperBlock}
 

@@ -6,7 +6,7 @@ ghost use Rattle.std.specs.Prelude.{◌≡◌, ◌++◌, IfOk, OnOk};
 ghost use Rattle.nofs_sessions.specs.Counts.{counts_line, kind_text};
 
 use nofs_lists::Content;
-use nofs_state::Counts;
+use nofs_serve::Counts;
 use nofs_text::push_number;
 use std::alloc::{AllocError, Global};
 

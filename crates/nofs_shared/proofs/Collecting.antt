@@ -8,8 +8,7 @@ use Rattle.nofs_turn_rule.specs.Lists.{rises, merge, numbered, chosen}
 use Rattle.nofs_turn_rule.specs.Views.{joined}
 use Rattle.nofs_turn.proofs.Callers.{entries_of-numbered, filter-entries_of, joined_own, joined_other}
 use Rattle.nofs_machine.specs.declared.history.Entry1.{Entry1}
-use Rattle.nofs_shared.specs.Owned.{done_of, is_by, all_by, own_steps, steps_by}
-use Rattle.nofs_shared.specs.Ends.{FollowEach, IdleIn, Task, WholeEach, step_of}
+use Rattle.nofs_mount.specs.Handed.{done_of, is_by, all_by, own_steps, steps_by, FollowEach, IdleIn, Task, WholeEach, step_of}
 use Rattle.nofs_shared.specs.Passes.{Seat, AllOut, Apart, Did, DidAll, Others, Sorts, TellsAll, Without}
 
 pub chosen_by : (c : ℕ) (m : List (ℕ × Entry1)) → all_by c m ≡ true → chosen (is_by c) m ≡ m

@@ -10,9 +10,7 @@ use Rattle.nofs_turn_rule.proofs.Words.{prefix_trans}
 use Rattle.nofs_machine.specs.declared.history.Entry1.{Entry1}
 use Rattle.nofs_machine.specs.declared.steps.Step.{Step}
 use Rattle.nofs_machine.specs.declared.replies.Reply.{Reply}
-use Rattle.nofs_shared.specs.Commits.{CommitRan}
-use Rattle.nofs_shared.specs.Owned.{TellsStep}
-use Rattle.nofs_shared.specs.Seats.{SameSeat}
+use Rattle.nofs_mount.specs.Handed.{CommitRan, TellsStep, SameSeat}
 
 module _ {F Out : Type 0} (tells : F → List Entry1 → List Entry1 → Out → Type 0) (v w : View Entry1 F) (out : Out) (h : Ran tells v w out) where
   -- the seat stays

@@ -14,9 +14,7 @@ use Rattle.nofs_machine.specs.declared.history.Entry1.{Entry1}
 use Rattle.nofs_machine.specs.declared.steps.Step.{Step}
 use Rattle.nofs_machine.specs.declared.steps.Step.TheVariants as step
 use Rattle.nofs_machine.specs.declared.replies.Reply.{Reply}
-use Rattle.nofs_shared.specs.Added.{AddsStep}
-use Rattle.nofs_shared.specs.Ends.{AllFollow, FollowEach, Task, WholeEach, step_of}
-use Rattle.nofs_shared.specs.Owned.{is_by, own_steps, steps_by}
+use Rattle.nofs_mount.specs.Handed.{AddsStep, AllFollow, FollowEach, Task, WholeEach, step_of, is_by, own_steps, steps_by}
 use Rattle.nofs_shared.specs.Served.{AllServed, Served, two_users}
 use Rattle.nofs_shared.proofs.Collecting.{chosen_by, chosen_not, steps_of}
 

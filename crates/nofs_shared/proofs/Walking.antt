@@ -3,7 +3,7 @@ use Rattle.std.proofs.Common.{◌≡◌, true, false, List, [], ◌∷◌, ◌++
 use Rattle.nofs_machine.specs.Steps.{Made, is_out_of_memory, with_made}
 use Rattle.nofs_machine.specs.declared.steps.Step.{Step}
 use Rattle.nofs_machine.specs.declared.replies.Reply.{Reply}
-use Rattle.nofs_shared.specs.Ends.{step_of}
+use Rattle.nofs_mount.specs.Handed.{step_of}
 use Rattle.nofs_shared.specs.Served.{Walked, Walks}
 
 pub walks-begin : (made : List Made) (script : List Step) → Walks made made script script

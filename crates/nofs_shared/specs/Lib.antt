@@ -1,17 +1,3 @@
-pub mod Forms
-pub mod Sees
-pub mod Mounts
-pub mod Earlier
-pub mod Added
-pub mod GoingOn
-pub mod StepCauses
-pub mod Batches
-pub mod Begins
-pub mod Owned
-pub mod Seats
-pub mod Ends
 pub mod Served
 pub mod Passes
-pub mod Commits
-pub mod Settling
 pub mod Handed

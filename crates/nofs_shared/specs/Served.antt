@@ -5,9 +5,7 @@ use Rattle.nofs_turn_rule.specs.declared.view.View.{View}
 use Rattle.nofs_machine.specs.Steps.{Made}
 use Rattle.nofs_machine.specs.declared.history.Entry1.{Entry1}
 use Rattle.nofs_machine.specs.declared.steps.Step.{Step}
-use Rattle.nofs_shared.specs.Owned.{all_by, own_steps, steps_by}
-use Rattle.nofs_shared.specs.Seats.{SameSeat}
-use Rattle.nofs_shared.specs.Ends.{FollowEach, IdleIn, Task, WholeEach, step_of}
+use Rattle.nofs_mount.specs.Handed.{all_by, own_steps, steps_by, SameSeat, FollowEach, IdleIn, Task, WholeEach, step_of}
 
 -- the steps of a script, in order, or the first ones of them
 pub record Walked (before after : List Made) (script : List Step) (short : Bool) : Type 0 where

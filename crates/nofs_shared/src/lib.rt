@@ -1,26 +1,15 @@
-//! The mount, and passes by which several callers make steps at it.
+//! A mount behind the turn, and passes by which several callers make steps at it.
+//!
+//! Promise: each caller's steps stand in the one history once each, in order.
 #![tactic(auto)]
 
-mod acts;
-mod batches;
-mod begin;
-mod file_acts;
 mod looks;
-mod mount;
-mod name_acts;
-mod numbers;
 mod outs;
-mod room;
-mod see_acts;
-mod serves;
 mod sessions;
 mod shared;
 mod sharing;
-mod steps;
 
-pub use begin::Prepared;
-pub use mount::{BeginFault, Mount};
-pub use serves::{Grounds, Serves};
+pub use nofs_mount::{BeginFault, Counts, Evidence, Mount, Serves, judge};
 pub use sessions::{SessionEnd, session};
 pub use shared::{BusyStep, SharedPass};
 pub use sharing::{ShareFault, SharedMount, SharedOut};

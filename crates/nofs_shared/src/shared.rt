@@ -4,11 +4,10 @@ ghost use Rattle.nofs_turn.specs.Turns.{view_of, IsPassOf, IsFreshPass};
 ghost use Rattle.nofs_turn_rule.specs.Views.{looked};
 ghost use Rattle.nofs_turn_rule.specs.Passes.{Closes};
 ghost use Rattle.nofs_machine.specs.Steps.{Fits, with_made};
-ghost use Rattle.nofs_shared.specs.Owned.{all_by, own_steps};
-ghost use Rattle.nofs_shared.specs.Seats.{SameSeat};
+ghost use Rattle.nofs_mount.specs.Handed.{all_by, own_steps, SameSeat};
 
-use crate::serves::Serves;
 use nofs_machine::{Reply, Step, Steps};
+use nofs_mount::Serves;
 use nofs_turn::{Busy, Pass, Turn};
 use nofs_turn_rule::Section;
 use std::alloc::Global;
@@ -25,7 +24,7 @@ struct Move<'a> {
 }
 
 impl<V: Serves> Section<V> for Move<'_> {
-    ghost use Rattle.nofs_shared.specs.Owned.{TellsStep};
+    ghost use Rattle.nofs_mount.specs.Handed.{TellsStep};
 
     type Out = Reply;
 
@@ -64,7 +63,7 @@ pub struct SharedPass<'a, R, V: Serves> {
 
 impl<'a, R, V: Serves> SharedPass<'a, R, V> {
     /// A pass of a turn, for this caller. The pass has no entries yet.
-    pub(crate) fn new(
+    pub fn new(
         rt: &'a R,
         alloc: Global,
         turn: &'a Turn<V>,
@@ -131,7 +130,7 @@ impl<'a, R, V: Serves> SharedPass<'a, R, V> {
 
 impl<R: Wait, V: Serves> Steps for SharedPass<'_, R, V> {
     ghost use Rattle.std.proofs.Common.{refl, ◌∙◌};
-    ghost use Rattle.nofs_shared.specs.Seats.{same_seat, same_seats};
+    ghost use Rattle.nofs_mount.specs.Handed.{same_seat, same_seats};
 
     ghost made = { λ p. own_steps (view_of p.pass).mine };
 

@@ -4,8 +4,8 @@ ghost use Rattle.nofs_turn.specs.Turns.{view_of, IsPassOf, IsFreshPass};
 ghost use Rattle.nofs_turn_rule.specs.Views.{joined};
 ghost use Rattle.nofs_turn_rule.specs.Passes.{Closes};
 
-use crate::serves::Serves;
 use crate::shared::SharedPass;
+use nofs_mount::Serves;
 use nofs_turn::{Pass, PassesOut, Turn, TurnFault};
 use std::alloc::Global;
 use std::sync::atomic::AtomicBool;

@@ -1,13 +1,12 @@
 //! A verdict that a mount commits late: a block that was found free was claimed since, or was not.
 ghost use Rattle.std.specs.Prelude.{IfOk};
 ghost use Rattle.nofs_memdisk.specs.Parts.{memory_state};
-ghost use Rattle.nofs_shared.specs.Earlier.{IsEarlier};
+ghost use Rattle.nofs_shared.specs.Handed.{IsEarlier};
 
 use crate::rows::{full_below_24, is_stored, is_used, put, put_step, seen};
 use nofs_machine::{ElementKind, Reply, Step};
 use nofs_memdisk::MemDisk;
-use nofs_shared::Mount;
-use nofs_sights::{Evidence, judge};
+use nofs_shared::{Evidence, Mount, judge};
 use std::alloc::{AllocError, Global};
 use std::test::Fail;
 

@@ -4,8 +4,7 @@ use nofs_inode::FileKind;
 use nofs_lists::{Content, Name};
 use nofs_machine::{ElementKind, Refusal, Reply, Step};
 use nofs_memdisk::MemDisk;
-use nofs_shared::Mount;
-use nofs_sights::judge;
+use nofs_shared::{Mount, judge};
 use std::alloc::Global;
 use std::test::Fail;
 

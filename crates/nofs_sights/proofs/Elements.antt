@@ -14,16 +14,10 @@ use Rattle.nofs_machine.specs.declared.steps.Step.{Step}
 use Rattle.nofs_machine.specs.declared.steps.Step.TheVariants as step
 use Rattle.nofs_machine.specs.declared.replies.Reply.TheVariants as reply
 use Rattle.nofs_machine.specs.declared.replies.Refusal.TheVariants as refusal
-use Rattle.nofs_state.specs.Books.{IsSafe}
-use Rattle.nofs_state.specs.Standing.{IsOpen, Past}
-use Rattle.nofs_state.specs.Steps.{Follows, Goes, entry}
-use Rattle.nofs_state.specs.Verdicts.{InData, Judges, Verifies, Stood, Learned, Unread, learned_block, learned_inode, verdict_of_block, verdict_of_inode}
-use Rattle.nofs_state.specs.declared.books.Books.{Books}
-use Rattle.nofs_state.proofs.Sounding.{sounds-keep}
-use Rattle.nofs_state.proofs.Replies.{goes-row, goes-read, safe-on}
-use Rattle.nofs_state.proofs.Machine.{are-agreed}
-use Rattle.nofs_state.proofs.Seeing.{block-learned, block-row, block-stands, block-stood, machine-block, machine-inode, safe-block, seen-causes}
-use Rattle.nofs_state.proofs.SeeingInodes.{inode-learned, inode-row, inode-stands, inode-stood, safe-inode}
+use Rattle.nofs_state.specs.Handed.{IsSafe, IsOpen, Past, Follows, Goes, entry, InData, Judges, Verifies, Stood, Learned, Unread, learned_block}
+use Rattle.nofs_state.specs.Handed.{learned_inode, verdict_of_block, verdict_of_inode, Books}
+use Rattle.nofs_state.proofs.Handed.{sounds-keep, goes-row, goes-read, safe-on, are-agreed, block-learned, block-row, block-stands, block-stood}
+use Rattle.nofs_state.proofs.Handed.{machine-block, machine-inode, safe-block, seen-causes, inode-learned, inode-row, inode-stands, inode-stood, safe-inode}
 
 in-table : (n i : ℕ) → (eqb i 0 || ltb n i) ≡ false → (1 ≤ i) × (i ≤ n)
 in-table n i e = (low n i e, high n i e)

@@ -15,7 +15,7 @@ use Rattle.nofs_state.proofs.Handed.{any-links, linked-is, four-links}
 use Rattle.nofs_image.proofs.Paths.{path_of-number}
 use Rattle.nofs_machine.specs.declared.steps.ElementKind.{ElementKind}
 use Rattle.nofs_machine.specs.declared.steps.ElementKind.TheVariants as element
-use Rattle.nofs_state.specs.Verdicts.{names_block}
+use Rattle.nofs_state.specs.Handed.{names_block}
 use Rattle.nofs_sights.specs.Elements.{HasElement, is_used}
 use Rattle.nofs_sights.specs.Sights.{above_in, block_sight, holds_down, holds_with, inode_sight, sight_verdict, judged_inode, judged_tag, leads_up}
 use Rattle.nofs_sights.specs.Sights.{entry_linked, link_sight, may_have, named_inode, names_it, no_above, sight_in, tag_sight, tag_wanted, tagged_in, way_in}

@@ -7,9 +7,7 @@ use Rattle.nofs_machine.specs.declared.steps.ElementKind.{ElementKind}
 use Rattle.nofs_machine.specs.declared.steps.ElementKind.TheVariants as element
 use Rattle.nofs_machine.specs.declared.steps.Step.{Step}
 use Rattle.nofs_machine.specs.declared.steps.Step.TheVariants as step
-use Rattle.nofs_state.specs.Handed.{AreTrue}
-use Rattle.nofs_state.specs.Verdicts.{learned_block, learned_inode, verdict_of_block, verdict_of_inode}
-use Rattle.nofs_state.specs.declared.books.Books.{Books}
+use Rattle.nofs_state.specs.Handed.{AreTrue, learned_block, learned_inode, verdict_of_block, verdict_of_inode, Books}
 use Rattle.nofs_sights.specs.declared.evidence.Verdict.{Verdict}
 
 -- the least element, and the end of them

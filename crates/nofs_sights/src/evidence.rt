@@ -2,7 +2,7 @@
 //!
 //! Promise: each verdict is that of the disk as it was then, and is computed from what was read.
 ghost use Rattle.std.specs.Prelude.{◌≡◌, ◌<◌, length, All};
-ghost use Rattle.nofs_state.specs.Books.{IsSafe};
+ghost use Rattle.nofs_state.specs.Handed.{IsSafe};
 ghost use Rattle.nofs_sights.specs.Elements.{IsRight, verdict_at};
 
 use crate::sights::Sight;

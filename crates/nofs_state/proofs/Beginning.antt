@@ -16,12 +16,12 @@ use Rattle.nofs_crashlaw.proofs.FirstStage.{law-first-stage}
 use Rattle.nofs_agree.specs.Chains.{told}
 use Rattle.nofs_agree.specs.Reading.{IsAt}
 use Rattle.nofs_agree.proofs.Learning.{told-nothing}
-use Rattle.nofs_state.specs.Books.{IsRoom, Says}
-use Rattle.nofs_state.specs.Standing.{IsOpen}
+use Rattle.nofs_books.specs.Books.{IsRoom, Says}
+use Rattle.nofs_examining.specs.Handed.{IsOpen}
 use Rattle.nofs_state.specs.Beginning.{first_past}
-use Rattle.nofs_state.specs.declared.books.Books.{Books}
-use Rattle.nofs_state.specs.declared.books.Room.{Room}
-use Rattle.nofs_state.proofs.Maps.{set-none}
+use Rattle.nofs_books.specs.declared.books.Books.{Books}
+use Rattle.nofs_books.specs.declared.books.Room.{Room}
+use Rattle.nofs_books.proofs.Maps.{set-none}
 
 -- no block behind the last has an owner
 pub owner-beyond : (X : Image) (b : ℕ) → (super_at X).blocks ≤ b → owner X b ≡ None

@@ -24,20 +24,18 @@ use Rattle.nofs_machine.specs.declared.history.Entry1.{Entry1}
 use Rattle.nofs_machine.specs.declared.steps.Step.{Step}
 use Rattle.nofs_machine.specs.declared.replies.Reply.{Reply}
 use Rattle.nofs_machine.proofs.Lives.{along-append}
-use Rattle.nofs_law_lives.specs.Handed.{Numbered, CellNumbers, HomesMove, HomesMatch}
-use Rattle.nofs_law_lives.proofs.Handed.{law-fresh, law-homes}
+use Rattle.nofs_law_maps.specs.Fresh.{Numbered, CellNumbers}
+use Rattle.nofs_law_maps.specs.Homes.{HomesMove, HomesMatch}
+use Rattle.nofs_law_maps.proofs.Fresh.{law-fresh}
+use Rattle.nofs_law_maps.proofs.Homes.{law-homes}
 use Rattle.nofs_crashlaw.specs.Stage.{AddsProper, Stage}
 use Rattle.nofs_crashlaw.proofs.Staging.{law-stage}
-use Rattle.nofs_state.specs.Books.{IsSafe, Says, knows_inode, knows_block}
-use Rattle.nofs_state.specs.Standing.{IsOpen, IsStopped, Past, Sounds}
-use Rattle.nofs_state.specs.Steps.{Goes, entry}
+use Rattle.nofs_books.specs.Books.{IsSafe, Says, knows_inode, knows_block}
+use Rattle.nofs_examining.specs.Handed.{IsOpen, IsStopped, Past, Sounds, Goes, entry}
 use Rattle.nofs_state.specs.Writing.{OneOf}
-use Rattle.nofs_state.specs.declared.books.Books.{Books}
-use Rattle.nofs_state.proofs.Idle.{run-more, takes-none}
-use Rattle.nofs_state.proofs.Replies.{open-files}
-use Rattle.nofs_state.proofs.Runs.{faults-append}
-use Rattle.nofs_state.proofs.SafeSteps.{accepted-fault, accepted-memory, safely-done, safely-goes}
-use Rattle.nofs_state.proofs.Sounded.{sounds-adds}
+use Rattle.nofs_books.specs.declared.books.Books.{Books}
+use Rattle.nofs_examining.proofs.Handed.{run-more, takes-none, open-files, faults-append, accepted-fault, accepted-memory, safely-done, safely-goes}
+use Rattle.nofs_flushing.proofs.Sounded.{sounds-adds}
 
 -- weaker cells
 pub Adds-map : (P Q : ℕ → Cell → Type 0) (old new : DiskState) → ((b : ℕ) (c : Cell) → P b c → Q b c) → Adds P old new → Adds Q old new

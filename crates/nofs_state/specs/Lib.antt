@@ -1,14 +1,6 @@
-pub mod Books
-pub mod Standing
-pub mod Steps
 pub mod Beginning
-pub mod Opening
 pub mod Writing
-pub mod Verdicts
-pub mod Owning
-pub mod Counted
 pub mod Owing
 pub mod WritingOut
 pub mod Pointing
-pub mod Knowing
 pub mod Handed

@@ -7,8 +7,8 @@ use Rattle.nofs_machine.specs.World.{World}
 use Rattle.nofs_machine.specs.Refusals.{rows}
 use Rattle.nofs_machine.specs.declared.history.Entry1.{Entry1}
 use Rattle.nofs_machine.specs.declared.steps.Step.{Step}
-use Rattle.nofs_state.specs.Standing.{IsOpen, Past}
-use Rattle.nofs_state.specs.declared.books.Books.{Books}
+use Rattle.nofs_examining.specs.Handed.{IsOpen, Past}
+use Rattle.nofs_books.specs.declared.books.Books.{Books}
 
 -- a cell of the table with another record of inode i in it
 pub record RecordIn (old : Cell) (i : ℕ) (r : Record) (new : Cell) : Type 0 where

@@ -5,7 +5,7 @@ use Rattle.nofs_disk.specs.Adds.{Adds}
 use Rattle.nofs_disk.specs.declared.Failed.{Failed}
 use Rattle.nofs_machine.specs.declared.replies.Refusal.{Refusal}
 use Rattle.nofs_machine.specs.declared.replies.Refusal.TheVariants as refusal
-use Rattle.nofs_state.specs.declared.books.Books.{Books}
+use Rattle.nofs_books.specs.declared.books.Books.{Books}
 use Rattle.nofs_image.specs.Cells.{Cell}
 use Rattle.nofs_image.specs.Image.{Image}
 

@@ -2,8 +2,8 @@
 ghost use Rattle.std.specs.Prelude.{◌≡◌, ◌<◌, ◌≤◌, ◌∷◌, []};
 ghost use Rattle.nofs_state.specs.Writing.{Stores, stopped_books};
 
-use crate::books::Books;
 use crate::cores::Core;
+use nofs_books::Books;
 use nofs_disk::{Cell, Disk};
 use nofs_machine::Refusal;
 

@@ -9,8 +9,7 @@ use Rattle.nofs_machine.specs.declared.history.Entry1.{Entry1}
 use Rattle.nofs_task.specs.declared.commands.Command.{Command}
 use Rattle.nofs_task.specs.declared.lines.Line.{Line}
 use Rattle.nofs_client.specs.Runs.{IsDriven, IsPartlyDriven}
-use Rattle.nofs_shared.specs.Owned.{own_steps}
-use Rattle.nofs_shared.specs.Seats.{SameSeat}
+use Rattle.nofs_shared.specs.Handed.{own_steps, SameSeat}
 use Rattle.nofs_teams.specs.Joins.{JoinsOwn, Gathers, made_by}
 use Rattle.nofs_teams.specs.Teams.{Stand, StandInTurn, UsersBegun, UsersServed}
 use Rattle.nofs_teams.specs.Served.{UsersGathered}

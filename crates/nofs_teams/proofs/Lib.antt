@@ -3,3 +3,4 @@ pub mod Gathering
 pub mod Working
 pub mod Teaming
 pub mod Looking
+pub mod Handed

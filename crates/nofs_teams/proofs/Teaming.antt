@@ -12,8 +12,7 @@ use Rattle.nofs_machine.specs.declared.steps.ElementKind.TheVariants.{Inode, Blo
 use Rattle.nofs_task.specs.declared.commands.Command.{Command}
 use Rattle.nofs_task.specs.declared.lines.Line.{Line}
 use Rattle.nofs_client.specs.Runs.{IsBegun}
-use Rattle.nofs_shared.specs.Owned.{all_by, is_by, own_steps, steps_by}
-use Rattle.nofs_shared.specs.Seats.{SameSeat}
+use Rattle.nofs_shared.specs.Handed.{all_by, is_by, own_steps, steps_by, SameSeat}
 use Rattle.nofs_shared.proofs.Collecting.{steps_of}
 use Rattle.nofs_workers.specs.Sweeps.{Sweeps}
 use Rattle.nofs_teams.specs.Joins.{JoinsOwn, Gathers, made_by}

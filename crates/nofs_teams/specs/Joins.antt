@@ -6,7 +6,7 @@ use Rattle.nofs_turn_rule.specs.Lists.{rises, chosen}
 use Rattle.nofs_turn_rule.specs.Views.{joined}
 use Rattle.nofs_machine.specs.Steps.{Made}
 use Rattle.nofs_machine.specs.declared.history.Entry1.{Entry1}
-use Rattle.nofs_shared.specs.Owned.{all_by, is_by, own_steps}
+use Rattle.nofs_shared.specs.Handed.{all_by, is_by, own_steps}
 
 module _ {F : Type 0} where
   -- the pass w, whose entries are all its caller's, was joined to v

@@ -1,3 +1,4 @@
 pub mod Joins
 pub mod Teams
 pub mod Served
+pub mod Handed

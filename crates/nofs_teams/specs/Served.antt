@@ -7,7 +7,7 @@ use Rattle.nofs_machine.specs.declared.history.Entry1.{Entry1}
 use Rattle.nofs_machine.specs.declared.steps.ElementKind.TheVariants.{Inode, Block}
 use Rattle.nofs_task.specs.declared.commands.Command.{Command}
 use Rattle.nofs_task.specs.declared.lines.Line.{Line}
-use Rattle.nofs_shared.specs.Owned.{steps_by}
+use Rattle.nofs_shared.specs.Handed.{steps_by}
 use Rattle.nofs_workers.specs.Sweeps.{Sweeps}
 use Rattle.nofs_teams.specs.Joins.{Gathers, made_by}
 use Rattle.nofs_teams.specs.Teams.{UsersBegun, UsersServed}

@@ -12,6 +12,7 @@ mod works;
 
 pub use gather::{Gathered, either, join_way};
 pub use lend::{work_all, work_beside, work_team};
+pub use nofs_shared::{Counts, Mount, Serves, ShareFault, SharedMount};
 pub use team::{Plan, Sweeps, TeamRoom, WriteOuts, run_team, seat};
 pub use way::Way;
 pub use works::{Visits, Works};

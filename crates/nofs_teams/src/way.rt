@@ -4,7 +4,7 @@
 //! committed under a later one. A write-out makes no step, and takes the turn only where a block may be kept back.
 ghost use Rattle.std.specs.Prelude.{◌≡◌, true};
 ghost use Rattle.nofs_turn.specs.Turns.{view_of, IsPassOf};
-ghost use Rattle.nofs_shared.specs.Owned.{all_by};
+ghost use Rattle.nofs_shared.specs.Handed.{all_by};
 
 use nofs_disk::OutFault;
 use nofs_machine::{ElementKind, Refusal, Reply, Step, Steps};
@@ -35,8 +35,8 @@ impl<R, V: Serves> Way<'_, R, V> {
 impl<R: Wait, V: Serves> Steps for Way<'_, R, V> {
     ghost use Rattle.std.proofs.Common.{◌≡◌, refl, ◌∙◌};
     ghost use Rattle.nofs_turn.specs.Turns.{view_of};
-    ghost use Rattle.nofs_shared.specs.Owned.{own_steps};
-    ghost use Rattle.nofs_shared.specs.Seats.{SameSeat, same_seat, same_seats};
+    ghost use Rattle.nofs_shared.specs.Handed.{own_steps};
+    ghost use Rattle.nofs_shared.specs.Handed.{SameSeat, same_seat, same_seats};
 
     ghost made = { λ w. own_steps (view_of w.pass.pass).mine };
 

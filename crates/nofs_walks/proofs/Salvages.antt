@@ -33,9 +33,7 @@ use Rattle.nofs_machine.specs.declared.replies.Refusal.{Refusal}
 use Rattle.nofs_machine.specs.declared.replies.Refusal.TheVariants as refusal
 use Rattle.nofs_task.specs.declared.lines.Line.TheVariants as line
 use Rattle.nofs_text.specs.Text.{text_of}
-use Rattle.nofs_shared.specs.Added.{AddsStep}
-use Rattle.nofs_shared.specs.Forms.{Forms, is_fault}
-use Rattle.nofs_shared.specs.Owned.{done_of, is_by, steps_by}
+use Rattle.nofs_sessions.specs.Handed.{AddsStep, Forms, is_fault, done_of, is_by, steps_by, has_fault, Says, Finished, picks_in}
 use Rattle.nofs_workers.specs.Sweeps.{Sweeps, see_of, step_of}
 use Rattle.nofs_lost.specs.Answered.{AreAnswered, IsAnswered}
 use Rattle.nofs_lost.specs.Picks.{begins_with}
@@ -46,12 +44,8 @@ use Rattle.nofs_lost.specs.declared.report.Loss.{Loss}
 use Rattle.nofs_lost.specs.declared.fault.SalvageFault.{SalvageFault}
 use Rattle.nofs_lost.specs.declared.fault.SalvageFault.TheVariants as fault
 use Rattle.nofs_asking.proofs.Roots.{matched-roots}
-use Rattle.nofs_sessions.specs.Entries.{has_fault}
 use Rattle.nofs_walks.specs.Salvaging.{SaysWalk, AreReads, IsSalvaged, IsWalk, IsWalkTold, found_world, has_both, losses_text, salvage_text, walk_text}
-use Rattle.nofs_sessions.specs.Says.{Says}
 use Rattle.nofs_walks.specs.Visits.{IsVisitFollowed, IsVisitRun}
-use Rattle.nofs_sessions.specs.Whole.{Finished}
-use Rattle.nofs_sessions.specs.Words.{picks_in}
 use Rattle.nofs_sessions.proofs.Known.{no-fault}
 use Rattle.nofs_walks.proofs.Visits.{visit-closed, visit-none, visit-run-maps, visit-steps}
 use Rattle.nofs_sessions.proofs.Whole.{not-write, or-none}

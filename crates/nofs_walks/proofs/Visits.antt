@@ -9,14 +9,9 @@ use Rattle.nofs_machine.specs.World.{World, world_of}
 use Rattle.nofs_machine.specs.declared.history.Entry1.{Entry1}
 use Rattle.nofs_machine.specs.declared.steps.Step.TheVariants as step
 use Rattle.nofs_machine.specs.declared.replies.Reply.{Reply}
-use Rattle.nofs_shared.specs.Added.{AddsStep}
-use Rattle.nofs_shared.specs.Owned.{steps_by}
-use Rattle.nofs_serve.specs.Visits.{VisitMade, VisitServed}
-use Rattle.nofs_teams.proofs.Gathering.{neither}
-use Rattle.nofs_teams.proofs.Teaming.{team-unserved}
-use Rattle.nofs_sessions.specs.Entries.{has_fault}
+use Rattle.nofs_sessions.specs.Handed.{AddsStep, steps_by, VisitMade, VisitServed, has_fault, IsWholeScan, ShowsDisk}
+use Rattle.nofs_sessions.proofs.Handed.{neither, team-unserved}
 use Rattle.nofs_walks.specs.Visits.{IsVisitRun}
-use Rattle.nofs_sessions.specs.Whole.{IsWholeScan, ShowsDisk}
 use Rattle.nofs_sessions.proofs.Sessions.{adds-others, sweeps-shorter, twice}
 use Rattle.nofs_sessions.proofs.Whole.{whole-by}
 

@@ -17,7 +17,7 @@ use Rattle.nofs_machine.specs.World.{World, world_of}
 use Rattle.nofs_machine.specs.declared.replies.Refusal.TheVariants as refusal
 use Rattle.nofs_task.specs.declared.lines.Line.TheVariants as line
 use Rattle.nofs_text.specs.Text.{text_of}
-use Rattle.nofs_shared.specs.Owned.{steps_by}
+use Rattle.nofs_sessions.specs.Handed.{steps_by, has_fault, IsMet, Says}
 use Rattle.nofs_lost.specs.Answered.{AreAnswered}
 use Rattle.nofs_lost.specs.Reads.{IsRead, Reads, refusal_by}
 use Rattle.nofs_asking.specs.Refusing.{HasRoots, MayRefuse, is_there}
@@ -26,9 +26,6 @@ use Rattle.nofs_lost.specs.declared.report.Loss.{Loss}
 use Rattle.nofs_lost.specs.declared.report.Loss.TheVariants as loss
 use Rattle.nofs_lost.specs.declared.fault.SalvageFault.{SalvageFault}
 use Rattle.nofs_lost.specs.declared.fault.SalvageFault.TheVariants as fault
-use Rattle.nofs_sessions.specs.Entries.{has_fault}
-use Rattle.nofs_sessions.specs.Whole.{IsMet}
-use Rattle.nofs_sessions.specs.Says.{Says}
 
 -- the line of a loss
 abbrev pub loss_line : Loss → List ℕ

@@ -7,9 +7,7 @@ use Rattle.nofs_machine.specs.Steps.{Made, is_out_of_memory}
 use Rattle.nofs_machine.specs.declared.history.Entry1.{Entry1}
 use Rattle.nofs_machine.specs.declared.steps.Step.TheVariants as step
 use Rattle.nofs_machine.specs.declared.replies.Reply.{Reply}
-use Rattle.nofs_shared.specs.Added.{AddsStep}
-use Rattle.nofs_shared.specs.Owned.{steps_by}
-use Rattle.nofs_serve.specs.Visits.{VisitMade}
+use Rattle.nofs_sessions.specs.Handed.{AddsStep, steps_by, VisitMade}
 
 -- Caller 1 made the steps of its visit, each element was examined once, and then caller 0 made all durable. Where memory was wanting,
 -- each may have ended early

@@ -6,11 +6,10 @@
 ghost use Rattle.std.specs.Prelude.{◌≡◌, ◌≢◌, ◌++◌, ℕ, Bool, List, [], Err, IfOk, IfSome, OnOk, codes, map, string_bytes};
 ghost use Rattle.std.specs.Fn.{FnReturnsAt};
 ghost use Rattle.std.specs.Fmt.{decimal};
-ghost use Rattle.nofs_sessions.specs.Words.{picks_in};
+ghost use Rattle.nofs_sessions.specs.Handed.{picks_in, Finished};
 ghost use Rattle.nofs_sessions.specs.Serving.{IsClosed};
 ghost use Rattle.nofs_walks.specs.Visits.{IsVisitFollowed};
 ghost use Rattle.nofs_walks.specs.Salvaging.{AreReads, IsWalkTold, loss_line, losses_text, walk_text as walk_text_in};
-ghost use Rattle.nofs_sessions.specs.Whole.{Finished};
 
 use crate::visiting::visit_and_close;
 use nofs_disk::Disk;
@@ -18,11 +17,8 @@ use nofs_lists::{Content, Name};
 use nofs_lost::{All, Loss, NameFilter, NameRule, Prefix, Report, SalvageFault};
 use nofs_machine::Steps;
 use nofs_salvage::salvage;
-use nofs_serve::Visited;
-use nofs_sessions::{Ran, ended};
-use nofs_shared::Mount;
+use nofs_sessions::{Mount, Ran, Visited, Visits, ended};
 use nofs_task::Line;
-use nofs_teams::Visits;
 use nofs_text::{line_text, push_number};
 use std::alloc::{AllocError, Global};
 use std::sync::Wait;

@@ -4,15 +4,12 @@
 //! flusher makes no entry, and caller 0 makes the last entry, a flush of the whole disk.
 
 ghost use Rattle.std.specs.Prelude.{◌≡◌, [], false};
-ghost use Rattle.nofs_serve.specs.Visits.{VisitServed};
+ghost use Rattle.nofs_sessions.specs.Handed.{VisitServed};
 ghost use Rattle.nofs_sessions.specs.Serving.{IsClosed};
 ghost use Rattle.nofs_walks.specs.Visits.{IsVisitRun};
 
 use nofs_disk::Disk;
-use nofs_serve::{Visited, attend};
-use nofs_sessions::close;
-use nofs_shared::Mount;
-use nofs_teams::{Sweeps, Visits, WriteOuts};
+use nofs_sessions::{Mount, Sweeps, Visited, Visits, WriteOuts, attend, close};
 use nofs_workers::OpenGate;
 use std::alloc::Global;
 use std::sync::Wait;

@@ -3,7 +3,7 @@
 //! Promise: each leaves a core as the next one needs it.
 ghost use Rattle.std.specs.Prelude.{◌≡◌};
 ghost use Rattle.nofs_memdisk.specs.Parts.{memory_state};
-ghost use Rattle.nofs_state.specs.Books.{IsSafe};
+ghost use Rattle.nofs_state.specs.Handed.{IsSafe};
 
 use crate::tests::file_asks::done;
 use crate::tests::steps::{Handle, MemCore, Said, names_of};

@@ -2,7 +2,7 @@ use Rattle.std.proofs.Common.{sym, subst}
 use Rattle.std.proofs.Math.Logic.{∥∥₁_elim, ∥∥₁_prop}
 use Rattle.nofs_memdisk.specs.Parts.{memory_state}
 use Rattle.nofs_memdisk.specs.declared.memory.MemDisk.{MemDisk}
-use Rattle.nofs_shared.specs.Mounts.{IsSoundDisk}
+use Rattle.nofs_shared.specs.Handed.{IsSoundDisk}
 use Rattle.nofs_cases_core.proofs.Opening.{begun-open}
 use Rattle.nofs_cases_core.proofs.mounts.formatted_mount.Goals as goal
 

@@ -1,7 +1,7 @@
 use Rattle.std.proofs.Common.{refl}
 use Rattle.std.proofs.Math.Logic.{∥∥₁_elim, ∥∥₁_prop}
 use Rattle.nofs_memdisk.specs.Parts.{memory_state}
-use Rattle.nofs_shared.specs.Mounts.{IsSoundDisk}
+use Rattle.nofs_shared.specs.Handed.{IsSoundDisk}
 use Rattle.nofs_cases_core.proofs.Opening.{both-steps, put-open}
 use Rattle.nofs_cases_core.proofs.mounts.formatted_put.Goals as goal
 

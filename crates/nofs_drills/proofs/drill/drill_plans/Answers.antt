@@ -1,5 +1,5 @@
-use Rattle.nofs_drills.specs.Drill.{drill_session}
-use Rattle.nofs_sessions.proofs.Sessions.{plans-formed}
+use Rattle.nofs_drill_reads.specs.Drill.{drill_session}
+use Rattle.nofs_drill_reads.proofs.Handed.{plans-formed}
 use Rattle.nofs_drills.proofs.DrillEnds.{drill-session, plans-whole}
 use Rattle.nofs_drills.proofs.drill.drill_plans.Goals as goal
 

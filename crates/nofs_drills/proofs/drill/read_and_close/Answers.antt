@@ -2,9 +2,9 @@ use Rattle.std.proofs.Common.{rules, ◌≡◌, ◌∙◌, ap, true, List}
 use Rattle.std.specs.Prelude.{count_by, sum_by}
 use Rattle.nofs_machine.specs.HistoryState.{HistoryState}
 use Rattle.nofs_task.specs.declared.lines.Line.{Line}
-use Rattle.nofs_drills.specs.Drill.{is_refused_line}
+use Rattle.nofs_drill_reads.specs.Drill.{is_refused_line}
 use Rattle.nofs_drills.proofs.DrillEnds.{read-out}
-use Rattle.nofs_drills.proofs.Drills.{read-short, read-whole}
+use Rattle.nofs_drill_reads.proofs.Drills.{read-short, read-whole}
 use Rattle.nofs_drills.proofs.drill.read_and_close.Goals as goal
 
 pub returns-clause-out : goal.returns-clause-out

@@ -2,7 +2,7 @@ use Rattle.std.proofs.Common.{map, ap, ◌∙◌}
 use Rattle.nofs_machine.specs.HistoryState.{HistoryState}
 use Rattle.nofs_client.proofs.Runs.{lines-follow}
 use Rattle.nofs_drills.proofs.DrillEnds.{drill-ends}
-use Rattle.nofs_drills.proofs.Drills.{drill-follows, drill-unserved}
+use Rattle.nofs_drill_reads.proofs.Drills.{drill-follows, drill-unserved}
 use Rattle.nofs_drills.proofs.drill.run_drill.Goals as goal
 
 pub returns-in-Ok-clause-drilled : goal.returns-in-Ok-clause-drilled

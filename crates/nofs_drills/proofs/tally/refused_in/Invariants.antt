@@ -1,6 +1,6 @@
 use Rattle.std.proofs.Common.{◌≡◌, take}
 use Rattle.std.specs.Prelude.{count_by}
-use Rattle.nofs_drills.specs.Drill.{is_refused_line}
+use Rattle.nofs_drill_reads.specs.Drill.{is_refused_line}
 use Rattle.nofs_drills.proofs.tally.refused_in.Given as goal
 
 abbrev pub invariant-loop-line : goal.invariant-loop-line

@@ -1,6 +1,6 @@
 use Rattle.std.proofs.Common.{◌≡◌, take}
 use Rattle.std.specs.Prelude.{sum_by}
-use Rattle.nofs_drills.specs.Drill.{size_told}
+use Rattle.nofs_drill_reads.specs.Drill.{size_told}
 use Rattle.nofs_drills.proofs.tally.sizes.Given as goal
 
 abbrev pub invariant-loop-read : goal.invariant-loop-read

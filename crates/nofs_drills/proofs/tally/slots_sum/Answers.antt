@@ -1,5 +1,5 @@
 use Rattle.std.proofs.Common.{rules, ◌<◌, ◌+◌, ◌∙◌, ap, length, ℕ}
-use Rattle.nofs_drills.specs.Drill.{slot_sum}
+use Rattle.nofs_drill_reads.specs.Drill.{slot_sum}
 use Rattle.nofs_drills.proofs.Tallies.{sum-next}
 use Rattle.nofs_drills.proofs.tally.slots_sum.Goals as goal
 

@@ -1,5 +1,5 @@
 use Rattle.std.proofs.Common.{◌≡◌, ◌+◌, drop}
-use Rattle.nofs_drills.specs.Drill.{slots_sum}
+use Rattle.nofs_drill_reads.specs.Drill.{slots_sum}
 use Rattle.nofs_drills.proofs.tally.slots_sum.Given as goal
 
 abbrev pub invariant-loop-slot : goal.invariant-loop-slot

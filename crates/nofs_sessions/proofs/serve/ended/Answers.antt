@@ -1,7 +1,7 @@
 use Rattle.std.proofs.Common.{sym, subst₂}
 use Rattle.std.proofs.Math.Logic.{∥∥₁_elim, ∥∥₁_prop}
 use Rattle.nofs_machine.specs.HistoryState.{HistoryState}
-use Rattle.nofs_sessions.specs.Whole.{Finished}
+use Rattle.nofs_beginning.specs.Whole.{Finished}
 use Rattle.nofs_sessions.proofs.Whole.{mount-finishes}
 use Rattle.nofs_sessions.proofs.serve.ended.Goals as goal
 

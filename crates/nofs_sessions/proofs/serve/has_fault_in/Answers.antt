@@ -1,5 +1,5 @@
 use Rattle.std.proofs.Common.{◌≡◌, ◌<◌, false, length, take, sym, subst, add-one, rules}
-use Rattle.nofs_sessions.specs.Entries.{has_fault}
+use Rattle.nofs_beginning.specs.Entries.{has_fault}
 use Rattle.nofs_sessions.proofs.Failing.{fault-at, fault-passed}
 use Rattle.nofs_sessions.proofs.serve.has_fault_in.Goals as goal
 

@@ -1,5 +1,5 @@
 use Rattle.std.proofs.Common.{◌≡◌, false, take}
-use Rattle.nofs_sessions.specs.Entries.{has_fault}
+use Rattle.nofs_beginning.specs.Entries.{has_fault}
 use Rattle.nofs_sessions.proofs.serve.has_fault_in.Given as goal
 
 abbrev pub invariant-loop-at : goal.invariant-loop-at

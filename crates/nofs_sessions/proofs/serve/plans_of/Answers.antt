@@ -1,5 +1,5 @@
 use Rattle.std.proofs.Common.{rules, ◌≡◌, ◌∙◌, ◌++◌, eqb-true, true, length, map, vec_len, sym, ap, append-nil}
-use Rattle.nofs_shared.proofs.Walking.{nil-of}
+use Rattle.nofs_serve.proofs.Handed.{nil-of}
 use Rattle.nofs_sessions.proofs.Sessions.{plans-formed}
 use Rattle.nofs_sessions.proofs.serve.plans_of.Goals as goal
 

@@ -1,11 +1,10 @@
 use Rattle.std.proofs.Common.{◌≡◌, ◌∙◌, Bool, false, [], sym, subst}
 use Rattle.nofs_machine.specs.HistoryState.{HistoryState}
-use Rattle.nofs_shared.specs.Mounts.{IsMount}
-use Rattle.nofs_state.specs.declared.books.Counts.{Counts}
+use Rattle.nofs_serve.specs.Handed.{IsMount, Counts}
 use Rattle.nofs_sessions.specs.Counts.{CountsDisk}
-use Rattle.nofs_sessions.specs.Entries.{has_fault}
+use Rattle.nofs_beginning.specs.Entries.{has_fault}
 use Rattle.nofs_sessions.specs.Serving.{IsSessionRun}
-use Rattle.nofs_sessions.specs.Whole.{IsMet}
+use Rattle.nofs_beginning.specs.Whole.{IsMet}
 use Rattle.nofs_sessions.proofs.Counted.{counts-told, none-run, scan-counted}
 use Rattle.nofs_sessions.proofs.serve.run_scan.Goals as goal
 

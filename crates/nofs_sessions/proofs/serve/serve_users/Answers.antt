@@ -4,8 +4,8 @@ use denote.Exit.{no}
 use mir.Syntax.{of_param}
 use denote.Param.Send.{Quiet-if}
 use Rattle.nofs_image.specs.Cells.{SuperBlock}
-use Rattle.nofs_shared.proofs.Sends.{evidence-send, mount-send}
-use Rattle.nofs_teams.specs.Served.{TeamServed}
+use Rattle.nofs_serve.proofs.Handed.{evidence-send, mount-send}
+use Rattle.nofs_serve.specs.Handed.{TeamServed}
 use Rattle.nofs_sessions.proofs.serve.serve_users.Goals as goal
 
 pub serve-requires-send-V : goal.serve-requires-send-V

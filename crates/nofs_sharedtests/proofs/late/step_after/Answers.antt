@@ -1,7 +1,7 @@
 use Rattle.std.proofs.Common.{ℕ, sym, subst₂}
 use Rattle.nofs_memdisk.specs.Parts.{memory_state}
-use Rattle.nofs_shared.specs.Earlier.{IsEarlier, earlier-on}
-use Rattle.nofs_shared.proofs.Owning.{adds-prefix}
+use Rattle.nofs_shared.specs.Handed.{IsEarlier, earlier-on}
+use Rattle.nofs_shared.proofs.Handed.{adds-prefix}
 use Rattle.nofs_sharedtests.proofs.late.step_after.Goals as goal
 
 pub returns : goal.returns

@@ -1,8 +1,7 @@
 use Rattle.std.proofs.Common.{◌≡◌, ℕ, ◌+◌, ◌≤◌, ◌++◌, List, [], All, length, vec_len, vec_capacity}
 use Rattle.nofs_turn.specs.Turns.{view_of, IsPassOf}
 use Rattle.nofs_task.specs.declared.commands.Command.{Command}
-use Rattle.nofs_shared.specs.Owned.{own_steps}
-use Rattle.nofs_shared.specs.Seats.{SameSeat}
+use Rattle.nofs_shared.specs.Handed.{own_steps, SameSeat}
 use Rattle.nofs_teams.specs.Joins.{Gathers, made_by}
 use Rattle.nofs_teams.specs.Teams.{Stand, HasRun}
 use Rattle.nofs_teams.specs.Served.{UsersGathered}

@@ -4,8 +4,7 @@ use Rattle.nofs_turn.specs.Turns.{view_of}
 use Rattle.nofs_machine.specs.Steps.{Made}
 use Rattle.nofs_machine.specs.declared.history.Entry1.{Entry1}
 use Rattle.nofs_machine.specs.declared.steps.ElementKind.{ElementKind}
-use Rattle.nofs_shared.specs.Owned.{all_by, own_steps}
-use Rattle.nofs_shared.specs.Seats.{SameSeat}
+use Rattle.nofs_shared.specs.Handed.{all_by, own_steps, SameSeat}
 use Rattle.nofs_workers.specs.Sweeps.{Sweeps}
 use Rattle.nofs_teams.specs.Joins.{JoinsOwn}
 use Rattle.nofs_teams.proofs.Gathering.{length-scripts}

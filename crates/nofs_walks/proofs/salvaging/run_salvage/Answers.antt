@@ -3,7 +3,7 @@ use Rattle.std.specs.Prelude.{IfSome}
 use Rattle.nofs_machine.specs.HistoryState.{HistoryState}
 use Rattle.nofs_lost.specs.Picks.{begins_with}
 use Rattle.nofs_walks.specs.Salvaging.{IsWalkTold}
-use Rattle.nofs_sessions.specs.Words.{picks_in}
+use Rattle.nofs_sessions.specs.Handed.{picks_in}
 use Rattle.nofs_walks.proofs.Salvages.{none-walked, picks-all, picks-prefix}
 use Rattle.nofs_walks.proofs.salvaging.run_salvage.Goals as goal
 use Rattle.nofs_walks.proofs.salvaging.run_salvage.Goals.{in_default-via-then-words-lt2, in_default-via-else-words-lt2+else-words-lt3}

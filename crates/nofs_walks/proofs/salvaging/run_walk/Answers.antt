@@ -1,7 +1,7 @@
 use Rattle.std.proofs.Common.{◌∙◌, ℕ, ap, subst₂}
 use Rattle.nofs_machine.specs.HistoryState.{HistoryState}
 use Rattle.nofs_walks.specs.Salvaging.{IsWalkTold}
-use Rattle.nofs_sessions.specs.Whole.{Finished}
+use Rattle.nofs_sessions.specs.Handed.{Finished}
 use Rattle.nofs_walks.proofs.Salvages.{walk-done, walk-text}
 use Rattle.nofs_walks.proofs.salvaging.run_walk.Goals as goal
 

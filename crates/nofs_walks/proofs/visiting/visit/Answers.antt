@@ -3,7 +3,7 @@ use denote.Param.{param}
 use denote.Exit.{no}
 use mir.Syntax.{of_param}
 use denote.Param.Send.{Quiet-if}
-use Rattle.nofs_shared.proofs.Sends.{evidence-send, mount-send}
+use Rattle.nofs_sessions.proofs.Handed.{evidence-send, mount-send}
 use Rattle.nofs_walks.proofs.Visits.{visit-none}
 use Rattle.nofs_walks.proofs.visiting.visit.Goals as goal
 

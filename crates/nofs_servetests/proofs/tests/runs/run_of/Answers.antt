@@ -2,7 +2,7 @@ use denote.Param.{param}
 use denote.Exit.{no}
 use mir.Syntax.{of_param}
 use denote.Param.Send.{Quiet-if}
-use Rattle.nofs_shared.proofs.Sends.{evidence-send, mount-send}
+use Rattle.nofs_serve.proofs.Handed.{evidence-send, mount-send}
 use Rattle.nofs_servetests.proofs.tests.runs.run_of.Goals as goal
 
 pub serve-requires-send-V : goal.serve-requires-send-V

@@ -2,7 +2,7 @@ use Rattle.std.proofs.Common.{◌≡◌, ◌∙◌, ap, subst, get_or}
 use Rattle.nofs_turn.specs.Turns.{view_of}
 use Rattle.nofs_machine.specs.Steps.{Fits, with_made}
 use Rattle.nofs_machine.specs.declared.steps.Step.{Step}
-use Rattle.nofs_shared.specs.Owned.{own_steps}
+use Rattle.nofs_shared.specs.Handed.{own_steps}
 use Rattle.nofs_teams.proofs.Looking.{same-see}
 use Rattle.nofs_teams.proofs.way.WayBatches.commit.Goals as goal
 

@@ -1,0 +1,4 @@
+pub mod Books
+pub mod Verdicts
+pub mod Owning
+pub mod Counted

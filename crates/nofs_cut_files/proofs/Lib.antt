@@ -1,0 +1,4 @@
+pub mod CutImage
+pub mod CutHomes
+pub mod CutDone
+pub mod Handed

@@ -1,0 +1,7 @@
+pub mod CutCells
+pub mod CutPaths
+pub mod CutWrites
+pub mod CutRecords
+pub mod CutMaps
+pub mod CutBlocks
+pub mod Handed

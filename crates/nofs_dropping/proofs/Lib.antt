@@ -1,0 +1,4 @@
+pub mod Dropping
+pub mod DropFacts
+pub mod Dropped
+pub mod Removed

@@ -1,0 +1,5 @@
+pub mod Emptiness
+pub mod DropOnward
+pub mod DropRows
+pub mod DropFound
+pub mod Cleared

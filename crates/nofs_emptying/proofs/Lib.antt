@@ -1,0 +1,4 @@
+pub mod Blocks
+pub mod Kept
+pub mod Fullness
+pub mod Handed

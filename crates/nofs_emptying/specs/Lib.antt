@@ -1,0 +1,4 @@
+pub mod Owning
+pub mod Keeping
+pub mod Filled
+pub mod Handed

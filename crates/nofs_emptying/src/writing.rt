@@ -1,0 +1,98 @@
+//! One write of a step, and an entry in a cell.
+ghost use Rattle.std.specs.Prelude.{◌≡◌, ◌*◌, ◌/◌, ◌<◌, ◌≤◌, ◌∷◌, [], length, OnOk};
+ghost use Rattle.nofs_disk.specs.Number.{put_bytes};
+ghost use Rattle.nofs_dirent.specs.Entries.{HasEntrySpelling, entry_limit, entry_with, spelled_entry};
+ghost use Rattle.nofs_dirent.specs.EntryLaws.{Spells};
+ghost use Rattle.nofs_agree.specs.Reading.{IsLast};
+ghost use Rattle.nofs_name_steps.specs.Handed.{Knows, Stores};
+ghost use Rattle.nofs_name_steps.specs.Renames.{HoldsSlot, IsSlotHeld};
+
+use nofs_agree::LastRead;
+use nofs_dirent::{Entry, write_entry};
+use nofs_disk::{Cell, Disk, Pointer};
+use nofs_image::PathAnswer;
+use nofs_lists::Name;
+use nofs_machine::Refusal;
+use nofs_name_steps::{Core, Paired, ReadInode};
+use std::alloc::{AllocError, Global};
+
+/// Writes a cell. Where the write fails the mount is stopped.
+///
+/// # Errors
+///
+/// `WriteFault` where the write failed: the cell may be written or not.
+pub fn write_one<D: Disk + Drop>(core: &mut Core<D>, block: u64, cell: &Cell) -> Result<(), Refusal>
+    requires block { block < (D.state core.old.disk).blocks }
+    requires spare { 1 ≤ (D.state core.old.disk).spare }
+    ensures { Stores (D.state core.old.disk) core.old.books (D.state core.new.disk) core.new.books ((block, cell.now) ∷ []) result }
+{
+    match core.disk.write(block, cell) {
+        Ok(()) => Ok(()),
+        Err(_) => {
+            core.books.stopped = true;
+            Err(Refusal::WriteFault)
+        }
+    }
+}
+
+/// Writes an entry at a place of a directory's cell.
+pub fn put_entry(
+    alloc: Global,
+    payload: &mut [u8; 1024],
+    place: u32,
+    inode: u32,
+    generation: u64,
+    name: &[u8],
+) -> Result<(), AllocError>
+    requires place { place < 16 }
+    requires spelling { HasEntrySpelling (entry_with inode generation name.now) }
+    ensures whole { length payload.old ≡ 1024 }
+    ensures spells { Spells (spelled_entry inode generation name.now) (entry_with inode generation name.now) }
+    ensures put { OnOk result (payload.new ≡ put_bytes (64 * place) (spelled_entry inode generation name.now) payload.old) }
+{
+    let entry = Entry {
+        inode,
+        generation,
+        name: Name::from_slice(alloc, name)?,
+    };
+    write_entry(payload, place, &entry);
+    Ok(())
+}
+
+/// The block of the slot of an entry, which holds. It is the one that was read last.
+///
+/// # Errors
+///
+/// `ReadFault` where a read failed. Where the disk tells, the slot must hold; where it does not, it
+/// may answer `LostSlot`.
+pub fn hold_entry<D: Disk>(
+    disk: &mut D,
+    directory: ReadInode,
+    found: &Paired,
+    names: &mut LastRead,
+) -> Result<Pointer, Refusal>
+    requires range { found.now.entry < entry_limit }
+    requires known { Knows (D.state disk.old) directory }
+    requires last { IsLast (D.state disk.old) names.old }
+    ensures { HoldsSlot (D.state disk.old) (D.state disk.new) directory.at directory.inode (found.now.entry / 16) names.new result }
+{
+    let slot = found.entry / 16;
+    match directory.find(disk, slot, names) {
+        Err(_) => Err(Refusal::ReadFault),
+        Ok(answer) => held(answer, slot),
+    }
+}
+
+fn held(answer: PathAnswer, slot: u32) -> Result<Pointer, Refusal>
+    ensures { IsSlotHeld slot answer result }
+{
+    match answer {
+        PathAnswer::Holds(pointer) => Ok(pointer),
+        PathAnswer::Hole => Err(Refusal::LostSlot {
+            slot: u64::from(slot),
+        }),
+        PathAnswer::Lost => Err(Refusal::LostSlot {
+            slot: u64::from(slot),
+        }),
+    }
+}

@@ -1,0 +1,4 @@
+pub mod Entered
+pub mod EnteredHole
+pub mod LinkClaims
+pub mod Handed

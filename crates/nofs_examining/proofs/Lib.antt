@@ -1,0 +1,14 @@
+pub mod Machine
+pub mod Opens
+pub mod Rows
+pub mod Tables
+pub mod Sessions
+pub mod Owned
+pub mod Examined
+pub mod Seeing
+pub mod SeeingInodes
+pub mod MarkedSlots
+pub mod Knowing
+pub mod ZeroPointers
+pub mod CurrentFiles
+pub mod Handed

@@ -1,4 +1,0 @@
-pub mod Answers
-pub mod Putting
-pub mod Resizing
-pub mod Handed

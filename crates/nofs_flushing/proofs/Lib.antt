@@ -1,0 +1,3 @@
+pub mod Sounded
+pub mod Faults
+pub mod Flushed

@@ -1,0 +1,13 @@
+//! Tests of runs over images that were laid down cell by cell: how they are served and counted, raised to version 2, and salvaged.
+//!
+//! Promise: what is printed is what the definitions say of the cells.
+#![tactic(auto)]
+
+#[cfg(test)]
+mod images;
+#[cfg(test)]
+mod salvages;
+#[cfg(test)]
+mod second;
+#[cfg(test)]
+mod walks;

@@ -1,0 +1,318 @@
+//! Images that are raised to version 2, and files that only it has room for.
+
+ghost use Rattle.std.specs.Prelude.{◌≤◌};
+
+use nofs_disk::Disk;
+use nofs_io::{MemSink, MemSource};
+use nofs_memdisk::{MemDisk, Unready};
+use nofs_testruns::{
+    FAULTS, Patch, USAGE, VERSION_2, bytes_of, cells_of, disk_of, fault, image_cells, left,
+    patched, patched_empty, prints, run_on, run_with, scan_line, used,
+};
+use nofs_versions::{CallKind, Pick};
+use std::alloc::{AllocError, Global};
+use std::test::Fail;
+
+const VERSION_1: Patch = (0, 8, "01000000");
+
+// A disk of 16 blocks that holds the empty image of version 1.
+fn empty_disk(alloc: Global) -> Result<MemDisk, Fail> {
+    Ok(disk_of(alloc, 16, &patched_empty(alloc, &[])?)?)
+}
+
+// The bytes of the empty image of this version.
+fn empty_bytes(alloc: Global, version: u64) -> Result<Vec<u8>, Fail> {
+    let patch = if version == 2 { VERSION_2 } else { VERSION_1 };
+    Ok(bytes_of(alloc, &patched_empty(alloc, &[patch])?)?)
+}
+
+// The bytes of the first 16 blocks of a disk.
+fn bytes_on<D: Disk>(alloc: Global, disk: &mut D) -> Result<Vec<u8>, AllocError> {
+    bytes_of(alloc, &cells_of(alloc, disk, 16)?)
+}
+
+#[test]
+fn an_upgraded_image_has_larger_files(rt: HostRuntime) -> Result<(), Fail> {
+    let mut disk = empty_disk(rt.alloc())?;
+    for (command, session, want, status) in [
+        ("run", "size @ 73729", "refused 12 too large\n", 0),
+        ("upgrade", "", "upgraded\n", 0),
+        ("upgrade", "", "upgrade: already version 2\n", 4),
+        ("run", "size @ 73729", "sized 73729\n", 0),
+    ] {
+        disk = prints(&rt, disk, command, session, want, status)?;
+    }
+    Ok(())
+}
+
+// The disk that a crash leaves with this one of the cells of block 0; `None` where there is none.
+fn left_first(alloc: Global, disk: &MemDisk, version: u64) -> Result<Option<MemDisk>, AllocError> {
+    left(alloc, disk, &[Pick { block: 0, version }])
+}
+
+// Whether a crash leaves this one, and it is the empty image of the version one higher.
+fn leaves_empty(alloc: Global, disk: &MemDisk, version: u64) -> Result<bool, Fail>
+    requires { version ≤ 1 }
+{
+    match left_first(alloc, disk, version)? {
+        Some(mut image) => Ok(bytes_on(alloc, &mut image)? == empty_bytes(alloc, version + 1)?),
+        None => Ok(false),
+    }
+}
+
+#[test]
+fn a_device_that_fails_in_an_upgrade_leaves_either_version(rt: HostRuntime) -> Result<(), Fail> {
+    let alloc = rt.alloc();
+    for (call, taken, versions) in [
+        (CallKind::Write, true, 2),
+        (CallKind::Write, false, 1),
+        (CallKind::Flush, false, 2),
+        (CallKind::Read, false, 1),
+    ] {
+        let mut disk = empty_disk(alloc)?;
+        disk.fail_at(&[fault(call, 1, taken)])?;
+        let disk = prints(&rt, disk, "upgrade", "", "device fault\n", 3)?;
+        assert!(rt; leaves_empty(alloc, &disk, 0)?, "{call:?}");
+        assert_eq!(rt; leaves_empty(alloc, &disk, 1)?, versions == 2, "{call:?}");
+        assert!(rt; left_first(alloc, &disk, versions)?.is_none(), "{call:?}");
+    }
+    Ok(())
+}
+
+#[test]
+fn an_image_that_cannot_be_upgraded_is_told_and_left_as_it_was(
+    rt: HostRuntime,
+) -> Result<(), Fail> {
+    let alloc = rt.alloc();
+    for (image, patch, fault) in FAULTS {
+        let cells = patched(alloc, image_cells(alloc, image)?, &[patch])?;
+        let want = format!(in alloc; "mount: {fault}\n")?;
+        for (command, want, status) in [("upgrade", want.as_str(), 4), ("upgrade 1", USAGE, 1)] {
+            let disk = disk_of(alloc, 16, &cells)?;
+            let mut disk = prints(&rt, disk, command, "", want, status)?;
+            assert_eq!(rt; disk.calls().writes, 0, "{fault}");
+            assert!(rt;
+                bytes_on(alloc, &mut disk)? == bytes_of(alloc, &cells)?,
+                "{fault}"
+            );
+        }
+    }
+    Ok(())
+}
+
+#[test]
+fn an_upgrade_asks_no_source_and_stands_without_its_line(rt: HostRuntime) -> Result<(), Fail> {
+    let alloc = rt.alloc();
+    for (source_fails, sink_fails, want, status) in [(1, 9, "upgraded\n", 0), (9, 1, "", 5)] {
+        let mut source = MemSource::new(alloc, b"frob".as_slice(), 64, &[source_fails])?;
+        let mut sink = MemSink::new(alloc, 64, &[sink_fails])?;
+        let disk = empty_disk(alloc)?;
+        let (ended, mut disk) = run_with(&rt, alloc, "upgrade", &mut source, &mut sink, disk)?;
+        assert_eq!(rt; sink.bytes(), want.as_bytes());
+        assert_eq!(rt; ended, status);
+        assert!(rt; left_first(alloc, &disk, 1)?.is_none());
+        assert!(rt; bytes_on(alloc, &mut disk)? == empty_bytes(alloc, 2)?);
+    }
+    Ok(())
+}
+
+#[test]
+fn an_upgrade_without_memory_writes_nothing(rt: HostRuntime) -> Result<(), Fail> {
+    let alloc = rt.alloc();
+    for (rooms, want, status, version) in [(0, "", 7, 1), (1, "upgraded\n", 0, 2)] {
+        let disk = Unready {
+            under: empty_disk(alloc)?,
+            rooms,
+        };
+        let mut disk = prints(&rt, disk, "upgrade", "", want, status)?;
+        assert!(rt; bytes_on(alloc, &mut disk)? == empty_bytes(alloc, version)?);
+    }
+    Ok(())
+}
+
+/// A session, and the lines that it is to print.
+#[derive(Drop)]
+struct Told {
+    session: Vec<u8>,
+    lines: Vec<u8>,
+}
+
+impl Told {
+    fn push(&mut self, session: &str, lines: &str) -> Result<(), AllocError> {
+        self.session.extend_from_slice(session.as_bytes())?;
+        self.lines.extend_from_slice(lines.as_bytes())
+    }
+}
+
+// The greatest size of a file.
+const LARGEST: u64 = 4_268_032;
+
+// The offset of a put: the first has `first` bytes, and each but the last of the others 65,536.
+fn offset_of(first: u64, number: u64) -> u64
+    requires first { first ≤ 8192 }
+    requires number { number ≤ 67 }
+    ensures { result ≤ 4400000 }
+{
+    if number == 0 {
+        0
+    } else {
+        first + 65_536 * (number - 1)
+    }
+}
+
+// A put of bytes that are all one more than its number.
+fn push_put(
+    alloc: Global,
+    told: &mut Told,
+    path: &str,
+    first: u64,
+    number: u64,
+) -> Result<(), AllocError>
+    requires first { first ≤ 8192 }
+    requires number { number ≤ 66 }
+{
+    let offset = offset_of(first, number);
+    let length = offset_of(first, number + 1)
+        .min(LARGEST)
+        .saturating_sub(offset);
+    if length == 0 {
+        return Ok(());
+    }
+    let bytes = vec![in alloc; number as u8 + 1; length as usize]?;
+    told.push(format!(in alloc; "put {path} {offset} ")?.as_str(), "")?;
+    told.push(hex::encode(alloc, &bytes)?.as_str(), "")?;
+    told.push("\n", format!(in alloc; "put {length}\n")?.as_str())
+}
+
+// Makes a file and fills it to its greatest size.
+fn push_fill(alloc: Global, told: &mut Told, path: &str, first: u64) -> Result<(), AllocError>
+    requires { first ≤ 8192 }
+{
+    told.push(format!(in alloc; "make {path}\n")?.as_str(), "made\n")?;
+    for number in 0..67 {
+        push_put(alloc, told, path, first, number)?;
+    }
+    Ok(())
+}
+
+/// A session that may fill a file, the lines of what stands before and after that, and how many inodes and blocks are used at its end.
+#[derive(Clone, Copy)]
+struct Part {
+    before: (&'static str, &'static str),
+    /// The path of the file, and how many bytes the first put has.
+    fill: Option<(&'static str, u64)>,
+    after: (&'static str, &'static str),
+    used: (u64, u64),
+}
+
+// Commands that fill no file.
+fn cutting(session: &'static str, lines: &'static str, used: (u64, u64)) -> Part {
+    filling((session, lines), None, ("", ""), used)
+}
+
+// Commands, a file that is filled, and commands after that.
+fn filling(
+    before: (&'static str, &'static str),
+    fill: Option<(&'static str, u64)>,
+    after: (&'static str, &'static str),
+    used: (u64, u64),
+) -> Part {
+    Part {
+        before,
+        fill,
+        after,
+        used,
+    }
+}
+
+// Six blocks are always used: the superblock, four of the table, and one of the root. A file of the
+// greatest size has 4,168 blocks of content, a leaf, a top and 64 children.
+fn parts() -> [Part; 7] {
+    [
+        // Each put fills what one block of pointers has.
+        filling(
+            ("", ""),
+            Some(("/a", 8192)),
+            (
+                "get /a 8191 2\nget /a 73727 2\nget /a 139263 2\nget /a 4268030 9\nput /a 4268032 00\nsize /a 4268033\nstat /a",
+                "got bytes:01 bytes:02\ngot bytes:02 bytes:03\ngot bytes:03 bytes:04\ngot bytes:4242\nrefused 12 too large, stored 0\nrefused 12 too large\nstat file 4268032 1\n",
+            ),
+            (3, 4240),
+        ),
+        // The top goes with the last child.
+        cutting(
+            "size /a 73728\nget /a 73727 2\nstat /a",
+            "sized 73728\ngot bytes:02\nstat file 73728 1\n",
+            (3, 79),
+        ),
+        cutting(
+            "size /a 100\nget /a 98 9",
+            "sized 100\ngot bytes:0101\n",
+            (3, 7),
+        ),
+        // Slots 0, 71, 72, 135, 136 and 4,167, the leaf, the top, and children 0, 1 and 63.
+        cutting(
+            "size /a 4268032\nget /a 98 4\nget /a 1023 2\nput /a 73726 aabbccdd\nput /a 139263 1122\nput /a 4268031 07\nget /a 73725 6\nget /a 139262 4\nget /a 4268030 9\nget /a 8191 2",
+            "sized 4268032\ngot bytes:01010000\ngot bytes:00 hole:1\nput 4\nput 2\nput 1\ngot bytes:00aabb bytes:ccdd00\ngot bytes:0011 bytes:2200\ngot bytes:0007\ngot hole:1 hole:1\n",
+            (3, 17),
+        ),
+        // The last block that stays ends where child 0 does.
+        cutting(
+            "size /a 139264\nsize /a 139263\nget /a 139262 9\nsize /a 139265\nget /a 139262 9",
+            "sized 139264\nsized 139263\ngot bytes:00\nsized 139265\ngot bytes:0000 hole:1\n",
+            (3, 13),
+        ),
+        // Each put but the last ends inside a block.
+        filling(
+            ("drop /a\nlist /\n", "dropped\nnames\n"),
+            Some(("/b", 7000)),
+            (
+                "get /b 6999 2\nget /b 72535 2\nget /b 4266839 2\nget /b 4268030 9\nstat /b",
+                "got bytes:0102\ngot bytes:0203\ngot bytes:4243\ngot bytes:4343\nstat file 4268032 1\n",
+            ),
+            (3, 4240),
+        ),
+        cutting("drop /b\nstat /b", "dropped\nrefused 1 missing\n", (2, 6)),
+    ]
+}
+
+fn told_of(alloc: Global, part: Part) -> Result<Told, AllocError> {
+    let mut told = Told {
+        session: Vec::new(alloc),
+        lines: Vec::new(alloc),
+    };
+    told.push(part.before.0, part.before.1)?;
+    if let Some((path, first)) = part.fill {
+        push_fill(alloc, &mut told, path, first.min(8192))?;
+    }
+    told.push(part.after.0, part.after.1)?;
+    Ok(told)
+}
+
+// The line of a scan by the definitions; `None` where the disk can't be mounted.
+fn scan_of(alloc: Global, disk: &mut MemDisk) -> Result<Option<String>, AllocError> {
+    match used(alloc, &cells_of(alloc, disk, 8192)?)? {
+        Some(counts) => Ok(Some(scan_line(alloc, (16, 8192), counts)?)),
+        None => Ok(None),
+    }
+}
+
+#[test]
+fn a_large_file_is_filled_and_cut_and_another_takes_its_blocks(
+    rt: HostRuntime,
+) -> Result<(), Fail> {
+    let alloc = rt.alloc();
+    let disk = MemDisk::new(alloc, 8192)?;
+    let (_, _, disk) = run_on(&rt, alloc, "new 8192 16", b"".as_slice(), disk)?;
+    let (_, _, mut disk) = run_on(&rt, alloc, "upgrade", b"".as_slice(), disk)?;
+    for part in parts() {
+        let told = told_of(alloc, part)?;
+        let (status, sink, after) = run_on(&rt, alloc, "run", &told.session, disk)?;
+        assert_eq!(rt; sink.bytes(), told.lines.as_slice());
+        assert_eq!(rt; status, 0);
+        let want = scan_line(alloc, (16, 8192), part.used)?;
+        disk = prints(&rt, after, "scan", "", want.as_str(), 0)?;
+        assert!(rt; scan_of(alloc, &mut disk)? == Some(want));
+    }
+    Ok(())
+}

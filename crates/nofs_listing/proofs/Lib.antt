@@ -1,0 +1,3 @@
+pub mod ListWalk
+pub mod Lines
+pub mod Listings

@@ -1,0 +1,4 @@
+pub mod MakeRows
+pub mod MakePlace
+pub mod MadeHole
+pub mod MadeGoes

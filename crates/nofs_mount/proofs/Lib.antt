@@ -1,0 +1,4 @@
+pub mod Refusing
+pub mod Raising
+pub mod Sends
+pub mod Handed

@@ -1,0 +1,12 @@
+pub mod RestingImages
+pub mod Mounting
+pub mod Owning
+pub mod Ending
+pub mod Claiming
+pub mod Committing
+pub mod Rooming
+pub mod Roomed
+pub mod Looking
+pub mod Scanning
+pub mod WritingOut
+pub mod Handed

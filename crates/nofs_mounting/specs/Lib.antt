@@ -1,0 +1,12 @@
+pub mod Forms
+pub mod Sees
+pub mod Mounts
+pub mod Earlier
+pub mod Added
+pub mod Batches
+pub mod Owned
+pub mod Seats
+pub mod Ends
+pub mod Commits
+pub mod Settling
+pub mod Handed

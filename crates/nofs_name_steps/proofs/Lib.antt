@@ -1,0 +1,12 @@
+pub mod OneWrite
+pub mod NameSteps
+pub mod Quiet
+pub mod CellWrite
+pub mod Leaving
+pub mod NameWrite
+pub mod Relinks
+pub mod MapFreed
+pub mod Onward
+pub mod HeldEntry
+pub mod Claiming
+pub mod Handed

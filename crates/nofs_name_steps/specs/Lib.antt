@@ -1,0 +1,4 @@
+pub mod Renames
+pub mod Drops
+pub mod Removing
+pub mod Handed

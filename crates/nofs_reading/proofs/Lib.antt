@@ -1,0 +1,5 @@
+pub mod Counting
+pub mod FileRows
+pub mod Getting
+pub mod Flushing
+pub mod Handed

@@ -1,0 +1,3 @@
+pub mod CutRows
+pub mod CutGoes
+pub mod CutReads

@@ -1,0 +1,5 @@
+pub mod Places
+pub mod Least
+pub mod PairTests
+pub mod Passing
+pub mod Walking

@@ -1,0 +1,20 @@
+//! What the tests of whole runs share: runs over a disk, example images, what a crash leaves, and ordinary days. No program uses it.
+//!
+//! Promise: each ends with a value or an error, so it is the test that judges.
+#![tactic(auto)]
+
+mod disks;
+mod draws;
+mod images;
+mod readings;
+mod runs;
+mod stories;
+
+pub use disks::{
+    bytes_of, cached, cell_of, cells_of, disk_of, failing, fault, left, scan_line, used,
+};
+pub use draws::{choices_of, draw, drawn_call, drawn_picks, fault_after, made};
+pub use images::{FAULTS, Image, Patch, VERSION_2, image_cells, patched, patched_empty};
+pub use readings::{Seen, count, push_bytes, scanned_and_read, see_line};
+pub use runs::{LINES, SESSION, USAGE, many, prints, run_on, run_with};
+pub use stories::{Line, Story, day_calls, evening, stopped, text_of_lines};
