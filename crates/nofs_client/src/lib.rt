@@ -6,8 +6,6 @@
 mod client;
 mod driver;
 mod progress;
-#[cfg(test)]
-mod tests;
 
 pub use client::Client;
 pub use driver::drive;

@@ -6,8 +6,6 @@
 
 mod entry;
 mod name;
-#[cfg(test)]
-mod tests;
 
 pub use entry::{
     ENTRY_LIMIT, Entry, bytes_of, clear_entry, find_name, has_name, has_zeros_after, read_entry,

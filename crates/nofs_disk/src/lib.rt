@@ -9,8 +9,6 @@ mod disk;
 mod number;
 mod pointer;
 mod tag;
-#[cfg(test)]
-mod tests;
 
 pub use disk::Disk;
 pub use number::{clear, read_u32_at, read_u64_at, write_bytes_at, write_u32_at, write_u64_at};

@@ -7,8 +7,6 @@
 mod images;
 mod laying;
 mod names;
-#[cfg(test)]
-mod tests;
 
 pub use images::{
     blocks_under_the_top, bytes_ff, empty, inode_made_again, residue_past_the_size,

@@ -10,8 +10,6 @@ mod filedisk;
 mod memory;
 mod moving;
 mod positioned;
-#[cfg(test)]
-mod tests;
 mod windows;
 
 pub use adapter::HostFile;

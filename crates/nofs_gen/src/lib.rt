@@ -7,8 +7,6 @@
 mod file;
 mod replays;
 mod script;
-#[cfg(test)]
-mod tests;
 
 pub use replays::{ValueList, replay};
 pub use script::{MOST_STEPS, USERS, script_of};

@@ -6,8 +6,6 @@
 mod base;
 mod list;
 mod steps;
-#[cfg(test)]
-mod tests;
 
 pub use list::accepted_of;
 pub use nofs_machine::{

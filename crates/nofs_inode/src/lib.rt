@@ -5,7 +5,5 @@
 #![tactic(auto)]
 
 pub mod inode;
-#[cfg(test)]
-mod tests;
 
 pub use inode::{BackLink, FREE_RECORD, FileKind, Record, read_record, record_at, write_record};

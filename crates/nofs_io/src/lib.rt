@@ -13,6 +13,3 @@ pub use adapters::{ReadSource, WriteSink};
 pub use memory::{MemSink, MemSource};
 pub use texts::{ReadFault, TEXT_LIMIT, read_all, write_all};
 pub use traits::{Failed, Sink, Source};
-
-#[cfg(test)]
-mod tests;

@@ -7,8 +7,6 @@
 #![tactic(auto)]
 
 mod memory;
-#[cfg(test)]
-mod tests;
 mod unready;
 
 pub use memory::MemDisk;

@@ -9,8 +9,6 @@
 mod laws;
 mod mover;
 mod paths;
-#[cfg(test)]
-mod tests;
 
 pub use laws::law_move_run;
 pub use mover::move_file;

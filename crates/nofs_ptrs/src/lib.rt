@@ -6,8 +6,6 @@
 
 mod cell;
 mod path;
-#[cfg(test)]
-mod tests;
 
 pub use cell::{read_pointer, write_pointer};
 pub use path::{SLOT_LIMIT, SlotPath, path_of};

@@ -7,8 +7,6 @@
 mod folders;
 mod lines;
 mod slots;
-#[cfg(test)]
-mod tests;
 mod walk;
 
 pub use walk::salvage;

@@ -7,8 +7,6 @@
 mod commands;
 mod faults;
 mod session;
-#[cfg(test)]
-mod tests;
 mod words;
 
 pub use faults::{ParseFault, ScriptFault, ScriptKind, TextFault};

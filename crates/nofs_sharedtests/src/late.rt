@@ -70,27 +70,40 @@ fn settle(alloc: Global, mount: &mut Mount<MemDisk>, evidence: &Evidence<MemDisk
     seen(&mount.commit(alloc, 10, evidence, 0, used))
 }
 
-#[test]
-fn a_block_that_a_mount_found_free_is_claimed(rt: HostRuntime) -> Result<(), Fail> {
-    let alloc = rt.alloc();
+// A verdict that is committed after nothing: what stands, how many blocks are free, whether a put is
+// stored, how many are free then, and what is found.
+fn verdict_then_claim(alloc: Global) -> Result<(Option<bool>, u64, bool, u64, Option<bool>), Fail> {
     let mut mount = full_below_24(alloc)?;
     let evidence = look(alloc, &mut mount)?;
-    assert_eq!(rt; settle(alloc, &mut mount, &evidence), Some(false));
-    assert_eq!(rt; mount.counts().blocks_free, 1);
-    assert!(rt; is_stored(&put(alloc, &mut mount, 18)?));
-    assert_eq!(rt; mount.counts().blocks_free, 0);
-    assert_eq!(rt; is_used(alloc, &mut mount, 24), Some(true));
+    let stands = settle(alloc, &mut mount, &evidence);
+    let before = mount.counts().blocks_free;
+    let stored = is_stored(&put(alloc, &mut mount, 18)?);
+    let after = mount.counts().blocks_free;
+    let then = is_used(alloc, &mut mount, 24);
+    Ok((stands, before, stored, after, then))
+}
+
+#[test]
+fn a_block_that_a_mount_found_free_is_claimed(rt: HostRuntime) -> Result<(), Fail> {
+    let want = (Some(false), 1, true, 0, Some(true));
+    assert_eq!(rt; verdict_then_claim(rt.alloc())?, want);
     Ok(())
+}
+
+// A verdict that is committed after a claim: whether the claim is stored, what stands, what is found then,
+// and how many entries there are.
+fn claim_then_verdict(alloc: Global) -> Result<(bool, Option<bool>, Option<bool>, u64), Fail> {
+    let mut mount = full_below_24(alloc)?;
+    let evidence = look(alloc, &mut mount)?;
+    let stored = claim(alloc, &mut mount, &evidence)?;
+    let stands = settle(alloc, &mut mount, &evidence);
+    let then = is_used(alloc, &mut mount, 24);
+    Ok((stored, stands, then, mount.history().len()))
 }
 
 #[test]
 fn a_verdict_of_a_mount_does_not_undo_a_claim(rt: HostRuntime) -> Result<(), Fail> {
-    let alloc = rt.alloc();
-    let mut mount = full_below_24(alloc)?;
-    let evidence = look(alloc, &mut mount)?;
-    assert!(rt; claim(alloc, &mut mount, &evidence)?);
-    assert_eq!(rt; settle(alloc, &mut mount, &evidence), Some(true));
-    assert_eq!(rt; is_used(alloc, &mut mount, 24), Some(true));
-    assert_eq!(rt; mount.history().len(), 42);
+    let want = (true, Some(true), Some(true), 42);
+    assert_eq!(rt; claim_then_verdict(rt.alloc())?, want);
     Ok(())
 }

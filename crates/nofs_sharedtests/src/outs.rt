@@ -31,45 +31,70 @@ fn put_in_15<D: Disk + Drop>(alloc: Global, mount: &mut Mount<D>) -> Result<bool
     Ok(free && stored)
 }
 
+/// The answer of a write-out.
+type Out = Result<Option<u64>, OutFault>;
+
+// The write-outs of a mount over a cache: one before a put, whether that is stored, three after it, how
+// many entries there are, and how many writes came to the disk below.
+fn outs_of_a_mount(alloc: Global) -> Result<(Out, bool, [Out; 3], u64, u64), Fail> {
+    let mut mount = cached(alloc)?;
+    let before = mount.write_out();
+    let stored = put_in_15(alloc, &mut mount)?;
+    let outs = [mount.write_out(), mount.write_out(), mount.write_out()];
+    let (disk, history) = mount.end();
+    let writes = disk.below().calls().writes;
+    Ok((before, stored, outs, history.len(), writes))
+}
+
 #[test]
 fn a_mount_over_a_cache_writes_out_what_a_put_left_dirty(rt: HostRuntime) -> Result<(), Fail> {
-    let alloc = rt.alloc();
-    let mut mount = cached(alloc)?;
-    assert_eq!(rt; mount.write_out(), Ok(None));
-    assert!(rt; put_in_15(alloc, &mut mount)?);
-    for block in [Some(1), Some(15), None] {
-        assert_eq!(rt; mount.write_out(), Ok(block));
-    }
-    let (disk, history) = mount.end();
-    assert_eq!(rt; history.len(), 2);
-    assert_eq!(rt; disk.below().calls().writes, 19);
+    let outs = [Ok(Some(1)), Ok(Some(15)), Ok(None)];
+    let want = (Ok(None), true, outs, 2, 19);
+    assert_eq!(rt; outs_of_a_mount(rt.alloc())?, want);
     Ok(())
+}
+
+// Whether a put over a disk in memory is stored, the write-out after it, and how many entries there are.
+fn out_over_memory(alloc: Global) -> Result<(bool, Out, u64), Fail> {
+    let mut mount = mounted(alloc, formatted(alloc, 16, 4)?, 0)?;
+    let stored = put_in_15(alloc, &mut mount)?;
+    let out = mount.write_out();
+    Ok((stored, out, mount.history().len()))
 }
 
 #[test]
 fn a_mount_over_a_disk_in_memory_has_nothing_to_write_out(rt: HostRuntime) -> Result<(), Fail> {
-    let alloc = rt.alloc();
-    let mut mount = mounted(alloc, formatted(alloc, 16, 4)?, 0)?;
-    assert!(rt; put_in_15(alloc, &mut mount)?);
-    assert_eq!(rt; mount.write_out(), Ok(None));
-    assert_eq!(rt; mount.history().len(), 2);
+    assert_eq!(rt; out_over_memory(rt.alloc())?, (true, Ok(None), 2));
     Ok(())
+}
+
+// What a pass finds in block 15, whether its put is stored, the write-outs of another pass, and how many
+// entries that one knows of.
+fn outs_of_a_pass<R: Wait>(
+    rt: &R,
+    alloc: Global,
+) -> Result<(Option<bool>, bool, [Out; 3], u64), Fail> {
+    let Some((shared, first, second)) = two_passes(alloc, cached(alloc)?) else {
+        return Err("no passes".into());
+    };
+    let mut user = shared.pass(rt, alloc, 1, first);
+    let found = seen(&user.step(Step::SeeBlock { block: 15 }));
+    let stored = is_stored(&user.step(put_step(alloc, 0)?));
+    let mut flusher = shared.pass(rt, alloc, 11, second);
+    let outs = [
+        flusher.write_out(),
+        flusher.write_out(),
+        flusher.write_out(),
+    ];
+    Ok((found, stored, outs, flusher.progress()))
 }
 
 #[test]
 fn a_pass_of_a_mount_over_a_cache_writes_out_too(rt: HostRuntime) -> Result<(), Fail> {
     let alloc = rt.alloc();
-    let Some((shared, first, second)) = two_passes(alloc, cached(alloc)?) else {
-        panic!(rt; "no passes")
-    };
-    let mut user = shared.pass(&rt, alloc, 1, first);
-    assert_eq!(rt; seen(&user.step(Step::SeeBlock { block: 15 })), Some(false));
-    assert!(rt; is_stored(&user.step(put_step(alloc, 0)?)));
-    let mut flusher = shared.pass(&rt, alloc, 11, second);
-    for block in [Some(1), Some(15), None] {
-        assert_eq!(rt; flusher.write_out(), Ok(block));
-    }
-    assert_eq!(rt; flusher.progress(), 2);
+    let outs = [Ok(Some(1)), Ok(Some(15)), Ok(None)];
+    let want = (Some(false), true, outs, 2);
+    assert_eq!(rt; outs_of_a_pass(&rt, alloc)?, want);
     Ok(())
 }
 
@@ -84,34 +109,53 @@ fn write_all_out<R: Wait, V: Serves>(pass: &mut SharedPass<'_, R, V>) -> u64 {
     10
 }
 
-// The mount finds memory to begin, for two puts and for six write-outs. So a later write-out that says `None` did not ask it.
-#[test]
-fn a_write_out_asks_the_mount_only_after_a_step(rt: HostRuntime) -> Result<(), Fail> {
-    let alloc = rt.alloc();
+// A step, and how many write-outs follow it: whether a put is stored, and how many blocks are written.
+fn put_and_write_out<S: Steps, R: Wait, V: Serves>(
+    alloc: Global,
+    user: &mut S,
+    flusher: &mut SharedPass<'_, R, V>,
+) -> Result<(bool, u64), Fail> {
+    let stored = is_stored(&user.step(put_step(alloc, 0)?));
+    Ok((stored, write_all_out(flusher)))
+}
+
+// The mount finds memory to begin, for two puts and for six write-outs. So a later write-out that says
+// `None` did not ask it. What is found in three blocks, both puts, and three write-outs: after the puts,
+// after a commit, and after a step.
+fn outs_with_little_memory<R: Wait>(
+    rt: &R,
+    alloc: Global,
+) -> Result<([Option<bool>; 3], [(bool, u64); 2], [Out; 3]), Fail> {
     let disk = Unready {
         under: cache(alloc)?,
         rooms: 9,
     };
     let Some((shared, first, second)) = two_passes(alloc, mounted(alloc, disk, 0)?) else {
-        panic!(rt; "no passes")
+        return Err("no passes".into());
     };
-    let mut user = shared.pass(&rt, alloc, 1, first);
-    let mut flusher = shared.pass(&rt, alloc, 11, second);
-    assert_eq!(rt; seen(&user.step(Step::SeeBlock { block: 15 })), Some(false));
-    for _ in 0..2 {
-        assert!(rt; is_stored(&user.step(put_step(alloc, 0)?)));
-        assert_eq!(rt; write_all_out(&mut flusher), 2);
-    }
-    assert_eq!(rt; flusher.write_out(), Ok(None));
+    let mut user = shared.pass(rt, alloc, 1, first);
+    let mut flusher = shared.pass(rt, alloc, 11, second);
+    let found = seen(&user.step(Step::SeeBlock { block: 15 }));
+    let puts = [
+        put_and_write_out(alloc, &mut user, &mut flusher)?,
+        put_and_write_out(alloc, &mut user, &mut flusher)?,
+    ];
+    let idle = flusher.write_out();
     let Ok(evidence) = user.look_batch(ElementKind::Block, &[14]) else {
-        panic!(rt; "no evidence")
+        return Err("no evidence".into());
     };
-    assert_eq!(rt;
-        seen(&user.commit(&evidence, 0, judge(&evidence, 0))),
-        Some(false)
-    );
-    assert_eq!(rt; flusher.write_out(), Ok(None));
-    assert_eq!(rt; seen(&user.step(Step::SeeBlock { block: 13 })), Some(false));
-    assert_eq!(rt; flusher.write_out(), Err(OutFault::OutOfMemory));
+    let stands = seen(&user.commit(&evidence, 0, judge(&evidence, 0)));
+    let committed = flusher.write_out();
+    let then = seen(&user.step(Step::SeeBlock { block: 13 }));
+    let asked = flusher.write_out();
+    Ok(([found, stands, then], puts, [idle, committed, asked]))
+}
+
+#[test]
+fn a_write_out_asks_the_mount_only_after_a_step(rt: HostRuntime) -> Result<(), Fail> {
+    let alloc = rt.alloc();
+    let outs = [Ok(None), Ok(None), Err(OutFault::OutOfMemory)];
+    let want = ([Some(false); 3], [(true, 2); 2], outs);
+    assert_eq!(rt; outs_with_little_memory(&rt, alloc)?, want);
     Ok(())
 }

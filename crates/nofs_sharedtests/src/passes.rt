@@ -8,6 +8,7 @@ use nofs_machine::{ElementKind, Reply, Step, Steps};
 use nofs_shared::{Mount, SharedMount, SharedOut, judge};
 use nofs_turn::Pass;
 use std::alloc::{AllocError, Global};
+use std::sync::Wait;
 use std::test::Fail;
 
 /// A mount behind a turn, with two passes that have no entries.
@@ -32,29 +33,32 @@ const STAT: Step = Step::Stat {
     generation: 2,
 };
 
+// A mount that is closed with one pass out, and again with none: whether the step of a pass is answered,
+// how many entries that pass knows of, how many passes were out, and how many entries the mount has.
+fn mount_closed_twice<R: Wait>(rt: &R, alloc: Global) -> Result<(bool, u64, u64, u64), Fail> {
+    let mount = mounted(alloc, formatted(alloc, 16, 4)?, 0)?;
+    let Some((shared, first, second)) = two_passes(alloc, mount) else {
+        return Err("no passes".into());
+    };
+    let mut user = shared.pass(rt, alloc, 1, first);
+    let answered = matches!(user.try_step(STAT), Ok(Reply::Stat(_)));
+    let progress = user.progress();
+    let first = user.back();
+    let (shared, mut first, out) = match shared.close(first) {
+        Ok(_) => return Err("closed".into()),
+        Err(SharedOut { mount, pass, out }) => (mount, pass, out),
+    };
+    shared.join(&mut first, second);
+    match shared.close(first) {
+        Ok(mount) => Ok((answered, progress, out, mount.history().len())),
+        Err(_) => Err("not closed".into()),
+    }
+}
+
 #[test]
 fn a_mount_comes_back_when_both_passes_do(rt: HostRuntime) -> Result<(), Fail> {
     let alloc = rt.alloc();
-    let mount = mounted(alloc, formatted(alloc, 16, 4)?, 0)?;
-    let Some((shared, first, second)) = two_passes(alloc, mount) else {
-        panic!(rt; "no passes")
-    };
-    let mut user = shared.pass(&rt, alloc, 1, first);
-    assert!(rt; matches!(user.try_step(STAT), Ok(Reply::Stat(_))));
-    assert_eq!(rt; user.progress(), 1);
-    let first = user.back();
-    let (shared, mut first) = match shared.close(first) {
-        Ok(_) => panic!(rt; "closed"),
-        Err(SharedOut { mount, pass, out }) => {
-            assert_eq!(rt; out, 1);
-            (mount, pass)
-        }
-    };
-    shared.join(&mut first, second);
-    let Ok(mount) = shared.close(first) else {
-        panic!(rt; "not closed")
-    };
-    assert_eq!(rt; mount.history().len(), 1);
+    assert_eq!(rt; mount_closed_twice(&rt, alloc)?, (true, 1, 1, 1));
     Ok(())
 }
 
@@ -70,30 +74,39 @@ fn is_put<S: Steps>(alloc: Global, user: &mut S) -> Result<bool, AllocError> {
     Ok(is_stored(&user.step(put_step(alloc, 18)?)))
 }
 
+// A verdict of a pass that is committed late, and whether another pass claims the block between or after:
+// whether the claim is stored, what was judged, what stands, and what is found at last.
+fn verdict_committed_late<R: Wait>(
+    rt: &R,
+    alloc: Global,
+    claims: bool,
+) -> Result<(bool, bool, Option<bool>, Option<bool>), Fail> {
+    let Some((shared, first, second)) = two_passes(alloc, full_below_24(alloc)?) else {
+        return Err("no passes".into());
+    };
+    let mut sweeper = shared.pass(rt, alloc, 10, first);
+    let mut user = shared.pass(rt, alloc, 1, second);
+    let Ok(evidence) = sweeper.look_batch(ElementKind::Block, &[24]) else {
+        return Err("no evidence".into());
+    };
+    let mut stored = false;
+    if claims {
+        stored = is_used(&mut user) == Some(false) && is_put(alloc, &mut user)?;
+    }
+    let used = judge(&evidence, 0);
+    let stands = seen(&sweeper.commit(&evidence, 0, used));
+    if !claims {
+        stored = is_put(alloc, &mut user)?;
+    }
+    Ok((stored, used, stands, is_used(&mut user)))
+}
+
 #[test]
 fn a_verdict_of_a_pass_does_not_undo_a_claim_of_another(rt: HostRuntime) -> Result<(), Fail> {
     let alloc = rt.alloc();
     for claims in [false, true] {
-        let Some((shared, first, second)) = two_passes(alloc, full_below_24(alloc)?) else {
-            panic!(rt; "no passes")
-        };
-        let mut sweeper = shared.pass(&rt, alloc, 10, first);
-        let mut user = shared.pass(&rt, alloc, 1, second);
-        let Ok(evidence) = sweeper.look_batch(ElementKind::Block, &[24]) else {
-            panic!(rt; "no evidence")
-        };
-        assert_eq!(rt; evidence.verdicts.len(), 1);
-        if claims {
-            assert_eq!(rt; is_used(&mut user), Some(false));
-            assert!(rt; is_put(alloc, &mut user)?);
-        }
-        let used = judge(&evidence, 0);
-        assert!(rt; !used);
-        assert_eq!(rt; seen(&sweeper.commit(&evidence, 0, used)), Some(claims));
-        if !claims {
-            assert!(rt; is_put(alloc, &mut user)?);
-        }
-        assert_eq!(rt; is_used(&mut user), Some(true));
+        let want = (true, false, Some(claims), Some(true));
+        assert_eq!(rt; verdict_committed_late(&rt, alloc, claims)?, want);
     }
     Ok(())
 }

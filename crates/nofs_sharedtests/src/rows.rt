@@ -118,37 +118,58 @@ pub fn full_below_24(alloc: Global) -> Result<Mount<MemDisk>, Fail> {
     Ok(mount)
 }
 
+/// Why a step was refused.
+pub fn refusal(reply: &Reply) -> Option<Refusal> {
+    match reply {
+        Reply::Refused(why) => Some(*why),
+        _ => None,
+    }
+}
+
+// A put that found no block, once block 24 is examined: what is found there, whether the put is stored
+// and its stamp, what is found there then, and how many entries there are.
+fn put_once_examined(alloc: Global) -> Result<(Option<bool>, bool, u64, Option<bool>, u64), Fail> {
+    let mut mount = full_below_24(alloc)?;
+    let found = is_used(alloc, &mut mount, 24);
+    let stored = is_stored(&put(alloc, &mut mount, 18)?);
+    let stamp = last_stamp(&mount);
+    let then = is_used(alloc, &mut mount, 24);
+    Ok((found, stored, stamp, then, mount.history().len()))
+}
+
 #[test]
 fn a_put_that_found_the_disk_full_is_stored_in_a_block_examined_then(
     rt: HostRuntime,
 ) -> Result<(), Fail> {
-    let alloc = rt.alloc();
-    let mut mount = full_below_24(alloc)?;
-    assert_eq!(rt; is_used(alloc, &mut mount, 24), Some(false));
-    assert!(rt; is_stored(&put(alloc, &mut mount, 18)?));
-    assert_eq!(rt; last_stamp(&mount), 1_099_511_627_795);
-    assert_eq!(rt; is_used(alloc, &mut mount, 24), Some(true));
-    assert_eq!(rt; mount.history().len(), 41);
+    let want = (Some(false), true, 1_099_511_627_795, Some(true), 41);
+    assert_eq!(rt; put_once_examined(rt.alloc())?, want);
     Ok(())
+}
+
+// Two puts of a mount with one stamp: what is found in two blocks, whether the first is stored and its
+// stamp, and why the second is refused.
+fn puts_with_one_stamp(
+    alloc: Global,
+) -> Result<(Option<bool>, Option<bool>, bool, u64, Option<Refusal>), Fail> {
+    let mut mount = mounted(alloc, formatted(alloc, 16, 4)?, 1_099_511_627_775)?;
+    let second = is_used(alloc, &mut mount, 2);
+    let third = is_used(alloc, &mut mount, 3);
+    let stored = is_stored(&put(alloc, &mut mount, 0)?);
+    let stamp = last_stamp(&mount);
+    let spent = refusal(&put(alloc, &mut mount, 1)?);
+    Ok((second, third, stored, stamp, spent))
 }
 
 #[test]
 fn the_last_stamp_of_a_mount_is_given_once(rt: HostRuntime) -> Result<(), Fail> {
-    let alloc = rt.alloc();
-    let mut mount = mounted(alloc, formatted(alloc, 16, 4)?, 1_099_511_627_775)?;
-    for block in 2..4 {
-        assert_eq!(rt; is_used(alloc, &mut mount, block), Some(false));
-    }
-    assert!(rt; is_stored(&put(alloc, &mut mount, 0)?));
-    assert_eq!(rt; last_stamp(&mount), 2_199_023_255_551);
-    let spent = put(alloc, &mut mount, 1)?;
-    assert!(rt; matches!(spent, Reply::Refused(Refusal::SerialsSpent)));
+    let spent = Some(Refusal::SerialsSpent);
+    let want = (Some(false), Some(false), true, 2_199_023_255_551, spent);
+    assert_eq!(rt; puts_with_one_stamp(rt.alloc())?, want);
     Ok(())
 }
 
-#[test]
-fn a_read_that_fails_refuses_one_step_and_stops_nothing(rt: HostRuntime) -> Result<(), Fail> {
-    let alloc = rt.alloc();
+// Two reads of a slot, the first of which fails: why it is refused, and whether the second says a hole.
+fn reads_of_a_slot(alloc: Global) -> Result<(Option<Refusal>, bool), Fail> {
     let mut disk = formatted(alloc, 16, 4)?;
     disk.fail_at(&[FaultAt {
         call: CallKind::Read,
@@ -156,26 +177,39 @@ fn a_read_that_fails_refuses_one_step_and_stops_nothing(rt: HostRuntime) -> Resu
         taken: false,
     }])?;
     let mut mount = mounted(alloc, disk, 0)?;
-    let first = get(alloc, &mut mount, 0);
-    assert!(rt; matches!(first, Reply::Refused(Refusal::ReadFault)));
-    assert!(rt; matches!(get(alloc, &mut mount, 0), Reply::Hole));
+    let first = refusal(&get(alloc, &mut mount, 0));
+    let second = get(alloc, &mut mount, 0);
+    Ok((first, matches!(second, Reply::Hole)))
+}
+
+#[test]
+fn a_read_that_fails_refuses_one_step_and_stops_nothing(rt: HostRuntime) -> Result<(), Fail> {
+    let want = (Some(Refusal::ReadFault), true);
+    assert_eq!(rt; reads_of_a_slot(rt.alloc())?, want);
     Ok(())
+}
+
+// The calls of a disk before a mount and after it, and how many entries the mount has.
+fn calls_of_a_mount(alloc: Global) -> Result<(CallCounts, CallCounts, u64), Fail> {
+    let disk = formatted(alloc, 16, 4)?;
+    let before = disk.calls();
+    let (disk, history) = mounted(alloc, disk, 0)?.end();
+    Ok((before, disk.calls(), history.len()))
 }
 
 #[test]
 fn a_mount_makes_one_read_one_write_and_one_flush(rt: HostRuntime) -> Result<(), Fail> {
-    let alloc = rt.alloc();
-    let disk = formatted(alloc, 16, 4)?;
-    let CallCounts {
-        reads,
-        writes,
-        flushes,
-    } = disk.calls();
-    let (disk, history) = mounted(alloc, disk, 0)?.end();
-    let calls = disk.calls();
-    assert_eq!(rt; (reads, writes, flushes), (0, 16, 1));
-    assert_eq!(rt; (calls.reads, calls.writes, calls.flushes), (1, 17, 2));
-    assert_eq!(rt; history.len(), 0);
+    let before = CallCounts {
+        reads: 0,
+        writes: 16,
+        flushes: 1,
+    };
+    let after = CallCounts {
+        reads: 1,
+        writes: 17,
+        flushes: 2,
+    };
+    assert_eq!(rt; calls_of_a_mount(rt.alloc())?, (before, after, 0));
     Ok(())
 }
 

@@ -14,9 +14,6 @@ use nofs_memdisk::MemDisk;
 use nofs_super::{SuperBlock, read_super};
 use std::alloc::{AllocError, Global};
 
-#[cfg(test)]
-mod tests;
-
 fn lay(disk: &mut MemDisk, block: u64, cell: &Cell)
     requires { IsSettled (memory_state disk.old) }
     ensures { IsSettled (memory_state disk.new) }

@@ -1,5 +1,5 @@
-//! Tests by calls on disks in memory: of the superblock, the cache, the mirror, and the checks of
-//! slots and chains.
+//! Tests by calls on disks in memory: of the superblock, the upgrade, and the checks of slots and
+//! chains.
 #![tactic(auto)]
 
 #[cfg(test)]

@@ -10,8 +10,6 @@ mod notes;
 mod parts;
 mod paths;
 mod replies;
-#[cfg(test)]
-mod tests;
 mod told;
 
 pub use fitting::fits;

@@ -8,8 +8,6 @@
 
 mod calls;
 mod making;
-#[cfg(test)]
-mod tests;
 mod turn;
 
 pub use turn::{Busy, Pass, PassesOut, Turn, TurnFault};

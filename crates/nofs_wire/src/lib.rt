@@ -7,7 +7,4 @@
 mod answers;
 mod serving;
 
-pub use serving::{STREAM_LIMIT, WireEnd, serve};
-
-#[cfg(test)]
-mod tests;
+pub use serving::{STREAM_LIMIT, WireEnd, serve, serve_up_to};

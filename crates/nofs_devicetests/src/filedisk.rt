@@ -1,0 +1,224 @@
+//! A disk in a real file, calls of a file that fail, and how many calls a scan costs.
+ghost use Rattle.std.specs.Prelude.{◌≤◌};
+
+use nofs_disk::{Cell, Disk};
+use nofs_filedisk::{FileDisk, HostFile, MemFile};
+use std::test::Fail;
+use std::{fs, process};
+
+/// A cell whose bytes are all this one.
+fn cell_of(byte: u8) -> Cell {
+    Cell {
+        payload: [byte; 1024],
+        tag: [byte; 32],
+    }
+}
+
+/// The path of a file of this test alone, which isn't there.
+fn new_path(rt: &HostRuntime, test: &str) -> Result<String, Fail> {
+    let id = process::id(rt.process());
+    let path = format!(in rt.alloc(); "/tmp/nofs_filedisk_{test}_{id}")?;
+    if fs::exists(rt, path.as_str())? {
+        fs::remove_file(rt, path.as_str())?;
+    }
+    Ok(path)
+}
+
+/// A disk in the file of this path, with room for eight calls.
+fn open(rt: &HostRuntime, path: &str) -> Result<FileDisk<HostFile>, Fail> {
+    let mut disk = FileDisk::over(rt.alloc(), HostFile::open(rt, path)?)?;
+    disk.ready(8)?;
+    Ok(disk)
+}
+
+/// The first byte of a block, where all its bytes are this one.
+fn byte_of<D: Disk>(disk: &mut D, block: u64) -> Option<u8> {
+    if block >= disk.blocks() {
+        return None;
+    }
+    let mut cell = cell_of(0xee);
+    match disk.read(block, &mut cell) {
+        Ok(()) => {}
+        Err(_) => return None,
+    }
+    let first = cell.payload[0];
+    if cell.payload.iter().all(|byte| *byte == first)
+        && cell.tag.iter().all(|byte| *byte == first)
+    {
+        return Some(first);
+    }
+    None
+}
+
+/// The first byte of a block.
+fn first_of<D: Disk>(disk: &mut D, block: u64) -> Option<u8> {
+    if block >= disk.blocks() {
+        return None;
+    }
+    let mut cell = Cell::ZERO;
+    match disk.read(block, &mut cell) {
+        Ok(()) => Some(cell.payload[0]),
+        Err(_) => None,
+    }
+}
+
+/// Writes a cell of this byte, and says whether that succeeded.
+fn put<D: Disk>(disk: &mut D, block: u64, byte: u8) -> bool {
+    if block >= disk.blocks() || disk.ready(1).is_err() {
+        return false;
+    }
+    disk.write(block, &cell_of(byte)).is_ok()
+}
+
+#[test]
+fn a_cell_is_read_again_after_reopening(rt: HostRuntime) -> Result<(), Fail> {
+    let path = new_path(&rt, "reopened")?;
+    {
+        let mut disk = open(&rt, path.as_str())?;
+        assert_eq!(rt; byte_of(&mut disk, 70), Some(0));
+        assert!(rt; put(&mut disk, 70, 7));
+        assert_eq!(rt; byte_of(&mut disk, 70), Some(7));
+        assert!(rt; disk.ready(1).is_ok());
+        assert!(rt; disk.flush().is_ok());
+    }
+    let mut disk = open(&rt, path.as_str())?;
+    for (block, want) in [(0, 0), (69, 0), (70, 7), (71, 0), (1_048_575, 0)] {
+        assert_eq!(rt; byte_of(&mut disk, block), Some(want), "block {block}");
+    }
+    assert_eq!(rt; fs::metadata(&rt, path.as_str())?.len(), 71 * 1056);
+    fs::remove_file(&rt, path.as_str())?;
+    Ok(())
+}
+
+#[test]
+fn reads_before_across_and_after_a_write_show_it(rt: HostRuntime) -> Result<(), Fail> {
+    let path = new_path(&rt, "window")?;
+    let mut disk = open(&rt, path.as_str())?;
+    for block in [62, 63, 64, 65] {
+        assert!(rt; put(&mut disk, block, block as u8));
+    }
+    for block in [62, 63, 64, 65] {
+        assert_eq!(rt; byte_of(&mut disk, block), Some(block as u8));
+    }
+    assert!(rt; put(&mut disk, 63, 1));
+    assert!(rt; put(&mut disk, 64, 2));
+    for (block, want) in [(62, 62), (63, 1), (64, 2), (65, 65), (66, 0)] {
+        assert_eq!(rt; byte_of(&mut disk, block), Some(want), "block {block}");
+    }
+    fs::remove_file(&rt, path.as_str())?;
+    Ok(())
+}
+
+#[test]
+fn the_part_of_a_last_cell_that_is_there_counts(rt: HostRuntime) -> Result<(), Fail> {
+    let path = new_path(&rt, "part")?;
+    fs::write(&rt, path.as_str(), [9u8; 1500].as_slice())?;
+    let mut disk = open(&rt, path.as_str())?;
+    assert_eq!(rt; byte_of(&mut disk, 0), Some(9));
+    let mut cell = cell_of(1);
+    assert!(rt; disk.read(1, &mut cell).is_ok());
+    assert!(rt; cell.payload[..444].iter().all(|byte| *byte == 9));
+    assert!(rt; cell.payload[444..1024].iter().all(|byte| *byte == 0));
+    assert!(rt; cell.tag.iter().all(|byte| *byte == 0));
+    fs::remove_file(&rt, path.as_str())?;
+    Ok(())
+}
+
+#[test]
+fn a_file_that_cannot_be_opened_or_made_is_an_error(rt: HostRuntime) {
+    assert!(rt; HostFile::open(&rt, "/tmp").is_err());
+    assert!(rt; HostFile::open(&rt, "/nowhere/at/all").is_err());
+}
+
+#[test]
+fn a_write_that_failed_half_way_is_read_as_it_stands(rt: HostRuntime) -> Result<(), Fail> {
+    let file = MemFile::new(rt.alloc(), b"", 1000, &[3])?;
+    let mut disk = FileDisk::over(rt.alloc(), file)?;
+    assert_eq!(rt; byte_of(&mut disk, 0), Some(0));
+    assert!(rt; !put(&mut disk, 0, 7));
+    let mut cell = cell_of(1);
+    assert!(rt; disk.read(0, &mut cell).is_ok());
+    assert!(rt; cell.payload[..1000].iter().all(|byte| *byte == 7));
+    assert!(rt; cell.payload[1000..1024].iter().all(|byte| *byte == 0));
+    assert!(rt; put(&mut disk, 0, 7));
+    assert_eq!(rt; byte_of(&mut disk, 0), Some(7));
+    Ok(())
+}
+
+#[test]
+fn a_flush_makes_the_bytes_durable_and_one_that_fails_may_not(rt: HostRuntime) -> Result<(), Fail> {
+    let file = MemFile::new(rt.alloc(), b"", 2000, &[2])?;
+    let mut disk = FileDisk::over(rt.alloc(), file)?;
+    assert!(rt; put(&mut disk, 0, 7));
+    disk.ready(2)?;
+    assert!(rt; disk.flush().is_err());
+    assert!(rt; disk.flush().is_ok());
+    let file = disk.file();
+    assert_eq!(rt; file.durable(), file.bytes());
+    assert_eq!(rt; file.bytes().len(), 1056);
+    Ok(())
+}
+
+/// How many calls of the file it costs to read so many cells, in this order.
+fn calls_of(rt: &HostRuntime, cells: u64, down: bool) -> Result<u64, Fail>
+    requires { cells ≤ 65536 }
+{
+    let bytes = vec![in rt.alloc(); 5u8; cells as usize * 1056]?;
+    let file = MemFile::new(rt.alloc(), bytes.as_slice(), 1 << 30, &[])?;
+    let mut disk = FileDisk::over(rt.alloc(), file)?;
+    for place in 0..cells {
+        let block = if down { cells - 1 - place } else { place };
+        if first_of(&mut disk, block) != Some(5) {
+            Err("another byte")?;
+        }
+    }
+    Ok(disk.file().calls())
+}
+
+#[test]
+fn a_scan_costs_a_call_in_64_cells_up_and_down(rt: HostRuntime) -> Result<(), Fail> {
+    assert_eq!(rt; calls_of(&rt, 65_536, false)?, 1_024);
+    assert_eq!(rt; calls_of(&rt, 65_536, true)?, 1_024);
+    Ok(())
+}
+
+/// How many calls of the file it costs to read these cells of 1,024, in this order.
+fn calls_for(rt: &HostRuntime, blocks: &[u64]) -> Result<u64, Fail> {
+    let bytes = vec![in rt.alloc(); 5u8; 1_024 * 1056]?;
+    let file = MemFile::new(rt.alloc(), bytes.as_slice(), 1 << 30, &[])?;
+    let mut disk = FileDisk::over(rt.alloc(), file)?;
+    for block in blocks {
+        if first_of(&mut disk, *block % 1_024) != Some(5) {
+            Err("another byte")?;
+        }
+    }
+    Ok(disk.file().calls())
+}
+
+// The first window is read whole, any other where a cell of it was read alone lately, or many of the one beside it; after windows
+// that were of no use, where more of its cells were.
+#[test]
+fn a_window_is_read_whole_where_other_cells_of_it_are_likely(rt: HostRuntime) -> Result<(), Fail> {
+    let rows: [(&[u64], u64); 7] = [
+        (&[0, 1, 63], 1),
+        (&[0, 640], 2),
+        (&[0, 640, 700, 641, 699, 642, 643, 698], 3),
+        (&[0, 64, 0, 64, 65], 3),
+        (
+            &[0, 1, 2, 3, 4, 5, 6, 7, 8, 9, 10, 11, 12, 13, 14, 15, 64, 65],
+            2,
+        ),
+        (
+            &[
+                0, 64, 65, 128, 129, 192, 193, 256, 257, 320, 321, 384, 385, 448, 449, 512, 513,
+                640, 641, 642, 643,
+            ],
+            20,
+        ),
+        (&[0, 200, 300, 400, 500, 600, 700, 800, 900, 1_000, 200], 11),
+    ];
+    for (blocks, calls) in &rows {
+        assert_eq!(rt; calls_for(&rt, blocks)?, *calls);
+    }
+    Ok(())
+}

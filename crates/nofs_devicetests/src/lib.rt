@@ -1,0 +1,13 @@
+//! Tests of devices, and of texts in pieces, by calls from outside.
+//!
+//! Promise: worked cases come out as derived by hand; nothing is promised of all cases.
+#![tactic(auto)]
+
+#[cfg(test)]
+mod disk;
+#[cfg(test)]
+mod filedisk;
+#[cfg(test)]
+mod io;
+#[cfg(test)]
+mod memdisk;

@@ -1,0 +1,18 @@
+//! Tests of the definitions on example images, of histories, of drawn scripts and of texts, by calls
+//! from outside.
+//!
+//! Promise: worked cases come out as derived by hand; nothing is promised of all cases.
+#![tactic(auto)]
+
+#[cfg(test)]
+mod draws;
+#[cfg(test)]
+mod examples;
+#[cfg(test)]
+mod history;
+#[cfg(test)]
+mod machine;
+#[cfg(test)]
+mod script;
+#[cfg(test)]
+mod testdisks;
