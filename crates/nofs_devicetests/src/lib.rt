@@ -4,10 +4,4 @@
 #![tactic(auto)]
 
 #[cfg(test)]
-mod disk;
-#[cfg(test)]
-mod filedisk;
-#[cfg(test)]
-mod io;
-#[cfg(test)]
-mod memdisk;
+mod tests;

@@ -5,14 +5,4 @@
 #![tactic(auto)]
 
 #[cfg(test)]
-mod draws;
-#[cfg(test)]
-mod examples;
-#[cfg(test)]
-mod history;
-#[cfg(test)]
-mod machine;
-#[cfg(test)]
-mod script;
-#[cfg(test)]
-mod testdisks;
+mod tests;

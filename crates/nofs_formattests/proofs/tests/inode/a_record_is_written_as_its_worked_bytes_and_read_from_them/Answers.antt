@@ -6,7 +6,7 @@ use Rattle.nofs_inode.specs.RecordLaws.{HasRecordSpelling-from}
 use Rattle.nofs_inode.specs.declared.inode.FileKind.TheVariants.{File}
 use Rattle.nofs_inode.specs.declared.inode.BackLink.{BackLink}
 use Rattle.nofs_inode.specs.declared.inode.Record.{Record}
-use Rattle.nofs_formattests.proofs.inode.a_record_is_written_as_its_worked_bytes_and_read_from_them.Goals as goal
+use Rattle.nofs_formattests.proofs.tests.inode.a_record_is_written_as_its_worked_bytes_and_read_from_them.Goals as goal
 
 pub write_record-requires-clause-spelling : goal.write_record-requires-clause-spelling
 write_record-requires-clause-spelling g c =

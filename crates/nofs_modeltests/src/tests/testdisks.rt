@@ -6,13 +6,13 @@ use std::test::Fail;
 
 #[test]
 fn a_disk_holds_its_cells_and_tells_its_numbers(rt: HostRuntime) -> Result<(), Fail> {
+    let mut cells = [Cell::ZERO; 16];
     let numbers = SuperBlock {
         version: 1,
         blocks: 16,
         inodes: 4,
         mount: 1,
     };
-    let mut cells = [Cell::ZERO; 16];
     write_super(&numbers, &mut cells[0]);
     cells[15].payload[7] = 9;
     let mut disk = disk_of(rt.alloc(), &cells)?;

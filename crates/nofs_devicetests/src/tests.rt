@@ -1,0 +1,5 @@
+//! The tests of each device.
+mod disk;
+mod filedisk;
+mod io;
+mod memdisk;

@@ -1,0 +1,7 @@
+//! The tests of each subject.
+mod draws;
+mod examples;
+mod history;
+mod machine;
+mod script;
+mod testdisks;
