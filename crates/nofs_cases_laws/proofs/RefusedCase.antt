@@ -1,5 +1,5 @@
 -- A slot with the bytes of another file is refused.
-use Rattle.std.proofs.Common.{◌≡◌, ℕ, ◌+◌, ◌^◌, ◌<◌, inl, inr, List, [], ◌∷◌, ◌++◌, Some, refl, sym, ap, ◌∙◌, subst, arith, Contains}
+use Rattle.std.proofs.Common.{◌≡◌, ℕ, ◌+◌, ◌^◌, inl, inr, List, [], ◌∷◌, ◌++◌, Some, refl, sym, ap, ◌∙◌, subst, arith, Contains}
 use Rattle.nofs_image.specs.Cells.{Content, Record, tag_of, number_at, null, is_live, record_of, record_at, fields_in, link_in, pointer_in}
 use Rattle.nofs_image.specs.Image.{inode, InRecord, tag_for, find, value}
 use Rattle.nofs_image.specs.declared.path.PathAnswer.TheVariants as answer

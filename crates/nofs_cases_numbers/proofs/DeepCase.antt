@@ -1,7 +1,6 @@
 -- A Make with a claimed block and a claimed leaf.
-use Rattle.std.proofs.Common.{◌≡◌, ◌≢◌, ℕ, ◌+◌, ◌^◌, ◌∷◌, [], ◌++◌, Some, refl, sym, ap, ◌∙◌, arith}
+use Rattle.std.proofs.Common.{◌≡◌, ◌≢◌, ℕ, ◌+◌, ◌^◌, ◌++◌, Some, refl, sym, ap, ◌∙◌, arith}
 use Rattle.nofs_disk.specs.Number.{put_number, put_bytes, zeros}
-use Rattle.nofs_image.specs.Kinds.{Directory as Folder}
 use Rattle.nofs_image.specs.Cells.{Directory, Leaf, Record, tag_of, number_at, null, pointer_at, pointer_in, record_of, record_at, fields_in, link_in}
 use Rattle.nofs_image.specs.Cells.{spelled_entry, free_record}
 use Rattle.nofs_image.specs.Image.{cell_at, inode, Under, leaf, path_of, slot_of, tag_for, record_pointer}
@@ -9,7 +8,7 @@ use Rattle.nofs_image.specs.declared.value.Value.TheVariants.{Hole, Bytes}
 use Rattle.nofs_machine.specs.Machine.{with_entry}
 use Rattle.nofs_law_new_names.specs.Holes.{HoleWithLeaf, WithLeaf, first_links}
 use Rattle.nofs_cases_steps.specs.Images.{z, blank, first_table, first_image}
-use Rattle.nofs_cases_steps.specs.Worlds.{no_links, first_files, block_two}
+use Rattle.nofs_cases_steps.specs.Worlds.{first_files, block_two}
 use Rattle.nofs_cases_steps.proofs.Images.{nth, root_record, label_record, HasRecords, inode-is, data-two, data-three}
 use Rattle.nofs_cases_steps.proofs.Steps.{each-block, tag-is, but-one-and-three, but-leaf, same-meta}
 use Rattle.nofs_cases_steps.proofs.Leaves.{other-pointer}

@@ -1,5 +1,5 @@
 -- A Get that is refused.
-use Rattle.std.proofs.Common.{◌≡◌, inl, inr, eqb, refl}
+use Rattle.std.proofs.Common.{inl, inr, eqb, refl}
 use Rattle.nofs_image.specs.Image.{is_special}
 use Rattle.nofs_machine.specs.Next.{Keeps, ByRow}
 use Rattle.nofs_machine.specs.declared.replies.Refusal.TheVariants as refusal

@@ -16,7 +16,7 @@ use Rattle.nofs_machine.specs.declared.steps.Step.TheVariants as step
 use Rattle.nofs_law_new_names.specs.Holes.{HoleInRecord, Direct}
 use Rattle.nofs_law_numbers.specs.Cells.{OldNumbers}
 use Rattle.nofs_cases_steps.specs.Images.{z, blank}
-use Rattle.nofs_cases_steps.specs.Worlds.{no_links, root_file, label_file, block_two}
+use Rattle.nofs_cases_steps.specs.Worlds.{root_file, label_file, block_two}
 use Rattle.nofs_cases_steps.proofs.Images.{plain, nth, root_record, label_record, HasRecords, inode-is, mountable, data-three}
 use Rattle.nofs_cases_steps.proofs.Numbers.{each-number, all_below, none-of}
 use Rattle.nofs_cases_steps.proofs.Slots.{ArePlain, pick, slot-is, free-is}

@@ -1,5 +1,5 @@
 -- A look at inode 3 of the formatted disk.
-use Rattle.std.proofs.Common.{◌≡◌, ℕ, ◌⊎◌, inl, inr, Bool, true, false, not, ◌||◌, eqb, [], ◌∷◌, is_some, refl, sym, ap, ◌∙◌, subst, arith}
+use Rattle.std.proofs.Common.{◌≡◌, ℕ, ◌⊎◌, inl, inr, Bool, true, false, not, ◌||◌, eqb, [], ◌∷◌, is_some, refl, sym, ap, subst, arith}
 use Rattle.nofs_image.specs.Image.{is_special, Files}
 use Rattle.nofs_machine.specs.Machine.{gives}
 use Rattle.nofs_machine.specs.History.{FilesMatch}

@@ -1,5 +1,5 @@
 -- An instance of the law of maps over a step that is refused.
-use Rattle.std.specs.Prelude.{◌≡◌, ◌||◌, ◌==◌}
+use Rattle.std.specs.Prelude.{◌||◌, ◌==◌}
 use Rattle.nofs_image.specs.Image.{is_special}
 use Rattle.nofs_machine.specs.World.{World}
 use Rattle.nofs_machine.specs.Claims.{no_claims}

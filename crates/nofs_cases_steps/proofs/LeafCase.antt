@@ -1,7 +1,6 @@
 -- A Put with a claimed block and a claimed leaf.
 use Rattle.std.proofs.Common.{◌≡◌, ℕ, ◌+◌, ◌^◌, ◌⊎◌, inl, inr, true, false, eqb, [], ◌∷◌, Some, refl, sym, ap, ◌∙◌, subst, arith}
 use Rattle.nofs_disk.specs.Number.{put_bytes}
-use Rattle.nofs_image.specs.Kinds.{File}
 use Rattle.nofs_image.specs.Cells.{Content, Leaf, Pointer, Record, tag_of, number_at, null, is_null, pointer_at, pointer_in, record_of, record_at, fields_in}
 use Rattle.nofs_image.specs.Cells.{link_in, free_record}
 use Rattle.nofs_image.specs.Image.{cell_at, is_data_block, inode, Path, InRecord, Under, leaf, path_of, slot_of, IsSlot, tag_for, record_pointer, find}
@@ -15,7 +14,7 @@ use Rattle.nofs_law_maps.specs.Moves.{IsClaimed}
 use Rattle.nofs_law_maps.proofs.Fresh.{sole-is}
 use Rattle.nofs_law_files.specs.Puts.{PutLies, ClaimsPlaced}
 use Rattle.nofs_cases_steps.specs.Images.{z, blank, first_table, first_image}
-use Rattle.nofs_cases_steps.specs.Worlds.{no_links, label_file, first_files, first_world, block_two}
+use Rattle.nofs_cases_steps.specs.Worlds.{label_file, first_files, first_world, block_two}
 use Rattle.nofs_cases_steps.specs.LeafCase.{leaf_table, deep_block, leaf_block, leaf_image, block_three, leaf_places, leaf_claims, leaf_step, LeafCase}
 use Rattle.nofs_cases_steps.proofs.Numbers.{none-of}
 use Rattle.nofs_cases_steps.proofs.Images.{nth, root_record, label_record, HasRecords, inode-is, first-records, data-two, data-three}

@@ -1,7 +1,6 @@
 -- What a command does next, by the replies so far, and the steps that make room.
-use Rattle.std.specs.Prelude.{◌≡◌, ℕ, List, [], ◌∷◌, fold, nat_lt, ◌&&◌, Bool, false, if◌then◌else◌, Some, None}
+use Rattle.std.specs.Prelude.{◌≡◌, ℕ, List, [], ◌∷◌, fold, nat_lt, ◌&&◌, Bool, if◌then◌else◌, Some, None}
 use Rattle.std.specs.declared.option.Option.{Option}
-use Rattle.nofs_machine.specs.Steps.{Fits, is_out_of_memory}
 use Rattle.nofs_machine.specs.declared.replies.Refusal.{Refusal}
 use Rattle.nofs_machine.specs.declared.replies.Refusal.TheVariants as refusal
 use Rattle.nofs_machine.specs.declared.replies.Reply.{Reply}
@@ -10,7 +9,7 @@ use Rattle.nofs_machine.specs.declared.steps.Step.{Step}
 use Rattle.nofs_machine.specs.declared.steps.Step.TheVariants as step
 use Rattle.nofs_task.specs.declared.commands.Command.{Command}
 use Rattle.nofs_task.specs.declared.next.Next.{Next}
-use Rattle.nofs_task.specs.declared.next.Next.TheVariants.{Do, Say}
+use Rattle.nofs_task.specs.declared.next.Next.TheVariants.{Do}
 use Rattle.nofs_client.specs.declared.progress.Progress.{Progress}
 use Rattle.nofs_client.specs.declared.progress.See.{See}
 use Rattle.nofs_client.specs.declared.progress.See.TheVariants as see
@@ -19,7 +18,6 @@ use Rattle.nofs_task.specs.declared.task.Task.TheVariants as task
 use Rattle.nofs_task.specs.Task.{TaskStands, first_task, refused}
 use Rattle.nofs_task.specs.Asks.{Answers, task_asks}
 use Rattle.nofs_task.specs.Answers.{task_after}
-use Rattle.nofs_task.specs.Commands.{IsWellFormed}
 
 -- a task of which no step was answered Full or InodesFull yet
 abbrev pub fresh_progress : Task → Progress

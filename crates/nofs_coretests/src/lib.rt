@@ -1,5 +1,9 @@
-//! Tests by calls on a core over a disk in memory: of the steps on files, names and scans.
+//! Tests of the steps on files and of scans, by calls on a core over a disk in memory.
+//!
+//! Promise: worked cases come out as derived by hand; nothing is promised of all cases.
 #![tactic(auto)]
 
 #[cfg(test)]
-mod tests;
+mod files;
+#[cfg(test)]
+mod late;

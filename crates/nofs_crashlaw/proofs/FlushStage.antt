@@ -18,7 +18,7 @@ use Rattle.nofs_machine.specs.History.{metas_given, FilesMatch, NoWriteFault}
 use Rattle.nofs_machine.specs.Allowed.{IsAllowed}
 use Rattle.nofs_machine.specs.Steady.{SteadyRest}
 use Rattle.nofs_machine.specs.declared.history.Entry1.{Entry1}
-use Rattle.nofs_machine.proofs.Lives.{along-append, values-append, metas-append}
+use Rattle.nofs_law_images.proofs.Lives.{along-append, values-append, metas-append}
 use Rattle.nofs_crashlaw.specs.Stage.{Stage, CellsSurvive, flush_entry, LawFlushStage}
 use Rattle.nofs_crashlaw.proofs.Below.{live-below, tag-below}
 use Rattle.nofs_crashlaw.proofs.Flushing.{flushed}

@@ -3,7 +3,7 @@ use Rattle.std.proofs.Common.{◌≡◌, ℕ, ◌%◌, ◌<◌, inl, inr, Bool, 
 use Rattle.std.proofs.Common.{arith, Contains, eqb-true, eq-eqb}
 use Rattle.nofs_law_images.specs.Reasons.{IsMark}
 use Rattle.nofs_image.proofs.Find.{and-both}
-use Rattle.nofs_machine.proofs.Era.{IsCurrent, current-accepted}
+use Rattle.nofs_law_images.proofs.Era.{IsCurrent, current-accepted}
 use Rattle.nofs_law_untouched.proofs.Matching.{Matched, matched-file, matched-agreed, gen-of}
 use Rattle.nofs_machine.specs.Meta.{Meta, meta_of, MayRead}
 use Rattle.nofs_machine.specs.declared.history.Entry1.{Entry1}

@@ -3,7 +3,7 @@ use Rattle.std.proofs.Common.{◌≡◌, ℕ, ◌+◌, true, List, [], ◌∷◌
 use Rattle.nofs_disk.specs.Disk.{DiskState, IsDisk, Picks}
 use Rattle.nofs_law_images.specs.Reasons.{IsMark, IsKept}
 use Rattle.nofs_crashlaw.specs.Laws.{LawStep}
-use Rattle.nofs_crashlaw.specs.Stage.{Lasts, LawSteady}
+use Rattle.nofs_crashlaw.specs.Stage.{LawSteady}
 use Rattle.nofs_law_images.specs.Moments.{during, AllExplained}
 use Rattle.nofs_law_images.proofs.Moments.{law-moment, law-images}
 use Rattle.nofs_crashlaw.proofs.Marks.{since-grows, metas-grow, stands-shrinks, stands-now}
@@ -16,7 +16,7 @@ use Rattle.nofs_machine.specs.Machine.{given_by}
 use Rattle.nofs_machine.specs.History.{agreed_files, files_along, stands, mark_at}
 use Rattle.nofs_machine.specs.Allowed.{HasVersions, IsAllowed}
 use Rattle.nofs_machine.specs.Marks.{IsUnderWay}
-use Rattle.nofs_machine.specs.Steady.{SteadyPointers, SteadyRest}
+use Rattle.nofs_machine.specs.Steady.{SteadyPointers}
 use Rattle.nofs_machine.proofs.Names.{names-stay}
 use Rattle.nofs_image.specs.Cells.{Cell}
 use Rattle.nofs_image.specs.Image.{Image, cell_at, files_in, agreed}

@@ -5,10 +5,10 @@ use Rattle.std.specs.List.{list_any}
 use Rattle.std.proofs.lemmas.List.{take-append-le, drop-append-le}
 use Rattle.std.proofs.lemmas.List.Folds.{list_any-append}
 use Rattle.nofs_law_images.specs.Moments.{is_removal}
-use Rattle.nofs_machine.proofs.Era.{IsBirth, gives-birth}
+use Rattle.nofs_law_images.proofs.Era.{IsBirth, gives-birth}
 use Rattle.nofs_law_untouched.proofs.Matching.{gen-of}
 use Rattle.nofs_image.proofs.Find.{and-both}
-use Rattle.nofs_machine.proofs.Lives.{values-append, metas-append, along-append}
+use Rattle.nofs_law_images.proofs.Lives.{values-append, metas-append, along-append}
 use Rattle.nofs_machine.specs.Meta.{Meta, Gone, Is, is_gone}
 use Rattle.nofs_machine.specs.declared.history.Entry1.{Entry1}
 use Rattle.nofs_machine.specs.Machine.{Given, gives, given_by, files_by, nothing, generation_of, filled, after_meta, born_file, new_file, file_after}

@@ -3,7 +3,7 @@ use Rattle.nofs_crashlaw.specs.Laws.{LawRest}
 use Rattle.std.proofs.Common.{◌≡◌, ℕ, ◌⊎◌, inl, inr, Bool, true, false, List, [], ◌∷◌, ◌++◌, Option, Some, None, is_some, option_to_list, refl, sym, ap, ◌∙◌}
 use Rattle.std.proofs.Common.{subst}
 use Rattle.nofs_law_untouched.specs.Frames.{OldPointers, Touches}
-use Rattle.nofs_machine.proofs.Lives.{values-append, metas-append}
+use Rattle.nofs_law_images.proofs.Lives.{values-append, metas-append}
 use Rattle.nofs_law_untouched.proofs.Matching.{matched-file, matched-agreed}
 use Rattle.nofs_crashlaw.proofs.Rest.{value-or-lost}
 use Rattle.nofs_machine.specs.Meta.{meta_of}

@@ -14,7 +14,7 @@ use Rattle.nofs_machine.specs.History.{FilesMatch, agreed_files, files_along, ma
 use Rattle.nofs_machine.specs.Allowed.{IsAllowed}
 use Rattle.nofs_machine.specs.Marks.{IsUnderWay}
 use Rattle.nofs_machine.specs.declared.history.Entry1.{Entry1}
-use Rattle.nofs_machine.proofs.Lives.{along-append}
+use Rattle.nofs_law_images.proofs.Lives.{along-append}
 use Rattle.nofs_law_untouched.proofs.Matching.{matched-file}
 use Rattle.nofs_crashlaw.proofs.Histories.{step-allowed, now-picks}
 use Rattle.nofs_crashlaw.proofs.Later.{law-later, mark-within}

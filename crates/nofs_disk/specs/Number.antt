@@ -1,6 +1,6 @@
 -- Numbers in a list of bytes, the lowest byte first.
 use Rattle.std.specs.Prelude.{◌≡◌, ℕ, zero, suc, ◌+◌, ◌-◌, ◌^◌, ◌<◌, ◌≤◌, List, [], ◌∷◌, ◌++◌, length, take, drop, replicate, slice_index}
-use Rattle.std.proofs.Common.{arith, sym, ap, ◌∙◌, inl, inr, length-append}
+use Rattle.std.proofs.Common.{arith, sym, ap, ◌∙◌, length-append}
 use Rattle.std.proofs.lemmas.List.{drop_at, drop-drop, drop-append-le, length-replicate, length-take-le, length-drop, take-append-drop, get_or-drop}
 use Rattle.std.specs.Int.{byte_at, bytes_low_first}
 use Rattle.byteorder.specs.Endian.{little_bytes, little_number}

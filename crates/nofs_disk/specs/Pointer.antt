@@ -1,6 +1,6 @@
 -- Pointers, and the 16 bytes that hold one: the block, then the stamp.
 use Rattle.std.specs.Prelude.{◌≡◌, ℕ, ◌+◌, ◌^◌, ◌<◌, ◌≤◌, ◌==◌, ◌&&◌, Bool, List, length}
-use Rattle.std.proofs.Common.{arith, ap, sym, ◌∙◌}
+use Rattle.std.proofs.Common.{arith, ◌∙◌}
 use Rattle.nofs_disk.specs.Number.{number_at, put_number, length-put_number, number_at-put_same, number_at-put_before, number_at-put_after}
 use Rattle.nofs_disk.specs.declared.tag.Pointer.{Pointer}
 

@@ -1,39 +1,20 @@
-//! One write of a step, and an entry in a cell.
-ghost use Rattle.std.specs.Prelude.{◌≡◌, ◌*◌, ◌/◌, ◌<◌, ◌≤◌, ◌∷◌, [], length, OnOk};
+//! An entry in a cell.
+ghost use Rattle.std.specs.Prelude.{◌≡◌, ◌*◌, ◌/◌, ◌<◌, length, OnOk};
 ghost use Rattle.nofs_disk.specs.Number.{put_bytes};
 ghost use Rattle.nofs_dirent.specs.Entries.{HasEntrySpelling, entry_limit, entry_with, spelled_entry};
 ghost use Rattle.nofs_dirent.specs.EntryLaws.{Spells};
 ghost use Rattle.nofs_agree.specs.Reading.{IsLast};
-ghost use Rattle.nofs_name_steps.specs.Handed.{Knows, Stores};
+ghost use Rattle.nofs_name_steps.specs.Handed.{Knows};
 ghost use Rattle.nofs_name_steps.specs.Renames.{HoldsSlot, IsSlotHeld};
 
 use nofs_agree::LastRead;
 use nofs_dirent::{Entry, write_entry};
-use nofs_disk::{Cell, Disk, Pointer};
+use nofs_disk::{Disk, Pointer};
 use nofs_image::PathAnswer;
 use nofs_lists::Name;
 use nofs_machine::Refusal;
-use nofs_name_steps::{Core, Paired, ReadInode};
+use nofs_name_steps::{Paired, ReadInode};
 use std::alloc::{AllocError, Global};
-
-/// Writes a cell. Where the write fails the mount is stopped.
-///
-/// # Errors
-///
-/// `WriteFault` where the write failed: the cell may be written or not.
-pub fn write_one<D: Disk + Drop>(core: &mut Core<D>, block: u64, cell: &Cell) -> Result<(), Refusal>
-    requires block { block < (D.state core.old.disk).blocks }
-    requires spare { 1 ≤ (D.state core.old.disk).spare }
-    ensures { Stores (D.state core.old.disk) core.old.books (D.state core.new.disk) core.new.books ((block, cell.now) ∷ []) result }
-{
-    match core.disk.write(block, cell) {
-        Ok(()) => Ok(()),
-        Err(_) => {
-            core.books.stopped = true;
-            Err(Refusal::WriteFault)
-        }
-    }
-}
 
 /// Writes an entry at a place of a directory's cell.
 pub fn put_entry(

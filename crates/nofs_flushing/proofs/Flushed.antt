@@ -17,7 +17,7 @@ use Rattle.nofs_machine.specs.declared.history.Entry1.{Entry1}
 use Rattle.nofs_machine.specs.declared.steps.Step.TheVariants as step
 use Rattle.nofs_machine.specs.declared.replies.Reply.TheVariants as reply
 use Rattle.nofs_machine.specs.declared.replies.Refusal.TheVariants as refusal
-use Rattle.nofs_machine.proofs.Lives.{along-append}
+use Rattle.nofs_law_images.proofs.Lives.{along-append}
 use Rattle.nofs_law_maps.specs.Fresh.{CellNumbers, Numbered}
 use Rattle.nofs_crashlaw.specs.Stage.{flush_entry}
 use Rattle.nofs_crashlaw.proofs.FlushStage.{law-flush-stage, files-stay}

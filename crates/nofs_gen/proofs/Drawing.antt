@@ -1,12 +1,11 @@
 -- Drawn commands, one after another, and that they are well formed.
-use Rattle.std.proofs.Common.{◌≡◌, ℕ, zero, suc, ◌+◌, ◌-◌, ◌/◌, ◌%◌, ◌<◌, ◌==◌, Bool, true, false, cond, List, [], ◌∷◌, ◌++◌, length, replicate, refl, sym}
+use Rattle.std.proofs.Common.{◌≡◌, ℕ, zero, suc, ◌+◌, ◌-◌, ◌/◌, ◌%◌, ◌<◌, ◌==◌, Bool, true, false, cond, List, [], ◌∷◌, ◌++◌, length, replicate, sym}
 use Rattle.std.proofs.Common.{ap, ◌∙◌, subst, append_assoc, arith}
-use Rattle.std.specs.List.{AllByRecursion}
 use Rattle.std.proofs.lemmas.List.{length-replicate}
 use Rattle.nofs_task.specs.declared.commands.Command.{Command}
 use Rattle.nofs_task.specs.declared.commands.Command.TheVariants as command
 use Rattle.nofs_task.specs.Commands.{IsWellFormed, AreWellFormed}
-use Rattle.nofs_gen.specs.Script.{directory_of, user_path, first_number, next_number, drawn_command, drawn, script_of}
+use Rattle.nofs_gen.specs.Script.{user_path, first_number, next_number, drawn_command, drawn, script_of}
 
 -- one more command was drawn
 pub drawn-more : (user x next n k : ℕ) (whole old new : List Command) (one : Command) → k < n → next ≡ next_number x

@@ -1,5 +1,5 @@
 -- The values of a file, by the steps on it that a history accepted.
-use Rattle.std.specs.Prelude.{ℕ, ◌+◌, ◌-◌, ◌*◌, ◌/◌, ◌%◌, min, max, ◌==◌, nat_lt, nat_le, ◌&&◌, not, Bool, List, [], ◌∷◌, ◌++◌, length, take, replicate, fold}
+use Rattle.std.specs.Prelude.{ℕ, ◌+◌, ◌-◌, ◌*◌, ◌/◌, ◌%◌, min, max, ◌==◌, nat_lt, nat_le, ◌&&◌, not, Bool, List, [], ◌++◌, length, take, replicate, fold}
 use Rattle.std.specs.Prelude.{slice_get, slice_set, unwrap_or, map, if◌then◌else◌}
 use Rattle.nofs_image.specs.declared.value.Value.{Value}
 use Rattle.nofs_image.specs.declared.value.Value.TheVariants as value

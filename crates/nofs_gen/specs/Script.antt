@@ -1,5 +1,5 @@
 -- The drawn commands of a drill's users.
-use Rattle.std.specs.Prelude.{ℕ, zero, suc, ◌+◌, ◌-◌, ◌*◌, ◌/◌, ◌%◌, ◌^◌, ◌==◌, List, [], ◌∷◌, ◌++◌, replicate, codes, if◌then◌else◌}
+use Rattle.std.specs.Prelude.{ℕ, zero, suc, ◌+◌, ◌-◌, ◌*◌, ◌/◌, ◌%◌, ◌==◌, List, [], ◌∷◌, ◌++◌, replicate, codes, if◌then◌else◌}
 use Rattle.nofs_task.specs.declared.commands.Path.{Path}
 use Rattle.nofs_task.specs.declared.commands.Path.TheVariants.{Names}
 use Rattle.nofs_task.specs.declared.commands.Command.{Command}

@@ -1,24 +1,23 @@
 -- Frames: what serving them leaves, put together.
-use Rattle.std.proofs.Common.{◌≡◌, ◌≢◌, ◌⊎◌, inl, inr, ℕ, zero, suc, ◌∷◌, ◌+◌, ◌≤◌, Bool, true, false, if◌then◌else◌, List, [], ◌++◌, length, length-append}
+use Rattle.std.proofs.Common.{◌≡◌, ◌≢◌, ◌⊎◌, inl, inr, ℕ, zero, suc, ◌∷◌, ◌+◌, ◌≤◌, Bool, true, false, List, [], ◌++◌}
 use Rattle.std.proofs.Common.{append-nil, take, drop, map, Option, Some, None, refl, sym, ap, ◌∙◌, subst, arith}
 use Rattle.std.specs.Prelude.{IfSome}
-use Rattle.std.specs.Io.KnownBytes.{Consumes, IsAtEnd}
+use Rattle.std.specs.Io.KnownBytes.{Consumes}
 use Rattle.nofs_disk.specs.Disk.{DiskState, Rose}
 use Rattle.nofs_io.specs.Calls.{SourceState, SinkState}
 use Rattle.nofs_io.specs.Texts.{TakesJust}
 use Rattle.nofs_machine.specs.HistoryState.{HistoryState}
 use Rattle.nofs_machine.specs.Steps.{Made}
-use Rattle.nofs_machine.specs.declared.steps.Step.{Step}
 use Rattle.nofs_drills.specs.Handed.{IsMount, steps_by, Books, has_fault, IsClosed, Finished}
-use Rattle.nofs_stream.specs.Frames.{frames_of, front_of, rest_of, IsBad, IsCut}
+use Rattle.nofs_stream.specs.Frames.{front_of, rest_of, IsBad, IsCut}
 use Rattle.nofs_wire.specs.Serves.{Serves, EndsSo, IsServed, IsServedInPart, made_step}
 use Rattle.nofs_wire.specs.declared.serving.WireEnd.{WireEnd}
 use Rattle.nofs_wire.specs.declared.serving.WireEnd.TheVariants as ended
 use Rattle.nofs_headline.specs.Complete.{CanBeMounted, HoldsFrames, NoneRose}
 use Rattle.nofs_headline.specs.Headline.{IsHeadlineOf}
-use Rattle.nofs_headline.specs.Tool.{HasFaultOf, IsFaulty, IsFaultless, IsRefusedBy, IsStatus}
+use Rattle.nofs_headline.specs.Tool.{IsRefusedBy, IsStatus}
 use Rattle.nofs_walks.specs.Visits.{FollowsVisit, IsVisitRun}
-use Rattle.nofs_headline.specs.Wiring.{IsWireRun, IsWired, WireEnds, end_status, wire_status}
+use Rattle.nofs_headline.specs.Wiring.{IsWireRun, IsWired, WireEnds, wire_status}
 use Rattle.nofs_headline.proofs.Complete.{completes, consumed, consumed-front, consumed-most, ready-not-refused}
 use Rattle.nofs_drills.proofs.Handed.{faults-rose}
 use Rattle.nofs_headline.proofs.Headlines.{visit-of}

@@ -2,7 +2,7 @@
 
 use nofs_examples as images;
 use nofs_testruns::{
-    FAULTS, Image, bytes_of, cells_of, disk_of, image_cells, patched, prints, run_on, scan_line,
+    FAULTS, Image, bytes_of, cells_of, disk_with, image_cells, patched, prints, run_on, scan_line,
     used,
 };
 use std::test::Fail;
@@ -81,7 +81,7 @@ const ROWS: [(Image, &str, &str); 19] = [
 fn images_are_served_as_they_stand_and_counted_as_defined(rt: HostRuntime) -> Result<(), Fail> {
     let alloc = rt.alloc();
     for (image, session, want) in ROWS {
-        let disk = disk_of(alloc, 16, &image_cells(alloc, image)?)?;
+        let disk = disk_with(alloc, 16, &image_cells(alloc, image)?)?;
         let disk = prints(&rt, disk, "run", session, want, 0)?;
         let (status, sink, mut disk) = run_on(&rt, alloc, "scan", b"".as_slice(), disk)?;
         let Some(counts) = used(alloc, &cells_of(alloc, &mut disk, 16)?)? else {
@@ -97,7 +97,7 @@ fn images_are_served_as_they_stand_and_counted_as_defined(rt: HostRuntime) -> Re
 #[test]
 fn a_dropped_file_with_a_dead_link_leaves_its_inode_free(rt: HostRuntime) -> Result<(), Fail> {
     let alloc = rt.alloc();
-    let disk = disk_of(alloc, 16, &images::dead_second_link(alloc)?)?;
+    let disk = disk_with(alloc, 16, &images::dead_second_link(alloc)?)?;
     let session = b"stat /a\ndrop /a\nstat /a".as_slice();
     let (_, _, disk) = run_on(&rt, alloc, "run", session, disk)?;
     let want = "inodes used 2 free 2 unchecked 0, blocks used 3 free 13 unchecked 0\n";
@@ -120,7 +120,7 @@ fn larger_images_are_counted(rt: HostRuntime) -> Result<(), Fail> {
             "inodes used 2002 free 2 unchecked 0, blocks used 2502 free 1594 unchecked 0\n",
         ),
     ] {
-        let disk = disk_of(alloc, blocks, &image_cells(alloc, image)?)?;
+        let disk = disk_with(alloc, blocks, &image_cells(alloc, image)?)?;
         prints(&rt, disk, "scan", "", want, 0)?;
     }
     Ok(())
@@ -133,7 +133,7 @@ fn an_image_that_cannot_be_mounted_is_told_and_left_as_it_was(rt: HostRuntime) -
         let cells = patched(alloc, image_cells(alloc, image)?, &[patch])?;
         let want = format!(in alloc; "mount: {fault}\n")?;
         for command in ["run", "scan"] {
-            let disk = disk_of(alloc, 16, &cells)?;
+            let disk = disk_with(alloc, 16, &cells)?;
             let mut disk = prints(&rt, disk, command, "make /a", want.as_str(), 4)?;
             assert_eq!(rt; disk.calls().writes, 0, "{fault}");
             let after = cells_of(alloc, &mut disk, 16)?;

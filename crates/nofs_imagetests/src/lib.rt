@@ -1,4 +1,4 @@
-//! Tests of runs over images that were laid down cell by cell: how they are served and counted, raised to version 2, and salvaged.
+//! Tests of runs over images that were laid down cell by cell: how they are served and counted, and raised to version 2.
 //!
 //! Promise: what is printed is what the definitions say of the cells.
 #![tactic(auto)]
@@ -6,8 +6,4 @@
 #[cfg(test)]
 mod images;
 #[cfg(test)]
-mod salvages;
-#[cfg(test)]
 mod second;
-#[cfg(test)]
-mod walks;

@@ -6,7 +6,7 @@ use nofs_disk::Disk;
 use nofs_io::{MemSink, MemSource};
 use nofs_memdisk::{MemDisk, Unready};
 use nofs_testruns::{
-    FAULTS, Patch, USAGE, VERSION_2, bytes_of, cells_of, disk_of, fault, image_cells, left,
+    FAULTS, Patch, USAGE, VERSION_2, bytes_of, cells_of, disk_with, fault, image_cells, left,
     patched, patched_empty, prints, run_on, run_with, scan_line, used,
 };
 use nofs_versions::{CallKind, Pick};
@@ -17,7 +17,7 @@ const VERSION_1: Patch = (0, 8, "01000000");
 
 // A disk of 16 blocks that holds the empty image of version 1.
 fn empty_disk(alloc: Global) -> Result<MemDisk, Fail> {
-    Ok(disk_of(alloc, 16, &patched_empty(alloc, &[])?)?)
+    Ok(disk_with(alloc, 16, &patched_empty(alloc, &[])?)?)
 }
 
 // The bytes of the empty image of this version.
@@ -88,7 +88,7 @@ fn an_image_that_cannot_be_upgraded_is_told_and_left_as_it_was(
         let cells = patched(alloc, image_cells(alloc, image)?, &[patch])?;
         let want = format!(in alloc; "mount: {fault}\n")?;
         for (command, want, status) in [("upgrade", want.as_str(), 4), ("upgrade 1", USAGE, 1)] {
-            let disk = disk_of(alloc, 16, &cells)?;
+            let disk = disk_with(alloc, 16, &cells)?;
             let mut disk = prints(&rt, disk, command, "", want, status)?;
             assert_eq!(rt; disk.calls().writes, 0, "{fault}");
             assert!(rt;

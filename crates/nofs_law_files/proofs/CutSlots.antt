@@ -1,5 +1,5 @@
 -- Slots of a file are cut off: each becomes empty, and every other stays. Pointers are asked of slots alone, not of content.
-use Rattle.std.proofs.Common.{◌≡◌, ◌≢◌, ℕ, ◌<◌, Bool, true, false, refl, ap, ◌∙◌, subst}
+use Rattle.std.proofs.Common.{◌≡◌, ◌≢◌, ℕ, Bool, true, false, refl, ap, ◌∙◌}
 use Rattle.nofs_image.specs.declared.path.PathAnswer.{PathAnswer}
 use Rattle.nofs_law_untouched.specs.Frames.{Rewrites, SameIdentity, OldPointers}
 use Rattle.nofs_image.proofs.Find.{judged-built-null}
@@ -7,7 +7,7 @@ use Rattle.nofs_law_untouched.proofs.Framing.{judged-same}
 use Rattle.nofs_law_untouched.proofs.Growth.{kept-under}
 use Rattle.nofs_image.specs.declared.path.PathAnswer.TheVariants as answer
 use Rattle.nofs_image.specs.Cells.{Pointer, is_null, pointer_at}
-use Rattle.nofs_image.specs.Image.{Image, cell_at, inode, files_in, agreed, Path, InRecord, Under, judged, find, pointer, record_pointer, IsSlot}
+use Rattle.nofs_image.specs.Image.{Image, cell_at, inode, files_in, agreed, Path, InRecord, Under, judged, find, record_pointer, IsSlot}
 
 module _ (s : ℕ) (X Y : Image) (i : ℕ) (w : Rewrites s X Y) (owned : agreed (files_in X) i ≡ true) (same : SameIdentity X Y i) (old : OldPointers s X i)
     (gone : Path → Bool)

@@ -9,10 +9,8 @@ use Rattle.nofs_image.proofs.Paths.{path_of-content, above-refl}
 use Rattle.nofs_machine.specs.Machine.{put_given, put_content, files_after, lies_above}
 use Rattle.nofs_machine.specs.History.{FilesMatch}
 use Rattle.nofs_machine.specs.declared.steps.Step.TheVariants as step
-use Rattle.nofs_law_untouched.specs.Frames.{Rewrites, SameIdentity}
-use Rattle.nofs_law_untouched.proofs.Matching.{Matched, matched-file}
+use Rattle.nofs_law_untouched.proofs.Matching.{matched-file}
 use Rattle.nofs_law_untouched.proofs.Framing.{some-is}
-use Rattle.nofs_law_untouched.proofs.Touching.{rewrites}
 use Rattle.nofs_law_untouched.proofs.Alike.{some-alike}
 use Rattle.nofs_law_untouched.proofs.Growth.{on-path, off-path, value-on, value-off}
 use Rattle.nofs_law_untouched.proofs.Claiming.{test-above, above-test}

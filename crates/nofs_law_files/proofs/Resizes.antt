@@ -16,11 +16,9 @@ use Rattle.nofs_machine.specs.Machine.{slots_in, is_at, meta_with, filled, after
 use Rattle.nofs_machine.specs.Machine.{resize_given}
 use Rattle.nofs_machine.specs.History.{FilesMatch, SameFile}
 use Rattle.nofs_machine.specs.declared.steps.Step.TheVariants as step
-use Rattle.nofs_law_untouched.specs.Frames.{Rewrites, SameIdentity}
 use Rattle.nofs_machine.specs.Gives.{GivesNothing}
-use Rattle.nofs_law_untouched.proofs.Matching.{Matched, matched-file}
+use Rattle.nofs_law_untouched.proofs.Matching.{matched-file}
 use Rattle.nofs_law_untouched.proofs.Framing.{some-is}
-use Rattle.nofs_law_untouched.proofs.Touching.{rewrites}
 use Rattle.nofs_law_untouched.proofs.Alike.{some-alike}
 use Rattle.nofs_law_untouched.proofs.Given.{at-itself, value-of, size-of}
 use Rattle.nofs_law_files.proofs.CutSlots.{both}

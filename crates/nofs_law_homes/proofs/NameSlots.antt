@@ -13,7 +13,7 @@ use Rattle.nofs_machine.specs.World.{World, absent_above, blocks_for, blocks_at,
 use Rattle.nofs_machine.specs.Claims.{is_claimed, next_stamp, IsClaim}
 use Rattle.nofs_machine.specs.declared.history.Claims.{Claims}
 use Rattle.nofs_machine.specs.declared.steps.Step.{Step}
-use Rattle.nofs_machine.proofs.ClaimParts.{part}
+use Rattle.nofs_law_maps.proofs.ClaimParts.{part}
 use Rattle.nofs_law_untouched.specs.Frames.{OldPointers}
 use Rattle.nofs_law_untouched.proofs.Matching.{matched-file}
 use Rattle.nofs_law_untouched.proofs.Framing.{some-is}

@@ -1,7 +1,7 @@
 -- Link and Make: each block has its home, and so have the claimed ones.
-use Rattle.std.proofs.Common.{◌≡◌, ◌≢◌, ℕ, ◌-◌, ◌/◌, ◌<◌, ◌≤◌, true, List, Option, Some, None, option_map, refl, sym, ap, ◌∙◌, subst, arith, ne_eqb}
+use Rattle.std.proofs.Common.{◌≡◌, ◌≢◌, ℕ, ◌-◌, ◌/◌, ◌<◌, ◌≤◌, true, List, Option, Some, option_map, refl, sym, ap, ◌∙◌, subst, arith, ne_eqb}
 use Rattle.nofs_image.specs.Cells.{FileKind, Pointer, spelled_entry, slot_limit}
-use Rattle.nofs_image.specs.Image.{Image, files_in, agreed, FileState, Home, home_at, is_folder}
+use Rattle.nofs_image.specs.Image.{Image, files_in, agreed, FileState, Home, home_at}
 use Rattle.nofs_machine.specs.Machine.{place_for, set_link, link_to, link_given, make_given, files_after}
 use Rattle.nofs_machine.specs.History.{FilesMatch}
 use Rattle.nofs_machine.specs.World.{World, blocks_for}

@@ -2,4 +2,5 @@ pub mod Trace
 pub mod Steady
 pub mod Writes
 pub mod Moments
-pub mod Handed
+pub mod Era
+pub mod Lives

@@ -1,5 +1,5 @@
 -- What goes on from moment to moment of a step.
-use Rattle.std.specs.Prelude.{◌≡◌, ℕ, ◌<◌, ◌⊎◌, Bool, true, false, ◌&&◌, not, List, ◌++◌, length, Option, Some, None, option_to_list, Contains}
+use Rattle.std.specs.Prelude.{◌≡◌, ℕ, ◌⊎◌, Bool, true, false, ◌&&◌, not, List, ◌++◌, length, Option, Some, None, option_to_list, Contains}
 use Rattle.nofs_image.specs.Handed.{Picks}
 use Rattle.nofs_law_images.specs.Reasons.{Fine, Solid, IsMark, ReadsSince, KeepsSure, KeepsPointers}
 use Rattle.nofs_law_images.specs.Proper.{Proper}

@@ -8,7 +8,6 @@ use Rattle.nofs_image.specs.Image.{IsAbove, AboveHolds, Image, cell_at, super_at
 use Rattle.nofs_image.specs.Image.{record_pointer, find, pointer, value}
 use Rattle.nofs_image.specs.Cells.{Cell, Kind, Nothing, Content, Directory, Leaf, Table, Super, Tag, Pointer, Record, tag_of, is_null, pointer_at, record_at}
 use Rattle.nofs_image.specs.Cells.{is_live}
-use Rattle.nofs_image.specs.declared.value.Value.{Value}
 use Rattle.nofs_image.specs.declared.value.Value.TheVariants.{Hole, Bytes, Lost}
 
 -- each slot of content in or below this one may be a hole

@@ -1,9 +1,9 @@
 -- What an entry of a run does: nothing, or what its step gives where no row refuses it.
 use Rattle.std.proofs.Common.{◌≡◌, ℕ, Bool, true, false, cond, not, ◌||◌, Option, Some, None, ◌⊎◌, inl, inr, refl, sym, ap, ◌∙◌, subst}
 use Rattle.nofs_image.specs.Cells.{Entry}
-use Rattle.nofs_image.specs.Image.{Files, FileState, entry_at}
+use Rattle.nofs_image.specs.Image.{Files, entry_at}
 use Rattle.nofs_machine.specs.Search.{first_of}
-use Rattle.nofs_machine.specs.Machine.{Given, nothing, gives, at_place, found, drop_given, link_to, generation_of, file_after, files_after, is_refused}
+use Rattle.nofs_machine.specs.Machine.{Given, nothing, gives, at_place, found, drop_given, link_to, generation_of, files_after, is_refused}
 use Rattle.nofs_machine.specs.Machine.{is_write_fault, may_give, given_by, files_by}
 use Rattle.nofs_machine.specs.World.{World}
 use Rattle.nofs_machine.specs.Refusals.{rows}

@@ -21,7 +21,7 @@ use Rattle.nofs_machine.specs.declared.history.Claims.{Claims}
 use Rattle.nofs_machine.specs.declared.steps.Step.{Step}
 use Rattle.nofs_machine.specs.declared.steps.Step.TheVariants as step
 use Rattle.nofs_machine.specs.declared.replies.Refusal.TheVariants as refusal
-use Rattle.nofs_machine.proofs.Era.{IsBirth}
+use Rattle.nofs_law_images.proofs.Era.{IsBirth}
 use Rattle.nofs_machine.proofs.EntryPut.{with-entry-put}
 use Rattle.nofs_crashlaw.proofs.Handed.{value-of}
 use Rattle.nofs_law_links.proofs.Gives.{none-at, row-none, put-elsewhere, resize-elsewhere, other-inode, OfKind}

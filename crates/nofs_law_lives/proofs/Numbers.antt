@@ -1,5 +1,5 @@
 -- No generation and no stamp is claimed twice.
-use Rattle.nofs_machine.proofs.ClaimParts.{claim-count, claim-stamps, claim-inode, CountsUp}
+use Rattle.nofs_law_maps.proofs.ClaimParts.{claim-count, claim-stamps, claim-inode, CountsUp}
 use Rattle.std.proofs.Common.{◌≡◌, ◌≢◌, ℕ, zero, suc, ◌+◌, ◌*◌, ◌^◌, ◌<◌, ◌≤◌, ◌⊎◌, inl, inr, Bool, true, false, cond, eqb, ltb, List, [], ◌∷◌, ◌++◌, length}
 use Rattle.std.proofs.Common.{map, get_or, Option, Some, None, Contains, refl, sym, ap, ◌∙◌, subst, arith, append-nil, eq-eqb, lt-ltb}
 use Rattle.std.proofs.lemmas.Bool.{cases_lt}

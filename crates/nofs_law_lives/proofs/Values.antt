@@ -2,7 +2,7 @@
 use Rattle.std.proofs.Common.{◌≡◌, ℕ, ◌<◌, ◌⊎◌, inl, inr, true, eqb, List, [], ◌∷◌, ◌++◌, sym, ap, ◌∙◌, subst, Contains, eqb-true}
 use Rattle.nofs_law_lives.specs.Lives.{SameOrUpgraded, Life, NextLife, Lives, GivenIn, LawLives}
 use Rattle.nofs_image.proofs.Find.{and-both}
-use Rattle.nofs_machine.proofs.Lives.{left-given}
+use Rattle.nofs_law_images.proofs.Lives.{left-given}
 use Rattle.nofs_law_lives.proofs.OnlySuper.{same-inode, same-value, no-bytes}
 use Rattle.nofs_machine.specs.History.{agreed_files, values_given, is_generation}
 use Rattle.nofs_image.specs.Cells.{Record, is_live, slot_limit}

@@ -20,7 +20,7 @@ use Rattle.nofs_machine.specs.declared.replies.Reply.{Reply}
 use Rattle.nofs_machine.specs.declared.replies.Reply.TheVariants as reply
 use Rattle.nofs_machine.specs.declared.replies.Refusal.{Refusal}
 use Rattle.nofs_machine.specs.declared.replies.Refusal.TheVariants as refusal
-use Rattle.nofs_machine.proofs.ClaimParts.{few, used-zero}
+use Rattle.nofs_law_maps.proofs.ClaimParts.{few, used-zero}
 use Rattle.nofs_law_machine.specs.Laws.{is_fault, LawTotal}
 use Rattle.nofs_law_machine.proofs.Faultless.{FaultFree, first-free, rows-free, answer-free}
 use Rattle.nofs_law_machine.proofs.Choosing.{pick, Falls, pick-falls, pick-length}

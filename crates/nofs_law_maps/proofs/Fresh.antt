@@ -1,6 +1,6 @@
 -- Each step keeps fresh what a crash may leave.
 use Rattle.nofs_image.specs.Handed.{is_geometry-parts}
-use Rattle.nofs_machine.proofs.ClaimParts.{claim-count, claim-stamps, claim-inode, CountsUp}
+use Rattle.nofs_law_maps.proofs.ClaimParts.{claim-count, claim-stamps, claim-inode, CountsUp}
 use Rattle.std.proofs.Common.{◌≡◌, ◌≢◌, ℕ, zero, suc, ◌+◌, ◌-◌, ◌*◌, ◌/◌, ◌%◌, ◌^◌, ◌<◌, ◌≤◌, inl, inr, Bool, true, false, cond, leb, ltb, List, [], ◌∷◌}
 use Rattle.std.proofs.Common.{length, Option, Some, IfSome, Contains, refl, sym, ap, ◌∙◌, subst, arith, leb-true, ltb-true}
 use Rattle.std.proofs.lemmas.List.Elements.{Contains-append_cases}

@@ -1,5 +1,5 @@
 -- Maps stay good, and what is claimed was free.
-use Rattle.nofs_machine.proofs.ClaimParts.{claim-free, claim-inode}
+use Rattle.nofs_law_maps.proofs.ClaimParts.{claim-free, claim-inode}
 use Rattle.std.proofs.Common.{◌≡◌, ◌≢◌, ℕ, ◌+◌, ◌/◌, ◌<◌, Bool, true, false, leb, ltb, ◌&&◌, ◌||◌, not, Option, Some, None, is_some, Contains, refl, sym, ap}
 use Rattle.std.proofs.Common.{◌∙◌, subst, arith, lt-ltb}
 use Rattle.std.proofs.lemmas.Bool.Decides.{nat_tests}

@@ -4,3 +4,4 @@ pub mod Next
 pub mod Fresh
 pub mod Moves
 pub mod Pieces
+pub mod ClaimParts

@@ -1,5 +1,5 @@
 -- What the frame lemmas say of the homes.
-use Rattle.nofs_machine.proofs.ClaimParts.{claim-count}
+use Rattle.nofs_law_maps.proofs.ClaimParts.{claim-count}
 use Rattle.std.proofs.Common.{◌≡◌, ℕ, ◌/◌, ◌⊎◌, inl, inr, Bool, true, false, cond, eqb, ◌&&◌, [], ◌∷◌, ◌++◌, length, Option, Some, None, is_some, option_map}
 use Rattle.std.proofs.Common.{refl, sym, ap, ◌∙◌, subst, arith, eqb-true, eq-eqb}
 use Rattle.nofs_law_maps.specs.Homes.{Houses}

@@ -11,7 +11,7 @@ use Rattle.nofs_machine.specs.Claims.{claimed_blocks, claimed_home, homes_after,
 use Rattle.nofs_machine.specs.Next.{Keeps, Next}
 use Rattle.nofs_machine.specs.Good.{MatchesSuper, IsGood}
 use Rattle.nofs_image.specs.Cells.{Pointer}
-use Rattle.nofs_image.specs.Image.{Image, cell_at, super_at, is_data_block, files_in, agreed, Path, slot_of, find, Files, Home, owner, is_used_inode}
+use Rattle.nofs_image.specs.Image.{Image, cell_at, is_data_block, files_in, agreed, Path, slot_of, find, Files, Home, owner, is_used_inode}
 use Rattle.nofs_image.specs.Image.{is_used_block, IsSlot, IsFree}
 
 -- the slot of this home holds block p, and its inode is agreed

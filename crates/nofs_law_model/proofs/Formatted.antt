@@ -1,5 +1,5 @@
 -- What a format leaves is sound.
-use Rattle.std.proofs.Common.{◌≡◌, ◌≢◌, ℕ, zero, suc, ◌+◌, ◌-◌, ◌*◌, ◌/◌, ◌%◌, ◌^◌, ◌<◌, Bool, true, false, cond, eqb, leb, [], ◌∷◌, length, get_or, Option}
+use Rattle.std.proofs.Common.{◌≡◌, ◌≢◌, ℕ, zero, suc, ◌+◌, ◌-◌, ◌*◌, ◌/◌, ◌%◌, ◌^◌, ◌<◌, Bool, true, false, cond, eqb, leb, length, get_or, Option}
 use Rattle.std.proofs.Common.{Some, IfSome, refl, sym, ap, ◌∙◌, subst, arith, eqb-true}
 use Rattle.nofs_disk.specs.Number.{zeros, put_number}
 use Rattle.nofs_disk.specs.Tag.{tag_bytes, zero_cell}
@@ -7,7 +7,7 @@ use Rattle.nofs_disk.specs.OneSpelling.{SpellsTag-tag_bytes, tag_of-spells}
 use Rattle.nofs_super.specs.Spelling.{super_of-payload}
 use Rattle.nofs_super.specs.Format.{super_payload, super_cell, first_records, table_cell, fresh_super, formatted_cell}
 use Rattle.nofs_image.specs.Kinds as file
-use Rattle.nofs_image.specs.Cells.{Cell, Kind, Nothing, Directory, Leaf, Table, Super, Tag, FileKind, Record, SuperBlock, number_at, tag_of, null, no_link}
+use Rattle.nofs_image.specs.Cells.{Cell, Kind, Nothing, Directory, Leaf, Table, Super, Tag, FileKind, SuperBlock, number_at, tag_of}
 use Rattle.nofs_image.specs.Cells.{free_record, is_live, record_of, record_at, fields_in, link_in, pointer_in, pointer_at, entry_in}
 use Rattle.nofs_image.specs.Image.{Image, cell_at, super_at, super_in, is_super, record_pointer, TagBelow, RecordBelow, CellBelow}
 use Rattle.nofs_image.specs.Geometry.{IsGeometry}

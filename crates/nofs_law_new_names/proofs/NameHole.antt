@@ -13,8 +13,8 @@ use Rattle.nofs_image.specs.declared.path.PathAnswer.TheVariants as answer
 use Rattle.nofs_machine.specs.Machine.{Given, files_after}
 use Rattle.nofs_machine.specs.History.{FilesMatch, SameFile}
 use Rattle.nofs_image.specs.Cells.{Tag, Pointer, Record, tag_of, pointer_at, is_null, slot_limit}
-use Rattle.nofs_image.specs.Image.{super_in, Image, cell_at, super_at, is_data_block, inode, files_in, agreed, value, node_in, tag_for, Path, InRecord, Under}
-use Rattle.nofs_image.specs.Image.{leaf, path_of, slot_of, is_pointer_slot, find, Present, FileState, Files, record_pointer, IsAbove, IsSlot, IsFree}
+use Rattle.nofs_image.specs.Image.{Image, cell_at, super_at, is_data_block, inode, files_in, agreed, value, node_in, tag_for, Path, InRecord, Under}
+use Rattle.nofs_image.specs.Image.{leaf, path_of, slot_of, is_pointer_slot, find, FileState, Files, record_pointer, IsFree}
 use Rattle.nofs_image.specs.declared.value.Value.{Value}
 use Rattle.nofs_image.specs.declared.value.Value.TheVariants.{Bytes}
 use Rattle.nofs_machine.specs.Gives.{GivesCell}

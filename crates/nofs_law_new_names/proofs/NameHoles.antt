@@ -14,7 +14,7 @@ use Rattle.nofs_law_untouched.proofs.Given.{file-apart, none-apart, meta-stays, 
 use Rattle.nofs_law_old_names.proofs.NameFiles.{file-of}
 use Rattle.nofs_law_old_names.proofs.NameLinks.{relinked-proper}
 use Rattle.nofs_law_new_names.proofs.NameNew.{birth-proper}
-use Rattle.nofs_law_new_names.proofs.NameGives.{link-cell, link-meta, make-birth, link-files, link-apart, make-gives, make-files, make-apart}
+use Rattle.nofs_law_new_names.proofs.NameGives.{link-cell, link-meta, make-birth, link-files, make-gives, make-files}
 use Rattle.nofs_law_new_names.proofs.NameHole.{leaf_places, directory-grown, record-hole-writes, record-hole-grows, leaf-hole-grows, claimed-hole-grows}
 use Rattle.nofs_law_new_names.proofs.NameRows.{step-table-proper}
 use Rattle.nofs_law_new_names.proofs.NameClaims.{grown-record-proper, grown-leaf-proper, claimed-leaf-proper, leaf-hole-writes, claimed-hole-writes}
@@ -24,7 +24,7 @@ use Rattle.nofs_machine.specs.Marks.{Mark}
 use Rattle.nofs_machine.specs.declared.history.Claims.{Claims}
 use Rattle.nofs_machine.specs.Machine.{Given, files_after, value_of, bytes_in, with_entry, link_given, make_given, set_link, link_to, is_paired}
 use Rattle.nofs_machine.specs.History.{FilesMatch, SameFile}
-use Rattle.nofs_image.specs.Cells.{Cell, FileKind, Pointer, Record, is_live, record_at, spelled_entry, entry_limit, slot_limit, Spells}
+use Rattle.nofs_image.specs.Cells.{Cell, FileKind, Pointer, is_live, record_at, spelled_entry, entry_limit, slot_limit, Spells}
 use Rattle.nofs_image.specs.Image.{Image, cell_at, is_inode, is_data_block, inode, files_in, value_in, Path, InRecord, Under, leaf, path_of, find, FileState}
 use Rattle.nofs_image.specs.Image.{Files, is_folder, is_special}
 use Rattle.nofs_image.specs.declared.value.Value.{Value}

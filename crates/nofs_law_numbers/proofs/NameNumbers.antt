@@ -2,14 +2,13 @@
 use Rattle.std.proofs.Common.{◌≡◌, ◌≢◌, ℕ, ◌/◌, ◌%◌, ◌<◌, ◌⊎◌, inl, inr, Bool, true, false, cond, eqb, List, [], ◌∷◌, length, Option, Some, IfSome, refl, sym}
 use Rattle.std.proofs.Common.{ap, ◌∙◌, subst, arith, Contains, eqb-true, eq-eqb}
 use Rattle.std.proofs.lemmas.List.Elements.{Contains-append_left, Contains-append_right, Contains-append_cases}
-use Rattle.nofs_image.specs.Kinds.{Directory as Folder}
-use Rattle.nofs_image.specs.Cells.{FileKind, File, Directory, Pointer, BackLink, Entry, tag_of, entry_of, entry_in, spelled_entry, entry_limit, slot_limit}
-use Rattle.nofs_image.specs.Image.{Image, cell_at, inode, path_of, content_kind, kind_in, find, FileState, is_folder, entry_held}
+use Rattle.nofs_image.specs.Cells.{Pointer, BackLink, Entry, tag_of, entry_of, entry_in, spelled_entry, entry_limit, slot_limit}
+use Rattle.nofs_image.specs.Image.{Image, cell_at, inode, path_of, find, FileState, is_folder, entry_held}
 use Rattle.nofs_image.specs.declared.path.PathAnswer.TheVariants as answer
 use Rattle.nofs_image.specs.declared.value.Value.{Value}
 use Rattle.nofs_image.specs.declared.value.Value.TheVariants.{Bytes}
 use Rattle.nofs_image.proofs.Find.{find-held}
-use Rattle.nofs_image.proofs.Paths.{path_of-slot, path_of-content}
+use Rattle.nofs_image.proofs.Paths.{path_of-slot}
 use Rattle.nofs_machine.specs.Machine.{zeros, with_entry, link_to, same_link, without_link}
 use Rattle.nofs_machine.specs.History.{FilesMatch}
 use Rattle.nofs_machine.specs.World.{World}

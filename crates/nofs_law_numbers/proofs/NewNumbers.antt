@@ -1,8 +1,8 @@
 -- Link and Make: the numbers in what they write.
-use Rattle.std.proofs.Common.{◌≡◌, ◌≢◌, ℕ, zero, suc, ◌-◌, ◌/◌, ◌<◌, ◌≤◌, ◌⊎◌, inl, inr, Bool, true, false, eqb, List, [], ◌∷◌, length, replicate, Some, None}
+use Rattle.std.proofs.Common.{◌≡◌, ◌≢◌, ℕ, zero, suc, ◌-◌, ◌/◌, ◌<◌, ◌≤◌, ◌⊎◌, inl, inr, Bool, true, false, eqb, List, [], ◌∷◌, length, replicate, Some}
 use Rattle.std.proofs.Common.{IfSome, refl, sym, ap, ◌∙◌, subst, arith, Contains, eqb-true, eq-eqb}
 use Rattle.std.proofs.lemmas.List.Elements.{All-contains, All-replicate, Contains-append_left, Contains-append_right, Contains-append_cases}
-use Rattle.nofs_image.specs.Cells.{FileKind, Pointer, BackLink, Record, Entry, entry_of, pointer_at, spelled_entry}
+use Rattle.nofs_image.specs.Cells.{FileKind, Pointer, BackLink, Entry, entry_of, pointer_at, spelled_entry}
 use Rattle.nofs_image.specs.Image.{Image, cell_at, inode, InRecord, Under, leaf, path_of, pointer, record_pointer, FileState, is_folder}
 use Rattle.nofs_image.specs.declared.value.Value.TheVariants.{Hole, Bytes}
 use Rattle.nofs_image.proofs.Find.{find-held}

@@ -4,7 +4,6 @@ use Rattle.std.proofs.Common.{Option, Some, None, is_some, refl, sym, ap, ◌∙
 use Rattle.std.specs.List.{list_any}
 use Rattle.nofs_image.specs.Kinds.{Directory as Folder}
 use Rattle.nofs_law_untouched.specs.Handed.{Proper, during}
-use Rattle.nofs_law_untouched.specs.Frames.{OldPointers}
 use Rattle.nofs_image.proofs.Find.{and-both}
 use Rattle.nofs_image.proofs.Chains.{pair-of, any-true, agreed-holds}
 use Rattle.nofs_law_untouched.proofs.Matching.{matched-file}
@@ -14,18 +13,17 @@ use Rattle.nofs_law_untouched.proofs.EntryCells.{no-entry}
 use Rattle.nofs_law_old_names.proofs.NameStep.{pair-named, empty-lone, file-lone}
 use Rattle.nofs_law_old_names.proofs.NameInPlace.{no-file-zero}
 use Rattle.nofs_law_old_names.proofs.NameRename.{entry-parts}
-use Rattle.nofs_law_old_names.proofs.NameLinks.{pair-apart, entry-proper, record-proper, stays-match, free-proper, goes-match, pair-kept, own-directory}
+use Rattle.nofs_law_old_names.proofs.NameLinks.{pair-apart, entry-proper, record-proper, stays-match, free-proper, goes-match, pair-kept}
 use Rattle.nofs_image.specs.declared.path.PathAnswer.TheVariants as answer
 use Rattle.nofs_machine.specs.Meta.{Gone, Is}
 use Rattle.nofs_machine.specs.Marks.{Mark}
-use Rattle.nofs_machine.specs.Machine.{zeros, files_after, with_entry, entry_given, meta_given, drop_given, drop_meta, without_link, link_to, same_link}
+use Rattle.nofs_machine.specs.Machine.{zeros, files_after, entry_given, meta_given, drop_given, drop_meta, without_link, link_to, same_link}
 use Rattle.nofs_machine.specs.Machine.{is_paired, generation_of, nothing}
 use Rattle.nofs_machine.specs.History.{FilesMatch}
 use Rattle.nofs_image.specs.Cells.{FileKind, File, BackLink, Entry, Pointer, entry_of, entry_limit}
-use Rattle.nofs_image.specs.Image.{Image, cell_at, super_at, is_data_block, inode, files_in, agreed, Agreed, root, linked, Path, path_of, find, FileState}
-use Rattle.nofs_image.specs.Image.{Files, is_folder, entry_in_file, entry_at, pairs, names, is_a, is_pair, is_root, is_special, links_of, links_in_file}
-use Rattle.nofs_image.specs.declared.value.Value.TheVariants.{Bytes}
-use Rattle.nofs_law_old_names.specs.Names.{DropLies, InPlace, Relinked}
+use Rattle.nofs_image.specs.Image.{Image, cell_at, super_at, is_data_block, inode, files_in, agreed, Agreed, root, linked, FileState}
+use Rattle.nofs_image.specs.Image.{Files, is_folder, entry_in_file, entry_at, pairs, names, is_a, is_pair, is_root, is_special, links_of}
+use Rattle.nofs_law_old_names.specs.Names.{DropLies, Relinked}
 
 -- the back link of a paired entry
 pub paired-link : (F : Files) (d e : ℕ) (entry : Entry) → entry_at F d e ≡ Some entry → is_paired F d e ≡ true

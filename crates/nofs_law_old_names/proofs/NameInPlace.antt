@@ -2,9 +2,8 @@
 use Rattle.std.proofs.Common.{◌≡◌, ◌≢◌, ℕ, ◌<◌, ◌≤◌, ◌⊎◌, inl, inr, Bool, true, false, cond, eqb, ◌&&◌, ◌||◌, ◌++◌, option_to_list, Option, Some, None, refl}
 use Rattle.std.proofs.Common.{sym, ap, ◌∙◌, subst, subst₂, Contains, eqb-true, eq-eqb, ne_eqb}
 use Rattle.std.proofs.lemmas.List.Elements.{Contains-push}
-use Rattle.nofs_image.specs.Kinds.{Directory as Folder}
 use Rattle.nofs_image.specs.declared.path.PathAnswer.{PathAnswer}
-use Rattle.nofs_law_untouched.specs.Handed.{IsContentKind, Proper, OfContent, during}
+use Rattle.nofs_law_untouched.specs.Handed.{Proper, OfContent, during}
 use Rattle.nofs_law_untouched.specs.Frames.{SamePointers, OldPointers}
 use Rattle.nofs_image.proofs.Find.{find-held}
 use Rattle.nofs_image.proofs.Paths.{path_of-slot, path_of-slot_of, path_of-content, slot_of-path_of}
@@ -19,10 +18,10 @@ use Rattle.nofs_machine.specs.Meta.{Meta}
 use Rattle.nofs_machine.specs.Marks.{Mark}
 use Rattle.nofs_machine.specs.Machine.{Given, files_after, lies_above, cell_given}
 use Rattle.nofs_machine.specs.History.{FilesMatch, SameFile}
-use Rattle.nofs_image.specs.Cells.{Cell, File, Content, Directory, Tag, Pointer, Record, tag_of, pointer_at, is_live, free_record, slot_limit}
-use Rattle.nofs_image.specs.Image.{Image, cell_at, super_at, is_inode, is_data_block, inode, file_from, files_in, agreed, value, value_in, node_in, kind_in}
+use Rattle.nofs_image.specs.Cells.{Cell, Tag, Pointer, Record, tag_of, pointer_at, is_live, free_record, slot_limit}
+use Rattle.nofs_image.specs.Image.{Image, cell_at, is_data_block, inode, file_from, files_in, agreed, value, value_in, node_in}
 use Rattle.nofs_image.specs.Image.{tag_for, Path, InRecord, Under, path_of, slot_of, is_pointer_slot, find, Present, FileState, Files, record_pointer}
-use Rattle.nofs_image.specs.Image.{is_folder, entry_held, entry_in_file, entry_at, names, is_pair, links_of, IsSlot}
+use Rattle.nofs_image.specs.Image.{IsSlot}
 use Rattle.nofs_image.specs.declared.value.Value.{Value}
 use Rattle.nofs_image.specs.declared.value.Value.TheVariants.{Bytes}
 use Rattle.nofs_machine.specs.Gives.{GivesNothing, GivesCell}

@@ -19,12 +19,12 @@ use Rattle.nofs_law_old_names.proofs.NameRename.{value-held}
 use Rattle.nofs_image.specs.declared.path.PathAnswer.TheVariants as answer
 use Rattle.nofs_machine.specs.Meta.{Meta, Gone, Is, meta_of}
 use Rattle.nofs_machine.specs.Marks.{Mark}
-use Rattle.nofs_machine.specs.Machine.{Given, filled, files_after, file_after, after_meta, born_file, bytes_in, with_entry, cell_given, entry_given, meta_given}
+use Rattle.nofs_machine.specs.Machine.{Given, files_after, bytes_in, with_entry, cell_given, entry_given, meta_given}
 use Rattle.nofs_machine.specs.History.{FilesMatch, SameFile}
 use Rattle.nofs_image.specs.Cells.{FileKind, BackLink, Entry, Pointer, Record, is_live, entry_of, record_at, entry_limit, slot_limit}
-use Rattle.nofs_image.specs.Image.{super_in, Image, cell_at, super_at, is_inode, is_data_block, inode, file_from, files_in, agreed, value, value_in, Path}
-use Rattle.nofs_image.specs.Image.{InRecord, path_of, find, pointer, FileState, Files, is_folder, entry_held, entry_in_file, entry_at, pairs, names, is_a}
-use Rattle.nofs_image.specs.Image.{is_pair, is_root, is_special, links_of, record_pointer, IsSlot}
+use Rattle.nofs_image.specs.Image.{Image, cell_at, super_at, is_inode, is_data_block, inode, file_from, files_in, agreed, value}
+use Rattle.nofs_image.specs.Image.{path_of, find, FileState, Files, is_folder, entry_held, entry_in_file, pairs, names, is_a}
+use Rattle.nofs_image.specs.Image.{is_pair, is_root, is_special, links_of}
 use Rattle.nofs_image.specs.declared.value.Value.{Value}
 use Rattle.nofs_image.specs.declared.value.Value.TheVariants.{Bytes}
 use Rattle.nofs_machine.specs.Gives.{GivesNothing, GivesCell, GivesMeta}

@@ -5,12 +5,11 @@ use Rattle.std.specs.Prelude.{slice_get}
 use Rattle.nofs_image.specs.Cells.{FileKind, Entry}
 use Rattle.nofs_image.specs.Image.{Image, Files, entry_at}
 use Rattle.nofs_machine.specs.Search.{first_of}
-use Rattle.nofs_machine.specs.Machine.{Given, nothing, gives, found, place_for, given_by, is_refused, link_to, generation_of}
+use Rattle.nofs_machine.specs.Machine.{Given, nothing, found, place_for, given_by, is_refused}
 use Rattle.nofs_machine.specs.World.{World}
 use Rattle.nofs_machine.specs.Refusals.{rows, directory_full}
-use Rattle.nofs_machine.specs.Answers.{found_entry, found_reply, dropped_entry, dropped_reply, reply_of}
+use Rattle.nofs_machine.specs.Answers.{found_entry, found_reply, reply_of}
 use Rattle.nofs_machine.specs.Next.{Next}
-use Rattle.nofs_machine.specs.declared.history.Claims.{Claims}
 use Rattle.nofs_machine.specs.declared.history.Entry1.{Entry1}
 use Rattle.nofs_machine.specs.declared.steps.Step.{Step}
 use Rattle.nofs_machine.specs.declared.steps.Step.TheVariants as step

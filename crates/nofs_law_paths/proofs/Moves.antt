@@ -5,7 +5,7 @@ use Rattle.std.specs.Prelude.{slice_get}
 use Rattle.std.proofs.lemmas.Bool.{cases_lt}
 use Rattle.nofs_image.specs.Cells.{Entry}
 use Rattle.nofs_image.specs.Image.{Image, Files, Agreed, entry_at}
-use Rattle.nofs_machine.specs.Machine.{found, link_to, given_by, is_paired}
+use Rattle.nofs_machine.specs.Machine.{found, link_to, given_by}
 use Rattle.nofs_machine.specs.History.{agreed_files, NoWriteFault, begun, mark, is_flushed}
 use Rattle.nofs_machine.specs.Allowed.{IsAllowed}
 use Rattle.nofs_machine.specs.World.{World}

@@ -13,7 +13,7 @@ use Rattle.nofs_machine.specs.Next.{Keeps, Next, AfterFault, ByRow, Done, ByRead
 use Rattle.nofs_machine.specs.declared.history.Entry1.{Entry1}
 use Rattle.nofs_machine.specs.declared.steps.Step.{Step}
 use Rattle.nofs_machine.specs.declared.steps.Step.TheVariants as step
-use Rattle.nofs_machine.proofs.Era.{gives-birth}
+use Rattle.nofs_law_images.proofs.Era.{gives-birth}
 use Rattle.nofs_law_runs.specs.Bases.{IsHistory}
 use Rattle.nofs_law_links.proofs.Gives.{given-kind}
 use Rattle.nofs_law_links.proofs.Slots.{Spelled}

@@ -19,7 +19,7 @@ use Rattle.nofs_machine.specs.declared.history.Claims.{Claims}
 use Rattle.nofs_machine.specs.declared.history.Entry1.{Entry1}
 use Rattle.nofs_machine.specs.declared.steps.Step.{Step}
 use Rattle.nofs_machine.specs.declared.steps.Step.TheVariants as step
-use Rattle.nofs_machine.proofs.Era.{gives-birth}
+use Rattle.nofs_law_images.proofs.Era.{gives-birth}
 use Rattle.nofs_law_untouched.proofs.Given.{value-of, at-itself}
 use Rattle.nofs_law_links.proofs.Handed.{drop-gives, make-given-is}
 use Rattle.nofs_law_links.specs.Pairs.{HasAt, Filled, is_drop, IsDirectory}

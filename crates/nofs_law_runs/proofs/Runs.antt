@@ -16,8 +16,8 @@ use Rattle.nofs_machine.specs.declared.history.Entry1.{Entry1}
 use Rattle.nofs_machine.specs.declared.replies.Reply.{Reply}
 use Rattle.nofs_machine.specs.declared.replies.Reply.TheVariants as reply
 use Rattle.nofs_machine.specs.declared.replies.Refusal.TheVariants as refusal
-use Rattle.nofs_machine.proofs.Era.{current-accepted}
-use Rattle.nofs_machine.proofs.Lives.{along-append, begun-take}
+use Rattle.nofs_law_images.proofs.Era.{current-accepted}
+use Rattle.nofs_law_images.proofs.Lives.{along-append, begun-take}
 use Rattle.nofs_image.proofs.Find.{and-both}
 use Rattle.nofs_law_links.proofs.Handed.{answer-free}
 use Rattle.nofs_law_runs.specs.Runs.{files_before}

@@ -1,6 +1,6 @@
 -- A step that changes one entry of one directory, and the links of one inode: what is agreed after it is what the machine has.
 use Rattle.std.proofs.Common.{◌≡◌, ◌≢◌, ℕ, ◌⊎◌, inl, inr, Bool, true, false, eqb, ltb, ◌&&◌, ◌||◌, not, List, Option, Some, None, is_some, refl, sym, ap, ◌∙◌}
-use Rattle.std.proofs.Common.{subst, subst₂, arith, Contains, eqb-true, eq-eqb}
+use Rattle.std.proofs.Common.{subst, subst₂, arith, Contains, eqb-true}
 use Rattle.std.proofs.lemmas.Bool.{cases_eq}
 use Rattle.nofs_image.proofs.Chains.{pair-of, agreed-holds, holds-agreed}
 use Rattle.nofs_law_untouched.proofs.Matching.{matched-file, matched-agreed}

@@ -1,6 +1,6 @@
 -- Where the machine's files are those of an image, each file is an agreed inode, and each agreed inode a file.
 use Rattle.std.proofs.Common.{◌≡◌, ℕ, ◌<◌, ◌⊎◌, inl, inr, Bool, true, false, cond, Option, Some, None, is_some, refl, subst}
-use Rattle.nofs_law_images.proofs.Handed.{meta_of_file}
+use Rattle.nofs_law_images.proofs.Era.{meta_of_file}
 use Rattle.nofs_law_images.specs.Handed.{meta_of, generation_of, agreed_files, FilesMatch, SameFile}
 use Rattle.nofs_image.specs.Cells.{FileKind, is_live, slot_limit}
 use Rattle.nofs_image.specs.Image.{Image, inode, file_from, files_in, agreed, value, FileState, Files}

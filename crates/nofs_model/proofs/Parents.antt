@@ -7,7 +7,7 @@ use Rattle.std.proofs.lemmas.List.Sums.{fails_before_first, sum_by-cons}
 use Rattle.nofs_inode.specs.InodeRecords.{allows_kind, allows_record, is_tidy_link, link_count, has_rest, record_with, record_or_free}
 use Rattle.nofs_inode.specs.declared.inode.FileKind.TheVariants.{File, Directory as Folder}
 use Rattle.nofs_image.specs.Cells.{FileKind, BackLink, Record, is_null, is_empty_link, free_record, record_of, record_at, fields_in}
-use Rattle.nofs_image.specs.Image.{Image, cell_at, is_inode, inode, find, value, node_in, FileState, Files, file_from, files_in, is_folder, pairs, is_pair}
+use Rattle.nofs_image.specs.Image.{Image, cell_at, is_inode, inode, FileState, Files, file_from, files_in, is_folder, pairs, is_pair}
 use Rattle.nofs_image.specs.Image.{agreed, links_of, links_in_file, is_root, is_special}
 use Rattle.nofs_image.specs.Files.{has_agreed_link, IsParent}
 use Rattle.nofs_image.proofs.Find.{and-both}

@@ -12,7 +12,7 @@ use Rattle.nofs_machine.specs.Allowed.{IsAllowed}
 use Rattle.nofs_machine.specs.declared.history.Claims.{Claims}
 use Rattle.nofs_machine.specs.declared.history.Entry1.{Entry1}
 use Rattle.nofs_machine.specs.declared.steps.Step.{Step}
-use Rattle.nofs_machine.proofs.ClaimParts.{claim-free}
+use Rattle.nofs_law_maps.proofs.ClaimParts.{claim-free}
 use Rattle.nofs_scan.specs.Handed.{IsOpen, IsStopped, Past, Books}
 use Rattle.nofs_mounting.specs.Mounts.{IsFound, IsMount}
 use Rattle.nofs_mounting.specs.Ends.{EntryClaimsFree, Ends}

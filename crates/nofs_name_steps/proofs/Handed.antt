@@ -7,7 +7,7 @@ pub use Rattle.nofs_placing.proofs.Handed.{agreed-live, are-agreed, table_block,
 pub use Rattle.nofs_placing.proofs.Handed.{set-length, record-here, record-other, past-null, past-same, machine-pair, stale-none, stale-some, current-agreed}
 pub use Rattle.nofs_placing.proofs.Handed.{goes-memory, ready-keeps, goes-stopped, open-keeps, goes-row, goes-read, IsLate, first-late, late-row, Takes}
 pub use Rattle.nofs_placing.proofs.Handed.{claimed-safe, set-here, set-other, made-safe, world-numbers, claim-was, free-inodes-count, unknown-inodes-count}
-pub use Rattle.nofs_placing.proofs.Handed.{none-free, some-free, stands-none, all-begun, zeros-null, set-none, fails-on, IsLast-on, safe-writes, first-fails}
+pub use Rattle.nofs_placing.proofs.Handed.{none-free, some-free, stands-none, all-begun, zeros-null, set-none, fails-on, IsLast-on, safe-writes}
 pub use Rattle.nofs_placing.proofs.Looked.{missing-late}
 pub use Rattle.nofs_placing.proofs.NamesIn.{unopened-goes}
 pub use Rattle.nofs_placing.proofs.Parts.{first-left, first-right, fails-after, goes-fails, opened-fails}

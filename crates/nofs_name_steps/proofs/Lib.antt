@@ -1,4 +1,3 @@
-pub mod OneWrite
 pub mod NameSteps
 pub mod Quiet
 pub mod CellWrite

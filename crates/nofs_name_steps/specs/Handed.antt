@@ -9,7 +9,7 @@ pub use Rattle.nofs_placing.specs.Refusing.{IsThere, KnownTrue, Fails, ByRow, By
 pub use Rattle.nofs_placing.specs.Refusing.{missing_rows, FindsPair}
 pub use Rattle.nofs_placing.specs.Stepping.{IsAt, IsLast, no_claims}
 pub use Rattle.nofs_placing.specs.Tables.{IsTable, table_block}
-pub use Rattle.nofs_placing.specs.declared.ending.Ended.{Ended}
+pub use Rattle.nofs_placing.specs.Handed.{Ended}
 pub use Rattle.nofs_placing.specs.declared.opening.NameIn.{NameIn}
 pub use Rattle.nofs_placing.specs.declared.pairs.NamedPair.{NamedPair}
 pub use Rattle.nofs_placing.specs.declared.placing.EntryBlocks.{EntryBlocks}

@@ -8,5 +8,5 @@ pub use nofs_placing::{
     Books, Core, Ended, EntryBlocks, EntrySlot, FreedBlocks, InodeClaim, NameIn, NamedPair, Opened,
     Paired, ReadInode, claims_of, entry_place, find_entry_slot, find_pair, find_unused, mark_slots,
     named_at, open_inode, open_named, paired_kind, refused, same_link, table_block, take_blocks,
-    with_record, write_four, write_three, write_two,
+    with_record, write_four, write_one, write_three, write_two,
 };

@@ -15,4 +15,4 @@ pub use Rattle.nofs_state.proofs.Handed.{HasRecord, table-records, set-length, r
 pub use Rattle.nofs_state.proofs.Handed.{stale-some, current-agreed, ready-keeps, open-keeps, goes-row, claimed-safe, set-here, set-other, made-safe}
 pub use Rattle.nofs_state.proofs.Handed.{world-numbers, free-inodes-count, unknown-inodes-count, none-free, some-free, stands-none, all-begun, zeros-null}
 pub use Rattle.nofs_state.proofs.Handed.{set-none, fails-on, IsLast-on, now-picks, law-rest, goes-fault, stopped_books, stopped_world, AddsNumbered}
-pub use Rattle.nofs_state.proofs.TwoWrites.{safe-writes, first-fails, write-other}
+pub use Rattle.nofs_state.proofs.TwoWrites.{safe-writes}

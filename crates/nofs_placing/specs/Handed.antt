@@ -10,4 +10,5 @@ pub use Rattle.nofs_state.specs.Handed.{IsSafe, Goes, IsReading, Books, MarkFail
 pub use Rattle.nofs_state.specs.Handed.{claimed_books, claimed_pointer, Opens, OpenFails, is_current, Opened, made_books, is_plain, InodeClaim, InodesFit}
 pub use Rattle.nofs_state.specs.Handed.{MarksAll, Marked, IsBlockAmong, AreFreed}
 pub use Rattle.nofs_state.specs.Owing.{RowsPass, RecordIn}
+pub use Rattle.nofs_state.specs.declared.ending.Ended.{Ended}
 pub use Rattle.nofs_state.specs.Writing.{image_after, IsApart, OneOf, Stores, Stored, NotStored, WritesAll}

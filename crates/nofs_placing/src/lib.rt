@@ -10,14 +10,14 @@ mod pairs;
 mod placing;
 mod tables;
 
-pub use ending::{Ended, claims_of, refused};
+pub use ending::claims_of;
 pub use looks::look;
 pub use nofs_searching::{Named, Paired, ReadInode, named_at, paired_kind, same_link};
 pub use nofs_state::{
-    Books, Core, FreedBlocks, InodeClaim, Opened, mark_slots, open_inode, write_four, write_three,
-    write_two,
+    Books, Core, Ended, FreedBlocks, InodeClaim, Opened, mark_slots, open_inode, refused,
+    table_block, write_four, write_one, write_three, write_two,
 };
 pub use opening::{NameIn, find_pair, find_unused, open_directory, open_named};
 pub use pairs::NamedPair;
 pub use placing::{EntryBlocks, EntrySlot, entry_place, find_entry_slot, take_blocks};
-pub use tables::{table_block, with_record};
+pub use tables::with_record;

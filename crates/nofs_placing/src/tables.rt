@@ -1,18 +1,11 @@
 //! The cells of the inode table.
-ghost use Rattle.std.specs.Prelude.{◌≡◌, ◌≤◌};
+ghost use Rattle.std.specs.Prelude.{◌≤◌};
 ghost use Rattle.nofs_inode.specs.InodeRecords.{HasRecordSpelling};
-ghost use Rattle.nofs_placing.specs.Tables.{IsTable, table_block};
+ghost use Rattle.nofs_placing.specs.Tables.{IsTable};
 
 use nofs_disk::{Cell, Kind, Tag, write_tag};
 use nofs_inode::{Record, write_record};
-
-/// The block of the inode table with the record of an inode.
-pub fn table_block(inode: u32) -> u64
-    requires { 1 ≤ inode }
-    ensures { result ≡ table_block inode }
-{
-    1 + u64::from((inode - 1) / 4)
-}
+use nofs_state::table_block;
 
 /// Puts a record into the cell of the inode table, with the tag of that cell.
 pub fn with_record(table: &mut Cell, inode: u32, it: &Record)

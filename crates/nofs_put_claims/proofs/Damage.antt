@@ -29,7 +29,7 @@ use Rattle.nofs_agree.specs.declared.reads.LastRead.{LastRead}
 use Rattle.nofs_reading.specs.Handed.{IsSafe, is_current, IsOpen, Past, Goes, Books}
 use Rattle.nofs_reading.proofs.Handed.{goes-after, open-back, reads-keep, are-agreed, goes-row, goes-read, open-files, IsLate, first-late, late-row}
 use Rattle.nofs_put_claims.specs.Putting.{HeldAt, IsEmptySlot, IsFar, IsUnder, MayPut, RowsLead, RowsReach, RowsReachOf, put_answer}
-use Rattle.nofs_put_claims.specs.declared.put.Ended.{Ended}
+use Rattle.nofs_reading.specs.Handed.{Ended}
 use Rattle.nofs_put_claims.specs.declared.put.Put.{Put}
 use Rattle.nofs_reading.proofs.FileRows.{current-agreed}
 use Rattle.nofs_climbing.proofs.Needs.{node-is}

@@ -11,7 +11,7 @@ use Rattle.nofs_disk.specs.Chains.{Rose-within, StaysButFaults-refl, StaysButFau
 use Rattle.nofs_image.specs.Cells.{Record}
 use Rattle.nofs_image.specs.Image.{value}
 use Rattle.nofs_machine.specs.Meta.{is_bytes}
-use Rattle.nofs_machine.specs.World.{World, blocks_for, free_blocks}
+use Rattle.nofs_machine.specs.World.{blocks_for, free_blocks}
 use Rattle.nofs_machine.specs.Claims.{no_claims}
 use Rattle.nofs_machine.specs.declared.history.Entry1.{Entry1}
 use Rattle.nofs_machine.specs.declared.steps.Step.{Step}
@@ -23,7 +23,7 @@ use Rattle.nofs_agree.specs.declared.reads.LastRead.{LastRead}
 use Rattle.nofs_reading.specs.Handed.{IsSafe, is_current, IsOpen, Past, Goes, Books, RowsPass}
 use Rattle.nofs_reading.proofs.Handed.{free-count, unknown-count, goes-read, goes-row, three-free, two-free}
 use Rattle.nofs_reading.specs.Answers.{IsFile}
-use Rattle.nofs_put_claims.specs.Putting.{AreThreeFree, AreTwoFree, HasRoom, IsFull, MayPut, NoRoom, RowsLead, StampsSpent, TooFull, step_of_put}
+use Rattle.nofs_put_claims.specs.Putting.{AreThreeFree, AreTwoFree, HasRoom, MayPut, NoRoom, RowsLead, StampsSpent, TooFull, step_of_put}
 use Rattle.nofs_put_claims.specs.declared.claims.ThreeBlocks.{ThreeBlocks}
 use Rattle.nofs_put_claims.specs.declared.claims.TwoBlocks.{TwoBlocks}
 use Rattle.nofs_put_claims.specs.declared.put.Put.{Put}

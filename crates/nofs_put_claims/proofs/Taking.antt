@@ -1,5 +1,5 @@
 -- The claim of one block, of two and of three, by the books.
-use Rattle.std.proofs.Common.{◌≡◌, ◌≢◌, ℕ, ◌+◌, ◌*◌, ◌^◌, ◌<◌, ◌≤◌, inl, inr, true, false, eqb, ne_eqb, not, List, length, refl, sym, ap, ◌∙◌, subst, subst₂}
+use Rattle.std.proofs.Common.{◌≡◌, ◌≢◌, ℕ, ◌+◌, ◌*◌, ◌^◌, ◌<◌, inl, inr, true, false, eqb, ne_eqb, not, List, length, refl, sym, ap, ◌∙◌, subst, subst₂}
 use Rattle.std.proofs.Common.{arith}
 use Rattle.std.specs.Prelude.{slice_set}
 use Rattle.nofs_bits.specs.Bits.{is_set}

@@ -1,6 +1,6 @@
 -- What Put owes and answers.
 use Rattle.std.specs.Prelude.{◌≡◌, ◌≢◌, ℕ, ◌+◌, ◌-◌, ◌*◌, ◌/◌, ◌%◌, ◌^◌, ◌<◌, ◌≤◌, ◌&&◌, ◌||◌, ◌==◌, max, not, nat_lt, nat_le, Bool, true, false}
-use Rattle.std.specs.Prelude.{List, length, [], ◌∷◌, if◌then◌else◌, IsTrue, Some, Result, Ok, Err, IfOk, OnOk, IfErr, slice_set}
+use Rattle.std.specs.Prelude.{List, length, [], ◌∷◌, if◌then◌else◌, IsTrue, Some, Result, Ok, Err, OnOk, IfErr, slice_set}
 use Rattle.nofs_disk.specs.Disk.{DiskState, StaysButFaults, Rose, cell_at}
 use Rattle.nofs_disk.specs.Number.{zeros}
 use Rattle.nofs_ptrs.specs.Paths.{slot_limit}
@@ -30,7 +30,7 @@ use Rattle.nofs_agree.specs.declared.reads.LastRead.{LastRead}
 use Rattle.nofs_law_numbers.specs.Cells.{table_tag}
 use Rattle.nofs_reading.specs.Handed.{IsSafe, MapsFit, Says, claimed_books, claimed_pointer, is_current, IsOpen, Past, Goes, Books, RecordIn}
 use Rattle.nofs_reading.specs.Answers.{IsFile}
-use Rattle.nofs_put_claims.specs.declared.put.Ended.{Ended}
+use Rattle.nofs_reading.specs.Handed.{Ended}
 use Rattle.nofs_put_claims.specs.declared.put.Put.{Put}
 
 -- the record with another size

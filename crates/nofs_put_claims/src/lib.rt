@@ -8,7 +8,7 @@ mod put;
 
 pub use claims::{claim_one, claim_three, claim_two, one_block, three_blocks, two_blocks};
 pub use nofs_reading::{
-    Core, FreedBlocks, cut_of, find_content, note_file, open_file, put_content, slots_of,
-    write_four, write_three, write_two,
+    Core, Ended, FreedBlocks, cut_of, find_content, note_file, open_file, put_content, refused,
+    slots_of, table_block, write_four, write_three, write_two,
 };
-pub use put::{Ended, Put, refused};
+pub use put::Put;

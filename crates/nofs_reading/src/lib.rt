@@ -14,6 +14,9 @@ pub use content::{cut_of, put_content, trim};
 pub use files::{find_content, note_file, open_file, slots_of};
 pub use flushes::flush;
 pub use gets::{Got, get};
-pub use nofs_state::{Books, Core, FreedBlocks, mark_slots, write_four, write_three, write_two};
+pub use nofs_state::{
+    Books, Core, Ended, FreedBlocks, mark_slots, refused, table_block, write_four, write_three,
+    write_two,
+};
 pub use sessions::flush_step;
 pub use stats::stat;

@@ -1,10 +1,9 @@
 -- The contract of a Resize from the state before its writes.
-use Rattle.std.proofs.Common.{◌≡◌, ℕ, ◌+◌, ◌^◌, ◌≤◌, ◌⊎◌, Bool, true, false, List, length, Option, Some, None, IsTrue, Result, Ok, Err, refl, sym, ap, ◌∙◌}
+use Rattle.std.proofs.Common.{◌≡◌, ℕ, ◌+◌, ◌^◌, ◌⊎◌, Bool, true, false, List, Option, Some, None, IsTrue, Result, Ok, Err, refl, sym, ap, ◌∙◌}
 use Rattle.std.proofs.Common.{subst, subst₂, arith}
 use Rattle.std.specs.Prelude.{IfSome}
 use Rattle.nofs_ptrs.specs.Paths.{slot_limit}
 use Rattle.nofs_disk.specs.Disk.{DiskState, IsDisk, Rose, StaysButFaults, cell_at}
-use Rattle.nofs_inode.specs.InodeRecords.{largest_size}
 use Rattle.nofs_image.specs.Cells.{Cell, Record, SuperBlock, tag_of}
 use Rattle.nofs_image.specs.Image.{Image, files_in, agreed, find, path_of}
 use Rattle.nofs_machine.specs.Machine.{gives}
@@ -16,11 +15,11 @@ use Rattle.nofs_machine.specs.declared.replies.Refusal.{Refusal}
 use Rattle.nofs_machine.specs.declared.replies.Refusal.TheVariants as refusal
 use Rattle.nofs_agree.specs.Chains.{AreTrue}
 use Rattle.nofs_agree.proofs.Climbs.{KnowsInode-on}
-use Rattle.nofs_shallow_puts.specs.Handed.{table_tag, IsSafe, IsOpen, Past, Goes, entry, is_current, BlocksFreed, IsBlockAmong, Books, IsApart, Stores}
-use Rattle.nofs_shallow_puts.specs.Handed.{Stored, NotStored, IsFile, RecordIn, RowsPass, IsRecordCell}
+use Rattle.nofs_shallow_puts.specs.Handed.{table_tag, IsOpen, Past, Goes, entry, is_current, BlocksFreed, IsBlockAmong, Books, IsApart, Stores}
+use Rattle.nofs_shallow_puts.specs.Handed.{Stored, NotStored, RecordIn, IsRecordCell}
 use Rattle.nofs_shallow_puts.proofs.Handed.{goes-done, live-stands, goes-fault, stopped_world, stopped_books, goes-after, open-back, reads-keep, safe-keeps}
 use Rattle.nofs_shallow_puts.proofs.Handed.{goes-read, agreed-live, are-agreed, table_block, safe-writes, current-agreed}
-use Rattle.nofs_cut_files.specs.Handed.{EdgeInData, CellInData, IsCutMap, IsEdge, IsTail, MayCut, cut_record, cut_writes, first_cut, kept_slots, maybe}
+use Rattle.nofs_cut_files.specs.Handed.{CellInData, IsCutMap, IsEdge, IsTail, MayCut, cut_record, cut_writes, first_cut, kept_slots, maybe}
 use Rattle.nofs_cut_files.specs.Handed.{resize_answer, NewCell, Edge}
 use Rattle.nofs_cut_files.proofs.Handed.{Cuts, safe-freed}
 use Rattle.nofs_cut_files.proofs.CutDone.{claim, resize-done, resize-numbered, resize-proper}

@@ -2,7 +2,7 @@
 
 use nofs_io::{MemSink, MemSource};
 use nofs_memdisk::MemDisk;
-use nofs_testruns::{disk_of, patched_empty, run_on, run_with};
+use nofs_testruns::{disk_with, patched_empty, run_on, run_with};
 use std::alloc::Global;
 use std::test::Fail;
 
@@ -11,7 +11,7 @@ const STAT: &str = "0d0000000a020000000200000000000000";
 
 // A disk of 16 blocks with the empty image.
 fn empty_disk(alloc: Global) -> Result<MemDisk, Fail> {
-    Ok(disk_of(alloc, 16, &patched_empty(alloc, &[])?)?)
+    Ok(disk_with(alloc, 16, &patched_empty(alloc, &[])?)?)
 }
 
 #[test]

@@ -1,5 +1,4 @@
-//! Tests of whole runs over disks that hold what was written: texts, statuses, frames, drills, an ordinary day, a mirror, and a file of
-//! the host.
+//! Tests of whole runs over disks that hold what was written: texts, frames, drills, an ordinary day, and a mirror.
 //!
 //! Promise: each run prints the lines that stand beside it, and ends with that status.
 #![tactic(auto)]
@@ -9,14 +8,10 @@ mod days;
 #[cfg(test)]
 mod drills;
 #[cfg(test)]
-mod files;
-#[cfg(test)]
 mod frames;
 #[cfg(test)]
 mod instance;
 #[cfg(test)]
 mod mirrors;
-#[cfg(test)]
-mod statuses;
 #[cfg(test)]
 mod tests;

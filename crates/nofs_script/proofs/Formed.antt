@@ -1,6 +1,6 @@
 -- What is read is a session: its commands are well formed, and its scripts are 1 to 8.
-use Rattle.std.proofs.Common.{◌≡◌, ℕ, zero, suc, ◌+◌, ◌<◌, ◌≤◌, ◌==◌, not, nat_lt, Bool, true, false, if◌then◌else◌, List, [], ◌∷◌, ◌++◌, length}
-use Rattle.std.proofs.Common.{length-append, Option, None, Some, Result, Ok, Err, IfOk, arith, codes, refl, sym, ap, ◌∙◌, subst}
+use Rattle.std.proofs.Common.{◌≡◌, ℕ, zero, suc, ◌+◌, ◌<◌, ◌==◌, nat_lt, Bool, true, false, if◌then◌else◌, List, [], ◌∷◌, ◌++◌, length}
+use Rattle.std.proofs.Common.{length-append, Option, None, Some, Result, Ok, Err, IfOk, arith, codes, refl, subst}
 use Rattle.std.specs.List.{AllByRecursion}
 use Rattle.std.specs.Str.{bytes_eq}
 use Rattle.std.proofs.lemmas.Bool.{ltb-true, eqb-false}
@@ -14,7 +14,6 @@ use Rattle.nofs_script.specs.declared.commands.Verb.{Verb}
 use Rattle.nofs_script.specs.declared.commands.Verb.TheVariants as verb
 use Rattle.nofs_script.specs.declared.faults.ScriptKind.{ScriptKind}
 use Rattle.nofs_script.specs.declared.faults.ScriptKind.TheVariants.{BadPath, BadHex, TooManyUsers, TooMuchAsked, TooManyCommands}
-use Rattle.nofs_script.specs.declared.faults.ScriptFault.{ScriptFault}
 use Rattle.nofs_script.specs.declared.session.Reading.{Reading}
 use Rattle.nofs_script.specs.Grammar.{◌>>=◌, has_last_name, path_word, new_path_word, number_word, hex_word, hex_digits, one_word, two_words, three_words}
 use Rattle.nofs_script.specs.Grammar.{command_of, verb_in}

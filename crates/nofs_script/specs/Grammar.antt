@@ -1,5 +1,5 @@
 -- What the words of a line mean: its command, or what is wrong in it, the first from the left.
-use Rattle.std.specs.Prelude.{◌≡◌, ℕ, ◌<◌, List, [], ◌∷◌, length, ◌==◌, ◌&&◌, not, Bool, true, false, if◌then◌else◌, None, Some, Result, Ok, Err, codes}
+use Rattle.std.specs.Prelude.{◌≡◌, ℕ, List, [], ◌∷◌, length, ◌==◌, ◌&&◌, not, Bool, false, if◌then◌else◌, None, Some, Result, Ok, Err, codes}
 use Rattle.std.specs.List.{slice_split, list_all}
 use Rattle.std.specs.Str.{bytes_eq}
 use Rattle.std.specs.declared.option.Option.{Option}

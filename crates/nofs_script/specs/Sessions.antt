@@ -1,5 +1,5 @@
 -- What a text means: its scripts, or the first bad line.
-use Rattle.std.specs.Prelude.{◌≡◌, ℕ, ◌+◌, ◌<◌, ◌≤◌, ◌++◌, List, [], ◌∷◌, length}
+use Rattle.std.specs.Prelude.{ℕ, ◌+◌, ◌≤◌, ◌++◌, List, [], ◌∷◌, length}
 use Rattle.std.specs.Prelude.{nat_lt, ◌==◌, Bool, if◌then◌else◌, None, Some, Result, Ok, Err, slice_index, codes}
 use Rattle.std.specs.List.{AllByRecursion}
 use Rattle.std.specs.Str.{bytes_eq}

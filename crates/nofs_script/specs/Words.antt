@@ -1,6 +1,6 @@
 -- Lines, words and numbers of a text.
-use Rattle.std.specs.Prelude.{◌≡◌, ℕ, ◌+◌, ◌-◌, ◌*◌, ◌^◌, ◌<◌, ◌≤◌, List, [], ◌∷◌, length, filter, fold, nat_lt, nat_le, ◌==◌, ◌&&◌, ◌||◌, not, Bool, true}
-use Rattle.std.specs.Prelude.{false, if◌then◌else◌, None, Some, slice_index}
+use Rattle.std.specs.Prelude.{ℕ, ◌+◌, ◌-◌, ◌*◌, ◌^◌, List, length, filter, fold, nat_lt, nat_le, ◌==◌, ◌&&◌, ◌||◌, not, Bool}
+use Rattle.std.specs.Prelude.{if◌then◌else◌, None, Some, slice_index}
 use Rattle.std.specs.Char.{is_ascii_digit}
 use Rattle.std.specs.List.{slice_split, list_all}
 use Rattle.std.specs.declared.option.Option.{Option}

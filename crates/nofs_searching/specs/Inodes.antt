@@ -1,5 +1,4 @@
 -- An inode with its record.
-use Rattle.std.specs.Prelude.{ℕ}
 use Rattle.nofs_disk.specs.Disk.{DiskState}
 use Rattle.nofs_agree.specs.Reading.{KnowsDirectory, KnowsInode}
 use Rattle.nofs_searching.specs.declared.inodes.ReadInode.{ReadInode}

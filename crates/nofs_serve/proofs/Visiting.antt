@@ -1,5 +1,5 @@
 -- A whole visit: its sweepers, its flusher and its visitor, and what it leaves in a history.
-use Rattle.std.proofs.Common.{◌≡◌, ◌≢◌, ◌⊎◌, inl, inr, ℕ, zero, suc, ◌+◌, ◌-◌, ◌<◌, Bool, List, [], length, drop, refl, sym, ap, ◌∙◌, subst, arith}
+use Rattle.std.proofs.Common.{◌≡◌, ◌≢◌, ◌⊎◌, inl, inr, ℕ, zero, suc, ◌-◌, ◌<◌, Bool, List, [], length, drop, refl, sym, ap, ◌∙◌, subst, arith}
 use mathlib.Core.List.{IsPrefix}
 use Rattle.nofs_turn_rule.specs.declared.view.View.{View}
 use Rattle.nofs_turn_rule.specs.Lists.{numbered, chosen}
@@ -11,7 +11,7 @@ use Rattle.nofs_task.specs.declared.lines.Line.{Line}
 use Rattle.nofs_teams.specs.Handed.{is_by, own_steps, steps_by, SameSeat}
 use Rattle.nofs_teams.proofs.Handed.{steps_of}
 use Rattle.nofs_workers.specs.Sweeps.{Sweeps}
-use Rattle.nofs_teams.specs.Joins.{JoinsOwn, Gathers, made_by}
+use Rattle.nofs_teams.specs.Joins.{JoinsOwn, made_by}
 use Rattle.nofs_teams.specs.Served.{TeamGathered}
 use Rattle.nofs_serve.specs.Visiting.{VisitMade, VisitGathered, VisitServed}
 use Rattle.nofs_teams.proofs.Joining.{joins-own, joins-other, gathers-more}

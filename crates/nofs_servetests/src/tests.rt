@@ -3,10 +3,10 @@ mod gates;
 mod runs;
 
 use crate::tests::gates::{Hold, Marks};
-use crate::tests::runs::{
-    are_of_team, callers_of, count_of, formatted, mounted, plans_of, run_of, script, text_of,
-};
+use crate::tests::runs::{are_of_team, count_of, plans_of, run_of, script};
 use nofs_cache::Cached;
+use nofs_testdisks::formatted;
+use nofs_testmounts::mounted;
 use nofs_workers::OpenGate;
 use std::sync::atomic::Ordering;
 use std::test::Fail;
@@ -32,12 +32,11 @@ fn user_1_waits_for_the_first_reply_of_user_2(rt: HostRuntime) -> Result<(), Fai
     let scripts = (script(alloc, stat)?, script(alloc, stat)?);
     let plans = plans_of(alloc, scripts, gates)?;
     let open = (Hold::open(&marks), Hold::open(&marks), Hold::open(&marks));
-    let mount = mounted(alloc, formatted(alloc)?)?;
-    let served = run_of(&rt, alloc, mount, plans, open);
-    assert!(rt; !served.out_of_memory);
-    let text = text_of(alloc, &served.lines)?;
+    let mount = mounted(alloc, formatted(alloc, 64, 16)?, 0)?;
+    let told = run_of(&rt, alloc, mount, plans, open)?;
+    assert!(rt; !told.out_of_memory);
     assert_eq!(rt;
-        text.as_slice(),
+        told.text.as_slice(),
         b"stat file 0 0\nstat file 0 0\n".as_slice()
     );
     assert_eq!(rt; marks.late.load(Ordering::SeqCst), 0);
@@ -63,10 +62,10 @@ fn two_users_are_answered_the_same_in_a_hundred_runs(rt: HostRuntime) -> Result<
     for run in 0..100 {
         let scripts = (script(alloc, ONE)?, script(alloc, TWO)?);
         let plans = plans_of(alloc, scripts, (OpenGate, OpenGate))?;
-        let mount = mounted(alloc, formatted(alloc)?)?;
-        let served = run_of(&rt, alloc, mount, plans, (OpenGate, OpenGate, OpenGate));
-        let text = text_of(alloc, &served.lines)?;
-        assert_eq!(rt; text.as_slice(), BOTH, "run {run}");
+        let open = (OpenGate, OpenGate, OpenGate);
+        let mount = mounted(alloc, formatted(alloc, 64, 16)?, 0)?;
+        let told = run_of(&rt, alloc, mount, plans, open)?;
+        assert_eq!(rt; told.text.as_slice(), BOTH, "run {run}");
     }
     Ok(())
 }
@@ -76,17 +75,15 @@ fn a_flusher_over_a_cache_makes_no_entry(rt: HostRuntime) -> Result<(), Fail> {
     let alloc = rt.alloc();
     let scripts = (script(alloc, ONE)?, script(alloc, TWO)?);
     let plans = plans_of(alloc, scripts, (OpenGate, OpenGate))?;
-    let Ok(disk) = Cached::new(alloc, formatted(alloc)?) else {
+    let Ok(disk) = Cached::new(alloc, formatted(alloc, 64, 16)?) else {
         panic!(rt; "no cache")
     };
-    let mount = mounted(alloc, disk)?;
-    let served = run_of(&rt, alloc, mount, plans, (OpenGate, OpenGate, OpenGate));
-    let text = text_of(alloc, &served.lines)?;
-    assert_eq!(rt; text.as_slice(), BOTH);
-    let callers = callers_of(alloc, served.mount.history())?;
-    assert!(rt; are_of_team(&callers));
+    let mount = mounted(alloc, disk, 0)?;
+    let told = run_of(&rt, alloc, mount, plans, (OpenGate, OpenGate, OpenGate))?;
+    assert_eq!(rt; told.text.as_slice(), BOTH);
+    assert!(rt; are_of_team(&told.callers));
     for (caller, count) in [(9, 16), (10, 64)] {
-        assert_eq!(rt; count_of(&callers, caller), count, "caller {caller}");
+        assert_eq!(rt; count_of(&told.callers, caller), count, "caller {caller}");
     }
     Ok(())
 }

@@ -1,5 +1,5 @@
 -- A Put below a block of pointers that holds: one block is claimed, its pointer is written, and the record.
-use Rattle.std.proofs.Common.{◌≡◌, ℕ, ◌+◌, ◌*◌, ◌<◌, max, inl, inr, Bool, true, false, cond, List, [], ◌∷◌, length, Some, IsTrue, Result, refl, sym, ap}
+use Rattle.std.proofs.Common.{◌≡◌, ℕ, ◌+◌, ◌*◌, max, inl, inr, Bool, true, false, cond, List, [], ◌∷◌, length, Some, IsTrue, Result, refl, sym, ap}
 use Rattle.std.proofs.Common.{◌∙◌, subst, subst₂, arith}
 use Rattle.nofs_disk.specs.Disk.{DiskState, IsDisk, StaysButFaults, cell_at}
 use Rattle.nofs_image.specs.Cells.{Cell, Pointer, Record, pointer_at, tag_of}
@@ -7,7 +7,6 @@ use Rattle.nofs_image.specs.Image.{Image, Path, InRecord, Under, tag_for, find, 
 use Rattle.nofs_image.specs.declared.path.PathAnswer.TheVariants as answer
 use Rattle.nofs_image.proofs.Paths.{above-refl}
 use Rattle.nofs_machine.specs.Machine.{same_path}
-use Rattle.nofs_machine.specs.Claims.{is_claimed}
 use Rattle.nofs_machine.specs.declared.history.Claims.{Claims}
 use Rattle.nofs_machine.specs.declared.replies.Refusal.{Refusal}
 use Rattle.nofs_law_untouched.proofs.Growth.{same_path-true, same_path-refl}

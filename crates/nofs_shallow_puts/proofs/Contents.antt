@@ -1,5 +1,5 @@
 -- What the cells of a Put into a slot without bytes are: that of the content and that of the table.
-use Rattle.std.proofs.Common.{◌≡◌, ◌≢◌, ℕ, ◌<◌, ◌≤◌, true, false, List, Some, IsTrue, refl, sym, ap, ◌∙◌, subst}
+use Rattle.std.proofs.Common.{◌≡◌, ◌≢◌, ℕ, ◌<◌, true, false, List, Some, IsTrue, refl, sym, ap, ◌∙◌, subst}
 use Rattle.nofs_ptrs.specs.Paths.{slot_limit}
 use Rattle.nofs_disk.specs.Disk.{DiskState, cell_at}
 use Rattle.nofs_inode.specs.declared.inode.FileKind.TheVariants.{File}
@@ -10,8 +10,8 @@ use Rattle.nofs_image.specs.declared.path.PathAnswer.TheVariants as answer
 use Rattle.nofs_image.proofs.Paths.{slot_of-path_of, path_of-content}
 use Rattle.nofs_machine.specs.Meta.{is_bytes}
 use Rattle.nofs_machine.specs.Machine.{put_content}
-use Rattle.nofs_put_claims.specs.Handed.{table_tag, Books, IsFile}
-use Rattle.nofs_put_claims.proofs.Handed.{live-stands, agreed-live, HasRecord, table_block, IsPutFile, same-content}
+use Rattle.nofs_put_claims.specs.Handed.{Books, IsFile}
+use Rattle.nofs_put_claims.proofs.Handed.{live-stands, agreed-live, table_block, IsPutFile, same-content}
 use Rattle.nofs_put_claims.specs.Putting.{IsContent, IsRecordCell}
 use Rattle.nofs_put_claims.specs.declared.put.Put.{Put}
 use Rattle.nofs_put_claims.proofs.Rooms.{IsAsked}

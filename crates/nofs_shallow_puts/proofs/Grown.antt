@@ -10,7 +10,7 @@ use Rattle.nofs_machine.specs.declared.history.Claims.{Claims}
 use Rattle.nofs_machine.specs.declared.replies.Refusal.{Refusal}
 use Rattle.nofs_law_maps.specs.Moves.{IsClaimed}
 use Rattle.nofs_put_claims.specs.Handed.{Goes, Books, Stores}
-use Rattle.nofs_put_claims.proofs.Handed.{table_block, Climbs, IsNew, IsOld, each-new, each-next, way_writes}
+use Rattle.nofs_put_claims.proofs.Handed.{table_block, Climbs, IsNew, IsOld, each-new, each-next}
 use Rattle.nofs_put_claims.specs.Putting.{HasRoom, HeldAt, IsContent, IsFar, IsHole, IsRecordCell, IsUnder, OnePointer, put_answer, rooted, size_after, sized}
 use Rattle.nofs_put_claims.specs.Putting.{step_of_put}
 use Rattle.nofs_put_claims.specs.declared.put.Put.{Put}

@@ -1,5 +1,5 @@
 -- How many blocks a Put asks for, by what is missing above its slot.
-use Rattle.std.proofs.Common.{◌≡◌, ℕ, suc, ◌<◌, inl, inr, true, false, List, IsTrue, refl, sym, ◌∙◌, subst, arith}
+use Rattle.std.proofs.Common.{◌≡◌, ℕ, suc, ◌<◌, inl, inr, IsTrue, refl, sym, ◌∙◌, subst}
 use Rattle.nofs_disk.specs.Disk.{DiskState, IsDisk}
 use Rattle.nofs_image.specs.Cells.{Pointer, Record}
 use Rattle.nofs_image.specs.Image.{Path, InRecord, Under, path_of, find, pointer, IsAbove}

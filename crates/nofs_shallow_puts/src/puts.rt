@@ -17,7 +17,7 @@ use nofs_image::{Place, slot_number};
 use nofs_inode::{Record, write_record};
 use nofs_machine::{Claims, NO_CLAIMS, Refusal};
 use nofs_ptrs::write_pointer;
-use nofs_put_claims::{Core, Ended, Put, put_content, refused, write_two};
+use nofs_put_claims::{Core, Ended, Put, put_content, refused, table_block, write_two};
 
 /// The file's size after a Put.
 pub fn size_after(put: &Put<'_>, size: u64) -> u64
@@ -33,14 +33,6 @@ pub fn sized(it: &Record, size: u64) -> Record
     ensures { result ≡ sized it.now size }
 {
     Record { size, ..*it }
-}
-
-/// The block of the inode table where a record stands.
-pub fn table_block(inode: u32) -> u64
-    requires { 1 ≤ inode }
-    ensures { result ≡ 1 + (inode - 1) / 4 }
-{
-    1 + u64::from((inode - 1) / 4)
 }
 
 // The tag of a block of the inode table.

@@ -1,17 +1,11 @@
-//! Tests of the shared mount on a disk in memory.
+//! Tests of passes of a mount, of a move by one, and of a session on threads, on a disk in memory.
+//!
+//! Promise: worked cases come out as derived by hand; nothing is promised of all cases.
 #![tactic(auto)]
 
 #[cfg(test)]
-mod late;
-#[cfg(test)]
-mod mounts;
-#[cfg(test)]
 mod moves;
 #[cfg(test)]
-mod outs;
-#[cfg(test)]
 mod passes;
-#[cfg(test)]
-mod rows;
 #[cfg(test)]
 mod tests;

@@ -2,13 +2,14 @@
 ghost use Rattle.std.specs.Prelude.{◌↔◌, IsTrue};
 ghost use Rattle.nofs_task.specs.Commands.{IsWellFormed};
 
-use crate::rows::{formatted, mounted};
 use nofs_client::{Client, PathNames};
 use nofs_lists::{Content, Name};
 use nofs_machine::{Stat, Steps};
 use nofs_move::move_file;
 use nofs_shared::SharedMount;
 use nofs_task::{Command, Line, Path};
+use nofs_testdisks::formatted;
+use nofs_testmounts::mounted;
 use std::alloc::{AllocError, Global};
 use std::test::Fail;
 

@@ -1,32 +1,11 @@
 //! Two passes of one mount, taken by turns on one thread.
-ghost use Rattle.std.specs.Prelude.{◌≡◌, [], IfSome};
-ghost use Rattle.nofs_turn.specs.Turns.{view_of, IsPassOf};
-
-use crate::rows::{formatted, full_below_24, is_stored, mounted, put_step, seen};
-use nofs_disk::Disk;
 use nofs_machine::{ElementKind, Reply, Step, Steps};
-use nofs_shared::{Mount, SharedMount, SharedOut, judge};
-use nofs_turn::Pass;
+use nofs_shared::{SharedOut, judge};
+use nofs_testdisks::formatted;
+use nofs_testmounts::{full_below_24, is_stored, mounted, put_step, seen, two_passes};
 use std::alloc::{AllocError, Global};
 use std::sync::Wait;
 use std::test::Fail;
-
-/// A mount behind a turn, with two passes that have no entries.
-pub fn two_passes<D: Disk + Drop>(
-    alloc: Global,
-    mount: Mount<D>,
-) -> Option<(SharedMount<Mount<D>>, Pass<Mount<D>>, Pass<Mount<D>>)>
-    ensures of { IfSome result (λ t. IsPassOf t.0.turn t.1 × IsPassOf t.0.turn t.2) }
-    ensures new { IfSome result (λ t. ((view_of t.1).mine ≡ []) × ((view_of t.2).mine ≡ [])) }
-{
-    let (shared, mut passes) = match SharedMount::new(alloc, mount, 2) {
-        Ok(made) => made,
-        Err(_) => return None,
-    };
-    let second = passes.pop()?;
-    let first = passes.pop()?;
-    Some((shared, first, second))
-}
 
 const STAT: Step = Step::Stat {
     inode: 2,

@@ -14,7 +14,7 @@ use Rattle.nofs_machine.specs.declared.history.Entry1.{Entry1}
 use Rattle.nofs_machine.specs.declared.replies.Reply.{Reply}
 use Rattle.nofs_machine.specs.declared.replies.Reply.TheVariants as reply
 use Rattle.nofs_machine.specs.declared.replies.Refusal.TheVariants as refusal
-use Rattle.nofs_machine.proofs.Lives.{along-append}
+use Rattle.nofs_law_images.proofs.Lives.{along-append}
 use Rattle.nofs_crashlaw.specs.Stage.{Stage, Lasts}
 use Rattle.nofs_crashlaw.proofs.Staging.{law-idle-stage}
 use Rattle.nofs_books.specs.Books.{Says}

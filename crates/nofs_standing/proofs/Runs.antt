@@ -13,7 +13,7 @@ use Rattle.nofs_machine.specs.Marks.{IsUnderWay}
 use Rattle.nofs_machine.specs.Steady.{SteadyRest, Untouched}
 use Rattle.nofs_machine.specs.Next.{Next, Run, takes_time}
 use Rattle.nofs_machine.specs.declared.history.Entry1.{Entry1}
-use Rattle.nofs_machine.proofs.Lives.{values-append, metas-append}
+use Rattle.nofs_law_images.proofs.Lives.{values-append, metas-append}
 use Rattle.nofs_crashlaw.specs.Stage.{Lasts}
 use Rattle.nofs_crashlaw.proofs.Histories.{mark-during}
 use Rattle.nofs_crashlaw.proofs.Later.{law-later, mark-within}

@@ -23,7 +23,7 @@ use Rattle.nofs_machine.specs.declared.history.Claims.{Claims}
 use Rattle.nofs_machine.specs.declared.history.Entry1.{Entry1}
 use Rattle.nofs_machine.specs.declared.steps.Step.{Step}
 use Rattle.nofs_machine.specs.declared.replies.Reply.{Reply}
-use Rattle.nofs_machine.proofs.Lives.{along-append}
+use Rattle.nofs_law_images.proofs.Lives.{along-append}
 use Rattle.nofs_law_maps.specs.Fresh.{Numbered, CellNumbers}
 use Rattle.nofs_law_maps.specs.Homes.{HomesMove, HomesMatch}
 use Rattle.nofs_law_maps.proofs.Fresh.{law-fresh}

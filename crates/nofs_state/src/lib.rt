@@ -4,11 +4,13 @@
 #![tactic(auto)]
 
 mod cores;
+mod ending;
 mod learning;
 mod pointing;
 mod writing;
 
 pub use cores::Core;
+pub use ending::{Ended, refused, table_block};
 pub use nofs_books::{Books, Counts, FreedBlocks, InodeClaim, Room};
 pub use nofs_examining::{Opened, mark_slots, open_inode};
 pub use pointing::{SlotCells, Spot};

@@ -16,7 +16,7 @@ use Rattle.nofs_super.specs.declared.superblock.SuperBlock.{SuperBlock}
 use Rattle.nofs_super.specs.declared.superblock.MountFault.{MountFault}
 use Rattle.nofs_super.specs.declared.superblock.MountFault.TheVariants.{BadGeometry, BadMagic, BadVersion, DeviceTooSmall, MountsSpent}
 use Rattle.nofs_super.specs.Format.{super_payload}
-use Rattle.nofs_super.specs.Geometry.{IsGeometry, on_device, is_geometry, is_geometry-from, is_geometry-parts}
+use Rattle.nofs_super.specs.Geometry.{on_device, is_geometry, is_geometry-from, is_geometry-parts}
 use Rattle.nofs_super.specs.Super.{CanMount, check_numbers, check_rest, check_super, has_magic, is_super, is_version, magic, rest_fault, super_in, super_of}
 
 -- What is written is read

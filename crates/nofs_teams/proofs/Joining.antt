@@ -3,9 +3,7 @@ use Rattle.std.proofs.Common.{◌≡◌, ◌≢◌, ℕ, ◌+◌, Bool, true, fa
 use mathlib.Core.List.{IsPrefix}
 use Rattle.nofs_turn_rule.specs.declared.view.View.{View}
 use Rattle.nofs_turn_rule.specs.Lists.{chosen}
-use Rattle.nofs_turn_rule.specs.Views.{joined}
 use Rattle.nofs_turn.proofs.Callers.{joined_own, joined_other}
-use Rattle.nofs_turn_rule.proofs.Words.{prefix_self}
 use Rattle.nofs_machine.specs.declared.history.Entry1.{Entry1}
 use Rattle.nofs_shared.specs.Handed.{is_by, all_by, own_steps, SameSeat}
 use Rattle.nofs_shared.proofs.Collecting.{chosen_by, chosen_not}

@@ -1,5 +1,5 @@
 -- A whole team: its sweepers, its flusher and its users, and what it leaves in a history.
-use Rattle.std.proofs.Common.{◌≡◌, ◌≢◌, ◌⊎◌, inl, inr, ℕ, ◌+◌, ◌-◌, ◌<◌, ◌≤◌, eqb, eqb-true, eq-eqb, Bool, true, false, ◌||◌, List, [], ◌∷◌, ◌++◌, length}
+use Rattle.std.proofs.Common.{◌≡◌, ◌≢◌, inr, ℕ, ◌+◌, ◌-◌, ◌≤◌, eqb, eqb-true, eq-eqb, Bool, true, false, ◌||◌, List, [], ◌∷◌, length}
 use Rattle.std.proofs.Common.{drop, refl, sym, ap, ◌∙◌, subst, arith}
 use mathlib.Core.List.{IsPrefix}
 use Rattle.nofs_turn_rule.specs.declared.view.View.{View}
@@ -17,7 +17,7 @@ use Rattle.nofs_shared.proofs.Collecting.{steps_of}
 use Rattle.nofs_workers.specs.Sweeps.{Sweeps}
 use Rattle.nofs_teams.specs.Joins.{JoinsOwn, Gathers, made_by}
 use Rattle.nofs_teams.specs.Teams.{UsersBegun}
-use Rattle.nofs_teams.specs.Served.{IsNobody, TeamMade, TeamGathered, TeamServed, UsersGathered}
+use Rattle.nofs_teams.specs.Served.{TeamMade, TeamGathered, TeamServed, UsersGathered}
 use Rattle.nofs_teams.proofs.Joining.{made_by-own, made_by-other, joins-own, joins-other, gathers-one, gathers-more}
 use Rattle.nofs_teams.proofs.Gathering.{neither}
 

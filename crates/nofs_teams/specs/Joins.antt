@@ -1,5 +1,5 @@
 -- Passes that are joined one after another.
-use Rattle.std.specs.Prelude.{◌≡◌, ℕ, Bool, true, List}
+use Rattle.std.specs.Prelude.{◌≡◌, ℕ, true, List}
 use mathlib.Core.List.{IsPrefix}
 use Rattle.nofs_turn_rule.specs.declared.view.View.{View}
 use Rattle.nofs_turn_rule.specs.Lists.{rises, chosen}

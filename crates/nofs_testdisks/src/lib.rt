@@ -11,8 +11,9 @@ ghost use Rattle.nofs_agree.specs.Reading.{IsAt};
 
 use nofs_disk::{Cell, Disk};
 use nofs_memdisk::MemDisk;
-use nofs_super::{SuperBlock, read_super};
+use nofs_super::{SuperBlock, format, read_super};
 use std::alloc::{AllocError, Global};
+use std::test::Fail;
 
 fn lay(disk: &mut MemDisk, block: u64, cell: &Cell)
     requires { IsSettled (memory_state disk.old) }
@@ -23,13 +24,27 @@ fn lay(disk: &mut MemDisk, block: u64, cell: &Cell)
     }
 }
 
-/// A disk that holds these cells.
-pub fn disk_of(alloc: Global, cells: &[Cell]) -> Result<MemDisk, AllocError> {
-    let mut disk = MemDisk::new(alloc, cells.len() as u64)?;
+/// A disk of so many blocks that holds these cells first, and zeros after them.
+pub fn disk_with(alloc: Global, blocks: u64, cells: &[Cell]) -> Result<MemDisk, AllocError> {
+    let mut disk = MemDisk::new(alloc, blocks)?;
     for (block, cell) in cells.iter().enumerate() {
         lay(&mut disk, block as u64, cell);
     }
     Ok(disk)
+}
+
+/// A disk that holds these cells.
+pub fn disk_of(alloc: Global, cells: &[Cell]) -> Result<MemDisk, AllocError> {
+    disk_with(alloc, cells.len() as u64, cells)
+}
+
+/// A disk that was just formatted.
+pub fn formatted(alloc: Global, blocks: u64, inodes: u64) -> Result<MemDisk, Fail> {
+    let mut disk = MemDisk::new(alloc, blocks)?;
+    match format(&mut disk, blocks, inodes) {
+        Ok(()) => Ok(disk),
+        Err(_) => Err("not formatted".into()),
+    }
 }
 
 /// The superblock of a disk; `None` where it can't be mounted or its read fails.

@@ -1,5 +1,4 @@
-//! Disks that hold given cells, the cells that a disk holds, and the line that a scan of them prints.
-ghost use Rattle.nofs_disk.specs.Disk.{IsSettled};
+//! Disks that fail, the cells that a disk holds, and the line that a scan of them prints.
 ghost use Rattle.nofs_versions.specs.Memory.{PicksVersions};
 ghost use Rattle.nofs_memdisk.specs.Parts.{memory_state};
 ghost use Rattle.std.specs.Prelude.{IsTrue, ◌↔◌};
@@ -10,24 +9,6 @@ use nofs_memdisk::MemDisk;
 use nofs_model::{ScanResult, full_scan, is_mountable};
 use nofs_versions::{CallKind, FaultAt, Pick};
 use std::alloc::{AllocError, Global};
-
-/// A disk of so many blocks that holds these cells first, and zeros after them.
-pub fn disk_of(alloc: Global, blocks: u64, cells: &[Cell]) -> Result<MemDisk, AllocError> {
-    let mut disk = MemDisk::new(alloc, blocks)?;
-    for (block, cell) in cells.iter().enumerate() {
-        lay(&mut disk, block as u64, cell);
-    }
-    Ok(disk)
-}
-
-fn lay(disk: &mut MemDisk, block: u64, cell: &Cell)
-    requires { IsSettled (memory_state disk.old) }
-    ensures { IsSettled (memory_state disk.new) }
-{
-    if block < disk.blocks() {
-        disk.put_cell(block, cell);
-    }
-}
 
 /// The call of this kind and number, which fails.
 pub fn fault(call: CallKind, number: u64, taken: bool) -> FaultAt {

@@ -10,11 +10,10 @@ mod readings;
 mod runs;
 mod stories;
 
-pub use disks::{
-    bytes_of, cached, cell_of, cells_of, disk_of, failing, fault, left, scan_line, used,
-};
+pub use disks::{bytes_of, cached, cell_of, cells_of, failing, fault, left, scan_line, used};
 pub use draws::{choices_of, draw, drawn_call, drawn_picks, fault_after, made};
 pub use images::{FAULTS, Image, Patch, VERSION_2, image_cells, patched, patched_empty};
+pub use nofs_testdisks::disk_with;
 pub use readings::{Seen, count, push_bytes, scanned_and_read, see_line};
 pub use runs::{LINES, SESSION, USAGE, many, prints, run_on, run_with};
 pub use stories::{Line, Story, day_calls, evening, stopped, text_of_lines};

@@ -1,4 +1,4 @@
-use Rattle.nofs_machine.proofs.Era.{current-accepted}
+use Rattle.nofs_law_images.proofs.Era.{current-accepted}
 use Rattle.nofs_law_machine.proofs.law_accepted.Goals as goal
 
 pub returns : goal.returns

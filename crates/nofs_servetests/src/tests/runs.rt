@@ -5,10 +5,8 @@ ghost use Rattle.nofs_script.specs.Sessions.{IsSession};
 
 use nofs_disk::Disk;
 use nofs_machine::History;
-use nofs_memdisk::MemDisk;
 use nofs_script::{Session, parse};
 use nofs_serve::{Mount, Plan, Served, Sweeps, WriteOuts, serve};
-use nofs_super::format;
 use nofs_task::{CommandList, LineList};
 use nofs_text::line_text;
 use nofs_workers::Gate;
@@ -38,23 +36,6 @@ fn last_of(session: Session) -> Result<CommandList, Fail>
     }
 }
 
-/// A new disk of 64 blocks and 16 inodes.
-pub fn formatted(alloc: Global) -> Result<MemDisk, Fail> {
-    let mut disk = MemDisk::new(alloc, 64)?;
-    match format(&mut disk, 64, 16) {
-        Ok(()) => Ok(disk),
-        Err(_) => Err("not formatted".into()),
-    }
-}
-
-/// A mount of this disk.
-pub fn mounted<D: Disk + Drop>(alloc: Global, disk: D) -> Result<Mount<D>, Fail> {
-    match Mount::begin(alloc, disk, 0) {
-        Ok(mount) => Ok(mount),
-        Err(_) => Err("not mounted".into()),
-    }
-}
-
 /// The plans of two users.
 pub fn plans_of<T: Drop>(
     alloc: Global,
@@ -77,14 +58,25 @@ pub fn plans_of<T: Drop>(
     Ok(plans)
 }
 
-/// Serves users, each with a gate, beside both sweeps and a flusher of 64 turns, each with one too.
+/// What two users were told, and who made steps meanwhile.
+#[derive(Drop)]
+pub struct Told {
+    /// The text of all lines, the first user's first.
+    pub text: Vec<u8>,
+    /// The caller of each entry.
+    pub callers: Vec<u32>,
+    pub out_of_memory: bool,
+}
+
+/// Serves users at a mount of 64 blocks and 16 inodes, each with a gate, beside both sweeps and a flusher
+/// of 64 turns, each with one too.
 pub fn run_of<R: Threads + Wait + Sync, D: Disk + Drop + Send, T: Gate + Send + Drop>(
     rt: &R,
     alloc: Global,
     mount: Mount<D>,
     plans: Vec<Plan<T>>,
     gates: (T, T, T),
-) -> Served<Mount<D>>
+) -> Result<Told, AllocError>
     requires few { vec_len plans ≤ 8 }
     requires formed { All (λ p. AreWellFormed p.commands) plans.items }
 {
@@ -97,11 +89,24 @@ pub fn run_of<R: Threads + Wait + Sync, D: Disk + Drop + Send, T: Gate + Send + 
         turns: 64,
         gate: gates.2,
     };
-    serve(rt, alloc, mount, plans, sweeps, outs)
+    let served = serve(rt, alloc, mount, plans, sweeps, outs);
+    told_of(alloc, served)
 }
 
-/// The text of all users' lines, the first user's first.
-pub fn text_of(alloc: Global, users: &[LineList]) -> Result<Vec<u8>, AllocError> {
+fn told_of<D: Disk + Drop>(alloc: Global, served: Served<Mount<D>>) -> Result<Told, AllocError> {
+    let text = text_of(alloc, &served.lines);
+    let callers = callers_of(alloc, served.mount.history());
+    match (text, callers) {
+        (Ok(text), Ok(callers)) => Ok(Told {
+            text,
+            callers,
+            out_of_memory: served.out_of_memory,
+        }),
+        _ => Err(AllocError),
+    }
+}
+
+fn text_of(alloc: Global, users: &[LineList]) -> Result<Vec<u8>, AllocError> {
     let mut text = Vec::new(alloc);
     for lines in users {
         add_text(alloc, lines, &mut text)?;
@@ -116,8 +121,7 @@ fn add_text(alloc: Global, lines: &LineList, text: &mut Vec<u8>) -> Result<(), A
     Ok(())
 }
 
-/// The caller of each entry.
-pub fn callers_of(alloc: Global, history: &History) -> Result<Vec<u32>, AllocError> {
+fn callers_of(alloc: Global, history: &History) -> Result<Vec<u32>, AllocError> {
     let mut callers = Vec::new(alloc);
     for at in 0..history.len() {
         if let Some(entry) = history.entry(at) {

@@ -1,4 +1,4 @@
-use Rattle.std.proofs.Common.{rules, ◌≡◌, ◌∙◌, ℕ, ◌+◌, ◌<◌, ◌≤◌, List, [], All, length, vec_len, Some, refl, sym, ap, subst, arith}
+use Rattle.std.proofs.Common.{rules, ◌∙◌, [], refl, sym, ap, arith}
 use Rattle.std.specs.Option.{option_map_or}
 use Rattle.nofs_turn.specs.Turns.{view_of}
 use Rattle.nofs_turn_rule.specs.Views.{fresh}

@@ -1,4 +1,4 @@
-use Rattle.std.proofs.Common.{rules, ◌≡◌, ◌∙◌, ◌-◌, ℕ, ◌+◌, ◌<◌, ◌≤◌, List, [], ◌∷◌, All, true, length, map, vec_len, refl, sym, ap, subst, arith}
+use Rattle.std.proofs.Common.{◌≡◌, ◌∙◌, ◌-◌, ℕ, List, [], true, ap, subst, arith}
 use Rattle.nofs_turn_rule.specs.declared.view.View.{View}
 use Rattle.nofs_turn.specs.Turns.{view_of}
 use Rattle.nofs_machine.specs.Steps.{Made}

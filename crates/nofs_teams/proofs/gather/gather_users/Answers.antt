@@ -1,4 +1,4 @@
-use Rattle.std.proofs.Common.{rules, ◌≡◌, ◌∙◌, ℕ, ◌+◌, ◌++◌, ◌∷◌, [], List, length, refl, sym, ap, subst, arith, append_assoc, length-append, append-nil}
+use Rattle.std.proofs.Common.{rules, ◌≡◌, ◌∙◌, ◌+◌, ◌++◌, ◌∷◌, [], List, length, refl, sym, ap, subst, arith, append_assoc, length-append, append-nil}
 use Rattle.nofs_turn.specs.Turns.{view_of}
 use Rattle.nofs_task.specs.declared.lines.Line.{Line}
 use Rattle.nofs_workers.specs.Users.{steps_in}

@@ -1,4 +1,4 @@
-use Rattle.std.proofs.Common.{◌≡◌, ℕ, ◌+◌, ◌≤◌, ◌++◌, List, [], All, length, map, vec_len, vec_capacity}
+use Rattle.std.proofs.Common.{◌≡◌, ◌+◌, ◌≤◌, ◌++◌, List, [], All, map, vec_len, vec_capacity}
 use Rattle.nofs_turn.specs.Turns.{view_of, IsPassOf}
 use Rattle.nofs_task.specs.Commands.{AreWellFormed}
 use Rattle.nofs_teams.specs.Teams.{Stand, IsReady}

@@ -1,4 +1,3 @@
-use Rattle.std.proofs.Common.{◌≡◌}
 use Rattle.nofs_servetests.proofs.Scripts.{script-formed}
 use Rattle.nofs_servetests.proofs.tests.runs.last_of.Goals as goal
 

@@ -1,4 +1,4 @@
-use Rattle.std.proofs.Common.{◌≡◌, ◌∙◌, ap, subst, get_or}
+use Rattle.std.proofs.Common.{◌∙◌, ap, subst, get_or}
 use Rattle.nofs_turn.specs.Turns.{view_of}
 use Rattle.nofs_machine.specs.Steps.{Fits, with_made}
 use Rattle.nofs_machine.specs.declared.steps.Step.{Step}

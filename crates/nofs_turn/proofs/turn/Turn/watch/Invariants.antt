@@ -1,4 +1,3 @@
-use Rattle.std.proofs.Common.{◌≡◌}
 use Rattle.nofs_turn_rule.specs.Passes.{Waited}
 use Rattle.nofs_turn.specs.Turns.{view_of, IsPassOf}
 use Rattle.nofs_turn.proofs.turn.Turn.watch.Given as goal
