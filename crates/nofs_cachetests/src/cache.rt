@@ -1,7 +1,7 @@
 //! What a cached disk keeps back, what a crash drops, and what becomes of calls that fail below.
-use crate::disks::{byte_of, failing, flushed, written_out, wrote};
+use crate::disks::{Answer, Call, failing, first_wrong, flush, out, put, reads};
 use nofs_cache::Cached;
-use nofs_disk::{Disk, Failed};
+use nofs_disk::Disk;
 use nofs_memdisk::MemDisk;
 use nofs_versions::{CallCounts, CallKind};
 use std::alloc::{AllocError, Global};
@@ -18,41 +18,42 @@ fn cached<D: Disk + Drop>(alloc: Global, below: D) -> Result<Cached<D>, AllocErr
 #[test]
 fn a_write_is_kept_back_until_it_is_written_out(rt: HostRuntime) -> Result<(), Fail> {
     let mut disk = cached(rt.alloc(), MemDisk::new(rt.alloc(), 4)?)?;
-    assert_eq!(rt; written_out(&mut disk)?, Ok(None));
-    assert!(rt; wrote(&mut disk, 3, 6)? && wrote(&mut disk, 3, 7)?);
-    assert_eq!(rt;
-        (byte_of(&mut disk, 3), byte_of(&mut disk, 2)),
-        (Some(7), Some(0))
-    );
-    assert_eq!(rt; written_out(&mut disk)?, Ok(Some(3)));
-    assert_eq!(rt; written_out(&mut disk)?, Ok(None));
+    let cases = [
+        out(None),
+        put(3, 6),
+        put(3, 7),
+        reads(3, 7),
+        reads(2, 0),
+        out(Some(3)),
+        out(None),
+    ];
+    assert_eq!(rt; first_wrong(&mut disk, &cases)?, None);
     assert_eq!(rt; (disk.blocks(), disk.moment()), (4, 4));
-    assert_eq!(rt; byte_of(&mut disk, 3), Some(7));
+    assert_eq!(rt; first_wrong(&mut disk, &[reads(3, 7)])?, None);
     assert!(rt; disk.ready(u64::MAX).is_err());
-    let below = disk.below();
     let counts = CallCounts {
         reads: 2,
         writes: 1,
         flushes: 0,
     };
-    assert_eq!(rt; below.calls(), counts);
+    assert_eq!(rt; disk.below().calls(), counts);
     Ok(())
 }
 
 #[test]
 fn a_crash_drops_dirty_blocks_and_leaves_the_flushed_content(rt: HostRuntime) -> Result<(), Fail> {
     let mut disk = cached(rt.alloc(), MemDisk::new(rt.alloc(), 4)?)?;
-    assert!(rt; wrote(&mut disk, 1, 5)? && flushed(&mut disk)?);
-    assert!(rt; wrote(&mut disk, 1, 6)? && wrote(&mut disk, 2, 8)?);
-    assert_eq!(rt;
-        (byte_of(&mut disk, 1), byte_of(&mut disk, 2)),
-        (Some(6), Some(8))
-    );
+    let cases = [
+        put(1, 5),
+        flush(true),
+        put(1, 6),
+        put(2, 8),
+        reads(1, 6),
+        reads(2, 8),
+    ];
+    assert_eq!(rt; first_wrong(&mut disk, &cases)?, None);
     let mut below = disk.below();
-    assert_eq!(rt;
-        (byte_of(&mut below, 1), byte_of(&mut below, 2)),
-        (Some(5), Some(0))
-    );
+    assert_eq!(rt; first_wrong(&mut below, &[reads(1, 5), reads(2, 0)])?, None);
     Ok(())
 }
 
@@ -70,9 +71,8 @@ fn a_call_that_fails_below_is_reported_by_the_flush_and_made_again(
         (CallKind::Flush, 1, false, 3, 2),
     ] {
         let mut disk = cached(rt.alloc(), failing(rt.alloc(), call, number, taken)?)?;
-        assert!(rt; wrote(&mut disk, 0, 5)? && wrote(&mut disk, 2, 6)? && wrote(&mut disk, 3, 7)?);
-        assert!(rt; !flushed(&mut disk)?, "{call:?} {number}");
-        assert!(rt; flushed(&mut disk)?, "{call:?} {number}");
+        let cases = [put(0, 5), put(2, 6), put(3, 7), flush(false), flush(true)];
+        assert_eq!(rt; first_wrong(&mut disk, &cases)?, None, "{call:?} {number}");
         let mut below = disk.below();
         let counts = CallCounts {
             reads: 0,
@@ -80,33 +80,39 @@ fn a_call_that_fails_below_is_reported_by_the_flush_and_made_again(
             flushes,
         };
         assert_eq!(rt; below.calls(), counts, "{call:?} {number}");
-        for (block, byte) in [(0, 5), (1, 0), (2, 6), (3, 7)] {
-            assert_eq!(rt; byte_of(&mut below, block), Some(byte), "block {block}");
-        }
+        let left = [reads(0, 5), reads(1, 0), reads(2, 6), reads(3, 7)];
+        assert_eq!(rt; first_wrong(&mut below, &left)?, None, "{call:?} {number}");
     }
     Ok(())
+}
+
+// What a flush leaves in a block that it writes with its call of this place, where that with this number fails.
+fn left(place: u64, number: u64, block: u64, byte: u8) -> (Call, Answer) {
+    reads(block, if place < number { byte } else { 0 })
 }
 
 #[test]
 fn a_flush_writes_the_dirty_blocks_in_rising_order(rt: HostRuntime) -> Result<(), Fail> {
     for number in [1, 2, 3, 4] {
-        let mut disk = cached(
-            rt.alloc(),
-            failing(rt.alloc(), CallKind::Write, number, false)?,
-        )?;
-        for (block, byte) in [(2, 12), (0, 10), (3, 9), (1, 11), (3, 13)] {
-            assert!(rt; wrote(&mut disk, block, byte)?, "block {block}");
-        }
-        assert!(rt; !flushed(&mut disk)?, "write {number}");
+        let below = failing(rt.alloc(), CallKind::Write, number, false)?;
+        let mut disk = cached(rt.alloc(), below)?;
+        let cases = [
+            put(2, 12),
+            put(0, 10),
+            put(3, 9),
+            put(1, 11),
+            put(3, 13),
+            flush(false),
+        ];
+        assert_eq!(rt; first_wrong(&mut disk, &cases)?, None, "write {number}");
         let mut below = disk.below();
-        for (place, block, byte) in [(1, 0, 10), (2, 1, 11), (3, 2, 12), (4, 3, 13)] {
-            let left = if place < number { byte } else { 0 };
-            assert_eq!(rt;
-                byte_of(&mut below, block),
-                Some(left),
-                "write {number}, block {block}"
-            );
-        }
+        let cases = [
+            left(1, number, 0, 10),
+            left(2, number, 1, 11),
+            left(3, number, 2, 12),
+            left(4, number, 3, 13),
+        ];
+        assert_eq!(rt; first_wrong(&mut below, &cases)?, None, "write {number}");
     }
     Ok(())
 }
@@ -117,15 +123,21 @@ fn a_flush_that_failed_is_made_again_with_the_blocks_that_are_left(
 ) -> Result<(), Fail> {
     let below = failing(rt.alloc(), CallKind::Write, 2, false)?;
     let mut disk = cached(rt.alloc(), below)?;
-    assert!(rt; wrote(&mut disk, 3, 7)? && wrote(&mut disk, 0, 5)? && wrote(&mut disk, 2, 6)?);
-    assert!(rt; !flushed(&mut disk)?);
-    assert!(rt; wrote(&mut disk, 3, 9)? && wrote(&mut disk, 0, 4)? && wrote(&mut disk, 1, 8)?);
-    assert_eq!(rt; written_out(&mut disk)?, Ok(Some(1)));
-    assert!(rt; flushed(&mut disk)?);
+    let cases = [
+        put(3, 7),
+        put(0, 5),
+        put(2, 6),
+        flush(false),
+        put(3, 9),
+        put(0, 4),
+        put(1, 8),
+        out(Some(1)),
+        flush(true),
+    ];
+    assert_eq!(rt; first_wrong(&mut disk, &cases)?, None);
     let mut below = disk.below();
-    for (block, byte) in [(0, 4), (1, 8), (2, 6), (3, 9)] {
-        assert_eq!(rt; byte_of(&mut below, block), Some(byte), "block {block}");
-    }
+    let cases = [reads(0, 4), reads(1, 8), reads(2, 6), reads(3, 9)];
+    assert_eq!(rt; first_wrong(&mut below, &cases)?, None);
     Ok(())
 }
 
@@ -133,11 +145,14 @@ fn a_flush_that_failed_is_made_again_with_the_blocks_that_are_left(
 fn a_write_out_that_fails_keeps_its_block_dirty(rt: HostRuntime) -> Result<(), Fail> {
     let below = failing(rt.alloc(), CallKind::Write, 1, false)?;
     let mut disk = cached(rt.alloc(), below)?;
-    assert!(rt; wrote(&mut disk, 2, 7)?);
-    assert_eq!(rt; written_out(&mut disk)?, Err(Failed));
-    assert_eq!(rt; byte_of(&mut disk, 2), Some(7));
-    assert_eq!(rt; written_out(&mut disk)?, Ok(Some(2)));
-    assert_eq!(rt; written_out(&mut disk)?, Ok(None));
+    let cases = [
+        put(2, 7),
+        (Call::WriteOut, Answer::OutFailed),
+        reads(2, 7),
+        out(Some(2)),
+        out(None),
+    ];
+    assert_eq!(rt; first_wrong(&mut disk, &cases)?, None);
     Ok(())
 }
 
@@ -145,12 +160,13 @@ fn a_write_out_that_fails_keeps_its_block_dirty(rt: HostRuntime) -> Result<(), F
 fn a_cache_over_a_cache_writes_out_one_layer_at_a_time(rt: HostRuntime) -> Result<(), Fail> {
     let inner = cached(rt.alloc(), MemDisk::new(rt.alloc(), 4)?)?;
     let mut outer = cached(rt.alloc(), inner)?;
-    assert!(rt; wrote(&mut outer, 3, 7)?);
-    assert_eq!(rt; written_out(&mut outer)?, Ok(Some(3)));
+    assert_eq!(rt; first_wrong(&mut outer, &[put(3, 7), out(Some(3))])?, None);
     let mut inner = outer.below();
-    assert_eq!(rt; byte_of(&mut inner, 3), Some(7));
-    assert_eq!(rt; written_out(&mut inner)?, Ok(Some(3)));
+    assert_eq!(rt;
+        first_wrong(&mut inner, &[reads(3, 7), out(Some(3))])?,
+        None
+    );
     let mut disk = inner.below();
-    assert_eq!(rt; byte_of(&mut disk, 3), Some(7));
+    assert_eq!(rt; first_wrong(&mut disk, &[reads(3, 7)])?, None);
     Ok(())
 }

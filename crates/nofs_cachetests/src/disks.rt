@@ -1,4 +1,5 @@
-//! Disks in memory that these tests begin with, and calls on any disk with cells of one byte.
+//! Disks in memory that these tests begin with, and calls on any disk with cells of one byte, as tables
+//! write them down.
 
 use nofs_disk::{Cell, Disk, Failed};
 use nofs_memdisk::MemDisk;
@@ -40,8 +41,7 @@ pub fn flushed<D: Disk>(disk: &mut D) -> Result<bool, AllocError> {
     Ok(disk.flush().is_ok())
 }
 
-/// The answer of one write-out.
-pub fn written_out<D: Disk>(disk: &mut D) -> Result<Result<Option<u64>, Failed>, AllocError> {
+fn written_out<D: Disk>(disk: &mut D) -> Result<Result<Option<u64>, Failed>, AllocError> {
     disk.ready(1)?;
     Ok(disk.write_out())
 }
@@ -54,4 +54,72 @@ pub fn byte_of<D: Disk>(disk: &mut D, block: u64) -> Option<u8> {
     let mut cell = Cell::ZERO;
     disk.read(block, &mut cell).ok()?;
     Some(cell.payload[1023])
+}
+
+/// A call of a disk.
+#[derive(Clone, Copy)]
+pub enum Call {
+    /// Writes a cell of one byte to a block.
+    Write(u64, u8),
+    Flush,
+    WriteOut,
+    /// Reads a block.
+    Read(u64),
+}
+
+/// What a call is answered.
+#[derive(Clone, Copy, PartialEq, Eq)]
+pub enum Answer {
+    /// Whether a write or a flush succeeded.
+    Done(bool),
+    /// The block that was written out.
+    Out(Option<u64>),
+    OutFailed,
+    /// The last byte of the payload; `None` where the read fails.
+    Byte(Option<u8>),
+}
+
+/// A write that succeeds.
+pub fn put(block: u64, byte: u8) -> (Call, Answer) {
+    (Call::Write(block, byte), Answer::Done(true))
+}
+
+/// A flush, and whether it succeeds.
+pub fn flush(done: bool) -> (Call, Answer) {
+    (Call::Flush, Answer::Done(done))
+}
+
+/// A write-out, and the block that is written.
+pub fn out(block: Option<u64>) -> (Call, Answer) {
+    (Call::WriteOut, Answer::Out(block))
+}
+
+/// A read, and the byte of the block.
+pub fn reads(block: u64, byte: u8) -> (Call, Answer) {
+    (Call::Read(block), Answer::Byte(Some(byte)))
+}
+
+fn made<D: Disk>(disk: &mut D, call: Call) -> Result<Answer, AllocError> {
+    Ok(match call {
+        Call::Write(block, byte) => Answer::Done(wrote(disk, block, byte)?),
+        Call::Flush => Answer::Done(flushed(disk)?),
+        Call::WriteOut => match written_out(disk)? {
+            Ok(block) => Answer::Out(block),
+            Err(_) => Answer::OutFailed,
+        },
+        Call::Read(block) => Answer::Byte(byte_of(disk, block)),
+    })
+}
+
+/// Makes these calls: the place of the first that is answered otherwise, if one is.
+pub fn first_wrong<D: Disk>(
+    disk: &mut D,
+    cases: &[(Call, Answer)],
+) -> Result<Option<usize>, AllocError> {
+    for (place, (call, want)) in cases.iter().enumerate() {
+        if made(disk, *call)? != *want {
+            return Ok(Some(place));
+        }
+    }
+    Ok(None)
 }

@@ -1,5 +1,7 @@
 //! How a mirror goes on when a side fails, and what it does when both do.
-use crate::disks::{byte_of, failing, flushed, written_out, wrote};
+use crate::disks::{
+    Answer, Call, byte_of, failing, first_wrong, flush, flushed, out, put, reads, wrote,
+};
 use nofs_disk::Disk;
 use nofs_memdisk::MemDisk;
 use nofs_mirror::Mirror;
@@ -70,11 +72,6 @@ fn refused(
     }
 }
 
-/// The bytes of blocks 1 and 3.
-fn bytes_of<D: Disk>(disk: &mut D) -> (Option<u8>, Option<u8>) {
-    (byte_of(disk, 1), byte_of(disk, 3))
-}
-
 /// A case of a side whose call with this number fails.
 fn at_call(on_lead: bool, call: CallKind, number: u64, sides: Sides) -> Case {
     Case {
@@ -113,9 +110,8 @@ fn a_side_that_fails_at_any_call_goes_out_and_the_other_goes_on(
         } else {
             mirrored(good, bad)?
         };
-        assert!(rt; wrote(&mut mirror, 1, 5)? && wrote(&mut mirror, 3, 6)?);
-        assert!(rt; flushed(&mut mirror)?);
-        assert_eq!(rt; bytes_of(&mut mirror), (Some(5), Some(6)), "{number}");
+        let calls = [put(1, 5), put(3, 6), flush(true), reads(1, 5), reads(3, 6)];
+        assert_eq!(rt; first_wrong(&mut mirror, &calls)?, None, "{number}");
         assert_eq!(rt; mirror.sides(), case.sides, "{number}");
         let (mut lead, mut other) = mirror.apart();
         if case.sides.lead_in {
@@ -143,13 +139,15 @@ fn a_call_that_fails_on_both_sides_keeps_the_lead(rt: HostRuntime) -> Result<(),
             "{call:?}"
         );
         assert_eq!(rt; mirror.sides(), LEAD, "{call:?}");
-        assert_eq!(rt; byte_of(&mut mirror, 1), Some(byte), "{call:?}");
-        assert!(rt;
-            wrote(&mut mirror, 3, 6)? && flushed(&mut mirror)?,
-            "{call:?}"
-        );
+        let calls = [
+            reads(1, byte),
+            put(3, 6),
+            flush(true),
+            reads(1, byte),
+            reads(3, 6),
+        ];
+        assert_eq!(rt; first_wrong(&mut mirror, &calls)?, None, "{call:?}");
         assert_eq!(rt; mirror.sides(), LEAD, "{call:?}");
-        assert_eq!(rt; bytes_of(&mut mirror), (Some(byte), Some(6)), "{call:?}");
     }
     Ok(())
 }
@@ -157,26 +155,27 @@ fn a_call_that_fails_on_both_sides_keeps_the_lead(rt: HostRuntime) -> Result<(),
 #[test]
 fn the_last_side_that_is_in_stays_in(rt: HostRuntime) -> Result<(), Fail> {
     let mut mirror = failing_twice(rt.alloc(), 1, 6)?;
-    assert!(rt; wrote(&mut mirror, 1, 5)?);
+    assert_eq!(rt; first_wrong(&mut mirror, &[put(1, 5)])?, None);
     assert_eq!(rt; mirror.sides(), OTHER);
-    assert!(rt; !wrote(&mut mirror, 3, 6)?);
+    let refused = (Call::Write(3, 6), Answer::Done(false));
+    assert_eq!(rt; first_wrong(&mut mirror, &[refused])?, None);
     assert_eq!(rt; mirror.sides(), OTHER);
-    assert!(rt; wrote(&mut mirror, 3, 7)? && flushed(&mut mirror)?);
-    assert_eq!(rt; bytes_of(&mut mirror), (Some(5), Some(7)));
+    let calls = [put(3, 7), flush(true), reads(1, 5), reads(3, 7)];
+    assert_eq!(rt; first_wrong(&mut mirror, &calls)?, None);
     assert_eq!(rt; (mirror.blocks(), mirror.moment()), (4, 8));
-    assert_eq!(rt; written_out(&mut mirror)?, Ok(None));
+    assert_eq!(rt; first_wrong(&mut mirror, &[out(None)])?, None);
     Ok(())
 }
 
 #[test]
 fn a_mirror_of_a_mirror_outlives_two_sides(rt: HostRuntime) -> Result<(), Fail> {
     let mut inner = failing_twice(rt.alloc(), 1, 6)?;
-    assert!(rt; wrote(&mut inner, 1, 5)?);
+    assert_eq!(rt; first_wrong(&mut inner, &[put(1, 5)])?, None);
     let third = MemDisk::new(rt.alloc(), 4)?;
     let mut outer = mirrored(inner, third)?;
-    assert!(rt; wrote(&mut outer, 3, 6)? && flushed(&mut outer)?);
+    let calls = [put(3, 6), flush(true), reads(1, 5), reads(3, 6)];
+    assert_eq!(rt; first_wrong(&mut outer, &calls)?, None);
     assert_eq!(rt; outer.sides(), OTHER);
-    assert_eq!(rt; bytes_of(&mut outer), (Some(5), Some(6)));
     Ok(())
 }
 
@@ -184,13 +183,14 @@ fn a_mirror_of_a_mirror_outlives_two_sides(rt: HostRuntime) -> Result<(), Fail> 
 fn a_lead_that_cannot_be_read_comes_back(rt: HostRuntime) -> Result<(), Fail> {
     for number in [1, 2, 3, 4] {
         let mut lead = failing(rt.alloc(), CallKind::Read, number, false)?;
-        assert!(rt; wrote(&mut lead, 1, 5)?);
+        assert_eq!(rt; first_wrong(&mut lead, &[put(1, 5)])?, None, "{number}");
         match Mirror::open(lead, MemDisk::new(rt.alloc(), 4)?, 4) {
             Ok(_) => assert!(rt; false, "{number}"),
             Err(fault) => {
                 let mut lead = fault.lead;
                 assert_eq!(rt; fault.cause, MirrorCause::ReadFault, "{number}");
-                assert_eq!(rt; bytes_of(&mut lead), (Some(5), Some(0)), "{number}");
+                let calls = [reads(1, 5), reads(3, 0)];
+                assert_eq!(rt; first_wrong(&mut lead, &calls)?, None, "{number}");
             }
         }
     }

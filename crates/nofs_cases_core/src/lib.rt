@@ -9,8 +9,6 @@
 
 mod crashes;
 mod mounts;
-#[cfg(test)]
-mod tests;
 
 pub use crashes::{crashed_put, second_mount, two_mounts};
 pub use mounts::{Unmade, format_disk, formatted_mount, formatted_put, new_disk};

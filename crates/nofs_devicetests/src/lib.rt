@@ -1,4 +1,4 @@
-//! Tests of devices, and of texts in pieces, by calls from outside.
+//! Tests of devices, by calls from outside.
 //!
 //! Promise: worked cases come out as derived by hand; nothing is promised of all cases.
 #![tactic(auto)]

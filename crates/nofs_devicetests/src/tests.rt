@@ -1,5 +1,4 @@
 //! The tests of each device.
 mod disk;
 mod filedisk;
-mod io;
 mod memdisk;

@@ -2,8 +2,8 @@
 
 use nofs_examples as images;
 use nofs_testruns::{
-    FAULTS, Image, bytes_of, cells_of, disk_with, image_cells, patched, prints, run_on, scan_line,
-    used,
+    FAULTS, Image, USAGE, bytes_of, cells_of, disk_with, image_cells, patched, prints, run_on,
+    scan_line, used,
 };
 use std::test::Fail;
 
@@ -131,10 +131,15 @@ fn an_image_that_cannot_be_mounted_is_told_and_left_as_it_was(rt: HostRuntime) -
     let alloc = rt.alloc();
     for (image, patch, fault) in FAULTS {
         let cells = patched(alloc, image_cells(alloc, image)?, &[patch])?;
-        let want = format!(in alloc; "mount: {fault}\n")?;
-        for command in ["run", "scan"] {
+        let mount = format!(in alloc; "mount: {fault}\n")?;
+        for (command, want, status) in [
+            ("run", mount.as_str(), 4),
+            ("scan", mount.as_str(), 4),
+            ("upgrade", mount.as_str(), 4),
+            ("upgrade 1", USAGE, 1),
+        ] {
             let disk = disk_with(alloc, 16, &cells)?;
-            let mut disk = prints(&rt, disk, command, "make /a", want.as_str(), 4)?;
+            let mut disk = prints(&rt, disk, command, "make /a", want, status)?;
             assert_eq!(rt; disk.calls().writes, 0, "{fault}");
             let after = cells_of(alloc, &mut disk, 16)?;
             assert!(rt;

@@ -6,8 +6,8 @@ use nofs_disk::Disk;
 use nofs_io::{MemSink, MemSource};
 use nofs_memdisk::{MemDisk, Unready};
 use nofs_testruns::{
-    FAULTS, Patch, USAGE, VERSION_2, bytes_of, cells_of, disk_with, fault, image_cells, left,
-    patched, patched_empty, prints, run_on, run_with, scan_line, used,
+    Patch, VERSION_2, bytes_of, cells_of, disk_with, fault, left, patched_empty, prints, run_on,
+    run_with, scan_line, used,
 };
 use nofs_versions::{CallKind, Pick};
 use std::alloc::{AllocError, Global};
@@ -75,27 +75,6 @@ fn a_device_that_fails_in_an_upgrade_leaves_either_version(rt: HostRuntime) -> R
         assert!(rt; leaves_empty(alloc, &disk, 0)?, "{call:?}");
         assert_eq!(rt; leaves_empty(alloc, &disk, 1)?, versions == 2, "{call:?}");
         assert!(rt; left_first(alloc, &disk, versions)?.is_none(), "{call:?}");
-    }
-    Ok(())
-}
-
-#[test]
-fn an_image_that_cannot_be_upgraded_is_told_and_left_as_it_was(
-    rt: HostRuntime,
-) -> Result<(), Fail> {
-    let alloc = rt.alloc();
-    for (image, patch, fault) in FAULTS {
-        let cells = patched(alloc, image_cells(alloc, image)?, &[patch])?;
-        let want = format!(in alloc; "mount: {fault}\n")?;
-        for (command, want, status) in [("upgrade", want.as_str(), 4), ("upgrade 1", USAGE, 1)] {
-            let disk = disk_with(alloc, 16, &cells)?;
-            let mut disk = prints(&rt, disk, command, "", want, status)?;
-            assert_eq!(rt; disk.calls().writes, 0, "{fault}");
-            assert!(rt;
-                bytes_on(alloc, &mut disk)? == bytes_of(alloc, &cells)?,
-                "{fault}"
-            );
-        }
     }
     Ok(())
 }

@@ -3,5 +3,4 @@ mod draws;
 mod examples;
 mod history;
 mod machine;
-mod script;
 mod testdisks;

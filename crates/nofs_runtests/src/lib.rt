@@ -1,4 +1,4 @@
-//! Tests of whole runs over disks that hold what was written: texts, frames, drills, an ordinary day, and a mirror.
+//! Tests of whole runs over disks that hold what was written: texts, frames, drills, and an ordinary day.
 //!
 //! Promise: each run prints the lines that stand beside it, and ends with that status.
 #![tactic(auto)]
@@ -11,7 +11,5 @@ mod drills;
 mod frames;
 #[cfg(test)]
 mod instance;
-#[cfg(test)]
-mod mirrors;
 #[cfg(test)]
 mod tests;

@@ -3,7 +3,7 @@
 use byteorder::ByteOrder;
 use nofs_disk::{Cell, Disk};
 use nofs_memdisk::MemDisk;
-use nofs_testruns::{LINES, SESSION, USAGE, failing, fault, prints, run_on};
+use nofs_testruns::{LINES, SESSION, USAGE, cells_of, failing, fault, prints, run_on};
 use nofs_versions::CallKind;
 use std::alloc::{AllocError, Global};
 use std::test::Fail;
@@ -151,31 +151,62 @@ fn a_flush_that_fails_at_the_end_is_told_by_the_status(rt: HostRuntime) -> Resul
     Ok(())
 }
 
+// The digits of the bytes of a block's payload from one on to another.
+fn digits_of(
+    alloc: Global,
+    cells: &[Cell],
+    block: usize,
+    from: usize,
+    to: usize,
+) -> Result<String, AllocError> {
+    match cells.get(block) {
+        Some(cell) => hex::encode(alloc, cell.payload.get(from..to).unwrap_or(&[])),
+        None => String::from_str(alloc, "no block"),
+    }
+}
+
+// The block of the first pointer of the label file's record.
+fn first_block(cells: &[Cell]) -> usize {
+    match cells.get(1) {
+        Some(table) => byteorder::LittleEndian::read_u64(&table.payload[352..360]) as usize,
+        None => 0,
+    }
+}
+
+// The digits of a block's tag.
+fn tag_of(alloc: Global, cells: &[Cell], block: usize) -> Result<String, AllocError> {
+    match cells.get(block) {
+        Some(cell) => hex::encode(alloc, cell.tag.as_slice()),
+        None => String::from_str(alloc, "no block"),
+    }
+}
+
 #[test]
 fn the_bytes_on_the_disk_are_those_of_the_format(rt: HostRuntime) -> Result<(), Fail> {
     let alloc = rt.alloc();
     let disk = MemDisk::new(alloc, 64)?;
     let (_, _, mut disk) = run_on(&rt, alloc, "new 64 16", b"put @ 0 616263".as_slice(), disk)?;
-    let mut cell = Cell::ZERO;
-    assert!(rt; disk.blocks() == 64);
-    assert!(rt; disk.read(0, &mut cell).is_ok());
-    let superblock = "4e6f46537630303101000000000000004000000000000000\
-        10000000000000000100000000000000";
-    assert_eq!(rt;
-        hex::encode(alloc, &cell.payload[0..40])?.as_str(),
-        superblock
-    );
-    assert!(rt; disk.read(1, &mut cell).is_ok());
-    let record = "0200000000000000010000000000000003000000000000000000000000000000";
-    assert_eq!(rt;
-        hex::encode(alloc, &cell.payload[256..288])?.as_str(),
-        record
-    );
-    let block = byteorder::LittleEndian::read_u64(&cell.payload[352..360]);
+    let cells = cells_of(alloc, &mut disk, 64)?;
+    let block = first_block(&cells);
     assert!(rt; (5..64).contains(&block));
-    assert!(rt; disk.read(block, &mut cell).is_ok());
+    for (block, from, to, want) in [
+        (
+            0,
+            0,
+            40,
+            "4e6f4653763030310100000000000000400000000000000010000000000000000100000000000000",
+        ),
+        (
+            1,
+            256,
+            288,
+            "0200000000000000010000000000000003000000000000000000000000000000",
+        ),
+        (block, 0, 4, "61626300"),
+    ] {
+        assert_eq!(rt; digits_of(alloc, &cells, block, from, to)?.as_str(), want);
+    }
     let tag = "0100000002000000020000000000000000000000000000000000000000010000";
-    assert_eq!(rt; hex::encode(alloc, cell.tag.as_slice())?.as_str(), tag);
-    assert_eq!(rt; &cell.payload[0..4], b"abc\0".as_slice());
+    assert_eq!(rt; tag_of(alloc, &cells, block)?.as_str(), tag);
     Ok(())
 }

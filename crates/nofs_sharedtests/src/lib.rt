@@ -1,8 +1,10 @@
-//! Tests of passes of a mount, of a move by one, and of a session on threads, on a disk in memory.
+//! Tests of passes of a mount, of a move by one, of a session on threads, and that the instances of a mount are there.
 //!
 //! Promise: worked cases come out as derived by hand; nothing is promised of all cases.
 #![tactic(auto)]
 
+#[cfg(test)]
+mod instances;
 #[cfg(test)]
 mod moves;
 #[cfg(test)]

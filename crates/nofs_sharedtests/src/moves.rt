@@ -11,6 +11,7 @@ use nofs_task::{Command, Line, Path};
 use nofs_testdisks::formatted;
 use nofs_testmounts::mounted;
 use std::alloc::{AllocError, Global};
+use std::sync::Wait;
 use std::test::Fail;
 
 fn path(alloc: Global, names: &[&str]) -> Result<Path, AllocError> {
@@ -53,52 +54,61 @@ fn run<S: Steps>(
     Ok(told(&client.run(alloc, command)?))
 }
 
-#[test]
-fn a_file_is_moved_through_a_pass(rt: HostRuntime) -> Result<(), Fail> {
-    let alloc = rt.alloc();
-    let mount = mounted(alloc, formatted(alloc, 64, 16)?, 0)?;
-    let Ok((shared, mut passes)) = SharedMount::new(alloc, mount, 1) else {
-        panic!(rt; "no passes")
+// A file `a` with two bytes, beside a directory `d`: what is said of each command that makes them.
+fn made<S: Steps>(alloc: Global, client: &mut Client<S>) -> Result<[Said; 3], AllocError> {
+    let directory = Command::MakeDirectory {
+        path: path(alloc, &["d"])?,
     };
-    let Some(pass) = passes.pop() else {
-        panic!(rt; "no pass")
-    };
-    let mut client = Client::new(shared.pass(&rt, alloc, 1, pass));
-    for (command, want) in [
-        (
-            Command::MakeDirectory {
-                path: path(alloc, &["d"])?,
-            },
-            Said::Made,
-        ),
-        (
-            Command::Make {
-                path: path(alloc, &["a"])?,
-            },
-            Said::Made,
-        ),
-        (
-            Command::Put {
-                path: path(alloc, &["a"])?,
-                offset: 0,
-                bytes: Content::from_slice(alloc, b"ab")?,
-            },
-            Said::Put(2),
-        ),
-    ] {
-        assert_eq!(rt; run(alloc, &mut client, &command)?, want);
-    }
-    let (from, to) = (path(alloc, &["a"])?, path(alloc, &["d", "b"])?);
-    assert!(rt; from.has_name() && to.has_name());
-    let line = move_file(alloc, &mut client, &from, &to)?;
-    assert_eq!(rt; told(&line), Said::Moved);
-    let moved = Command::Stat {
-        path: path(alloc, &["d", "b"])?,
-    };
-    assert_eq!(rt; run(alloc, &mut client, &moved)?, Said::File(2, 1));
-    let old = Command::Stat {
+    let file = Command::Make {
         path: path(alloc, &["a"])?,
     };
-    assert_eq!(rt; run(alloc, &mut client, &old)?, Said::Other);
+    let put = Command::Put {
+        path: path(alloc, &["a"])?,
+        offset: 0,
+        bytes: Content::from_slice(alloc, b"ab")?,
+    };
+    Ok([
+        run(alloc, client, &directory)?,
+        run(alloc, client, &file)?,
+        run(alloc, client, &put)?,
+    ])
+}
+
+// The file is moved into the directory: what is said of that, and of the new and of the old path then.
+fn moved<S: Steps>(alloc: Global, client: &mut Client<S>) -> Result<[Said; 3], AllocError> {
+    let (from, to) = (path(alloc, &["a"])?, path(alloc, &["d", "b"])?);
+    let line = if from.has_name() && to.has_name() {
+        move_file(alloc, client, &from, &to)?
+    } else {
+        return Err(AllocError);
+    };
+    let new = Command::Stat { path: to };
+    let old = Command::Stat { path: from };
+    Ok([
+        told(&line),
+        run(alloc, client, &new)?,
+        run(alloc, client, &old)?,
+    ])
+}
+
+// Both by a client of a pass.
+fn made_and_moved<R: Wait>(rt: &R, alloc: Global) -> Result<([Said; 3], [Said; 3]), Fail> {
+    let mount = mounted(alloc, formatted(alloc, 64, 16)?, 0)?;
+    let Ok((shared, mut passes)) = SharedMount::new(alloc, mount, 1) else {
+        return Err("no passes".into());
+    };
+    let Some(pass) = passes.pop() else {
+        return Err("no pass".into());
+    };
+    let mut client = Client::new(shared.pass(rt, alloc, 1, pass));
+    let first = made(alloc, &mut client)?;
+    Ok((first, moved(alloc, &mut client)?))
+}
+
+#[test]
+fn a_file_is_moved_through_a_pass(rt: HostRuntime) -> Result<(), Fail> {
+    let (first, then) = made_and_moved(&rt, rt.alloc())?;
+    assert_eq!(rt; first, [Said::Made, Said::Made, Said::Put(2)]);
+    assert_eq!(rt; then, [Said::Moved, Said::File(2, 1), Said::Other]);
     Ok(())
 }

@@ -62,6 +62,16 @@ fn first_of<D: Disk>(disk: &mut D, block: u64) -> Option<u8> {
     }
 }
 
+/// The first of these blocks whose bytes are not all the one beside it.
+fn wrong_block<D: Disk>(disk: &mut D, cases: &[(u64, u8)]) -> Option<u64> {
+    for (block, want) in cases {
+        if byte_of(disk, *block) != Some(*want) {
+            return Some(*block);
+        }
+    }
+    None
+}
+
 /// Writes a cell of this byte, and says whether that succeeded.
 fn put<D: Disk>(disk: &mut D, block: u64, byte: u8) -> bool {
     if block >= disk.blocks() || disk.ready(1).is_err() {
@@ -70,21 +80,25 @@ fn put<D: Disk>(disk: &mut D, block: u64, byte: u8) -> bool {
     disk.write(block, &cell_of(byte)).is_ok()
 }
 
+/// Writes a cell to the disk in the file of this path, and flushes: its byte before, whether it was written,
+/// its byte after, and whether the flush succeeded.
+fn write_70(rt: &HostRuntime, path: &str) -> Result<(Option<u8>, bool, Option<u8>, bool), Fail> {
+    let mut disk = open(rt, path)?;
+    let before = byte_of(&mut disk, 70);
+    let written = put(&mut disk, 70, 7);
+    let after = byte_of(&mut disk, 70);
+    let flushed = disk.ready(1).is_ok() && disk.flush().is_ok();
+    Ok((before, written, after, flushed))
+}
+
 #[test]
 fn a_cell_is_read_again_after_reopening(rt: HostRuntime) -> Result<(), Fail> {
     let path = new_path(&rt, "reopened")?;
-    {
-        let mut disk = open(&rt, path.as_str())?;
-        assert_eq!(rt; byte_of(&mut disk, 70), Some(0));
-        assert!(rt; put(&mut disk, 70, 7));
-        assert_eq!(rt; byte_of(&mut disk, 70), Some(7));
-        assert!(rt; disk.ready(1).is_ok());
-        assert!(rt; disk.flush().is_ok());
-    }
+    let first = write_70(&rt, path.as_str())?;
+    assert_eq!(rt; first, (Some(0), true, Some(7), true));
     let mut disk = open(&rt, path.as_str())?;
-    for (block, want) in [(0, 0), (69, 0), (70, 7), (71, 0), (1_048_575, 0)] {
-        assert_eq!(rt; byte_of(&mut disk, block), Some(want), "block {block}");
-    }
+    let cases = [(0, 0), (69, 0), (70, 7), (71, 0), (1_048_575, 0)];
+    assert_eq!(rt; wrong_block(&mut disk, &cases), None);
     assert_eq!(rt; fs::metadata(&rt, path.as_str())?.len(), 71 * 1056);
     fs::remove_file(&rt, path.as_str())?;
     Ok(())
@@ -97,14 +111,11 @@ fn reads_before_across_and_after_a_write_show_it(rt: HostRuntime) -> Result<(), 
     for block in [62, 63, 64, 65] {
         assert!(rt; put(&mut disk, block, block as u8));
     }
-    for block in [62, 63, 64, 65] {
-        assert_eq!(rt; byte_of(&mut disk, block), Some(block as u8));
-    }
-    assert!(rt; put(&mut disk, 63, 1));
-    assert!(rt; put(&mut disk, 64, 2));
-    for (block, want) in [(62, 62), (63, 1), (64, 2), (65, 65), (66, 0)] {
-        assert_eq!(rt; byte_of(&mut disk, block), Some(want), "block {block}");
-    }
+    let cases = [(62, 62), (63, 63), (64, 64), (65, 65)];
+    assert_eq!(rt; wrong_block(&mut disk, &cases), None);
+    assert!(rt; put(&mut disk, 63, 1) && put(&mut disk, 64, 2));
+    let cases = [(62, 62), (63, 1), (64, 2), (65, 65), (66, 0)];
+    assert_eq!(rt; wrong_block(&mut disk, &cases), None);
     fs::remove_file(&rt, path.as_str())?;
     Ok(())
 }

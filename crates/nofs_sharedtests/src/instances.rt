@@ -1,10 +1,9 @@
-//! The instance is there.
-use super::{Unmade, formatted_put, second_mount, two_mounts};
+//! The instances of a mount's invariant are there: each mount is made.
+use nofs_cases_core::{Unmade, formatted_put, second_mount, two_mounts};
 use nofs_machine::{Reply, Step};
 use nofs_memdisk::MemDisk;
 use nofs_shared::Mount;
 use std::alloc::Global;
-use std::process::Abort;
 
 // Whether the first slot of the label file begins with what was put, and a byte that was not.
 fn has_the_bytes(mount: &mut Mount<MemDisk>, alloc: Global) -> bool {
@@ -19,23 +18,23 @@ fn has_the_bytes(mount: &mut Mount<MemDisk>, alloc: Global) -> bool {
     }
 }
 
-// The mount is made, with so many entries and the bytes.
-fn check(rt: &impl Abort, alloc: Global, made: Result<Mount<MemDisk>, Unmade>, entries: u64) {
-    let Ok(mut mount) = made else {
-        panic!(rt; "not made")
-    };
-    assert_eq!(rt; mount.history().len(), entries);
-    assert!(rt; has_the_bytes(&mut mount, alloc));
+// How many entries a mount has, and whether it has the bytes; `None` where it was not made.
+fn found_in(alloc: Global, made: Result<Mount<MemDisk>, Unmade>) -> Option<(u64, bool)> {
+    let Ok(mut mount) = made else { return None };
+    let entries = mount.history().len();
+    Some((entries, has_the_bytes(&mut mount, alloc)))
 }
 
 #[test]
 fn the_mount_is_made_and_has_the_bytes(rt: HostRuntime) {
-    check(&rt, rt.alloc(), formatted_put(rt.alloc()), 2);
+    let alloc = rt.alloc();
+    assert_eq!(rt; found_in(alloc, formatted_put(alloc)), Some((2, true)));
 }
 
 #[test]
 fn the_mount_of_what_a_crash_left_has_the_bytes_and_no_entry(rt: HostRuntime) {
-    check(&rt, rt.alloc(), second_mount(rt.alloc()), 0);
+    let alloc = rt.alloc();
+    assert_eq!(rt; found_in(alloc, second_mount(alloc)), Some((0, true)));
 }
 
 #[test]
