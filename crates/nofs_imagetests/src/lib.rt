@@ -1,4 +1,5 @@
-//! Tests of runs over images that were laid down cell by cell: how they are served and counted, and raised to version 2.
+//! Tests of runs over images that were laid down cell by cell: how they are served and counted, and the
+//! largest files of version 2.
 //!
 //! Promise: what is printed is what the definitions say of the cells.
 #![tactic(auto)]
@@ -6,4 +7,4 @@
 #[cfg(test)]
 mod images;
 #[cfg(test)]
-mod second;
+mod large;

@@ -1,7 +1,11 @@
-//! Tests of chains of lives of one disk, each of which ends with a crash.
+//! Tests of what a disk goes through between runs: chains of lives, each of which ends with a crash, and
+//! upgrades to version 2.
 //!
-//! Promise: no number is given twice, and no file has bytes of another.
+//! Promise: no number is given twice, and no file has bytes of another; an upgrade that fails leaves one
+//! version or the other.
 #![tactic(auto)]
 
 #[cfg(test)]
 mod lives;
+#[cfg(test)]
+mod upgrades;

@@ -1,4 +1,4 @@
-//! Tests of the definitions on example images, of histories and of drawn scripts, by calls from outside.
+//! Tests of the definitions on example images and of histories, by calls from outside.
 //!
 //! Promise: worked cases come out as derived by hand; nothing is promised of all cases.
 #![tactic(auto)]

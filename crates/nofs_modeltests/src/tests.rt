@@ -1,5 +1,4 @@
 //! The tests of each subject.
-mod draws;
 mod examples;
 mod history;
 mod machine;

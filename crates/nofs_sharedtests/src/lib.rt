@@ -1,4 +1,4 @@
-//! Tests of passes of a mount, of a move by one, of a session on threads, and that the instances of a mount are there.
+//! Tests of passes of a mount, and that the instances of a mount are there.
 //!
 //! Promise: worked cases come out as derived by hand; nothing is promised of all cases.
 #![tactic(auto)]
@@ -6,8 +6,4 @@
 #[cfg(test)]
 mod instances;
 #[cfg(test)]
-mod moves;
-#[cfg(test)]
 mod passes;
-#[cfg(test)]
-mod tests;
