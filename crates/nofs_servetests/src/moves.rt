@@ -74,20 +74,36 @@ fn made<S: Steps>(alloc: Global, client: &mut Client<S>) -> Result<[Said; 3], Al
     ])
 }
 
+// What is said of a move.
+fn move_line<S: Steps>(
+    alloc: Global,
+    client: &mut Client<S>,
+    from: &Path,
+    to: &Path,
+) -> Result<Said, AllocError> {
+    if !(from.has_name() && to.has_name()) {
+        return Ok(Said::Other);
+    }
+    Ok(told(&move_file(alloc, client, from, to)?))
+}
+
+// What is said of a path.
+fn stat_line<S: Steps>(
+    alloc: Global,
+    client: &mut Client<S>,
+    names: &[&str],
+) -> Result<Said, AllocError> {
+    let path = path(alloc, names)?;
+    run(alloc, client, &Command::Stat { path })
+}
+
 // The file is moved into the directory: what is said of that, and of the new and of the old path then.
 fn moved<S: Steps>(alloc: Global, client: &mut Client<S>) -> Result<[Said; 3], AllocError> {
     let (from, to) = (path(alloc, &["a"])?, path(alloc, &["d", "b"])?);
-    let line = if from.has_name() && to.has_name() {
-        move_file(alloc, client, &from, &to)?
-    } else {
-        return Err(AllocError);
-    };
-    let new = Command::Stat { path: to };
-    let old = Command::Stat { path: from };
     Ok([
-        told(&line),
-        run(alloc, client, &new)?,
-        run(alloc, client, &old)?,
+        move_line(alloc, client, &from, &to)?,
+        stat_line(alloc, client, &["d", "b"])?,
+        stat_line(alloc, client, &["a"])?,
     ])
 }
 
