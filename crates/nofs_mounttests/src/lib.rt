@@ -1,10 +1,8 @@
-//! Tests of the mount, by calls on one of a disk in memory: steps, verdicts that are committed late, and what it costs the device.
+//! Tests of the mount, by calls on one of a disk in memory: steps, a verdict of a batch, and what it costs the device.
 //!
 //! Promise: worked cases come out as derived by hand; nothing is promised of all cases.
 #![tactic(auto)]
 
-#[cfg(test)]
-mod late;
 #[cfg(test)]
 mod mounts;
 #[cfg(test)]

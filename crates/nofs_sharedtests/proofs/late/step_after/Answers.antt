@@ -2,7 +2,7 @@ use Rattle.std.proofs.Common.{ℕ, sym, subst₂}
 use Rattle.nofs_memdisk.specs.Parts.{memory_state}
 use Rattle.nofs_shared.specs.Handed.{IsEarlier, earlier-on}
 use Rattle.nofs_shared.proofs.Handed.{adds-prefix}
-use Rattle.nofs_mounttests.proofs.late.step_after.Goals as goal
+use Rattle.nofs_sharedtests.proofs.late.step_after.Goals as goal
 
 pub returns : goal.returns
 returns c =
