@@ -90,7 +90,7 @@ module _ (W V : World) (e : Entry1) (sane : IsSane W) (next : Next W e V) where
   pub link-next : (i g b : ℕ) (link : BackLink) → (l : Linked (λ x. Names i g x) W.files i g b link)
       → ((of : ℕ) (name : List ℕ) → e.step ≡ step.Drop link.directory of name → found W.files link.directory name ≡ Some link.entry → ⊥)
       → Linked (λ x. Names i g x) V.files i g b link
-  link-next i g b link l undropped = step-linked (λ x. Names i g x) W V e i g b link (names-only i g) sane next l (λ V' same row claim. undropped) keeps
+  link-next i g b link l undropped = step-linked (λ x. Names i g x) W V e i g b link (names-only i g) sane next l (λ V' same clear claim. undropped) keeps
     where
       keeps : (v : Value) → (given_by W.files e).slots link.directory link.generation (link.entry / 16) ≡ Some v
           → (x : Entry) × (entry_held v link.entry ≡ Some x) × Names i g x
@@ -104,7 +104,7 @@ module _ (W V : World) (e : Entry1) (sane : IsSane W) (next : Next W e V) where
           by : Acts W e → (x : Entry) × (entry_held v link.entry ≡ Some x) × Names i g x
           by (Idle same) = absurd (let z : (given_by W.files e).slots link.directory link.generation (link.entry / 16) ≡ None =
               ap (λ (x : Given). x.slots link.directory link.generation (link.entry / 16)) same in cc (z, h))
-          by (Acting V' same row claim) = kept (linked-kept (λ x. Names i g x) W V' e i g b link sane l same row claim l v h)
+          by (Acting V' same clear claim) = kept (linked-kept (λ x. Names i g x) W V' e i g b link sane l same clear claim l v h)
 
   -- and its file is agreed
   kept-link : (i g b : ℕ) (link : BackLink) → is_special i ≡ false → (l : Linked (λ x. Names i g x) W.files i g b link)
@@ -236,9 +236,9 @@ module _ (W V : World) (e : Entry1) (sane : IsSane W) (next : Next W e V) where
       go (No undropped) = kept-link W V e sane next i f.generation at.0 link plain l undropped up
       go (Yes of name es ef) =
           let a = accepted-acts W V e next ok in
-          let row : first_of (rows W V (step.Drop link.directory of name)) ≡ None = subst (λ (s : Step). first_of (rows W V s) ≡ None) es a.0 in
-          let dir = directory-row W link.directory of (none-at (rows W V (step.Drop link.directory of name)) row 1 (stale W link.directory of) refl)
-          (none-at (rows W V (step.Drop link.directory of name)) row 2 (not_directory W link.directory) refl) in
+          let clear : first_of (rows W V (step.Drop link.directory of name)) ≡ None = subst (λ (s : Step). first_of (rows W V s) ≡ None) es a.0 in
+          let dir = directory-row W link.directory of (none-at (rows W V (step.Drop link.directory of name)) clear 1 (stale W link.directory of) refl)
+          (none-at (rows W V (step.Drop link.directory of name)) clear 2 (not_directory W link.directory) refl) in
           let alive' : (gives W.files (step.Drop link.directory of name) e.claims).metas l.entry.inode f.generation ≡ Some Gone → ⊥ =
           λ q. alive a.0 a.1 (ap (λ (s : Step). (gives W.files s e.claims).metas i f.generation) es
           ∙ sym (ap (λ (j : ℕ). (gives W.files (step.Drop link.directory of name) e.claims).metas j f.generation) l.names_inode) ∙ q) in
@@ -273,11 +273,11 @@ module _ (W V : World) (e : Entry1) (sane : IsSane W) (next : Next W e V) where
       → V.files i ≡ Some h → h.generation ≡ g → (gives W.files e.step e.claims).metas i g ≡ Some (Is h.kind h.size h.links) → Agreed V.files i
   new-rooted i g d dg p name kind h es ok ep ei eg there gen metas =
       let a = accepted-acts W V e next ok in
-      let row : first_of (rows W V (step.Make d dg name kind)) ≡ None = subst (λ (s : Step). first_of (rows W V s) ≡ None) es a.0 in
+      let clear : first_of (rows W V (step.Make d dg name kind)) ≡ None = subst (λ (s : Step). first_of (rows W V s) ≡ None) es a.0 in
       let claim : IsClaim W (step.Make d dg name kind) e.claims = subst (λ (s : Step). IsClaim W s e.claims) es a.1 in
-      let dir = directory-row W d dg (none-at (rows W V (step.Make d dg name kind)) row 1 (stale W d dg) refl)
-      (none-at (rows W V (step.Make d dg name kind)) row 2 (not_directory W d) refl) in
-      let n = make-new W V e.claims d dg name kind row claim in
+      let dir = directory-row W d dg (none-at (rows W V (step.Make d dg name kind)) clear 1 (stale W d dg) refl)
+      (none-at (rows W V (step.Make d dg name kind)) clear 2 (not_directory W d) refl) in
+      let n = make-new W V e.claims d dg name kind clear claim in
       let files : V.files ≡ files_after W.files (gives W.files (step.Make d dg name kind) e.claims) =
       done W V e sane next ok ∙ ap (λ (s : Step). files_after W.files (gives W.files s e.claims)) es in
       let metas' : (gives W.files (step.Make d dg name kind) e.claims).metas e.claims.inode e.claims.generation ≡ Some (Is h.kind h.size h.links) =
@@ -286,7 +286,7 @@ module _ (W V : World) (e : Entry1) (sane : IsSane W) (next : Next W e V) where
       ∙ sym (ap (λ (q : ℕ). (gives W.files e.step e.claims).metas i q) eg) ∙ metas in
       let up = agreed-next W V e sane next d dg (sane.rooted d dir.file dir.is dir.folder) dir
       (λ q. absurd (let z : is_drop e.step ≡ false = ap is_drop es in cc (q, z))) in
-      let l = linked-new row claim dir n files (h.links) (kind-links metas') (sym (ap V.files ei) ∙ there) in
+      let l = linked-new clear claim dir n files (h.links) (kind-links metas') (sym (ap V.files ei) ∙ there) in
       subst (λ (j : ℕ). Agreed V.files j) (sym ei) (from-link W V e sane next (λ x. Names e.claims.inode e.claims.generation x)
       e.claims.inode e.claims.generation 0 (link_to d p dg) (plain n) l up)
     where
@@ -314,9 +314,9 @@ module _ (W V : World) (e : Entry1) (sane : IsSane W) (next : Next W e V) where
           → V.files ≡ files_after W.files (gives W.files (step.Make d dg name kind) e.claims) → (links : List BackLink)
           → link_to d p dg ∷ link_to 0 0 0 ∷ link_to 0 0 0 ∷ link_to 0 0 0 ∷ [] ≡ h.links → V.files e.claims.inode ≡ Some h
           → Linked (λ x. Names e.claims.inode e.claims.generation x) V.files e.claims.inode e.claims.generation 0 (link_to d p dg)
-      linked-new row claim dir n files links same here =
+      linked-new clear claim dir n files links same here =
           let none = ap (λ (q : ℕ). (gives W.files (step.Make d dg name kind) e.claims).metas d q) (sym dir.generation)
-          ∙ folder-metas W V e.claims (step.Make d dg name kind) row claim d dir.file dir.is dir.folder (λ q. absurd (cc q)) in
+          ∙ folder-metas W V e.claims (step.Make d dg name kind) clear claim d dir.file dir.is dir.folder (λ q. absurd (cc q)) in
           let parent : V.files d ≡ Some (filled (gives W.files (step.Make d dg name kind) e.claims) d dir.file) =
           ap (λ (F : Files). F d) files ∙ directory-after W.files (gives W.files (step.Make d dg name kind) e.claims) d dg dir
           (not-born W V e.claims (step.Make d dg name kind) claim d dir.file dir.is) none in
@@ -337,7 +337,7 @@ module _ (W V : World) (e : Entry1) (sane : IsSane W) (next : Next W e V) where
             };
             older = λ k. omega (arith, y, dgen, ngen);
             entry = record { inode = e.claims.inode; generation = e.claims.generation; name = name };
-            there = ap (λ (o : Option FileState). entry_in_file o p) parent ∙ inside dir n claim row;
+            there = ap (λ (o : Option FileState). entry_in_file o p) parent ∙ inside dir n claim clear;
             passes = (refl, refl);
             names_inode = refl;
             names_generation = refl;
@@ -347,7 +347,7 @@ module _ (W V : World) (e : Entry1) (sane : IsSane W) (next : Next W e V) where
               → first_of (rows W V (step.Make d dg name kind)) ≡ None
               → entry_in_file (Some (filled (gives W.files (step.Make d dg name kind) e.claims) d dir.file)) p ≡ Some
               (record { inode = e.claims.inode; generation = e.claims.generation; name = name })
-          inside dir n claim row =
+          inside dir n claim clear =
               let lt = lt-ltb p entry_limit (place-range W.files d name p ep) in
               let k = dir.folder in
               let numbers = new-spelled W e.claims sane n in
@@ -355,7 +355,7 @@ module _ (W V : World) (e : Entry1) (sane : IsSane W) (next : Next W e V) where
               ap (λ (v : Value). length (bytes_in v)) (value-of W.files d dir.file dir.is (p / 16)) ∙ sane.whole d dir.file dir.is dir.folder (p / 16) in
               rw (k, lt) (ap (λ (o : Option Value). entry_held (unwrap_or o (dir.file.values (p / 16))) p) (slot dir claim)
               ∙ read-back (value_of W.files d (p / 16)) p e.claims.inode e.claims.generation name whole numbers
-              (none-at (rows W V (step.Make d dg name kind)) row 0 (bad_name name) refl))
+              (none-at (rows W V (step.Make d dg name kind)) clear 0 (bad_name name) refl))
             where
               slot : (dir : IsDirectory W.files d dg) → IsClaim W (step.Make d dg name kind) e.claims
                   → (gives W.files (step.Make d dg name kind) e.claims).slots d dir.file.generation (p / 16) ≡ Some
@@ -381,7 +381,7 @@ module _ (W V : World) (e : Entry1) (sane : IsSane W) (next : Next W e V) where
           by : After W.files (gives W.files e.step e.claims) i h → Agreed V.files i
           by (Old f is gen kind values alive) =
               let dir : is_folder f.kind ≡ true = sym (ap is_folder kind) ∙ folder in
-              old-rooted i f h is dir there gen folder (λ row claim. alive) ok (sane.rooted i f is dir)
+              old-rooted i f h is dir there gen folder (λ clear claim. alive) ok (sane.rooted i f is dir)
           by (New g born gen values metas) =
               let m = made W e.step e.claims i g born in
               new-rooted i g m.directory m.generation m.place m.name m.kind h m.is ok m.place_is m.inode m.own there gen metas
