@@ -2,3 +2,4 @@ pub mod Formatting
 pub mod Maps
 pub mod Opening
 pub mod Crashing
+pub mod Reopening

@@ -4,6 +4,7 @@ use Rattle.nofs_bits.specs.Bits.{is_set}
 use Rattle.nofs_disk.specs.Disk.{DiskState}
 use Rattle.nofs_super.specs.Raise.{raised}
 use Rattle.nofs_image.specs.Image.{Image, super_at}
+use Rattle.nofs_image.specs.Sound.{IsSound}
 use Rattle.nofs_machine.specs.World.{World}
 use Rattle.nofs_machine.specs.Good.{IsGood}
 use Rattle.nofs_shared.specs.Handed.{knows_block, knows_inode, IsOpen, Past, Sounds, Books}
@@ -22,3 +23,7 @@ pub record StandsOpen (found d : DiskState) (first : ℕ) (k : Books) : Type 0 w
   pub good : MapsGood k past.world d.now
   -- the next mount finds a sound disk, whenever this one ends
   pub sound : Sounds found.moment d
+
+-- each image that a crash leaves now is sound
+abbrev pub LeavesSound : DiskState → Type 0
+LeavesSound d = (X : Image) → d.left d.moment X → IsSound X

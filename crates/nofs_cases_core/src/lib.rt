@@ -8,7 +8,9 @@
 #![tactic(auto)]
 
 mod crashes;
+mod files;
 mod mounts;
 
 pub use crashes::{crashed_put, second_mount, two_mounts};
+pub use files::{formatted_file_mount, new_file_disk, reopened};
 pub use mounts::{Unmade, format_disk, formatted_mount, formatted_put, new_disk};

@@ -228,9 +228,13 @@ fn recorded_day<R: Threads + Wait + Sync>(
 /// How many images are drawn of a recorded day at least.
 const LEAST_IMAGES: usize = 250;
 
-/// How many calls the small day has at least. At its end stand 67 slots that it wrote: of `/d/i` 20, of
-/// `/h` 16, of `/m` 13, of `@` 10 and of `/e` 8. It syncs at its mount, at each `fsync` and at its end.
-const LEAST_CALLS: usize = 67 + 4;
+/// How many cells the small day writes at least. At its end stand 67 slots that it wrote: of `/d/i` 20, of
+/// `/h` 16, of `/m` 13, of `@` 10 and of `/e` 8.
+const LEAST_CELLS: usize = 67;
+
+/// How many calls it has at least. It syncs at its mount, at each `fsync` and at its end, and writes
+/// before each of these.
+const LEAST_CALLS: usize = 2 * 4;
 
 // A disk in a file with these bytes.
 fn file_disk(alloc: Global, bytes: &[u8]) -> Result<FileDisk<MemFile>, AllocError> {
@@ -263,7 +267,10 @@ fn are_own(seen: Seen, images: u64) -> bool {
 // Whether the small day ends well in a file that keeps its calls, and survives a crash in each of them.
 fn survives<R: Threads + Wait + Sync>(rt: &R, alloc: Global, start: u64) -> Result<bool, Fail> {
     let (status, file) = recorded_day(rt, alloc, SMALL)?;
-    let is_recorded = status == 0 && file.tells_all()? && file.calls() >= LEAST_CALLS;
+    let is_recorded = status == 0
+        && file.tells_all()?
+        && file.cells() >= LEAST_CELLS
+        && file.calls() >= LEAST_CALLS;
     let (served, seen) = served_images(rt, alloc, SMALL, &file, start)?;
     Ok(is_recorded && served && are_own(seen, LEAST_IMAGES as u64))
 }

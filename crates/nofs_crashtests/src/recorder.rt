@@ -3,7 +3,8 @@
 //! Promise: it is the file below it. Of each cell an image has what stood at the last sync before the
 //! crash, or what one write since put there.
 
-ghost use Rattle.std.specs.Prelude.{◌≡◌};
+ghost use Rattle.std.specs.Prelude.{◌≡◌, IfOk};
+ghost use Rattle.nofs_filedisk.specs.Bytes.{IsSynced};
 
 use nofs_disk::{Failed, write_bytes_at};
 use nofs_filedisk::{MemFile, Positioned};
@@ -38,7 +39,9 @@ pub struct Recorder {
 
 impl Recorder {
     /// A file with these bytes.
-    pub fn new(alloc: Global, bytes: &[u8]) -> Result<Recorder, AllocError> {
+    pub fn new(alloc: Global, bytes: &[u8]) -> Result<Recorder, AllocError>
+        ensures { IfOk result (λ file. IsSynced (⟦<Recorder as Positioned>⟧.state file)) }
+    {
         Ok(Recorder {
             under: MemFile::new(alloc, bytes, PIECE, &[])?,
             alloc,
@@ -51,6 +54,15 @@ impl Recorder {
     /// How many writes and syncs were made.
     pub fn calls(&self) -> usize {
         self.calls.len()
+    }
+
+    /// How many cells the writes have.
+    pub fn cells(&self) -> usize {
+        let mut cells: usize = 0;
+        for call in &self.calls {
+            cells = cells.saturating_add(cells_of_call(call));
+        }
+        cells
     }
 
     /// Whether the calls tell all: each was kept and moved whole cells, all of them lead to the bytes
@@ -106,7 +118,7 @@ impl Positioned for Recorder {
 
     ghost state = { λ f. ⟦<MemFile as Positioned>⟧.state f.under };
 
-    ghost is_file = { λ f. told_is f.under.bytes.items f.under.durable.items f.under.faults f.under.counted };
+    ghost is_file = { λ f. told_is f.under.bytes.items f.under.durable.items f.under.faults f.under.counted f.under.small };
 
     fn read_at(&mut self, at: u64, into: &mut [u8]) -> Result<usize, Failed> {
         self.under.read_at(at, into)
@@ -131,6 +143,14 @@ fn write_call(alloc: Global, at: u64, from: &[u8], count: usize) -> Option<FileC
     match part.to_vec(alloc) {
         Ok(bytes) => Some(FileCall::Write { at, bytes }),
         Err(_) => None,
+    }
+}
+
+// How many cells a call writes.
+fn cells_of_call(call: &FileCall) -> usize {
+    match call {
+        FileCall::Write { bytes, .. } => bytes.len() / CELL_BYTES,
+        FileCall::Sync => 0,
     }
 }
 

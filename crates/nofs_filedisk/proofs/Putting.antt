@@ -3,7 +3,7 @@ use Rattle.std.proofs.Common.{◌≡◌, ℕ, zero, suc, ◌+◌, ◌-◌, ◌<�
 use Rattle.std.specs.Prelude.{slice_index}
 use Rattle.std.proofs.Math.Seq.{get_or-append_right}
 use Rattle.std.proofs.lemmas.Bool.{cases_lt, lt-ltb}
-use Rattle.std.proofs.lemmas.List.{append-nil, drop_all, get_or-drop, get_or-take, get_or_append_left, length-append, length-drop, length-take-le, take_at}
+use Rattle.std.proofs.lemmas.List.{get_or-drop, get_or-take, get_or_append_left, length-drop, length-take-le}
 use Rattle.nofs_disk.specs.Number.{put_bytes}
 use Rattle.nofs_disk.specs.Parts.{length-put_bytes}
 use Rattle.nofs_filedisk.specs.Bytes.{IsPut, grown}
@@ -36,7 +36,7 @@ put-behind at k part bytes fits high =
     ∙ get_or-drop (at + length part) bytes (k - at - length part) 0
     ∙ ap (λ i. get_or bytes i 0) two
 
-grown-some : (old at n : ℕ) → 0 < n → grown old at n ≡ max old (at + n)
+pub grown-some : (old at n : ℕ) → 0 < n → grown old at n ≡ max old (at + n)
 grown-some old at n low = rw (lt-ltb 0 n low)
 
 -- bytes over others that are there
@@ -94,16 +94,3 @@ put-more at d n part a b c fits p q =
           q.len ∙ ap (λ m. grown (length b) (at + d) m) ln ∙ ap (λ m. grown m (at + d) n) (p.len ∙ ap (λ m. grown (length a) at m) ld)
           ∙ grown-more (length a) at d n ∙ ap (λ m. grown (length a) at m) (sym lt);
     }
-
--- the bytes of a cell, one part behind the other
-pub put-both : (first second bytes : List ℕ) → length first ≡ 1024 → length second ≡ 32 → length bytes ≡ 1056
-    → put_bytes 1024 second (put_bytes 0 first bytes) ≡ first ++ second
-unfolding put_bytes
-put-both first second bytes one two size =
-    let rest = drop (0 + length first) bytes in
-    let rest_size : length rest ≡ 32 = omega (arith, length-drop (0 + length first) bytes) in
-    let all : length (first ++ rest) ≡ 1056 = omega (arith, length-append first rest) in
-    let front : take 1024 (first ++ rest) ≡ first = take_at first rest 1024 one in
-    let none : drop (1024 + length second) (first ++ rest) ≡ [] = drop_all (1024 + length second) (first ++ rest) (omega arith) in
-    ap (λ l. l ++ (second ++ drop (1024 + length second) (first ++ rest))) front ∙ ap (λ l. first ++ (second ++ l)) none
-    ∙ ap (λ l. first ++ l) (append-nil second)

@@ -1,8 +1,9 @@
 -- What contracts see of a file of bytes, and what each of its calls does.
-use Rattle.std.specs.Prelude.{◌≡◌, ℕ, ◌+◌, ◌^◌, ◌<◌, ◌≤◌, nat_lt, if◌then◌else◌, max, Bool, IsTrue, List, length, take, drop, slice_index}
+use Rattle.std.specs.Prelude.{◌≡◌, ℕ, ◌+◌, ◌^◌, ◌<◌, ◌≤◌, ◌⊎◌, nat_lt, if◌then◌else◌, max, Bool, IsTrue, List, length, take, drop, slice_index}
 use Rattle.std.specs.Prelude.{Result, IfOk, OnOk, OnErr}
 use Rattle.nofs_disk.specs.Disk.{Rose}
 use Rattle.nofs_disk.specs.declared.Failed.{Failed}
+use Rattle.nofs_filedisk.specs.Cells.{cell_in}
 
 -- what contracts see of a file
 pub record HostFileState : Type 0 where
@@ -18,6 +19,8 @@ pub record HostFileState : Type 0 where
 -- what holds of each file
 pub record IsHostFile (f : HostFileState) : Type 0 where
   pub counted : f.faults < 2 ^ 64
+  -- each of its bytes is one
+  pub small : (k : ℕ) → slice_index f.bytes k < 256
 
 -- these are the bytes from a place on, with zeros past the end
 abbrev pub IsPart : List ℕ → ℕ → List ℕ → Type 0
@@ -90,11 +93,21 @@ pub record WritesSome (old new : HostFileState) (at : ℕ) (part : List ℕ) (re
   pub cause : OnErr result (Rose old.faults new.faults)
   pub no_fault : OnOk result (new.faults ≡ old.faults)
 
--- `sync()`: all bytes are durable
+-- of each cell the durable bytes are what they were, or those of the file
+abbrev pub LastsOrMoves : HostFileState → HostFileState → Type 0
+LastsOrMoves old new =
+    IsTrue old.tells → (b : ℕ) → (cell_in new.durable b ≡ cell_in old.durable b) ⊎ (cell_in new.durable b ≡ cell_in old.bytes b)
+
+-- what a file that tells holds is durable
+abbrev pub IsSynced : HostFileState → Type 0
+IsSynced file = IsTrue file.tells → (b : ℕ) → cell_in file.durable b ≡ cell_in file.bytes b
+
+-- `sync()`: all bytes are durable; where it fails, perhaps those of some cells
 pub record Syncs (old new : HostFileState) (result : Result (Unit {0}) Failed) : Type 0 where
   pub tells : new.tells ≡ old.tells
   pub bytes : new.bytes ≡ old.bytes
   pub faults : old.faults ≤ new.faults
   pub durable : OnOk result (new.durable ≡ old.bytes)
+  pub err : OnErr result (LastsOrMoves old new)
   pub cause : OnErr result (Rose old.faults new.faults)
   pub no_fault : OnOk result (new.faults ≡ old.faults)

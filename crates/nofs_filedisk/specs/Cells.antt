@@ -1,5 +1,5 @@
 -- Where cells lie in a file.
-use Rattle.std.specs.Prelude.{ℕ, ◌+◌, ◌*◌, List, ◌++◌, map, slice_index}
+use Rattle.std.specs.Prelude.{ℕ, ◌+◌, ◌*◌, List, map, slice_index}
 use Rattle.std.specs.List.{range_with_len}
 use Rattle.nofs_disk.specs.declared.tag.Cell.{Cell}
 
@@ -10,7 +10,3 @@ part_of bytes at n = map (slice_index bytes) (range_with_len at n)
 -- the cell of a block
 unfoldable pub cell_in : List ℕ → ℕ → Cell
 cell_in bytes block = record { payload = part_of bytes (1056 * block) 1024; tag = part_of bytes (1056 * block + 1024) 32 }
-
--- the bytes of a cell
-abbrev pub cell_bytes : Cell → List ℕ
-cell_bytes cell = cell.payload ++ cell.tag

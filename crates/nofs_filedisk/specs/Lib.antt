@@ -1,6 +1,9 @@
 pub mod Bytes
 pub mod Cells
-pub mod Silence
+pub mod Past
+pub mod Told
+pub mod Files
 pub mod Shown
+pub mod Present
 pub mod Untold
 pub mod Memory

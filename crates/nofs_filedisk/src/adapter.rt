@@ -68,8 +68,9 @@ impl Positioned for HostFile {
         Err(self.failed())
     }
 
+    // `fdatasync` leaves out of `fsync` only what no read needs, such as times.
     fn sync(&mut self) -> Result<(), Failed> {
-        match self.file.sync_all() {
+        match self.file.sync_data() {
             Ok(()) => Ok(()),
             Err(_) => Err(self.failed()),
         }

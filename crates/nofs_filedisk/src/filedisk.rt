@@ -1,86 +1,121 @@
 //! A disk over a file of bytes.
 //!
-//! Promise: a read gives the cell that the file holds, a write changes the bytes of its block alone,
-//! and a flush makes all bytes durable. No other call touches the file.
-ghost use Rattle.std.specs.Prelude.{◌≡◌, ◌+◌, ◌*◌, ◌++◌, ◌^◌, ◌<◌, ◌≤◌, IfOk, IsTrue, OnErr, OnOk, length};
-ghost use Rattle.nofs_disk.specs.Disk.{Flushes, MakesReady, Reads, Writes, WritesOut};
-ghost use Rattle.nofs_filedisk.specs.Bytes.{IsPartlyPut, IsPut, KeepsBytes, KeepsDurable};
-ghost use Rattle.nofs_filedisk.specs.Cells.{cell_bytes, cell_in};
-ghost use Rattle.nofs_filedisk.specs.Shown.{ShowsFile};
+//! Promise: it keeps every promise of a disk, and tells what it holds where its file does. A crash leaves
+//! for each block the cell that the last flush that succeeded left, or one that was written since.
+ghost use Rattle.std.specs.Prelude.{◌≡◌, ◌+◌, ◌*◌, ◌++◌, ◌∷◌, [], ◌^◌, ◌<◌, ◌≤◌, ℕ, IfOk, IsTrue, List, OnOk, length};
+ghost use Rattle.nofs_disk.specs.Disk.{Flushes, IsSettled, Picks, Writes, cell_at};
+ghost use Rattle.nofs_disk.specs.declared.tag.Cell.{Cell};
+ghost use Rattle.nofs_filedisk.specs.Bytes.{IsSynced};
+ghost use Rattle.nofs_filedisk.specs.Cells.{cell_in};
+ghost use Rattle.nofs_filedisk.specs.Files.{FileSized, LastsWithin, cells_in, file_held};
+ghost use Rattle.nofs_filedisk.specs.Past.{call_of, past_calls};
+ghost use Rattle.nofs_filedisk.specs.Present.{IsPresent};
 
-use crate::moving::write_part;
+use crate::contents::Contents;
+use crate::past::{FileCall, Past};
 use crate::positioned::Positioned;
-use crate::windows::{CELL_BYTES, Windows};
-use nofs_disk::{Cell, Disk, Failed, write_bytes_at};
+use nofs_disk::{Cell, Disk, Failed};
 use std::alloc::{AllocError, Global};
+use std::mem;
+use std::snapshot::Snapshot;
 
 /// How many blocks a disk in a file has.
 const BLOCKS: u64 = 1_048_576;
 
 /// A disk of 1,048,576 blocks in a file: block `b` is the 1,056 bytes from `1056 * b` on, the
-/// payload first, with zeros past the end. To those above it tells nothing.
+/// payload first, with zeros past the end.
+///
+/// What a crash may leave is told of a file of which each 1,056 bytes at a multiple of 1,056 keep
+/// what was durable or take what was written there since, all of it: no cell is torn.
 #[derive(Drop)]
 pub struct FileDisk<B: Positioned + Drop> {
-    file: B,
-    windows: Windows,
+    contents: Contents<B>,
+    /// The file as it was given.
+    first: Snapshot<B>,
+    /// The writes and flushes since.
+    past: Snapshot<Past>,
     moment: u64,
+    /// For how many writes, flushes and write-outs there is room.
     spare: u64,
+    ghost made: { moment ≡ 2 * length (past_calls past.value) },
     ghost room: { 2 * spare + moment < 2 ^ 64 },
-    ghost shows: { ShowsFile (B.state file) windows },
+    ghost sized: { FileSized (B.state first.value) (past_calls past.value) },
+    ghost present: { IsTrue (B.state contents.file).tells
+        → IsPresent (B.state contents.file).bytes contents.run (file_held (B.state first.value) (past_calls past.value)).now },
+    ghost lasting: { LastsWithin (B.state contents.file) (B.state first.value) (past_calls past.value) },
+}
+
+// No calls.
+fn start() -> Snapshot<Past>
+    ensures { past_calls result.value ≡ [] }
+{
+    Snapshot::of(&Past::Start)
+}
+
+// Adds a call.
+fn add(call: FileCall, past: &mut Snapshot<Past>)
+    ensures { past_calls past.new.value ≡ past_calls past.old.value ++ call_of call ∷ [] }
+{
+    let earlier = mem::replace(past, Snapshot::of(&Past::Start));
+    let next = Past::Made(call, earlier);
+    *past = Snapshot::of(&next);
 }
 
 impl<B: Positioned + Drop> FileDisk<B> {
-    /// A disk in this file, which nothing else writes from now on. All memory is taken here.
+    /// A disk in this file, which nothing else writes from now on. All memory is taken here. What the
+    /// file holds has to be durable.
     pub fn over(alloc: Global, file: B) -> Result<FileDisk<B>, AllocError>
-        ensures file { IfOk result (λ disk. disk.file ≡ file) }
-        ensures moment { IfOk result (λ disk. disk.moment ≡ 0) }
+        requires { IsSynced (B.state file) }
+        ensures file { IfOk result (λ disk. disk.contents.file ≡ file) }
+        ensures moment { IfOk result (λ disk. (⟦<FileDisk<B> as Disk>⟧.state disk).moment ≡ 0) }
+        ensures tells { IfOk result (λ disk. (⟦<FileDisk<B> as Disk>⟧.state disk).tells ≡ (B.state file).tells) }
+        ensures now { IfOk result (λ disk. (⟦<FileDisk<B> as Disk>⟧.state disk).now ≡ cells_in (B.state file).bytes) }
+        ensures settled { IfOk result (λ disk. IsSettled (⟦<FileDisk<B> as Disk>⟧.state disk)) }
     {
+        let first = Snapshot::of(&file);
+        let past = start();
         Ok(FileDisk {
-            file,
-            windows: Windows::new(alloc)?,
+            contents: Contents::over(alloc, file)?,
+            first,
+            past,
             moment: 0,
             spare: 0,
         })
     }
 
-    /// The file.
+    /// The file. Cells that were written and not flushed may not be in it, as after a crash. Its durable
+    /// cells are an image that a crash may leave.
     pub fn file(self) -> B
-        ensures { result ≡ self.file }
+        ensures file { result ≡ self.contents.file }
+        ensures left { IsTrue (B.state result).tells
+            → (⟦<FileDisk<B> as Disk>⟧.state self).left (⟦<FileDisk<B> as Disk>⟧.state self).moment (cells_in (B.state result).durable) }
     {
-        self.file
+        self.contents.into_file()
     }
 }
 
-// Joins the bytes of a cell.
-fn join(cell: &Cell, into: &mut [u8])
-    requires { length into.old ≡ 1056 }
-    ensures value { into.new ≡ cell_bytes cell.now }
-    ensures len { length into.new ≡ 1056 }
-{
-    write_bytes_at(into, 0, &cell.payload);
-    write_bytes_at(into, 1024, &cell.tag);
-}
-
 impl<B: Positioned + Drop> Disk for FileDisk<B> {
-    ghost use Rattle.nofs_filedisk.specs.Silence.{silent_is, silent_state};
+    ghost use Rattle.nofs_filedisk.specs.Files.{file_is, file_state};
 
-    ghost state = { λ d. silent_state d.moment d.spare (B.state d.file).faults };
+    ghost state = { λ d. file_state (B.state d.contents.file) (B.state d.first.value) (past_calls d.past.value) d.spare };
 
-    ghost is_disk = { λ d. silent_is d.moment d.spare (B.state d.file).faults d.room (B.is_file d.file).counted };
+    ghost is_disk = { λ d. file_is (B.state d.contents.file) (B.state d.first.value) (past_calls d.past.value) d.moment d.spare
+        (B.is_file d.contents.file) d.made d.room d.sized };
 
     fn blocks(&self) -> u64 {
         BLOCKS
     }
 
-    fn moment(&self) -> u64 {
+    /// A crash now may leave each image that picks.
+    fn moment(&self) -> u64
+        ensures moment { result ≡ (⟦<FileDisk<B> as Disk>⟧.state self.now).moment }
+        ensures leaves { (image : List Cell) → Picks (⟦<FileDisk<B> as Disk>⟧.state self.now).may (⟦<FileDisk<B> as Disk>⟧.state self.now).blocks image
+            → (⟦<FileDisk<B> as Disk>⟧.state self.now).left (⟦<FileDisk<B> as Disk>⟧.state self.now).moment image }
+    {
         self.moment
     }
 
-    fn ready(&mut self, calls: u64) -> Result<(), AllocError>
-        ensures makes_ready { MakesReady (silent_state self.old.moment self.old.spare (B.state self.old.file).faults)
-            (silent_state self.new.moment self.new.spare (B.state self.new.file).faults) calls result }
-        ensures file { self.new.file ≡ self.old.file }
-    {
+    fn ready(&mut self, calls: u64) -> Result<(), AllocError> {
         if calls <= self.spare {
             return Ok(());
         }
@@ -91,61 +126,54 @@ impl<B: Positioned + Drop> Disk for FileDisk<B> {
         Ok(())
     }
 
-    fn read(&mut self, block: u64, into: &mut Cell) -> Result<(), Failed>
-        requires { block < 1048576 }
-        ensures reads { Reads (silent_state self.old.moment self.old.spare (B.state self.old.file).faults)
-            (silent_state self.new.moment self.new.spare (B.state self.new.file).faults) block into.new result }
-        ensures keeps { KeepsBytes (B.state self.old.file) (B.state self.new.file) }
-        ensures cell { OnOk result (IsTrue (B.state self.old.file).tells → into.new ≡ cell_in (B.state self.old.file).bytes block) }
-    {
-        self.windows.read(&mut self.file, block, into)
+    fn read(&mut self, block: u64, into: &mut Cell) -> Result<(), Failed> {
+        self.contents.read(block, into)
     }
 
     fn write(&mut self, block: u64, cell: &Cell) -> Result<(), Failed>
-        requires block { block < 1048576 }
-        requires spare { 1 ≤ self.old.spare }
-        ensures writes { Writes (silent_state self.old.moment self.old.spare (B.state self.old.file).faults)
-            (silent_state self.new.moment self.new.spare (B.state self.new.file).faults) block cell.now result }
-        ensures keeps { KeepsDurable (B.state self.old.file) (B.state self.new.file) }
-        ensures put { OnOk result (IsTrue (B.state self.old.file).tells
-            → IsPut (1056 * block) (cell_bytes cell.now) (B.state self.old.file).bytes (B.state self.new.file).bytes) }
-        ensures partly { OnErr result (IsTrue (B.state self.old.file).tells
-            → IsPartlyPut (1056 * block) (cell_bytes cell.now) (B.state self.old.file).bytes (B.state self.new.file).bytes) }
+        requires block { block < (⟦<FileDisk<B> as Disk>⟧.state self.old).blocks }
+        requires spare { 1 ≤ (⟦<FileDisk<B> as Disk>⟧.state self.old).spare }
+        ensures writes { Writes (⟦<FileDisk<B> as Disk>⟧.state self.old) (⟦<FileDisk<B> as Disk>⟧.state self.new) block cell.now result }
+        ensures leaves { (image : List Cell) → Picks (⟦<FileDisk<B> as Disk>⟧.state self.new).may (⟦<FileDisk<B> as Disk>⟧.state self.new).blocks image
+            → (⟦<FileDisk<B> as Disk>⟧.state self.new).left ((⟦<FileDisk<B> as Disk>⟧.state self.old).moment + 1) image }
     {
-        let mut bytes = [0; CELL_BYTES];
-        join(cell, &mut bytes);
+        cell.note_sizes();
         self.moment += 2;
         self.spare -= 1;
-        match write_part(&mut self.file, CELL_BYTES as u64 * block, &bytes) {
-            Ok(()) => {
-                self.windows.put(block, &bytes);
-                Ok(())
-            }
-            Err(_) => {
-                self.windows.forget(block);
-                Err(Failed)
-            }
-        }
+        let result = self.contents.write(block, cell);
+        add(
+            FileCall::Write {
+                block,
+                cell: Snapshot::of(cell),
+                taken: result.is_ok(),
+            },
+            &mut self.past,
+        );
+        result
     }
 
+    /// After one that succeeded the durable bytes of the file show what a read gives.
     fn flush(&mut self) -> Result<(), Failed>
-        requires { 1 ≤ self.old.spare }
-        ensures flushes { Flushes (silent_state self.old.moment self.old.spare (B.state self.old.file).faults)
-            (silent_state self.new.moment self.new.spare (B.state self.new.file).faults) result }
-        ensures bytes { (B.state self.new.file).bytes ≡ (B.state self.old.file).bytes }
-        ensures durable { OnOk result ((B.state self.new.file).durable ≡ (B.state self.old.file).bytes) }
+        requires { 1 ≤ (⟦<FileDisk<B> as Disk>⟧.state self.old).spare }
+        ensures flushes { Flushes (⟦<FileDisk<B> as Disk>⟧.state self.old) (⟦<FileDisk<B> as Disk>⟧.state self.new) result }
+        ensures leaves { (image : List Cell) → Picks (⟦<FileDisk<B> as Disk>⟧.state self.old).may (⟦<FileDisk<B> as Disk>⟧.state self.old).blocks image
+            → (⟦<FileDisk<B> as Disk>⟧.state self.new).left ((⟦<FileDisk<B> as Disk>⟧.state self.old).moment + 1) image }
+        ensures lasts { OnOk result (IsTrue (B.state self.old.contents.file).tells → (b : ℕ) → b < 1048576
+            → cell_in (B.state self.new.contents.file).durable b ≡ cell_at (⟦<FileDisk<B> as Disk>⟧.state self.new).now b) }
     {
         self.moment += 2;
         self.spare -= 1;
-        self.file.sync()
+        let result = self.contents.flush();
+        add(
+            FileCall::Flush {
+                settles: result.is_ok(),
+            },
+            &mut self.past,
+        );
+        result
     }
 
-    fn write_out(&mut self) -> Result<Option<u64>, Failed>
-        requires { 1 ≤ self.old.spare }
-        ensures writes_out { WritesOut (silent_state self.old.moment self.old.spare (B.state self.old.file).faults)
-            (silent_state self.new.moment self.new.spare (B.state self.new.file).faults) result }
-        ensures file { self.new.file ≡ self.old.file }
-    {
+    fn write_out(&mut self) -> Result<Option<u64>, Failed> {
         self.spare -= 1;
         Ok(None)
     }

@@ -4,7 +4,7 @@
 ghost use Rattle.std.specs.Prelude.{◌≡◌, ◌+◌, ◌≤◌, ◌<◌, ◌^◌, ◌-◌, ◌==◌, max, min, [], IfOk, OnErr, OnOk, is_err, length, slice_index, slice_range, take, ℕ};
 ghost use Rattle.std.specs.List.{list_any};
 ghost use Rattle.nofs_disk.specs.Disk.{Rose};
-ghost use Rattle.nofs_filedisk.specs.Bytes.{IsPut};
+ghost use Rattle.nofs_filedisk.specs.Bytes.{IsPut, IsSynced};
 ghost use Rattle.nofs_disk.specs.Number.{put_bytes};
 
 use crate::positioned::Positioned;
@@ -20,12 +20,14 @@ pub struct MemFile {
     fails: Vec<u64>,
     calls: u64,
     faults: u64,
+    alloc: Global,
     ghost counted: { faults < 2 ^ 64 },
     ghost some: { 1 ≤ piece },
+    ghost small: { (k : ℕ) → slice_index bytes.items k < 256 },
 }
 
 impl MemFile {
-    /// A file with these bytes, none of which is durable yet. Its calls are numbered from 1; those in
+    /// A file with these bytes, which are durable. Its calls are numbered from 1; those in
     /// `fails` fail and do nothing.
     pub fn new(
         alloc: Global,
@@ -35,7 +37,8 @@ impl MemFile {
     ) -> Result<MemFile, AllocError>
         requires { 1 ≤ piece }
         ensures bytes { IfOk result (λ file. file.bytes.items ≡ bytes.now) }
-        ensures durable { IfOk result (λ file. file.durable.items ≡ []) }
+        ensures durable { IfOk result (λ file. file.durable.items ≡ bytes.now) }
+        ensures synced { IfOk result (λ file. IsSynced (⟦<MemFile as Positioned>⟧.state file)) }
         ensures piece { IfOk result (λ file. file.piece ≡ piece) }
         ensures fails { IfOk result (λ file. file.fails.items ≡ fails.now) }
         ensures calls { IfOk result (λ file. file.calls ≡ 0) }
@@ -43,11 +46,12 @@ impl MemFile {
     {
         Ok(MemFile {
             bytes: bytes.to_vec(alloc)?,
-            durable: Vec::new(alloc),
+            durable: bytes.to_vec(alloc)?,
             piece,
             fails: fails.to_vec(alloc)?,
             calls: 0,
             faults: 0,
+            alloc,
         })
     }
 
@@ -144,13 +148,16 @@ impl Positioned for MemFile {
 
     fn sync(&mut self) -> Result<(), Failed> {
         self.begin()?;
-        match copy_all(&self.bytes, &mut self.durable) {
-            Ok(()) => Ok(()),
+        match copy_of(&self.bytes, self.alloc) {
+            Ok(bytes) => {
+                self.durable = bytes;
+                Ok(())
+            }
             Err(_) => Err(self.failed()),
         }
     }
 
-    ghost is_file = { λ f. told_is f.bytes.items f.durable.items f.faults f.counted };
+    ghost is_file = { λ f. told_is f.bytes.items f.durable.items f.faults f.counted f.small };
 }
 
 // Copies some bytes from a place on.
@@ -168,6 +175,7 @@ fn put_part(bytes: &mut Vec<u8>, at: usize, part: &[u8]) -> Result<(), AllocErro
     requires { at + length part.now < 2 ^ 63 }
     ensures ok { OnOk result (IsPut at part.now bytes.old.items bytes.new.items) }
     ensures err { OnErr result (bytes.new.items ≡ bytes.old.items) }
+    ensures small { (k : ℕ) → slice_index bytes.new.items k < 256 }
 {
     if part.is_empty() {
         return Ok(());
@@ -197,10 +205,9 @@ fn put_at(bytes: &mut Vec<u8>, at: usize, part: &[u8])
     write_bytes_at(bytes.as_mut_slice(), at, part);
 }
 
-// Copies all bytes; where that fails, the copy may be any.
-fn copy_all(from: &Vec<u8>, into: &mut Vec<u8>) -> Result<(), AllocError>
-    ensures { OnOk result (into.new.items ≡ from.now.items) }
+// A copy of all bytes.
+fn copy_of(bytes: &Vec<u8>, alloc: Global) -> Result<Vec<u8>, AllocError>
+    ensures { IfOk result (λ copy. copy.items ≡ bytes.now.items) }
 {
-    into.clear();
-    into.extend_from_slice(from.as_slice())
+    bytes.as_slice().to_vec(alloc)
 }

@@ -10,7 +10,7 @@
 ghost use Rattle.std.specs.Prelude.{◌≡◌, ◌≢◌, ◌+◌, ◌*◌, ◌/◌, ◌%◌, ◌<◌, ◌≤◌, All, IfOk, IfSome, IsFalse, IsTrue, List, None, OnErr, OnOk, Some, length, slice_get, slice_range, ℕ};
 ghost use Rattle.nofs_disk.specs.Disk.{Rose};
 ghost use Rattle.nofs_disk.specs.Number.{put_bytes};
-ghost use Rattle.nofs_filedisk.specs.Bytes.{HostFileState, IsPart, IsPartlyPut, IsPut, KeepsBytes};
+ghost use Rattle.nofs_filedisk.specs.Bytes.{HostFileState, IsPart, IsPut, KeepsBytes};
 ghost use Rattle.nofs_filedisk.specs.Cells.{cell_in};
 
 use crate::moving::read_part;
@@ -108,7 +108,8 @@ fn place_of(block: u64) -> usize
     CELL_BYTES * (block % WINDOW_CELLS) as usize
 }
 
-fn zeros(alloc: Global, count: usize) -> Result<Vec<u8>, AllocError>
+/// So many zeros.
+pub fn zeros(alloc: Global, count: usize) -> Result<Vec<u8>, AllocError>
     ensures { IfOk result (λ bytes. length bytes.items ≡ count) }
 {
     vec![in alloc; 0u8; count]
@@ -141,8 +142,8 @@ fn read_alone<B: Positioned>(file: &mut B, block: u64, into: &mut Cell) -> Resul
     Ok(())
 }
 
-// Copies the cell at a place of some bytes.
-fn copy_cell(bytes: &[u8], at: usize, into: &mut Cell)
+/// Copies the cell at a place of some bytes.
+pub fn copy_cell(bytes: &[u8], at: usize, into: &mut Cell)
     requires { at + 1056 ≤ length bytes.now }
     ensures payload { into.new.payload ≡ slice_range bytes.now at (at + 1024) }
     ensures tag { into.new.tag ≡ slice_range bytes.now (at + 1024) (at + 1056) }
@@ -222,6 +223,13 @@ impl Window {
         }
     }
 
+    // It shows nothing.
+    fn clear(&mut self)
+        ensures { self.new.number ≡ None }
+    {
+        self.number = None;
+    }
+
     // A cell of the file was written.
     fn put(&mut self, block: u64, cell: &[u8])
         requires { length cell.now ≡ 1056 }
@@ -229,15 +237,6 @@ impl Window {
     {
         if self.has(block) {
             put_cell(&mut self.bytes, place_of(block), cell);
-        }
-    }
-
-    // A cell of the file was written in part.
-    fn forget(&mut self, block: u64)
-        ensures { (old new part : List ℕ) → length part ≡ 1056 → IsPartlyPut (1056 * block) part old new → IsShown old self.old → IsShown new self.new }
-    {
-        if self.has(block) {
-            self.number = None;
         }
     }
 }
@@ -358,13 +357,12 @@ impl Windows {
         }
     }
 
-    /// A cell of the file was written in part.
-    pub fn forget(&mut self, block: u64)
-        ensures { (old new part : List ℕ) → length part ≡ 1056 → IsPartlyPut (1056 * block) part old new
-            → All (IsShown old) self.old.windows.items → All (IsShown new) self.new.windows.items }
+    /// The file was written, no matter where: they show nothing.
+    pub fn forget_all(&mut self)
+        ensures { (file : HostFileState) → ShowsFile file self.new }
     {
         for at in 0..WINDOWS {
-            self.windows[at].forget(block);
+            self.windows[at].clear();
         }
     }
 }

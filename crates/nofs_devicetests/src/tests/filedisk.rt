@@ -141,18 +141,95 @@ fn a_file_that_cannot_be_opened_or_made_is_an_error(rt: HostRuntime) {
     assert!(rt; HostFile::open(&rt, "/nowhere/at/all").is_err());
 }
 
+// The file has 1,000 bytes of the cell then. A read gives the whole cell, and the next flush writes all of it.
 #[test]
-fn a_write_that_failed_half_way_is_read_as_it_stands(rt: HostRuntime) -> Result<(), Fail> {
+fn a_cell_that_was_put_half_way_is_read_whole_and_put_again(rt: HostRuntime) -> Result<(), Fail> {
     let file = MemFile::new(rt.alloc(), b"", 1000, &[3])?;
     let mut disk = FileDisk::over(rt.alloc(), file)?;
     assert_eq!(rt; byte_of(&mut disk, 0), Some(0));
-    assert!(rt; !put(&mut disk, 0, 7));
-    let mut cell = cell_of(1);
-    assert!(rt; disk.read(0, &mut cell).is_ok());
-    assert!(rt; cell.payload[..1000].iter().all(|byte| *byte == 7));
-    assert!(rt; cell.payload[1000..1024].iter().all(|byte| *byte == 0));
     assert!(rt; put(&mut disk, 0, 7));
+    disk.ready(2)?;
+    assert!(rt; disk.flush().is_err());
     assert_eq!(rt; byte_of(&mut disk, 0), Some(7));
+    disk.ready(1)?;
+    assert!(rt; disk.flush().is_ok());
+    let file = disk.file();
+    assert_eq!(rt; file.durable(), [7u8; 1056].as_slice());
+    Ok(())
+}
+
+// The first run stays in memory where the second can't begin; a flush that comes later puts it.
+#[test]
+fn a_run_that_could_not_be_put_stays(rt: HostRuntime) -> Result<(), Fail> {
+    let file = MemFile::new(rt.alloc(), b"", 1 << 20, &[1])?;
+    let mut disk = FileDisk::over(rt.alloc(), file)?;
+    assert!(rt; put(&mut disk, 4, 7) && put(&mut disk, 5, 8) && put(&mut disk, 4, 9));
+    assert!(rt; !put(&mut disk, 9, 1));
+    assert_eq!(rt; wrong_block(&mut disk, &[(4, 9), (5, 8), (9, 0)]), None);
+    assert!(rt; put(&mut disk, 9, 1));
+    disk.ready(1)?;
+    assert!(rt; disk.flush().is_ok());
+    assert_eq!(rt; wrong_block(&mut disk, &[(3, 0), (4, 9), (5, 8), (6, 0), (9, 1)]), None);
+    let file = disk.file();
+    assert_eq!(rt; file.durable(), file.bytes());
+    assert_eq!(rt; file.bytes().len(), 10 * 1056);
+    Ok(())
+}
+
+/// A disk in an empty file in memory.
+fn empty_disk(rt: &HostRuntime) -> Result<FileDisk<MemFile>, Fail> {
+    let file = MemFile::new(rt.alloc(), b"", 1 << 30, &[])?;
+    Ok(FileDisk::over(rt.alloc(), file)?)
+}
+
+/// How many calls of its file a disk has made after a flush.
+fn calls_after_flush(disk: FileDisk<MemFile>) -> Result<u64, Fail> {
+    let mut disk = disk;
+    disk.ready(1)?;
+    if disk.flush().is_err() {
+        Err("not flushed")?;
+    }
+    Ok(disk.file().calls())
+}
+
+/// How many calls of the file it costs to write these blocks and to flush.
+fn calls_to_write(rt: &HostRuntime, blocks: &[u64]) -> Result<u64, Fail> {
+    let mut disk = empty_disk(rt)?;
+    for block in blocks {
+        if !put(&mut disk, *block, 1) {
+            Err("not written")?;
+        }
+    }
+    calls_after_flush(disk)
+}
+
+/// How many calls of the file it costs to write so many blocks upwards and to flush.
+fn calls_upwards(rt: &HostRuntime, cells: u64) -> Result<u64, Fail> {
+    let mut disk = empty_disk(rt)?;
+    for block in 0..cells {
+        if !put(&mut disk, block, 1) {
+            Err("not written")?;
+        }
+    }
+    calls_after_flush(disk)
+}
+
+// One call of a run of up to 64 neighbours, in rising order, and one for the sync.
+#[test]
+fn neighbours_are_written_in_one_call(rt: HostRuntime) -> Result<(), Fail> {
+    let rows: [(&[u64], u64); 5] = [
+        (&[], 1),
+        (&[7], 2),
+        (&[7, 8, 9, 8, 7], 2),
+        (&[7, 8, 10, 11], 3),
+        (&[9, 8, 7], 4),
+    ];
+    for (blocks, calls) in &rows {
+        assert_eq!(rt; calls_to_write(&rt, blocks)?, *calls);
+    }
+    assert_eq!(rt; calls_upwards(&rt, 64)?, 2);
+    assert_eq!(rt; calls_upwards(&rt, 129)?, 4);
+    assert_eq!(rt; calls_upwards(&rt, 65_536)?, 1_025);
     Ok(())
 }
 

@@ -1,0 +1,61 @@
+-- What contracts see of a disk in a file: the cells that the file had first, and the writes and flushes since.
+use Rattle.std.specs.Prelude.{◌≡◌, ℕ, ◌+◌, ◌*◌, ◌^◌, ◌<◌, Contains, IsTrue, List, length, map, refl}
+use Rattle.std.specs.List.{range_with_len}
+use Rattle.std.proofs.Common.{arith}
+use Rattle.std.proofs.lemmas.List.FromFn.{get_or-map-range_with_len, length-map-range_with_len}
+use Rattle.nofs_disk.specs.declared.tag.Cell.{Cell}
+use Rattle.nofs_disk.specs.Disk.{DiskState, IsDisk, cell_at, no_cell}
+use Rattle.nofs_versions.specs.declared.call.Call.{Call}
+use Rattle.nofs_versions.specs.Memory.{Held, held_after, state_of}
+use Rattle.nofs_versions.specs.MemoryLaws.{AreSized, state_of-is}
+use Rattle.nofs_filedisk.specs.Bytes.{HostFileState, IsHostFile}
+use Rattle.nofs_filedisk.specs.Cells.{cell_in}
+use Rattle.nofs_filedisk.specs.Told.{told, told_is}
+
+-- the cells of the first blocks
+unfoldable pub first_cells : List ℕ → ℕ → List Cell
+first_cells bytes blocks = map (cell_in bytes) (range_with_len 0 blocks)
+
+-- the cells of all 1,048,576 blocks
+unfoldable pub cells_in : List ℕ → List Cell
+cells_in bytes = first_cells bytes 1048576
+
+length-first_cells : (bytes : List ℕ) (n : ℕ) → length (first_cells bytes n) ≡ n
+unfolding first_cells
+length-first_cells bytes n = length-map-range_with_len (cell_in bytes) 0 n
+
+at-first_cells : (bytes : List ℕ) (n b : ℕ) → b < n → cell_at (first_cells bytes n) b ≡ cell_in bytes b
+unfolding first_cells
+at-first_cells bytes n b low = get_or-map-range_with_len (cell_in bytes) 0 n b b no_cell low (omega arith)
+
+pub length-cells_in : (bytes : List ℕ) → length (cells_in bytes) ≡ 1048576
+unfolding cells_in
+length-cells_in bytes = length-first_cells bytes 1048576
+
+pub at-cells_in : (bytes : List ℕ) (b : ℕ) → b < 1048576 → cell_at (cells_in bytes) b ≡ cell_in bytes b
+unfolding cells_in
+at-cells_in bytes b low = at-first_cells bytes 1048576 b low
+
+-- what a disk holds after these calls, over a file that was this one at first
+abbrev pub file_held : HostFileState → List Call → Held
+file_held first calls = held_after (cells_in first.bytes) calls
+
+-- each cell that it may hold has the bytes of a cell
+abbrev pub FileSized : HostFileState → List Call → Type 0
+FileSized first calls = AreSized (length (cells_in first.bytes)) (held_after (cells_in first.bytes) calls).may
+
+-- each durable cell is one that a crash may leave
+abbrev pub LastsWithin : HostFileState → HostFileState → List Call → Type 0
+LastsWithin file first calls =
+    IsTrue file.tells → (b : ℕ) → b < 1048576 → ∥ Contains ((file_held first calls).may b) (cell_in file.durable b) ∥₁
+
+-- what contracts see of it
+abbrev pub file_state : HostFileState → HostFileState → List Call → ℕ → DiskState
+file_state file first calls spare = told file.tells 1048576 (state_of 0 (cells_in first.bytes) calls spare file.faults)
+
+pub file_is : (file first : HostFileState) (calls : List Call) (moment spare : ℕ) → IsHostFile file → moment ≡ 2 * length calls
+    → 2 * spare + moment < 2 ^ 64 → FileSized first calls → IsDisk (file_state file first calls spare)
+file_is file first calls moment spare is made room sized =
+    let low : 2 * spare + (0 + 2 * length calls) < 2 ^ 64 = omega arith in
+    told_is file.tells 1048576 (state_of 0 (cells_in first.bytes) calls spare file.faults) (length-cells_in first.bytes) refl
+    (state_of-is 0 (cells_in first.bytes) calls spare file.faults low is.counted sized)
