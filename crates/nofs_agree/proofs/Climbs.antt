@@ -8,9 +8,9 @@ use Rattle.std.proofs.lemmas.List.Folds.{list_any_at, list_any_none}
 use Rattle.nofs_disk.specs.Disk.{DiskState, StaysButFaults}
 use Rattle.nofs_disk.specs.Chains.{StaysButFaults-refl, StaysButFaults-trans}
 use Rattle.nofs_disk.specs.declared.Failed.{Failed}
-use Rattle.nofs_image.specs.Cells.{BackLink, Record, SuperBlock, no_link}
-use Rattle.nofs_image.specs.Files.{agreed, files_in, has_agreed_link, is_pair, is_root, is_special}
-use Rattle.nofs_image.specs.Geometry.{Image, IsGeometry, inode, super_at}
+use Rattle.nofs_model.specs.Cells.{BackLink, Record, SuperBlock, no_link}
+use Rattle.nofs_model.specs.Files.{agreed, files_in, has_agreed_link, is_pair, is_root, is_special}
+use Rattle.nofs_model.specs.Geometry.{Image, IsGeometry, inode, super_at}
 use Rattle.nofs_model.proofs.Parents.{any-links, linked-is, root-is, special-is}
 use Rattle.nofs_agree.specs.Chains.{AreTrue, IsDirectoryAbove, IsPartner, ReadsPair, ReadsParent, TellsAgreed, first_link, is_agreed_link}
 use Rattle.nofs_agree.proofs.Links.{first-decides, four-links}

@@ -7,9 +7,9 @@ use Rattle.std.proofs.lemmas.List.{get_or_past, get_or-replicate, get_or-set_oth
 use Rattle.nofs_disk.specs.Disk.{DiskState, StaysButFaults}
 use Rattle.nofs_disk.specs.Chains.{Rose-within, StaysButFaults-trans}
 use Rattle.nofs_disk.specs.declared.Failed.{Failed}
-use Rattle.nofs_image.specs.Cells.{Record, SuperBlock}
-use Rattle.nofs_image.specs.Files.{agreed, files_in, is_root, is_special}
-use Rattle.nofs_image.specs.Geometry.{Image, inode}
+use Rattle.nofs_model.specs.Cells.{Record, SuperBlock}
+use Rattle.nofs_model.specs.Files.{agreed, files_in, is_root, is_special}
+use Rattle.nofs_model.specs.Geometry.{Image, inode}
 use Rattle.nofs_agree.specs.Chains.{AreTrue, Learns, LearnsAbove, LearnsOne, LearnsChain, ReadsParent, told}
 use Rattle.nofs_agree.specs.Reading.{IsLast, KnowsInode}
 use Rattle.nofs_agree.specs.declared.chain.Directory.{Directory}

@@ -5,9 +5,9 @@ use Rattle.std.specs.List.{position_or_len}
 use Rattle.nofs_disk.specs.declared.Failed.{Failed}
 use Rattle.nofs_disk.specs.Disk.{DiskState, StaysButFaults, Rose}
 use Rattle.nofs_inode.specs.declared.inode.FileKind.TheVariants as kind
-use Rattle.nofs_image.specs.Cells.{BackLink, Record, SuperBlock, is_empty_link, no_link}
-use Rattle.nofs_image.specs.Files.{Files, agreed, files_in, has_agreed_link, is_pair}
-use Rattle.nofs_image.specs.Geometry.{Image}
+use Rattle.nofs_model.specs.Cells.{BackLink, Record, SuperBlock, is_empty_link, no_link}
+use Rattle.nofs_model.specs.Files.{Files, agreed, files_in, has_agreed_link, is_pair}
+use Rattle.nofs_model.specs.Geometry.{Image}
 use Rattle.nofs_agree.specs.Reading.{IsLast, KnowsDirectory}
 use Rattle.nofs_agree.specs.declared.chain.Directory.{Directory}
 use Rattle.nofs_agree.specs.declared.reads.LastRead.{LastRead}

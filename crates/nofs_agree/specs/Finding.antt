@@ -2,11 +2,11 @@
 use Rattle.std.specs.Prelude.{◌≡◌, IsTrue, Result, IfOk, OnOk, OnErr}
 use Rattle.nofs_disk.specs.declared.Failed.{Failed}
 use Rattle.nofs_disk.specs.Disk.{DiskState, StaysButFaults, Rose, cell_at}
-use Rattle.nofs_image.specs.Cells.{Cell, SuperBlock}
-use Rattle.nofs_image.specs.Geometry.{Image}
-use Rattle.nofs_image.specs.Places.{InArea}
-use Rattle.nofs_image.specs.declared.path.PathAnswer.{PathAnswer}
-use Rattle.nofs_image.specs.declared.path.PathAnswer.TheVariants.{Hole, Holds, Lost}
+use Rattle.nofs_model.specs.Cells.{Cell, SuperBlock}
+use Rattle.nofs_model.specs.Geometry.{Image}
+use Rattle.nofs_model.specs.Places.{InArea}
+use Rattle.nofs_model.specs.declared.image.path.PathAnswer.{PathAnswer}
+use Rattle.nofs_model.specs.declared.image.path.PathAnswer.TheVariants.{Hole, Holds, Lost}
 use Rattle.nofs_agree.specs.Reading.{IsLast}
 use Rattle.nofs_agree.specs.declared.reads.LastRead.{LastRead}
 

@@ -6,8 +6,8 @@ ghost use Rattle.std.specs.Prelude.{◌≡◌, IfOk, IsTrue, OnErr, length};
 ghost use Rattle.std.specs.List.{list_any};
 ghost use Rattle.nofs_disk.specs.Disk.{Rose, StaysButFaults};
 ghost use Rattle.nofs_inode.specs.declared.inode.FileKind.TheVariants as kind;
-ghost use Rattle.nofs_image.specs.Files as files;
-ghost use Rattle.nofs_image.specs.Geometry as image;
+ghost use Rattle.nofs_model.specs.Files as files;
+ghost use Rattle.nofs_model.specs.Geometry as image;
 ghost use Rattle.nofs_agree.specs.Chains.{AreTrue, ReadsParent, TellsAgreed, is_agreed_link};
 ghost use Rattle.nofs_agree.specs.Reading.{IsAt, IsLast, KnowsDirectory, KnowsInode};
 

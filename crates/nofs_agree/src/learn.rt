@@ -5,7 +5,7 @@
 //! and whether the way leads to the root or not.
 ghost use Rattle.std.specs.Prelude.{◌≡◌, ◌≤◌, IfOk, IsTrue, OnErr, Some, length};
 ghost use Rattle.nofs_disk.specs.Disk.{Rose, StaysButFaults};
-ghost use Rattle.nofs_image.specs.Files as files;
+ghost use Rattle.nofs_model.specs.Files as files;
 ghost use Rattle.nofs_agree.specs.Chains.{AreTrue, Learns, LearnsAbove, LearnsChain, told};
 ghost use Rattle.nofs_agree.specs.Reading.{IsAt, IsLast, KnowsDirectory, KnowsInode};
 

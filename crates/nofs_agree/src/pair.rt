@@ -3,7 +3,7 @@ ghost use Rattle.std.specs.Prelude.{◌≡◌, ◌<◌, ◌||◌, IsTrue, Some, 
 ghost use Rattle.std.specs.List.{position};
 ghost use Rattle.nofs_inode.specs.InodeRecords.{is_empty_link};
 ghost use Rattle.nofs_inode.specs.declared.inode.FileKind.TheVariants as kind;
-ghost use Rattle.nofs_image.specs.Files as files;
+ghost use Rattle.nofs_model.specs.Files as files;
 ghost use Rattle.nofs_agree.specs.Chains.{ReadsPair, TellsAnswer, first_link};
 ghost use Rattle.nofs_agree.specs.Reading.{IsLast, KnowsDirectory, KnowsInode};
 
@@ -11,8 +11,8 @@ use crate::path::find_slot;
 use crate::reads::{LastRead, read_inode};
 use nofs_dirent::ENTRY_LIMIT;
 use nofs_disk::{Disk, Failed};
-use nofs_image::{PathAnswer, names_inode, place_of};
 use nofs_inode::{BackLink, FileKind, Record};
+use nofs_model::{PathAnswer, names_inode, place_of};
 use nofs_super::SuperBlock;
 
 /// Reads the record of the directory to which a back link leads; `None` where the link isn't a

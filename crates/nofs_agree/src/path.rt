@@ -4,15 +4,15 @@
 //! record, the blocks above the slot, and its own block.
 ghost use Rattle.std.specs.Prelude.{◌≡◌, ◌<◌, IsTrue, IfOk, OnErr};
 ghost use Rattle.nofs_disk.specs.Disk.{Rose, StaysButFaults};
-ghost use Rattle.nofs_image.specs.Places.{IsPlace, place_path};
-ghost use Rattle.nofs_image.specs.Slots as slots;
+ghost use Rattle.nofs_model.specs.Places.{IsPlace, place_path};
+ghost use Rattle.nofs_model.specs.Slots as slots;
 ghost use Rattle.nofs_agree.specs.Reading.{IsAt, IsLast, KnowsInode};
 ghost use Rattle.nofs_agree.specs.Finding.{FindsSlot};
 
 use crate::reads::{LastRead, read_block, read_inode};
 use nofs_disk::{Disk, Failed, Pointer, Tag};
-use nofs_image::{PathAnswer, Place, is_tag, kind_in, place_of, record_pointer, slot_number};
 use nofs_inode::Record;
+use nofs_model::{PathAnswer, Place, is_tag, kind_in, place_of, record_pointer, slot_number};
 use nofs_ptrs::read_pointer;
 use nofs_super::SuperBlock;
 

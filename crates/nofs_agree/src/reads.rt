@@ -44,7 +44,7 @@ fn is_last(last: &LastRead, block: u64) -> bool
 }
 
 /// Reads the record of an inode: free where its bytes spell none, and where there is no such inode.
-#[tactic(auto, unfolding(nofs_image::specs::Geometry::inode))]
+#[tactic(auto, unfolding(nofs_model::specs::Geometry::inode))]
 pub fn read_inode<D: Disk>(
     disk: &mut D,
     at: &SuperBlock,

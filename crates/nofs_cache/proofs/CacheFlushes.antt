@@ -9,11 +9,11 @@ use Rattle.nofs_disk.specs.declared.tag.Cell.{Cell}
 use Rattle.nofs_disk.specs.Cells.{Picks-known, has_cell, has_cell-true}
 use Rattle.nofs_disk.specs.Disk.{DiskState, Flushes, IsDisk, IsSettled, Picks, Rose, WritesOut, cell_at}
 use Rattle.nofs_disk.specs.Moments.{AtEach}
-use Rattle.nofs_dirty.specs.declared.dirty.DirtyEntry.{DirtyEntry}
-use Rattle.nofs_dirty.specs.declared.past.CacheCall.{CacheCall}
-use Rattle.nofs_dirty.specs.declared.past.CacheCall.TheVariants.{Flush}
-use Rattle.nofs_dirty.specs.Cache.{Agrees, Covers, Held, IsMarked, IsWithin, Left, WrittenBack, SettlesDirty, TakesOut, after_flush, cache_state, held}
-use Rattle.nofs_dirty.specs.Cache.{last_end, only}
+use Rattle.nofs_cache.specs.declared.dirty.dirty.DirtyEntry.{DirtyEntry}
+use Rattle.nofs_cache.specs.declared.dirty.past.CacheCall.{CacheCall}
+use Rattle.nofs_cache.specs.declared.dirty.past.CacheCall.TheVariants.{Flush}
+use Rattle.nofs_cache.specs.Cache.{Agrees, Covers, Held, IsMarked, IsWithin, Left, WrittenBack, SettlesDirty, TakesOut, after_flush, cache_state}
+use Rattle.nofs_cache.specs.Cache.{held, last_end, only}
 use Rattle.nofs_cache.specs.Laws.{CacheKeeps, first_held, only_has}
 use Rattle.nofs_cache.proofs.CacheCalls.{agrees_of, cache_disk, cache_past_more, left_before, left_during, left_keeps, left_more, was_keeps, was_now}
 use Rattle.nofs_cache.proofs.CacheWrites.{rest_at}

@@ -1,9 +1,9 @@
 -- What a crash may leave of the disk below, it may leave of the cached disk.
 use Rattle.std.proofs.Common.{◌≡◌, ℕ, ◌+◌, ◌*◌, ◌≤◌, List, [], ◌∷◌, length, arith, inl, inr, refl}
 use Rattle.nofs_disk.specs.Disk.{DiskState}
-use Rattle.nofs_dirty.specs.declared.dirty.DirtyEntry.{DirtyEntry}
-use Rattle.nofs_dirty.specs.declared.past.CacheCall.{CacheCall}
-use Rattle.nofs_dirty.specs.Cache.{IsMarked, LeavesAll, began, cache_state, ended_at, last_end}
+use Rattle.nofs_cache.specs.declared.dirty.dirty.DirtyEntry.{DirtyEntry}
+use Rattle.nofs_cache.specs.declared.dirty.past.CacheCall.{CacheCall}
+use Rattle.nofs_cache.specs.Cache.{IsMarked, LeavesAll, began, cache_state, ended_at, last_end}
 
 -- the last call ended up to the present moment of the disk below
 pub marked_last : (first : ℕ) (past : List CacheCall) (moment : ℕ) → IsMarked first past moment → last_end first past ≤ moment

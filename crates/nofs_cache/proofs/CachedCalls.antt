@@ -8,15 +8,15 @@ use Rattle.nofs_disk.specs.declared.Failed.{Failed}
 use Rattle.nofs_disk.specs.declared.tag.Cell.{Cell}
 use Rattle.nofs_disk.specs.Disk.{DiskState, Flushes, IsDisk, IsSameDisk, IsSizedCell, MakesReady, Reads, Rose, StaysButFaults, Writes, WritesOut}
 use Rattle.nofs_cache.specs.declared.cached.Cached.{Cached}
-use Rattle.nofs_dirty.specs.declared.dirty.DirtyBlocks.{DirtyBlocks}
-use Rattle.nofs_dirty.specs.declared.dirty.DirtyEntry.{DirtyEntry}
-use Rattle.nofs_dirty.specs.declared.past.CacheCall.{CacheCall}
-use Rattle.nofs_dirty.specs.declared.past.CacheCall.TheVariants.{Write, Flush}
-use Rattle.nofs_dirty.specs.Cache.{IsMarked, LeavesAll, SettlesDirty, TakesOut, WroteOne, WrittenBack, began, cache_state, ended_at}
-use Rattle.nofs_dirty.specs.DirtyBlocks.{block_count, entries_of, room_of}
-use Rattle.nofs_dirty.specs.DirtyEntries.{HasCell, IsClean, PutsDirtyEntry}
+use Rattle.nofs_cache.specs.declared.dirty.dirty.DirtyBlocks.{DirtyBlocks}
+use Rattle.nofs_cache.specs.declared.dirty.dirty.DirtyEntry.{DirtyEntry}
+use Rattle.nofs_cache.specs.declared.dirty.past.CacheCall.{CacheCall}
+use Rattle.nofs_cache.specs.declared.dirty.past.CacheCall.TheVariants.{Write, Flush}
+use Rattle.nofs_cache.specs.Cache.{IsMarked, LeavesAll, SettlesDirty, TakesOut, WroteOne, WrittenBack, began, cache_state, ended_at}
+use Rattle.nofs_cache.specs.DirtyBlocks.{block_count, entries_of, room_of}
+use Rattle.nofs_cache.specs.DirtyEntries.{HasCell, IsClean, PutsDirtyEntry}
 use Rattle.nofs_cache.specs.Laws.{CacheKeeps, cache_is}
-use Rattle.nofs_dirty.specs.Past.{past_calls}
+use Rattle.nofs_cache.specs.Past.{past_calls}
 use Rattle.nofs_cache.proofs.CacheCalls.{cache_ready, kept_same, kept_stays, marked_later, marked_more, reads_below, reads_kept}
 use Rattle.nofs_cache.proofs.CacheFlushes.{cache_flushes, cache_writes_out, kept_flush, kept_writes_back}
 use Rattle.nofs_cache.proofs.CacheLeaves.{leaves_during, leaves_now, marked_last}

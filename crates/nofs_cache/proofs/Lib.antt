@@ -1,3 +1,6 @@
+pub mod WritesBack
+pub mod Settling
+pub mod Reordering
 pub mod CacheCalls
 pub mod CacheWrites
 pub mod CacheFlushes

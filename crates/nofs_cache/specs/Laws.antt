@@ -8,10 +8,10 @@ use Rattle.std.proofs.lemmas.List.Elements.{Contains-push}
 use Rattle.nofs_disk.specs.declared.tag.Cell.{Cell}
 use Rattle.nofs_disk.specs.Cells.{IsSizedCell-known, Picks-known, has_cell, has_cell-from}
 use Rattle.nofs_disk.specs.Disk.{DiskState, IsDisk, Picks, cell_at, no_cell}
-use Rattle.nofs_dirty.specs.declared.past.CacheCall.{CacheCall}
-use Rattle.nofs_dirty.specs.declared.past.CacheCall.TheVariants.{Write, Flush}
-use Rattle.nofs_dirty.specs.declared.dirty.DirtyEntry.{DirtyEntry}
-use Rattle.nofs_dirty.specs.Cache.{Held, IsCached, IsWithin, Left, LeftWithin, cache_state, held, last_end, only, written}
+use Rattle.nofs_cache.specs.declared.dirty.past.CacheCall.{CacheCall}
+use Rattle.nofs_cache.specs.declared.dirty.past.CacheCall.TheVariants.{Write, Flush}
+use Rattle.nofs_cache.specs.declared.dirty.dirty.DirtyEntry.{DirtyEntry}
+use Rattle.nofs_cache.specs.Cache.{Held, IsCached, IsWithin, Left, LeftWithin, cache_state, held, last_end, only, written}
 
 -- each block may hold its present cell
 pub record IsHeld (n : ℕ) (h : Held) : Type 0 where

@@ -1,1 +1,5 @@
+pub mod DirtyEntries
+pub mod DirtyBlocks
+pub mod Past
+pub mod Cache
 pub mod Laws

@@ -6,5 +6,6 @@
 #![tactic(auto)]
 
 mod cached;
+mod dirty;
 
 pub use cached::{CacheFault, Cached};

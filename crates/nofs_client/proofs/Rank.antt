@@ -1,17 +1,17 @@
 -- How much of a command is left to do, with the steps that make room.
 use Rattle.std.proofs.Common.{◌≡◌, ℕ, zero, suc, ◌+◌, ◌*◌, ◌^◌, ◌<◌, Bool, true, false, if◌then◌else◌, Option, Some, None, refl, arith}
 use Rattle.std.proofs.lemmas.Bool.Decides.{nat_tests}
-use Rattle.nofs_machine.specs.declared.replies.Reply.{Reply}
-use Rattle.nofs_machine.specs.declared.replies.Reply.TheVariants as reply
-use Rattle.nofs_machine.specs.declared.replies.Refusal.{Refusal}
-use Rattle.nofs_machine.specs.declared.replies.Refusal.TheVariants as refusal
-use Rattle.nofs_task.specs.declared.commands.Command.{Command}
-use Rattle.nofs_task.specs.declared.next.Next.{Next}
-use Rattle.nofs_task.specs.declared.next.Next.TheVariants.{Do, Say}
+use Rattle.nofs_history.specs.declared.machine.replies.Reply.{Reply}
+use Rattle.nofs_history.specs.declared.machine.replies.Reply.TheVariants as reply
+use Rattle.nofs_history.specs.declared.machine.replies.Refusal.{Refusal}
+use Rattle.nofs_history.specs.declared.machine.replies.Refusal.TheVariants as refusal
+use Rattle.nofs_client.specs.declared.task.commands.Command.{Command}
+use Rattle.nofs_client.specs.declared.task.next.Next.{Next}
+use Rattle.nofs_client.specs.declared.task.next.Next.TheVariants.{Do, Say}
 use Rattle.nofs_client.specs.declared.progress.Progress.{Progress}
 use Rattle.nofs_client.specs.declared.progress.See.{See}
-use Rattle.nofs_task.specs.Task.{TaskStands}
-use Rattle.nofs_task.specs.Asks.{task_asks, Answers}
+use Rattle.nofs_client.specs.Task.{TaskStands}
+use Rattle.nofs_client.specs.Asks.{task_asks, Answers}
 use Rattle.nofs_client.specs.Drive.{asks, goes_on, step_answered, examines_block, examines_inode, stored_by, progress_after, after_refused}
 use Rattle.nofs_client.specs.Drive.{after_step, after_see, after_beside, asks_beside}
 use Rattle.nofs_client.proofs.TaskRank.{task_rank, task-falls, refused-rank}

@@ -4,12 +4,12 @@ use Rattle.std.proofs.Common.{append_assoc, Some, None, Option, if◌then◌else
 use Rattle.std.specs.Option.{option_map_or}
 use Rattle.std.proofs.Math.Seq.{drop-cons}
 use Rattle.std.proofs.lemmas.List.{map-append, append-nil, take-append-drop, take_more}
-use Rattle.nofs_machine.specs.Steps.{Made, with_made, is_out_of_memory}
-use Rattle.nofs_machine.specs.declared.replies.Reply.{Reply}
-use Rattle.nofs_machine.specs.declared.steps.Step.{Step}
-use Rattle.nofs_task.specs.declared.commands.Command.{Command}
-use Rattle.nofs_task.specs.declared.next.Next.TheVariants.{Do, Say}
-use Rattle.nofs_task.specs.declared.lines.Line.{Line}
+use Rattle.nofs_history.specs.Steps.{Made, with_made, is_out_of_memory}
+use Rattle.nofs_history.specs.declared.machine.replies.Reply.{Reply}
+use Rattle.nofs_history.specs.declared.machine.steps.Step.{Step}
+use Rattle.nofs_client.specs.declared.task.commands.Command.{Command}
+use Rattle.nofs_client.specs.declared.task.next.Next.TheVariants.{Do, Say}
+use Rattle.nofs_client.specs.declared.task.lines.Line.{Line}
 use Rattle.nofs_client.specs.declared.progress.Progress.{Progress}
 use Rattle.nofs_client.specs.Drive.{asks, progress_after, progress, start_of, drive_of}
 use Rattle.nofs_client.specs.Runs.{Asked, IsCommandRun, IsDriven, IsBegun, RunsAll, RunsSome, LinesFollow, made_reply, said_of, chosen, lines_of}

@@ -3,27 +3,27 @@ use Rattle.std.proofs.Common.{◌≡◌, ℕ, ◌+◌, ◌-◌, ◌^◌, ◌<◌
 use Rattle.std.proofs.lemmas.Bool.Decides.{nat_tests}
 use Rattle.nofs_inode.specs.declared.inode.FileKind.{FileKind}
 use Rattle.nofs_inode.specs.declared.inode.FileKind.TheVariants as kind
-use Rattle.nofs_machine.specs.declared.replies.Stat.{Stat}
-use Rattle.nofs_machine.specs.declared.replies.Reply.{Reply}
-use Rattle.nofs_machine.specs.declared.replies.Reply.TheVariants as reply
-use Rattle.nofs_machine.specs.declared.replies.Refusal.{Refusal}
-use Rattle.nofs_task.specs.declared.places.Handle.{Handle}
-use Rattle.nofs_task.specs.declared.places.Location.{Location}
-use Rattle.nofs_task.specs.declared.commands.Command.{Command}
-use Rattle.nofs_task.specs.declared.commands.Command.TheVariants as command
-use Rattle.nofs_task.specs.declared.lines.Line.TheVariants as line
-use Rattle.nofs_task.specs.declared.next.Next.TheVariants.{Do}
-use Rattle.nofs_task.specs.declared.lines.GotPart.{GotPart}
-use Rattle.nofs_task.specs.declared.lines.ListPart.{ListPart}
-use Rattle.nofs_task.specs.declared.task.Stage.{Stage}
-use Rattle.nofs_task.specs.declared.task.Stage.TheVariants as stage
-use Rattle.nofs_task.specs.declared.task.Task.{Task}
-use Rattle.nofs_task.specs.declared.task.Task.TheVariants as task
-use Rattle.nofs_task.specs.Places.{first_handle, looks, new_looks}
-use Rattle.nofs_task.specs.Task.{acting, arrived, arrived_new, first_stage, refused, TaskStands, IsActing, IsPutting, IsLinking, HasTwoPaths}
-use Rattle.nofs_task.specs.Asks.{act_of, put_slot_step, put_at, within_slot, task_asks, Answers}
-use Rattle.nofs_task.specs.Answers.{handle_of, got_here, looked, looked_new, acted, task_after_stat, getting, linked, next_stage, stored, after_put}
-use Rattle.nofs_task.specs.Answers.{after_get, listing, after_list, task_after}
+use Rattle.nofs_history.specs.declared.machine.replies.Stat.{Stat}
+use Rattle.nofs_history.specs.declared.machine.replies.Reply.{Reply}
+use Rattle.nofs_history.specs.declared.machine.replies.Reply.TheVariants as reply
+use Rattle.nofs_history.specs.declared.machine.replies.Refusal.{Refusal}
+use Rattle.nofs_client.specs.declared.task.places.Handle.{Handle}
+use Rattle.nofs_client.specs.declared.task.places.Location.{Location}
+use Rattle.nofs_client.specs.declared.task.commands.Command.{Command}
+use Rattle.nofs_client.specs.declared.task.commands.Command.TheVariants as command
+use Rattle.nofs_client.specs.declared.task.lines.Line.TheVariants as line
+use Rattle.nofs_client.specs.declared.task.next.Next.TheVariants.{Do}
+use Rattle.nofs_client.specs.declared.task.lines.GotPart.{GotPart}
+use Rattle.nofs_client.specs.declared.task.lines.ListPart.{ListPart}
+use Rattle.nofs_client.specs.declared.task.task.Stage.{Stage}
+use Rattle.nofs_client.specs.declared.task.task.Stage.TheVariants as stage
+use Rattle.nofs_client.specs.declared.task.task.Task.{Task}
+use Rattle.nofs_client.specs.declared.task.task.Task.TheVariants as task
+use Rattle.nofs_client.specs.Places.{first_handle, looks, new_looks}
+use Rattle.nofs_client.specs.Task.{acting, arrived, arrived_new, first_stage, refused, TaskStands, IsActing, IsPutting, IsLinking, HasTwoPaths}
+use Rattle.nofs_client.specs.Asks.{act_of, put_slot_step, put_at, within_slot, task_asks, Answers}
+use Rattle.nofs_client.specs.Answers.{handle_of, got_here, looked, looked_new, acted, task_after_stat, getting, linked, next_stage, stored, after_put}
+use Rattle.nofs_client.specs.Answers.{after_get, listing, after_list, task_after}
 
 -- a test with what it says
 tested : (a b : ℕ) (P : Bool → Type 0) → (a < b → P true) → (b ≤ a → P false) → P (nat_lt a b)

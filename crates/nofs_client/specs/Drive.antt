@@ -1,23 +1,23 @@
 -- What a command does next, by the replies so far, and the steps that make room.
 use Rattle.std.specs.Prelude.{◌≡◌, ℕ, List, [], ◌∷◌, fold, nat_lt, ◌&&◌, Bool, if◌then◌else◌, Some, None}
 use Rattle.std.specs.declared.option.Option.{Option}
-use Rattle.nofs_machine.specs.declared.replies.Refusal.{Refusal}
-use Rattle.nofs_machine.specs.declared.replies.Refusal.TheVariants as refusal
-use Rattle.nofs_machine.specs.declared.replies.Reply.{Reply}
-use Rattle.nofs_machine.specs.declared.replies.Reply.TheVariants as reply
-use Rattle.nofs_machine.specs.declared.steps.Step.{Step}
-use Rattle.nofs_machine.specs.declared.steps.Step.TheVariants as step
-use Rattle.nofs_task.specs.declared.commands.Command.{Command}
-use Rattle.nofs_task.specs.declared.next.Next.{Next}
-use Rattle.nofs_task.specs.declared.next.Next.TheVariants.{Do}
+use Rattle.nofs_history.specs.declared.machine.replies.Refusal.{Refusal}
+use Rattle.nofs_history.specs.declared.machine.replies.Refusal.TheVariants as refusal
+use Rattle.nofs_history.specs.declared.machine.replies.Reply.{Reply}
+use Rattle.nofs_history.specs.declared.machine.replies.Reply.TheVariants as reply
+use Rattle.nofs_history.specs.declared.machine.steps.Step.{Step}
+use Rattle.nofs_history.specs.declared.machine.steps.Step.TheVariants as step
+use Rattle.nofs_client.specs.declared.task.commands.Command.{Command}
+use Rattle.nofs_client.specs.declared.task.next.Next.{Next}
+use Rattle.nofs_client.specs.declared.task.next.Next.TheVariants.{Do}
 use Rattle.nofs_client.specs.declared.progress.Progress.{Progress}
 use Rattle.nofs_client.specs.declared.progress.See.{See}
 use Rattle.nofs_client.specs.declared.progress.See.TheVariants as see
-use Rattle.nofs_task.specs.declared.task.Task.{Task}
-use Rattle.nofs_task.specs.declared.task.Task.TheVariants as task
-use Rattle.nofs_task.specs.Task.{TaskStands, first_task, refused}
-use Rattle.nofs_task.specs.Asks.{Answers, task_asks}
-use Rattle.nofs_task.specs.Answers.{task_after}
+use Rattle.nofs_client.specs.declared.task.task.Task.{Task}
+use Rattle.nofs_client.specs.declared.task.task.Task.TheVariants as task
+use Rattle.nofs_client.specs.Task.{TaskStands, first_task, refused}
+use Rattle.nofs_client.specs.Asks.{Answers, task_asks}
+use Rattle.nofs_client.specs.Answers.{task_after}
 
 -- a task of which no step was answered Full or InodesFull yet
 abbrev pub fresh_progress : Task → Progress

@@ -2,12 +2,12 @@
 use Rattle.std.specs.Prelude.{◌≡◌, ◌++◌, List, [], ◌∷◌, map, Some, None}
 use Rattle.std.specs.declared.option.Option.{Option}
 use Rattle.std.specs.Option.{option_map_or}
-use Rattle.nofs_machine.specs.Steps.{Made}
-use Rattle.nofs_machine.specs.declared.replies.Reply.{Reply}
-use Rattle.nofs_task.specs.declared.commands.Command.{Command}
-use Rattle.nofs_task.specs.declared.next.Next.{Next}
-use Rattle.nofs_task.specs.declared.next.Next.TheVariants.{Do, Say}
-use Rattle.nofs_task.specs.declared.lines.Line.{Line}
+use Rattle.nofs_history.specs.Steps.{Made}
+use Rattle.nofs_history.specs.declared.machine.replies.Reply.{Reply}
+use Rattle.nofs_client.specs.declared.task.commands.Command.{Command}
+use Rattle.nofs_client.specs.declared.task.next.Next.{Next}
+use Rattle.nofs_client.specs.declared.task.next.Next.TheVariants.{Do, Say}
+use Rattle.nofs_client.specs.declared.task.lines.Line.{Line}
 use Rattle.nofs_client.specs.declared.progress.Progress.{Progress}
 use Rattle.nofs_client.specs.Drive.{start_of, asks, progress_after, drive_of}
 

@@ -3,17 +3,18 @@
 //! Promise: a command makes just the steps that it asks for, each after the reply to the one before,
 //! and always comes to its line.
 ghost use Rattle.std.specs.Prelude.{◌≡◌, IfOk, OnOk, not};
-ghost use Rattle.nofs_machine.specs.Steps.{is_out_of_memory};
-ghost use Rattle.nofs_task.specs.Commands.{IsWellFormed, AreWellFormed};
-ghost use Rattle.nofs_task.specs.Task.{TaskStands};
+ghost use Rattle.nofs_history.specs.Steps.{is_out_of_memory};
+ghost use Rattle.nofs_client.specs.Commands.{IsWellFormed, AreWellFormed};
+ghost use Rattle.nofs_client.specs.Task.{TaskStands};
 ghost use Rattle.nofs_client.specs.Drive.{asks, progress_after as after_of};
-ghost use Rattle.nofs_task.specs.Asks.{Answers};
+ghost use Rattle.nofs_client.specs.Asks.{Answers};
 ghost use Rattle.nofs_client.specs.Runs.{RunsTo, RunsPartly, RunsAll, RunsSome, LinesFollow};
 
 use crate::driver::line_of;
 use crate::progress::{Progress, after, next_step, start};
-use nofs_machine::{Refusal, Reply, Steps};
-use nofs_task::{Command, CommandList, Line, LineList};
+use crate::task::commands::{Command, CommandList};
+use crate::task::lines::{Line, LineList};
+use nofs_history::{Refusal, Reply, Steps};
 use std::alloc::{AllocError, Global};
 
 /// A user of a mount.

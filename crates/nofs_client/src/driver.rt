@@ -2,15 +2,18 @@
 //!
 //! Promise: the answer is that of the definition, for every command and all replies that fit.
 ghost use Rattle.std.specs.Prelude.{◌≡◌, IfOk};
-ghost use Rattle.nofs_task.specs.Commands.{IsWellFormed};
-ghost use Rattle.nofs_task.specs.Task.{TaskStands};
-ghost use Rattle.nofs_task.specs.Asks.{IsSaid, task_asks};
+ghost use Rattle.nofs_client.specs.Commands.{IsWellFormed};
+ghost use Rattle.nofs_client.specs.Task.{TaskStands};
+ghost use Rattle.nofs_client.specs.Asks.{IsSaid, task_asks};
 ghost use Rattle.nofs_client.specs.Drive.{AllAnswer, start_of, asks, drive_of};
-ghost use Rattle.nofs_task.specs.declared.next.Next.TheVariants.{Say};
+ghost use Rattle.nofs_client.specs.declared.task.next.Next.TheVariants.{Say};
 
 use crate::progress::{Progress, after, next_step, start};
-use nofs_machine::Reply;
-use nofs_task::{Command, Line, Next, Task};
+use crate::task::commands::Command;
+use crate::task::lines::Line;
+use crate::task::next::Next;
+use crate::task::task::Task;
+use nofs_history::Reply;
 use std::alloc::{AllocError, Global};
 
 fn line_of_task(command: &Command, task: Task) -> Line
@@ -24,7 +27,7 @@ fn line_of_task(command: &Command, task: Task) -> Line
 }
 
 /// The line of a command that has ended.
-pub fn line_of(command: &Command, progress: Progress) -> Line
+pub(crate) fn line_of(command: &Command, progress: Progress) -> Line
     requires { IsSaid (asks command.now progress) }
     ensures { asks command.now progress ≡ Say result }
 {

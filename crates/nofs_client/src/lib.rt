@@ -6,7 +6,10 @@
 mod client;
 mod driver;
 mod progress;
+mod task;
 
 pub use client::Client;
 pub use driver::drive;
-pub use nofs_lists::PathNames;
+pub use task::commands::{Command, CommandList, Path};
+pub use task::lines::{GotPart, GotParts, Line, LineList, ListPart, ListParts};
+pub use task::next::Next;

@@ -1,14 +1,17 @@
 //! Where a command stands, with the steps that make room: a step that was answered Full or InodesFull
 //! is repeated as long as the disk has unexamined elements and ever fewer of them.
 ghost use Rattle.std.specs.Prelude.{◌≡◌, ◌&&◌, IfOk, nat_lt, true, false, if◌then◌else◌};
-ghost use Rattle.nofs_machine.specs.declared.replies.Reply.TheVariants.{Refused};
-ghost use Rattle.nofs_task.specs.Commands.{IsWellFormed};
-ghost use Rattle.nofs_task.specs.Task.{TaskStands, refused as refused_by};
-ghost use Rattle.nofs_task.specs.Asks.{IsAsked, task_asks, Answers, IsAnswered};
+ghost use Rattle.nofs_history.specs.declared.machine.replies.Reply.TheVariants.{Refused};
+ghost use Rattle.nofs_client.specs.Commands.{IsWellFormed};
+ghost use Rattle.nofs_client.specs.Task.{TaskStands, refused as refused_by};
+ghost use Rattle.nofs_client.specs.Asks.{IsAsked, task_asks, Answers, IsAnswered};
 ghost use Rattle.nofs_client.specs.Drive.{StandsAs, goes_on as is_going_on, start_of, fresh_progress as fresh_of, step_answered as ended_by, examines_block as block_seen, examines_inode as inode_seen, step_before_repeat, asks as asks_of, stored_by, after_step as step_after, after_refused as refused_after, after_see as see_after, progress_after as after_of};
 
-use nofs_machine::{Refusal, Reply, Step};
-use nofs_task::{Command, Task, first_task, refused, task_after, task_step};
+use crate::task::answers::task_after;
+use crate::task::commands::Command;
+use crate::task::steps::task_step;
+use crate::task::task::{Task, first_task, refused};
+use nofs_history::{Refusal, Reply, Step};
 use std::alloc::{AllocError, Global};
 
 /// What is examined before a step is repeated.
@@ -42,7 +45,7 @@ fn fresh(task: Task) -> Progress
 }
 
 /// Where a command stands before its first step.
-pub fn start(alloc: Global, command: &Command) -> Progress
+pub(crate) fn start(alloc: Global, command: &Command) -> Progress
     requires { IsWellFormed command.now }
     ensures is { result ≡ start_of command.now }
     ensures stands { TaskStands command.now result.task }
@@ -51,7 +54,7 @@ pub fn start(alloc: Global, command: &Command) -> Progress
 }
 
 /// The next step of a command; none where it has its line.
-pub fn next_step(
+pub(crate) fn next_step(
     alloc: Global,
     command: &Command,
     progress: &Progress,
@@ -177,7 +180,7 @@ fn after_see(command: &Command, progress: Progress, reply: &Reply) -> Progress
 }
 
 /// Where a command stands after a reply.
-pub fn after(
+pub(crate) fn after(
     alloc: Global,
     command: &Command,
     progress: Progress,

@@ -5,15 +5,15 @@ mod asked;
 mod text;
 
 use crate::client::answer::Answer::{
-    self, Bytes, Directory, Dropped, File, Flushed, Folder, Full, Hole, InodesFull, Linked, Lost,
+    Bytes, Directory, Dropped, File, Flushed, Folder, Full, Hole, InodesFull, Linked, Lost,
     LostNames, Made, Names, No, NoMore, Renamed, Resized, Seen, Sized, Stored,
 };
-use crate::client::answer::reply;
+use crate::client::answer::{Answer, reply};
 use crate::client::asked::{Asked, command};
 use crate::client::text::{AskedSteps, note_line};
-use nofs_client::{Client, drive};
-use nofs_machine::{FileKind, Refusal, Reply, Stat, Step};
-use nofs_task::{Command, CommandList, Line, LineList, Next, Path};
+use nofs_client::{Client, Command, CommandList, Line, LineList, Next, Path, drive};
+use nofs_history::{Refusal, Reply, Stat, Step};
+use nofs_inode::inode::FileKind;
 use nofs_told::{InTurn, Notepad, Told};
 use std::alloc::{AllocError, Global};
 use std::process::Abort;

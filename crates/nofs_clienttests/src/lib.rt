@@ -7,5 +7,7 @@
 mod client;
 #[cfg(test)]
 mod moves;
+mod steptests;
+mod texttests;
 #[cfg(test)]
 mod told;

@@ -4,10 +4,10 @@ mod asked;
 
 use crate::moves::Answer::{Dropped, File, Flushed, Folder, Full, Linked, No, Seen};
 use crate::moves::asked::AskedSteps;
-use nofs_client::Client;
-use nofs_machine::{FileKind, Found, Refusal, Reply};
+use nofs_client::{Client, Line, Path};
+use nofs_history::{Found, Refusal, Reply};
+use nofs_inode::inode::FileKind;
 use nofs_move::move_file;
-use nofs_task::{Line, Path};
 use nofs_told::{InTurn, Notepad, Told, full, path_names};
 use std::alloc::{AllocError, Global};
 use std::process::Abort;

@@ -1,6 +1,6 @@
 //! A stand-in that replies in turn, and what it notes.
 
-use nofs_machine::{Refusal, Reply, Step, Steps};
+use nofs_history::{Refusal, Reply, Step, Steps};
 use nofs_told::{
     InTurn, Notepad, Notes, Told, generation_of, inode_of, name_of, number_of, path_names, word_of,
 };

@@ -1,11 +1,10 @@
 //! Steps on files: what a slot says afterwards, what was claimed, and what is free then.
-use nofs_examples::{blocks_under_the_top, empty, residue_past_the_size};
+use crate::testcores::bench::{Bench, answers_over, answers_seeing};
+use crate::testcores::disks::{failing, raise_version};
+use crate::testcores::steps::{Ask, LABEL, ROOT, S, Said, T};
+use nofs_history::Refusal;
 use nofs_inode::FileKind;
-use nofs_machine::Refusal;
-use nofs_testcores::{
-    Ask, Bench, LABEL, ROOT, S, Said, T, answers_over, answers_seeing, failing, raise_version,
-};
-use nofs_testdisks::{disk_of, formatted};
+use nofs_testdisks::{blocks_under_the_top, disk_of, empty, formatted, residue_past_the_size};
 use nofs_versions::CallKind;
 use std::alloc::Global;
 use std::test::Fail;

@@ -1,6 +1,7 @@
 //! Verdicts that are committed after other steps, and elements that are examined one by one.
-use nofs_machine::{ElementKind, Refusal};
-use nofs_testcores::{Ask, Bench, LABEL, ROOT, S, Said};
+use crate::testcores::bench::Bench;
+use crate::testcores::steps::{Ask, LABEL, ROOT, S, Said};
+use nofs_history::{ElementKind, Refusal};
 use nofs_testdisks::formatted;
 use std::alloc::Global;
 use std::test::Fail;

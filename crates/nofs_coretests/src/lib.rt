@@ -7,3 +7,6 @@
 mod files;
 #[cfg(test)]
 mod late;
+#[cfg(test)]
+mod names;
+mod testcores;

@@ -1,9 +1,9 @@
 -- Where each cell that a read gives is below a bound, each live record and each tag of the data area is.
 use Rattle.std.proofs.Common.{◌≡◌, ℕ, ◌+◌, ◌-◌, ◌/◌, ◌%◌, ◌<◌, ◌≤◌, Bool, true, false, cond, leb, ltb, leb-true, ltb-true, Option, Some, IfSome, refl, sym}
 use Rattle.std.proofs.Common.{subst, arith}
-use Rattle.nofs_image.specs.Cells.{Tag, Record, tag_of, record_at, free_record, is_live}
-use Rattle.nofs_image.specs.Image.{Image, cell_at, super_at, is_data_block, is_inode, inode, CellBelow}
-use Rattle.nofs_image.proofs.Find.{and-both}
+use Rattle.nofs_model.specs.Cells.{Tag, Record, tag_of, record_at, free_record, is_live}
+use Rattle.nofs_model.specs.Image.{Image, cell_at, super_at, is_data_block, is_inode, inode, CellBelow}
+use Rattle.nofs_model.proofs.Find.{and-both}
 
 -- a live record is one of the table
 pub record Stands (X : Image) (j : ℕ) : Type 0 where

@@ -4,15 +4,15 @@ use Rattle.std.proofs.lemmas.Bool.{cases_lt}
 use Rattle.nofs_disk.specs.Disk.{DiskState, cell_at}
 use Rattle.nofs_disk.specs.Moments.{AtEach}
 use Rattle.nofs_disk.specs.Chains.{settled_image}
-use Rattle.nofs_image.specs.Geometry.{IsGeometry}
-use Rattle.nofs_image.specs.Cells.{Cell}
-use Rattle.nofs_image.specs.Image.{Image, super_at, CellBelow}
-use Rattle.nofs_image.proofs.Sound.{mountable-law}
-use Rattle.nofs_machine.specs.History.{mark_at, new_mark}
-use Rattle.nofs_machine.specs.Allowed.{IsAllowed}
-use Rattle.nofs_machine.specs.Steady.{SteadyRest}
-use Rattle.nofs_law_images.specs.Reasons.{IsMark}
-use Rattle.nofs_law_images.proofs.Moments.{law-flush}
+use Rattle.nofs_model.specs.Geometry.{IsGeometry}
+use Rattle.nofs_model.specs.Cells.{Cell}
+use Rattle.nofs_model.specs.Image.{Image, super_at, CellBelow}
+use Rattle.nofs_model.proofs.Sound.{mountable-law}
+use Rattle.nofs_history.specs.History.{mark_at, new_mark}
+use Rattle.nofs_history.specs.Allowed.{IsAllowed}
+use Rattle.nofs_history.specs.Steady.{SteadyRest}
+use Rattle.nofs_crashlaw.specs.Reasons.{IsMark}
+use Rattle.nofs_crashlaw.proofs.Moments.{law-flush}
 use Rattle.nofs_crashlaw.specs.Stage.{CellsSurvive, Stage, IsLeftByMount, LawFirstStage}
 use Rattle.nofs_crashlaw.proofs.Below.{live-below, tag-below}
 use Rattle.nofs_crashlaw.proofs.Flushing.{flushed}

@@ -1,24 +1,24 @@
 -- A flush that succeeds makes a new mark, from which the next step may begin.
-use Rattle.nofs_image.specs.Geometry.{IsGeometry}
+use Rattle.nofs_model.specs.Geometry.{IsGeometry}
 use Rattle.std.proofs.Common.{◌≡◌, ℕ, suc, ◌+◌, ◌%◌, ◌<◌, ◌≤◌, inl, inr, true, false, cond, is_some, append-nil, eqb, if◌then◌else◌, leb, ◌&&◌, List, [], ◌∷◌}
 use Rattle.std.proofs.Common.{◌++◌, length, Option, Some, None, IsTrue, Ok, refl, sym, ap, ◌∙◌, subst, arith, le_refl}
 use Rattle.std.proofs.lemmas.Bool.{cases_lt}
 use Rattle.nofs_disk.specs.Disk.{DiskState, IsDisk, IsSettled, Flushes, Picks, cell_at}
-use Rattle.nofs_image.specs.Cells.{SuperBlock}
-use Rattle.nofs_image.specs.Image.{Image, super_at, is_mountable, inode, value, Files, FileState, CellBelow}
-use Rattle.nofs_image.proofs.Sound.{supers, mountable-law}
-use Rattle.nofs_law_images.specs.Reasons.{IsMark}
-use Rattle.nofs_law_images.specs.Moments.{AllExplained}
-use Rattle.nofs_law_images.proofs.Moments.{law-images, law-flush}
-use Rattle.nofs_machine.specs.Meta.{meta_of}
-use Rattle.nofs_machine.specs.Marks.{Mark}
-use Rattle.nofs_machine.specs.Machine.{generation_of, nothing, gives, file_after, files_after}
-use Rattle.nofs_machine.specs.History.{agreed_files, files_along, mark_at, mark, mark_from, is_flushed, new_mark, last_in, is_generation, values_given}
-use Rattle.nofs_machine.specs.History.{metas_given, FilesMatch, NoWriteFault}
-use Rattle.nofs_machine.specs.Allowed.{IsAllowed}
-use Rattle.nofs_machine.specs.Steady.{SteadyRest}
-use Rattle.nofs_machine.specs.declared.history.Entry1.{Entry1}
-use Rattle.nofs_law_images.proofs.Lives.{along-append, values-append, metas-append}
+use Rattle.nofs_model.specs.Cells.{SuperBlock}
+use Rattle.nofs_model.specs.Image.{Image, super_at, is_mountable, inode, value, Files, FileState, CellBelow}
+use Rattle.nofs_model.proofs.Sound.{supers, mountable-law}
+use Rattle.nofs_crashlaw.specs.Reasons.{IsMark}
+use Rattle.nofs_crashlaw.specs.Moments.{AllExplained}
+use Rattle.nofs_crashlaw.proofs.Moments.{law-images, law-flush}
+use Rattle.nofs_history.specs.Meta.{meta_of}
+use Rattle.nofs_history.specs.Marks.{Mark}
+use Rattle.nofs_history.specs.Machine.{generation_of, nothing, gives, file_after, files_after}
+use Rattle.nofs_history.specs.History.{agreed_files, files_along, mark_at, mark, mark_from, is_flushed, new_mark, last_in, is_generation}
+use Rattle.nofs_history.specs.History.{values_given, metas_given, FilesMatch, NoWriteFault}
+use Rattle.nofs_history.specs.Allowed.{IsAllowed}
+use Rattle.nofs_history.specs.Steady.{SteadyRest}
+use Rattle.nofs_history.specs.declared.machine.history.Entry1.{Entry1}
+use Rattle.nofs_crashlaw.proofs.ImageLives.{along-append, values-append, metas-append}
 use Rattle.nofs_crashlaw.specs.Stage.{Stage, CellsSurvive, flush_entry, LawFlushStage}
 use Rattle.nofs_crashlaw.proofs.Below.{live-below, tag-below}
 use Rattle.nofs_crashlaw.proofs.Flushing.{flushed}

@@ -1,18 +1,19 @@
 -- A flush makes a new mark.
 use Rattle.std.proofs.Common.{◌≡◌, ℕ, ◌%◌, ◌<◌, inl, inr, Bool, true, false, eqb, ◌&&◌, List, [], ◌∷◌, Some, is_some, refl, sym, ap, ◌∙◌, subst, subst₂}
 use Rattle.std.proofs.Common.{arith, Contains, eqb-true, eq-eqb}
-use Rattle.nofs_law_images.specs.Reasons.{IsMark}
-use Rattle.nofs_image.proofs.Find.{and-both}
-use Rattle.nofs_law_images.proofs.Era.{IsCurrent, current-accepted}
-use Rattle.nofs_law_untouched.proofs.Matching.{Matched, matched-file, matched-agreed, gen-of}
-use Rattle.nofs_machine.specs.Meta.{Meta, meta_of, MayRead}
-use Rattle.nofs_machine.specs.declared.history.Entry1.{Entry1}
-use Rattle.nofs_machine.specs.Machine.{generation_of}
-use Rattle.nofs_machine.specs.History.{agreed_files, files_along, accepted_of, accepted_meta_of, last_in, is_generation, FilesMatch, NoWriteFault, new_mark}
-use Rattle.nofs_machine.specs.Steady.{Untouched, SteadyRest}
-use Rattle.nofs_image.specs.Cells.{Tag, is_live, tag_of, slot_limit}
-use Rattle.nofs_image.specs.Image.{Image, super_at, cell_at, is_data_block, inode, files_in, agreed, value, Files}
-use Rattle.nofs_image.specs.declared.value.Value.{Value}
+use Rattle.nofs_crashlaw.specs.Reasons.{IsMark}
+use Rattle.nofs_model.proofs.Find.{and-both}
+use Rattle.nofs_crashlaw.proofs.Era.{IsCurrent, current-accepted}
+use Rattle.nofs_crashlaw.proofs.Matching.{Matched, matched-file, matched-agreed, gen-of}
+use Rattle.nofs_history.specs.Meta.{Meta, meta_of, MayRead}
+use Rattle.nofs_history.specs.declared.machine.history.Entry1.{Entry1}
+use Rattle.nofs_history.specs.Machine.{generation_of}
+use Rattle.nofs_history.specs.History.{agreed_files, files_along, accepted_of, accepted_meta_of, last_in, is_generation, FilesMatch, NoWriteFault}
+use Rattle.nofs_history.specs.History.{new_mark}
+use Rattle.nofs_history.specs.Steady.{Untouched, SteadyRest}
+use Rattle.nofs_model.specs.Cells.{Tag, is_live, tag_of, slot_limit}
+use Rattle.nofs_model.specs.Image.{Image, super_at, cell_at, is_data_block, inode, files_in, agreed, value, Files}
+use Rattle.nofs_model.specs.declared.image.value.Value.{Value}
 
 only : {A : Type 0} → (xs : List A) (v : A) → xs ≡ v ∷ [] → Contains xs v
 only xs v e = subst (λ (ys : List _). Contains ys v) (sym e) (0, omega arith, refl)

@@ -1,25 +1,24 @@
 -- The crash theorem over histories: what a step writes leaves each image allowed.
 use Rattle.std.proofs.Common.{◌≡◌, ℕ, ◌+◌, true, List, [], ◌∷◌, ◌++◌, length, IsTrue, sym, ◌∙◌, subst, arith}
 use Rattle.nofs_disk.specs.Disk.{DiskState, IsDisk, Picks}
-use Rattle.nofs_law_images.specs.Reasons.{IsMark, IsKept}
-use Rattle.nofs_crashlaw.specs.Laws.{LawStep}
+use Rattle.nofs_crashlaw.specs.Reasons.{IsMark, IsKept}
+use Rattle.nofs_crashlaw.specs.CrashLaws.{LawStep}
 use Rattle.nofs_crashlaw.specs.Stage.{LawSteady}
-use Rattle.nofs_law_images.specs.Moments.{during, AllExplained}
-use Rattle.nofs_law_images.proofs.Moments.{law-moment, law-images}
+use Rattle.nofs_crashlaw.specs.Moments.{during, AllExplained}
+use Rattle.nofs_crashlaw.proofs.Moments.{law-moment, law-images}
 use Rattle.nofs_crashlaw.proofs.Marks.{since-grows, metas-grow, stands-shrinks, stands-now}
-use Rattle.nofs_law_untouched.proofs.Matching.{matched-file}
-use Rattle.nofs_image.proofs.Find.{find-held}
-use Rattle.nofs_law_images.proofs.Steady.{kept-holds}
-use Rattle.nofs_machine.specs.Marks.{Mark}
-use Rattle.nofs_machine.specs.declared.history.Entry1.{Entry1}
-use Rattle.nofs_machine.specs.Machine.{given_by}
-use Rattle.nofs_machine.specs.History.{agreed_files, files_along, stands, mark_at}
-use Rattle.nofs_machine.specs.Allowed.{HasVersions, IsAllowed}
-use Rattle.nofs_machine.specs.Marks.{IsUnderWay}
-use Rattle.nofs_machine.specs.Steady.{SteadyPointers}
-use Rattle.nofs_machine.proofs.Names.{names-stay}
-use Rattle.nofs_image.specs.Cells.{Cell}
-use Rattle.nofs_image.specs.Image.{Image, cell_at, files_in, agreed}
+use Rattle.nofs_crashlaw.proofs.Matching.{matched-file}
+use Rattle.nofs_model.proofs.Find.{find-held}
+use Rattle.nofs_crashlaw.proofs.Steady.{kept-holds}
+use Rattle.nofs_history.specs.Marks.{Mark, IsUnderWay}
+use Rattle.nofs_history.specs.declared.machine.history.Entry1.{Entry1}
+use Rattle.nofs_history.specs.Machine.{given_by}
+use Rattle.nofs_history.specs.History.{agreed_files, files_along, stands, mark_at}
+use Rattle.nofs_history.specs.Allowed.{HasVersions, IsAllowed}
+use Rattle.nofs_history.specs.Steady.{SteadyPointers}
+use Rattle.nofs_history.proofs.Names.{names-stay}
+use Rattle.nofs_model.specs.Cells.{Cell}
+use Rattle.nofs_model.specs.Image.{Image, cell_at, files_in, agreed}
 
 -- the mark with one more entry under way is the mark during what that entry gives
 pub mark-during : (B : Image) (H : List Entry1) (e : Entry1) (l m : ℕ) (image : Image) (stamps : ℕ) → IsUnderWay H e l m

@@ -1,19 +1,19 @@
 -- Entries that come later change nothing of what is allowed at a moment.
-use Rattle.nofs_machine.specs.Allowed.{HasVersions}
-use Rattle.nofs_machine.proofs.Names.{names-stay}
+use Rattle.nofs_history.specs.Allowed.{HasVersions}
+use Rattle.nofs_history.proofs.Names.{names-stay}
 use Rattle.std.proofs.Common.{if◌then◌else◌, ◌≡◌, ℕ, suc, ◌+◌, ◌<◌, ◌≤◌, Bool, true, false, cond, ltb, leb, ◌&&◌, List, [], ◌∷◌, ◌++◌, length, take, drop}
 use Rattle.std.proofs.Common.{refl, sym, ap, ◌∙◌, subst, arith, Contains, le-ltb, is_some, eqb, not}
 use Rattle.std.specs.List.{list_any}
 use Rattle.std.proofs.lemmas.List.{take-append-le}
 use Rattle.std.proofs.lemmas.Bool.Decides.{nat_tests}
-use Rattle.nofs_crashlaw.specs.Laws.{AllLater, LawLater}
-use Rattle.nofs_machine.specs.Meta.{Meta, meta_of, MayRead, is_gone}
-use Rattle.nofs_machine.specs.declared.history.Entry1.{Entry1}
-use Rattle.nofs_machine.specs.Machine.{generation_of}
-use Rattle.nofs_machine.specs.History.{agreed_files, files_along, values_given, metas_given, accepted_of, accepted_meta_of, last_in, begun, mark_from, mark}
-use Rattle.nofs_machine.specs.History.{before_mark, since_mark, since, since_meta, stands, is_flushed}
-use Rattle.nofs_image.specs.Image.{Image, inode, value}
-use Rattle.nofs_image.specs.declared.value.Value.{Value}
+use Rattle.nofs_crashlaw.specs.CrashLaws.{AllLater, LawLater}
+use Rattle.nofs_history.specs.Meta.{Meta, meta_of, MayRead, is_gone}
+use Rattle.nofs_history.specs.declared.machine.history.Entry1.{Entry1}
+use Rattle.nofs_history.specs.Machine.{generation_of}
+use Rattle.nofs_history.specs.History.{agreed_files, files_along, values_given, metas_given, accepted_of, accepted_meta_of, last_in, begun, mark_from}
+use Rattle.nofs_history.specs.History.{mark, before_mark, since_mark, since, since_meta, stands, is_flushed}
+use Rattle.nofs_model.specs.Image.{Image, inode, value}
+use Rattle.nofs_model.specs.declared.image.value.Value.{Value}
 
 later-leb : (a m : ℕ) → m < a → leb a m ≡ false
 later-leb a m h = grind (arith, nat_tests)

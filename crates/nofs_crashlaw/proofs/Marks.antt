@@ -4,20 +4,20 @@ use Rattle.std.proofs.Common.{option_to_list, refl, sym, ap, ◌∙◌, subst, a
 use Rattle.std.specs.List.{list_any}
 use Rattle.std.proofs.lemmas.List.{take-append-le, drop-append-le}
 use Rattle.std.proofs.lemmas.List.Folds.{list_any-append}
-use Rattle.nofs_law_images.specs.Moments.{is_removal}
-use Rattle.nofs_law_images.proofs.Era.{IsBirth, gives-birth}
-use Rattle.nofs_law_untouched.proofs.Matching.{gen-of}
-use Rattle.nofs_image.proofs.Find.{and-both}
-use Rattle.nofs_law_images.proofs.Lives.{values-append, metas-append, along-append}
-use Rattle.nofs_machine.specs.Meta.{Meta, Gone, Is, is_gone}
-use Rattle.nofs_machine.specs.declared.history.Entry1.{Entry1}
-use Rattle.nofs_machine.specs.Machine.{Given, gives, given_by, files_by, nothing, generation_of, filled, after_meta, born_file, new_file, file_after}
-use Rattle.nofs_machine.specs.Machine.{files_after, is_refused, is_write_fault}
-use Rattle.nofs_machine.specs.History.{agreed_files, files_along, values_given, metas_given, accepted_of, accepted_meta_of, last_in, begun, mark, before_mark}
-use Rattle.nofs_machine.specs.History.{since_mark, files_at_mark, since, since_meta, stands}
-use Rattle.nofs_machine.specs.Marks.{IsUnderWay}
-use Rattle.nofs_image.specs.Image.{Image, FileState, Files}
-use Rattle.nofs_image.specs.declared.value.Value.{Value}
+use Rattle.nofs_crashlaw.specs.Moments.{is_removal}
+use Rattle.nofs_crashlaw.proofs.Era.{IsBirth, gives-birth}
+use Rattle.nofs_crashlaw.proofs.Matching.{gen-of}
+use Rattle.nofs_model.proofs.Find.{and-both}
+use Rattle.nofs_crashlaw.proofs.ImageLives.{values-append, metas-append, along-append}
+use Rattle.nofs_history.specs.Meta.{Meta, Gone, Is, is_gone}
+use Rattle.nofs_history.specs.declared.machine.history.Entry1.{Entry1}
+use Rattle.nofs_history.specs.Machine.{Given, gives, given_by, files_by, nothing, generation_of, filled, after_meta, born_file, new_file, file_after}
+use Rattle.nofs_history.specs.Machine.{files_after, is_refused, is_write_fault}
+use Rattle.nofs_history.specs.History.{agreed_files, files_along, values_given, metas_given, accepted_of, accepted_meta_of, last_in, begun, mark}
+use Rattle.nofs_history.specs.History.{before_mark, since_mark, files_at_mark, since, since_meta, stands}
+use Rattle.nofs_history.specs.Marks.{IsUnderWay}
+use Rattle.nofs_model.specs.Image.{Image, FileState, Files}
+use Rattle.nofs_model.specs.declared.image.value.Value.{Value}
 
 list-gone : (o : Option Meta) → list_any is_gone (option_to_list o) ≡ is_removal o
 list-gone None = refl

@@ -1,16 +1,16 @@
 -- What is not agreed loses slots at most.
 use Rattle.std.proofs.Common.{◌≡◌, ℕ, ◌<◌, ◌≤◌, ◌⊎◌, inl, inr, Bool, true, false, Some, refl, sym, ap, ◌∙◌, subst, arith}
-use Rattle.nofs_image.specs.declared.path.PathAnswer.{PathAnswer}
-use Rattle.nofs_law_untouched.specs.Frames.{OldPointers, Touches}
-use Rattle.nofs_image.proofs.Find.{agrees-true, find-held}
-use Rattle.nofs_image.proofs.Paths.{path_of-slot}
-use Rattle.nofs_law_untouched.proofs.Touching.{one-owner}
-use Rattle.nofs_image.specs.declared.path.PathAnswer.TheVariants as answer
-use Rattle.nofs_image.specs.Cells.{Cell, Tag, Pointer, Record, tag_of, is_null, pointer_at, slot_limit}
-use Rattle.nofs_image.specs.Image.{super_in, Image, cell_at, super_at, is_data_block, inode, value, value_in, Path, InRecord, Under, path_of, tag_for, agrees}
-use Rattle.nofs_image.specs.Image.{judged, find, pointer, record_pointer, IsSlot}
-use Rattle.nofs_image.specs.declared.value.Value.{Value}
-use Rattle.nofs_image.specs.declared.value.Value.TheVariants.{Lost}
+use Rattle.nofs_model.specs.declared.image.path.PathAnswer.{PathAnswer}
+use Rattle.nofs_crashlaw.specs.Frames.{OldPointers, Touches}
+use Rattle.nofs_model.proofs.Find.{agrees-true, find-held}
+use Rattle.nofs_model.proofs.Paths.{path_of-slot}
+use Rattle.nofs_crashlaw.proofs.Touching.{one-owner}
+use Rattle.nofs_model.specs.declared.image.path.PathAnswer.TheVariants as answer
+use Rattle.nofs_model.specs.Cells.{Cell, Tag, Pointer, Record, tag_of, is_null, pointer_at, slot_limit}
+use Rattle.nofs_model.specs.Image.{super_in, Image, cell_at, super_at, is_data_block, inode, value, value_in, Path, InRecord, Under, path_of, tag_for}
+use Rattle.nofs_model.specs.Image.{agrees, judged, find, pointer, record_pointer, IsSlot}
+use Rattle.nofs_model.specs.declared.image.value.Value.{Value}
+use Rattle.nofs_model.specs.declared.image.value.Value.TheVariants.{Lost}
 
 module _ (s : ℕ) (touched : ℕ → Bool) (X Y : Image) (w : Touches s touched X Y) (i : ℕ) (apart : touched i ≡ false) (old : OldPointers s X i) where
   same-super : super_at Y ≡ super_at X

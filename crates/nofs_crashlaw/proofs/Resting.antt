@@ -1,19 +1,19 @@
 -- What is live and not agreed stays the base's, as far as it is still there.
-use Rattle.nofs_crashlaw.specs.Laws.{LawRest}
+use Rattle.nofs_crashlaw.specs.CrashLaws.{LawRest}
 use Rattle.std.proofs.Common.{◌≡◌, ℕ, ◌⊎◌, inl, inr, Bool, true, false, List, [], ◌∷◌, ◌++◌, Option, Some, None, is_some, option_to_list, refl, sym, ap, ◌∙◌}
 use Rattle.std.proofs.Common.{subst}
-use Rattle.nofs_law_untouched.specs.Frames.{OldPointers, Touches}
-use Rattle.nofs_law_images.proofs.Lives.{values-append, metas-append}
-use Rattle.nofs_law_untouched.proofs.Matching.{matched-file, matched-agreed}
+use Rattle.nofs_crashlaw.specs.Frames.{OldPointers, Touches}
+use Rattle.nofs_crashlaw.proofs.ImageLives.{values-append, metas-append}
+use Rattle.nofs_crashlaw.proofs.Matching.{matched-file, matched-agreed}
 use Rattle.nofs_crashlaw.proofs.Rest.{value-or-lost}
-use Rattle.nofs_machine.specs.Meta.{meta_of}
-use Rattle.nofs_machine.specs.declared.history.Entry1.{Entry1}
-use Rattle.nofs_machine.specs.Machine.{given_by}
-use Rattle.nofs_machine.specs.History.{agreed_files, files_along, values_given, metas_given, FilesMatch}
-use Rattle.nofs_machine.specs.Steady.{Untouched, SteadyRest}
-use Rattle.nofs_image.specs.Cells.{Record, is_live}
-use Rattle.nofs_image.specs.Image.{Image, inode, value, FileState, Files, files_in, agreed}
-use Rattle.nofs_image.specs.declared.value.Value.TheVariants.{Lost}
+use Rattle.nofs_history.specs.Meta.{meta_of}
+use Rattle.nofs_history.specs.declared.machine.history.Entry1.{Entry1}
+use Rattle.nofs_history.specs.Machine.{given_by}
+use Rattle.nofs_history.specs.History.{agreed_files, files_along, values_given, metas_given, FilesMatch}
+use Rattle.nofs_history.specs.Steady.{Untouched, SteadyRest}
+use Rattle.nofs_model.specs.Cells.{Record, is_live}
+use Rattle.nofs_model.specs.Image.{Image, inode, value, FileState, Files, files_in, agreed}
+use Rattle.nofs_model.specs.declared.image.value.Value.TheVariants.{Lost}
 
 -- F are the machine's files before the entry, and E after it
 pub rest-stays : (B : Image) (H : List Entry1) (e : Entry1) (s : ℕ) (touched : ℕ → Bool) (X Y : Image) (E : Files)

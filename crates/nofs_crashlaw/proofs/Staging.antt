@@ -5,21 +5,21 @@ use Rattle.std.proofs.lemmas.Bool.{cases_lt}
 use Rattle.nofs_disk.specs.Disk.{DiskState, IsDisk, Picks, cell_at}
 use Rattle.nofs_disk.specs.Moments.{AtEach}
 use Rattle.nofs_disk.specs.Adds.{Adds, WasOr, Adds-stays}
-use Rattle.nofs_image.specs.Cells.{Cell}
-use Rattle.nofs_image.specs.Image.{Image, super_at, Files, CellBelow}
-use Rattle.nofs_law_images.specs.Proper.{Proper}
-use Rattle.nofs_law_images.specs.Moments.{during, OnlyProper}
-use Rattle.nofs_machine.specs.Machine.{given_by, files_by}
-use Rattle.nofs_machine.specs.History.{FilesMatch, agreed_files, files_along, mark_at, mark_from, begun, is_flushed}
-use Rattle.nofs_machine.specs.Allowed.{IsAllowed}
-use Rattle.nofs_machine.specs.Marks.{IsUnderWay}
-use Rattle.nofs_machine.specs.declared.history.Entry1.{Entry1}
-use Rattle.nofs_law_images.proofs.Lives.{along-append}
-use Rattle.nofs_law_untouched.proofs.Matching.{matched-file}
+use Rattle.nofs_model.specs.Cells.{Cell}
+use Rattle.nofs_model.specs.Image.{Image, super_at, Files, CellBelow}
+use Rattle.nofs_crashlaw.specs.Proper.{Proper}
+use Rattle.nofs_crashlaw.specs.Moments.{during, OnlyProper}
+use Rattle.nofs_history.specs.Machine.{given_by, files_by}
+use Rattle.nofs_history.specs.History.{FilesMatch, agreed_files, files_along, mark_at, mark_from, begun, is_flushed}
+use Rattle.nofs_history.specs.Allowed.{IsAllowed}
+use Rattle.nofs_history.specs.Marks.{IsUnderWay}
+use Rattle.nofs_history.specs.declared.machine.history.Entry1.{Entry1}
+use Rattle.nofs_crashlaw.proofs.ImageLives.{along-append}
+use Rattle.nofs_crashlaw.proofs.Matching.{matched-file}
 use Rattle.nofs_crashlaw.proofs.Histories.{step-allowed, now-picks}
 use Rattle.nofs_crashlaw.proofs.Later.{law-later, mark-within}
 use Rattle.nofs_crashlaw.proofs.Marks.{stands-now}
-use Rattle.nofs_crashlaw.specs.Laws.{StepKeeps}
+use Rattle.nofs_crashlaw.specs.CrashLaws.{StepKeeps}
 use Rattle.nofs_crashlaw.specs.Stage.{AllBy, HasFiles, Lasts, Stage, CellsSurvive, LawLasts, LawStage, LawIdleStage, LawTracked}
 
 -- the cell of the image alone

@@ -3,21 +3,21 @@ use Rattle.std.proofs.Common.{◌≡◌, ◌≢◌, ℕ, true, false, cond, eqb,
 use Rattle.std.proofs.Common.{subst, arith, Contains, eqb-true, eq-eqb}
 use Rattle.std.specs.List.{list_any}
 use Rattle.std.proofs.lemmas.List.Elements.{Contains-append_left}
-use Rattle.nofs_crashlaw.specs.Laws.{LawUnflushed}
-use Rattle.nofs_machine.proofs.Names.{names-stay}
-use Rattle.nofs_image.proofs.Find.{and-both}
-use Rattle.nofs_law_untouched.proofs.Matching.{matched-file, gen-of}
-use Rattle.nofs_machine.specs.Meta.{Meta, meta_of, is_bytes, is_gone}
-use Rattle.nofs_machine.specs.declared.history.Entry1.{Entry1}
-use Rattle.nofs_machine.specs.Machine.{generation_of}
-use Rattle.nofs_machine.specs.History.{SameFile, FilesMatch, agreed_files, files_along, accepted_of, accepted_meta_of, last_in, is_generation, mark}
-use Rattle.nofs_machine.specs.History.{before_mark, since_mark, files_at_mark, values_given, metas_given, since, since_meta, stands}
-use Rattle.nofs_machine.specs.Since.{IsSure}
-use Rattle.nofs_machine.specs.Allowed.{HasVersions}
-use Rattle.nofs_image.specs.Cells.{is_live}
-use Rattle.nofs_image.specs.Image.{Image, inode, value, FileState, Files}
-use Rattle.nofs_image.specs.declared.value.Value.{Value}
-use Rattle.nofs_image.specs.declared.value.Value.TheVariants.{Lost}
+use Rattle.nofs_crashlaw.specs.CrashLaws.{LawUnflushed}
+use Rattle.nofs_history.proofs.Names.{names-stay}
+use Rattle.nofs_model.proofs.Find.{and-both}
+use Rattle.nofs_crashlaw.proofs.Matching.{matched-file, gen-of}
+use Rattle.nofs_history.specs.Meta.{Meta, meta_of, is_bytes, is_gone}
+use Rattle.nofs_history.specs.declared.machine.history.Entry1.{Entry1}
+use Rattle.nofs_history.specs.Machine.{generation_of}
+use Rattle.nofs_history.specs.History.{SameFile, FilesMatch, agreed_files, files_along, accepted_of, accepted_meta_of, last_in, is_generation, mark}
+use Rattle.nofs_history.specs.History.{before_mark, since_mark, files_at_mark, values_given, metas_given, since, since_meta, stands}
+use Rattle.nofs_history.specs.Since.{IsSure}
+use Rattle.nofs_history.specs.Allowed.{HasVersions}
+use Rattle.nofs_model.specs.Cells.{is_live}
+use Rattle.nofs_model.specs.Image.{Image, inode, value, FileState, Files}
+use Rattle.nofs_model.specs.declared.image.value.Value.{Value}
+use Rattle.nofs_model.specs.declared.image.value.Value.TheVariants.{Lost}
 
 same-itself : (o : Option FileState) → SameFile o o
 same-itself None = tt

@@ -3,20 +3,20 @@ use Rattle.std.specs.Prelude.{◌≡◌, ℕ, ◌+◌, ◌<◌, ◌≤◌, true,
 use Rattle.nofs_disk.specs.Disk.{DiskState, IsDisk, IsSettled, StaysButFaults, Flushes, cell_at}
 use Rattle.nofs_disk.specs.Moments.{AtEach}
 use Rattle.nofs_disk.specs.Adds.{Adds}
-use Rattle.nofs_image.specs.Cells.{Cell}
-use Rattle.nofs_image.specs.Image.{Image, super_at, is_mountable, Files, CellBelow, IsBelow}
-use Rattle.nofs_machine.specs.Marks.{Mark}
-use Rattle.nofs_machine.specs.Machine.{given_by, files_by}
-use Rattle.nofs_machine.specs.History.{FilesMatch, NoWriteFault, agreed_files, files_along, is_flushed, mark_at}
-use Rattle.nofs_machine.specs.Allowed.{IsAllowed}
-use Rattle.nofs_machine.specs.Steady.{SteadyRest, IsSteady}
-use Rattle.nofs_machine.specs.Claims.{no_claims}
-use Rattle.nofs_machine.specs.declared.history.Entry1.{Entry1}
-use Rattle.nofs_machine.specs.declared.steps.Step.TheVariants as step
-use Rattle.nofs_machine.specs.declared.replies.Reply.TheVariants as reply
-use Rattle.nofs_law_images.specs.Reasons.{IsMark}
-use Rattle.nofs_law_images.specs.Proper.{Proper}
-use Rattle.nofs_law_images.specs.Moments.{during, AllExplained, IsTracked}
+use Rattle.nofs_model.specs.Cells.{Cell}
+use Rattle.nofs_model.specs.Image.{Image, super_at, is_mountable, Files, CellBelow, IsBelow}
+use Rattle.nofs_history.specs.Marks.{Mark}
+use Rattle.nofs_history.specs.Machine.{given_by, files_by}
+use Rattle.nofs_history.specs.History.{FilesMatch, NoWriteFault, agreed_files, files_along, is_flushed, mark_at}
+use Rattle.nofs_history.specs.Allowed.{IsAllowed}
+use Rattle.nofs_history.specs.Steady.{SteadyRest, IsSteady}
+use Rattle.nofs_history.specs.Claims.{no_claims}
+use Rattle.nofs_history.specs.declared.machine.history.Entry1.{Entry1}
+use Rattle.nofs_history.specs.declared.machine.steps.Step.TheVariants as step
+use Rattle.nofs_history.specs.declared.machine.replies.Reply.TheVariants as reply
+use Rattle.nofs_crashlaw.specs.Reasons.{IsMark}
+use Rattle.nofs_crashlaw.specs.Proper.{Proper}
+use Rattle.nofs_crashlaw.specs.Moments.{during, AllExplained, IsTracked}
 
 -- the cells that a crash may leave have their reasons since the mark
 pub record CellsSurvive (d : DiskState) (L : Mark) : Type 0 where

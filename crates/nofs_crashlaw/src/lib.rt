@@ -4,12 +4,41 @@
 //! reads each slot as content given since the last flush, as a hole, or as lost.
 #![tactic(auto)]
 
-ghost use Rattle.nofs_crashlaw.specs.Laws.{LawLater, LawNames, LawRest, LawStep, LawUnflushed};
+mod files;
+mod homes;
+mod images;
+mod lives;
+mod machine;
+mod maps;
+mod new_names;
+mod numbers;
+mod old_names;
+mod paths;
+mod runs;
+mod untouched;
+
+ghost use Rattle.nofs_crashlaw.specs.CrashLaws.{LawLater, LawNames, LawRest, LawStep, LawUnflushed};
 ghost use Rattle.nofs_crashlaw.specs.Stage.{LawFirstStage, LawFlushStage, LawIdleStage, LawLasts, LawStage, LawSteady, LawTracked};
 
+pub use files::{law_put, law_resize, law_writes};
+pub use homes::{
+    law_drop_homes, law_entry_place, law_link_homes, law_make_homes, law_rename_homes,
+    law_spelled_entry,
+};
+pub use images::{law_flush, law_images, law_moment};
+pub use lives::{law_begin, law_lives, law_mount_stamps};
+pub use machine::{law_accepted, law_examples, law_fits, law_next};
+pub use maps::{law_fresh, law_good, law_homes, law_moves, law_pieces};
+pub use new_names::{law_link, law_make, law_name_homes};
 use nofs_disk::Disk;
-pub use nofs_law_images::{law_flush, law_images, law_moment};
-pub use nofs_law_model::law_sound;
+pub use numbers::{
+    law_content_numbers, law_directory_numbers, law_name_numbers, law_pointer_numbers,
+    law_put_numbers, law_resize_numbers, law_table_numbers,
+};
+pub use old_names::{law_drop, law_rename};
+pub use paths::{law_move, law_path};
+pub use runs::{law_base, law_run};
+pub use untouched::law_frames;
 
 /// A step whose writes are proper leaves only images that are allowed with its entry under way, and
 /// in which the pointers of what is sure are the same.

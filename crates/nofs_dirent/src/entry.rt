@@ -9,9 +9,9 @@ ghost use Rattle.nofs_disk.specs.Number.{number_at, put_bytes, zeros};
 ghost use Rattle.nofs_dirent.specs.EntryLaws.{Spells};
 ghost use Rattle.nofs_dirent.specs.Entries.{HasEntrySpelling, IsFirstNamed, entry_bytes, entry_in, entry_of, entry_with, has_entry_spelling, has_name, has_zeros_after, is_named, name_of, spelled_entry};
 
+use crate::lists::Name;
 use crate::name::name_ok;
 use nofs_disk::{clear, read_u32_at, read_u64_at, write_bytes_at, write_u32_at, write_u64_at};
-use nofs_lists::Name;
 use std::alloc::{AllocError, Global};
 
 /// How many entries a directory has at most: 16 in each of its slots 0 to 71.

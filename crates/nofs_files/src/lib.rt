@@ -3,6 +3,13 @@
 //! Promise: each answers as the machine does, and leaves the mount standing.
 #![tactic(auto)]
 
-pub use nofs_puts::{Ended, put};
-pub use nofs_reading::{Got, flush, flush_step, get, stat};
-pub use nofs_resizes::resize;
+mod cutting;
+mod putting;
+mod reading;
+
+pub use cutting::resizes::resize;
+pub use putting::storing::put;
+pub use reading::flushes::flush;
+pub use reading::gets::{Got, get};
+pub use reading::sessions::flush_step;
+pub use reading::stats::stat;

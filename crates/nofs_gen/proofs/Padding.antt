@@ -2,9 +2,9 @@
 use Rattle.std.proofs.Common.{◌≡◌, ℕ, suc, ◌+◌, ◌-◌, ◌<◌, ◌≤◌, min, List, [], ◌∷◌, ◌++◌, length, map, take, replicate, sym, ap, ◌∙◌, append_assoc}
 use Rattle.std.proofs.Common.{append-nil, arith, length-append}
 use Rattle.std.proofs.lemmas.List.{map_push, length-map, take-map}
-use Rattle.nofs_image.specs.declared.value.Value.{Value}
-use Rattle.nofs_image.specs.declared.value.Value.TheVariants as value
-use Rattle.nofs_machine.specs.Machine.{slots_in}
+use Rattle.nofs_model.specs.declared.image.value.Value.{Value}
+use Rattle.nofs_model.specs.declared.image.value.Value.TheVariants as value
+use Rattle.nofs_history.specs.Machine.{slots_in}
 use Rattle.nofs_gen.specs.declared.file.KeptValue.{KeptValue}
 use Rattle.nofs_gen.specs.declared.file.KeptValue.TheVariants as kept
 use Rattle.nofs_gen.specs.Replay.{FileNow, padded, ended, kept_value, resized_file}

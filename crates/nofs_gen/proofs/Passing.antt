@@ -1,7 +1,7 @@
 -- Entries of a history, one after another.
 use Rattle.std.proofs.Common.{◌≡◌, ℕ, zero, suc, ◌+◌, ◌<◌, List, [], ◌∷◌, length, drop, Some, None, Result, Ok, Err, slice_get, fold, sym, ap, ◌∙◌, arith}
 use Rattle.std.specs.Prelude.{IfOk}
-use Rattle.nofs_machine.specs.declared.history.Entry1.{Entry1}
+use Rattle.nofs_history.specs.declared.machine.history.Entry1.{Entry1}
 use Rattle.nofs_gen.specs.declared.file.Replayed.{Replayed}
 use Rattle.nofs_gen.specs.Replay.{FileNow, after_entry, replayed_file}
 

@@ -1,12 +1,12 @@
 -- The values of a file, by the steps on it that a history accepted.
 use Rattle.std.specs.Prelude.{ℕ, ◌+◌, ◌-◌, ◌*◌, ◌/◌, ◌%◌, min, max, ◌==◌, nat_lt, nat_le, ◌&&◌, not, Bool, List, [], ◌++◌, length, take, replicate, fold}
 use Rattle.std.specs.Prelude.{slice_get, slice_set, unwrap_or, map, if◌then◌else◌}
-use Rattle.nofs_image.specs.declared.value.Value.{Value}
-use Rattle.nofs_image.specs.declared.value.Value.TheVariants as value
-use Rattle.nofs_machine.specs.Machine.{slots_in, trimmed, put_content, is_at, is_refused}
-use Rattle.nofs_machine.specs.declared.history.Entry1.{Entry1}
-use Rattle.nofs_machine.specs.declared.steps.Step.{Step}
-use Rattle.nofs_machine.specs.declared.steps.Step.TheVariants as step
+use Rattle.nofs_model.specs.declared.image.value.Value.{Value}
+use Rattle.nofs_model.specs.declared.image.value.Value.TheVariants as value
+use Rattle.nofs_history.specs.Machine.{slots_in, trimmed, put_content, is_at, is_refused}
+use Rattle.nofs_history.specs.declared.machine.history.Entry1.{Entry1}
+use Rattle.nofs_history.specs.declared.machine.steps.Step.{Step}
+use Rattle.nofs_history.specs.declared.machine.steps.Step.TheVariants as step
 use Rattle.nofs_gen.specs.declared.file.KeptValue.{KeptValue}
 use Rattle.nofs_gen.specs.declared.file.KeptValue.TheVariants as kept
 use Rattle.nofs_gen.specs.declared.file.Replayed.{Replayed}

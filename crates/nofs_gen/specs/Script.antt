@@ -1,9 +1,9 @@
 -- The drawn commands of a drill's users.
 use Rattle.std.specs.Prelude.{ℕ, zero, suc, ◌+◌, ◌-◌, ◌*◌, ◌/◌, ◌%◌, ◌==◌, List, [], ◌∷◌, ◌++◌, replicate, codes, if◌then◌else◌}
-use Rattle.nofs_task.specs.declared.commands.Path.{Path}
-use Rattle.nofs_task.specs.declared.commands.Path.TheVariants.{Names}
-use Rattle.nofs_task.specs.declared.commands.Command.{Command}
-use Rattle.nofs_task.specs.declared.commands.Command.TheVariants as command
+use Rattle.nofs_client.specs.declared.task.commands.Path.{Path}
+use Rattle.nofs_client.specs.declared.task.commands.Path.TheVariants.{Names}
+use Rattle.nofs_client.specs.declared.task.commands.Command.{Command}
+use Rattle.nofs_client.specs.declared.task.commands.Command.TheVariants as command
 
 -- the number that a user begins with
 abbrev pub first_number : ℕ → ℕ → ℕ

@@ -2,13 +2,13 @@
 //!
 //! Promise: each step changes the file as the definition says.
 ghost use Rattle.std.specs.Prelude.{◌≡◌, ◌<◌, ◌≤◌, ◌+◌, ◌/◌, IfOk, OnOk, length, map, slice_set};
-ghost use Rattle.nofs_machine.specs.Machine as machine;
-ghost use Rattle.nofs_image.specs.declared.value.Value.TheVariants as value;
+ghost use Rattle.nofs_history.specs.Machine as machine;
+ghost use Rattle.nofs_model.specs.declared.image.value.Value.TheVariants as value;
 ghost use Rattle.nofs_gen.specs.Replay.{ended, empty_file, is_put as is_put_in, replayed_file, kept_value, padded, put_file, resized_file, trimmed_value, slot_value};
 
+use nofs_dirent::Content;
 use nofs_disk::{clear, write_bytes_at};
-use nofs_image::Value;
-use nofs_lists::Content;
+use nofs_model::Value;
 use std::alloc::{AllocError, Global};
 
 // How many slots are replayed.
@@ -75,7 +75,7 @@ fn bytes_of(alloc: Global, kept: KeptValue) -> Result<Box<[u8; 1024]>, AllocErro
 }
 
 // Makes the bytes of a cell from a place on zeros.
-#[tactic(auto, unfolding(nofs_disk::specs::Number::zeros, nofs_machine::specs::Machine::trimmed))]
+#[tactic(auto, unfolding(nofs_disk::specs::Number::zeros, nofs_history::specs::Machine::trimmed))]
 fn trim(cell: &mut [u8; 1024], cut: usize)
     requires { cut ≤ 1024 }
     ensures { cell.new ≡ machine.trimmed cut cell.old }
@@ -142,7 +142,7 @@ impl Replayed {
     }
 
     // The content of a slot with these bytes in it: zeros past the size.
-    #[tactic(auto, unfolding(nofs_machine::specs::Machine::put_content))]
+    #[tactic(auto, unfolding(nofs_history::specs::Machine::put_content))]
     fn put_content(
         &self,
         alloc: Global,

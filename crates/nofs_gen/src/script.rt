@@ -2,12 +2,11 @@
 //!
 //! Promise: a user works on a file of its own, by commands that its number alone draws.
 ghost use Rattle.std.specs.Prelude.{◌≡◌, ◌≤◌, ◌<◌, ◌^◌, ◌++◌, IfOk, OnOk, replicate};
-ghost use Rattle.nofs_task.specs.Commands.{AreWellFormed};
+ghost use Rattle.nofs_client.specs.Commands.{AreWellFormed};
 ghost use Rattle.nofs_gen.specs.Script.{digit, directory_of as directory_in, user_path as file_in, first_number as first_in, next_number as next_in, drawn, drawn_command, script_of as script_in};
 
-use nofs_client::PathNames;
-use nofs_lists::{Content, Name};
-use nofs_task::{Command, CommandList, Path};
+use nofs_client::{Command, CommandList, Path};
+use nofs_dirent::{Content, Name, PathNames};
 use std::alloc::{AllocError, Global};
 
 /// How many users a drill has.

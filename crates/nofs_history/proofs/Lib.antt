@@ -1,7 +1,3 @@
-pub mod Aimed
-pub mod BaseFiles
-pub mod Changed
-pub mod Taking
-pub mod Fit
-pub mod Gathered
-pub mod Bases
+pub mod EntryPut
+pub mod Links
+pub mod Names

@@ -1,14 +1,8 @@
-//! What a history accepted for a slot, beside the history and its steps, which `nofs_machine` defines.
-//!
-//! Promise: the list is that of the definition, entry by entry.
+//! The machine that the file system is: its steps, what they are answered, and its history.
 #![tactic(auto)]
 
-mod base;
-mod list;
-mod steps;
+mod machine;
 
-pub use list::accepted_of;
-pub use nofs_machine::{
-    Claims, ElementKind, Entry1, FileKind, Found, History, NameLine, NameList, Refusal, Reply,
-    Stat, Step, Steps,
-};
+pub use machine::history::{Claims, Entry1, History, NO_CLAIMS};
+pub use machine::replies::{Found, NameLine, NameList, Refusal, Reply, Stat};
+pub use machine::steps::{ElementKind, Step, Steps};

@@ -7,12 +7,12 @@ use Rattle.nofs_disk.specs.declared.Failed.{Failed}
 use Rattle.nofs_disk.specs.declared.tag.Cell.{Cell}
 use Rattle.nofs_disk.specs.Chains.{IsSameDisk-trans, KeepsPast-trans, StaysButFaults-refl, StaysButFaults-trans}
 use Rattle.nofs_disk.specs.Disk.{DiskState, Flushes, IsDisk, IsSettled, StaysButFaults, cell_at, no_cell}
-use Rattle.nofs_sides.specs.declared.opening.MirrorStart.{MirrorStart}
-use Rattle.nofs_sides.specs.declared.past.MirrorCall.{MirrorCall}
-use Rattle.nofs_sides.specs.declared.past.Span.{Span}
+use Rattle.nofs_mirror.specs.declared.sides.opening.MirrorStart.{MirrorStart}
+use Rattle.nofs_mirror.specs.declared.sides.past.MirrorCall.{MirrorCall}
+use Rattle.nofs_mirror.specs.declared.sides.past.Span.{Span}
 use Rattle.nofs_mirror.specs.Copying.{Copies, HasCopied}
-use Rattle.nofs_law_mirror.specs.Laws.{MirrorKeeps}
-use Rattle.nofs_law_mirror.specs.Mirror.{IsSide}
+use Rattle.nofs_mirror.specs.Laws.{MirrorKeeps}
+use Rattle.nofs_mirror.specs.Mirror.{IsSide}
 
 pub Copies-trans : (a b c x y z : DiskState) → Copies a b x y → Copies b c y z → Copies a c x z
 Copies-trans a b c x y z p q = record {

@@ -9,20 +9,20 @@ use Rattle.nofs_disk.specs.declared.Failed.{Failed}
 use Rattle.nofs_disk.specs.declared.tag.Cell.{Cell}
 use Rattle.nofs_disk.specs.Cells.{Contains-known, Picks-known}
 use Rattle.nofs_disk.specs.Disk.{DiskState, Flushes, IsDisk, Picks, cell_at, no_cell}
-use Rattle.nofs_sides.specs.declared.asking.SideCall.{SideCall}
+use Rattle.nofs_mirror.specs.declared.sides.asking.SideCall.{SideCall}
 use Rattle.nofs_mirror.specs.declared.mirror.Mirror.{Mirror}
-use Rattle.nofs_sides.specs.declared.opening.MirrorStart.{MirrorStart}
-use Rattle.nofs_sides.specs.declared.past.MirrorCall.{MirrorCall}
-use Rattle.nofs_sides.specs.declared.past.Effect.TheVariants.{Settle, Nothing}
-use Rattle.nofs_sides.specs.Asking.{SideFlushes, any_done, call_of, counted_if, flush_effect, is_asked, lead_stays}
-use Rattle.nofs_law_mirror.specs.Laws.{MirrorKeeps, told-Picks, told-has, told-is}
-use Rattle.nofs_law_mirror.specs.Mirror.{both_tell, flushed_cells, may_step, mirror_state, now_of, if_told}
-use Rattle.nofs_sides.specs.Past.{past_calls}
+use Rattle.nofs_mirror.specs.declared.sides.opening.MirrorStart.{MirrorStart}
+use Rattle.nofs_mirror.specs.declared.sides.past.MirrorCall.{MirrorCall}
+use Rattle.nofs_mirror.specs.declared.sides.past.Effect.TheVariants.{Settle, Nothing}
+use Rattle.nofs_mirror.specs.Asking.{SideFlushes, any_done, call_of, counted_if, flush_effect, is_asked, lead_stays}
+use Rattle.nofs_mirror.specs.Laws.{MirrorKeeps, told-Picks, told-has, told-is}
+use Rattle.nofs_mirror.specs.Mirror.{both_tell, flushed_cells, may_step, mirror_state, now_of, if_told}
+use Rattle.nofs_mirror.specs.Past.{past_calls}
 use Rattle.nofs_mirror.proofs.MirrorCalls.{AreAsked, Called, asked_kept, asked_now, called_during, called_goes, called_may, called_tells, calls_sides}
 use Rattle.nofs_mirror.proofs.MirrorCalls.{mirror_cause, mirror_disk, mirror_no_fault}
-use Rattle.nofs_law_mirror.proofs.MirrorCells.{cells_of, flush_goes, may_of, on_err, on_ok, told_put}
-use Rattle.nofs_law_mirror.proofs.MirrorFlushes.{FlushedSides, below_in, flush_mirrored, flushed_now, mirror_now, settled_back, side_leaves}
-use Rattle.nofs_law_mirror.proofs.MirrorPast.{past_moves, told_same, was_now}
+use Rattle.nofs_mirror.proofs.MirrorCells.{cells_of, flush_goes, may_of, on_err, on_ok, told_put}
+use Rattle.nofs_mirror.proofs.MirrorFlushes.{FlushedSides, below_in, flush_mirrored, flushed_now, mirror_now, settled_back, side_leaves}
+use Rattle.nofs_mirror.proofs.MirrorPast.{past_moves, told_same, was_now}
 
 -- a flush asks the sides
 pub record CalledFlush (lead lead_new other other_new first : DiskState) (opening : MirrorStart) (past : List MirrorCall) (spare : ℕ)

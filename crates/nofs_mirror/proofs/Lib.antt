@@ -1,3 +1,9 @@
+pub mod SidePast
+pub mod MirrorPast
+pub mod MirrorCells
+pub mod MirrorWrites
+pub mod MirrorLeaves
+pub mod MirrorFlushes
 pub mod MirrorCalls
 pub mod WriteCalls
 pub mod FlushCalls

@@ -7,22 +7,22 @@ use Rattle.nofs_disk.specs.declared.disk.Disk.{Ghosts}
 use Rattle.nofs_disk.specs.declared.Failed.{Failed}
 use Rattle.nofs_disk.specs.declared.tag.Cell.{Cell}
 use Rattle.nofs_disk.specs.Disk.{DiskState, IsDisk, IsSameDisk, Picks, Rose}
-use Rattle.nofs_sides.specs.declared.asking.SideCall.{SideCall}
-use Rattle.nofs_sides.specs.declared.log.Sides.{Sides}
+use Rattle.nofs_mirror.specs.declared.sides.asking.SideCall.{SideCall}
+use Rattle.nofs_mirror.specs.declared.sides.log.Sides.{Sides}
 use Rattle.nofs_mirror.specs.declared.mirror.Mirror.{Mirror}
-use Rattle.nofs_sides.specs.declared.opening.MirrorStart.{MirrorStart}
-use Rattle.nofs_sides.specs.declared.past.Effect.{Effect}
-use Rattle.nofs_sides.specs.declared.past.MirrorCall.{MirrorCall}
-use Rattle.nofs_sides.specs.declared.past.Span.{Span}
-use Rattle.nofs_sides.specs.Asking.{call_of, counted, counted_if, is_asked, sides_after}
-use Rattle.nofs_law_mirror.specs.Laws.{MirrorKeeps, told-has}
-use Rattle.nofs_law_mirror.specs.Mirror.{IsMirrored, IsSide, SideLeaves, SideLeft, both_tell, last_span, mirror_state, now_of, if_told}
-use Rattle.nofs_sides.specs.Past.{past_calls}
-use Rattle.nofs_law_mirror.proofs.MirrorCells.{Holds, LeavesFirst, SideGoes, cells_known, cells_of, may_of, mirrored_same, on_err, on_ok, side_during}
-use Rattle.nofs_law_mirror.proofs.MirrorCells.{side_goes, some_stays, told_put}
-use Rattle.nofs_law_mirror.proofs.MirrorLeaves.{during_leaves}
-use Rattle.nofs_law_mirror.proofs.MirrorPast.{Goes, SideKeeps, SidesLeave, goes_was, may_keeps, tells_same}
-use Rattle.nofs_law_mirror.proofs.SidePast.{left_during}
+use Rattle.nofs_mirror.specs.declared.sides.opening.MirrorStart.{MirrorStart}
+use Rattle.nofs_mirror.specs.declared.sides.past.Effect.{Effect}
+use Rattle.nofs_mirror.specs.declared.sides.past.MirrorCall.{MirrorCall}
+use Rattle.nofs_mirror.specs.declared.sides.past.Span.{Span}
+use Rattle.nofs_mirror.specs.Asking.{call_of, counted, counted_if, is_asked, sides_after}
+use Rattle.nofs_mirror.specs.Laws.{MirrorKeeps, told-has}
+use Rattle.nofs_mirror.specs.Mirror.{IsMirrored, IsSide, SideLeaves, SideLeft, both_tell, last_span, mirror_state, now_of, if_told}
+use Rattle.nofs_mirror.specs.Past.{past_calls}
+use Rattle.nofs_mirror.proofs.MirrorCells.{Holds, LeavesFirst, SideGoes, cells_known, cells_of, may_of, mirrored_same, on_err, on_ok, side_during}
+use Rattle.nofs_mirror.proofs.MirrorCells.{side_goes, some_stays, told_put}
+use Rattle.nofs_mirror.proofs.MirrorLeaves.{during_leaves}
+use Rattle.nofs_mirror.proofs.MirrorPast.{Goes, SideKeeps, SidesLeave, goes_was, may_keeps, tells_same}
+use Rattle.nofs_mirror.proofs.SidePast.{left_during}
 
 -- a write or flush asks a side of a mirror where it is in
 pub record AsksSide (n spare : ℕ) (side : MirrorCall → Span) (opened : Span) (past : List MirrorCall) (old new : DiskState) (call : SideCall) : Type 0 where

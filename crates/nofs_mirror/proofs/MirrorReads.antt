@@ -8,19 +8,19 @@ use Rattle.nofs_disk.specs.declared.disk.Disk.{Ghosts}
 use Rattle.nofs_disk.specs.declared.Failed.{Failed}
 use Rattle.nofs_disk.specs.declared.tag.Cell.{Cell}
 use Rattle.nofs_disk.specs.Disk.{DiskState, IsSameDisk, KeepsCells, KeepsPast, MakesReady, Reads, Rose, StaysButFaults, cell_at, no_cell}
-use Rattle.nofs_sides.specs.declared.log.Sides.{Sides}
+use Rattle.nofs_mirror.specs.declared.sides.log.Sides.{Sides}
 use Rattle.nofs_mirror.specs.declared.mirror.Mirror.{Mirror}
-use Rattle.nofs_sides.specs.declared.opening.MirrorStart.{MirrorStart}
-use Rattle.nofs_sides.specs.declared.past.MirrorCall.{MirrorCall}
-use Rattle.nofs_sides.specs.declared.past.Span.{Span}
-use Rattle.nofs_sides.specs.Asking.{Rests}
-use Rattle.nofs_law_mirror.specs.Laws.{MirrorKeeps, told-is}
-use Rattle.nofs_law_mirror.specs.Mirror.{EitherReads, IsFrom, IsMirrored, IsServed, IsSide, SideLeft, SideServes, both_tell, last_span, mirror_state, now_of}
-use Rattle.nofs_law_mirror.specs.Mirror.{if_told}
-use Rattle.nofs_sides.specs.Past.{past_calls}
-use Rattle.nofs_law_mirror.proofs.MirrorCells.{Holds, cells_known, cells_of, may_of, mirrored_same}
-use Rattle.nofs_law_mirror.proofs.MirrorPast.{Goes, goes_was, may_keeps, past_stays, tells_same, told_same}
-use Rattle.nofs_law_mirror.proofs.SidePast.{marked_later}
+use Rattle.nofs_mirror.specs.declared.sides.opening.MirrorStart.{MirrorStart}
+use Rattle.nofs_mirror.specs.declared.sides.past.MirrorCall.{MirrorCall}
+use Rattle.nofs_mirror.specs.declared.sides.past.Span.{Span}
+use Rattle.nofs_mirror.specs.Asking.{Rests}
+use Rattle.nofs_mirror.specs.Laws.{MirrorKeeps, told-is}
+use Rattle.nofs_mirror.specs.Mirror.{EitherReads, IsFrom, IsMirrored, IsServed, IsSide, SideLeft, SideServes, both_tell, last_span, mirror_state}
+use Rattle.nofs_mirror.specs.Mirror.{now_of, if_told}
+use Rattle.nofs_mirror.specs.Past.{past_calls}
+use Rattle.nofs_mirror.proofs.MirrorCells.{Holds, cells_known, cells_of, may_of, mirrored_same}
+use Rattle.nofs_mirror.proofs.MirrorPast.{Goes, goes_was, may_keeps, past_stays, tells_same, told_same}
+use Rattle.nofs_mirror.proofs.SidePast.{marked_later}
 
 pub stays_rests : (old new : DiskState) → StaysButFaults old new → Rests old new
 stays_rests old new s = record { disk = s.disk; past = s.past; cells = s.cells; spare = (let e = s.spare in omega arith) }

@@ -9,20 +9,20 @@ use Rattle.nofs_disk.specs.declared.Failed.{Failed}
 use Rattle.nofs_disk.specs.declared.tag.Cell.{Cell}
 use Rattle.nofs_disk.specs.Cells.{Picks-known}
 use Rattle.nofs_disk.specs.Disk.{DiskState, IsDisk, IsSizedCell, Writes}
-use Rattle.nofs_sides.specs.declared.asking.SideCall.{SideCall}
+use Rattle.nofs_mirror.specs.declared.sides.asking.SideCall.{SideCall}
 use Rattle.nofs_mirror.specs.declared.mirror.Mirror.{Mirror}
-use Rattle.nofs_sides.specs.declared.opening.MirrorStart.{MirrorStart}
-use Rattle.nofs_sides.specs.declared.past.MirrorCall.{MirrorCall}
-use Rattle.nofs_sides.specs.declared.past.Effect.TheVariants.{Write}
-use Rattle.nofs_sides.specs.Asking.{SideWrites, any_done, call_of, counted_if, is_asked, lead_stays}
-use Rattle.nofs_law_mirror.specs.Laws.{MirrorKeeps, told-Picks}
-use Rattle.nofs_law_mirror.specs.Mirror.{both_tell, flushed_cells, mirror_state, now_of}
-use Rattle.nofs_sides.specs.Past.{past_calls}
+use Rattle.nofs_mirror.specs.declared.sides.opening.MirrorStart.{MirrorStart}
+use Rattle.nofs_mirror.specs.declared.sides.past.MirrorCall.{MirrorCall}
+use Rattle.nofs_mirror.specs.declared.sides.past.Effect.TheVariants.{Write}
+use Rattle.nofs_mirror.specs.Asking.{SideWrites, any_done, call_of, counted_if, is_asked, lead_stays}
+use Rattle.nofs_mirror.specs.Laws.{MirrorKeeps, told-Picks}
+use Rattle.nofs_mirror.specs.Mirror.{both_tell, flushed_cells, mirror_state, now_of}
+use Rattle.nofs_mirror.specs.Past.{past_calls}
 use Rattle.nofs_mirror.proofs.MirrorCalls.{Called, asked_kept, asked_now, called_during, called_goes, called_may, called_tells, calls_sides, mirror_cause}
 use Rattle.nofs_mirror.proofs.MirrorCalls.{mirror_disk, mirror_no_fault, told_either, told_goes, told_set}
-use Rattle.nofs_law_mirror.proofs.MirrorCells.{cells_of, may_of, on_err, on_ok, write_goes}
-use Rattle.nofs_law_mirror.proofs.MirrorPast.{past_moves, told_same}
-use Rattle.nofs_law_mirror.proofs.MirrorWrites.{side_leaves, write_err, write_mirrored, write_ok, written, written_cases, written_other}
+use Rattle.nofs_mirror.proofs.MirrorCells.{cells_of, may_of, on_err, on_ok, write_goes}
+use Rattle.nofs_mirror.proofs.MirrorPast.{past_moves, told_same}
+use Rattle.nofs_mirror.proofs.MirrorWrites.{side_leaves, write_err, write_mirrored, write_ok, written, written_cases, written_other}
 
 -- a write asks the sides
 pub record CalledWrite (lead lead_new other other_new first : DiskState) (opening : MirrorStart) (past : List MirrorCall) (spare : ℕ) (a o : SideCall) (b : ℕ)

@@ -62,7 +62,7 @@ fn copy_cells<A: Disk, B: Disk>(lead: &mut A, other: &mut B, blocks: u64) -> Res
 }
 
 /// Copies the first cells and flushes them, up to the first call that fails.
-pub fn copy_and_flush<A: Disk, B: Disk>(
+pub(crate) fn copy_and_flush<A: Disk, B: Disk>(
     lead: &mut A,
     other: &mut B,
     blocks: u64,

@@ -7,5 +7,8 @@
 
 mod copying;
 mod mirror;
+mod sides;
 
 pub use mirror::{Mirror, MirrorFault};
+pub use sides::log::Sides;
+pub use sides::opening::MirrorCause;

@@ -18,18 +18,19 @@
 //! - A read puts no side out. The side that went out is not touched again.
 ghost use Rattle.std.specs.Prelude.{◌≡◌, ◌+◌, ◌<◌, ◌≤◌, ◌⊎◌, ◌||◌, [], IfOk, IfErr, IsFalse, IsTrue, OnOk, OnErr};
 ghost use Rattle.nofs_disk.specs.Disk.{Flushes, IsSettled, Reads, Rose, StaysButFaults, Writes, WritesOut};
-ghost use Rattle.nofs_sides.specs.Asking.{Rests};
+ghost use Rattle.nofs_mirror.specs.Asking.{Rests};
 ghost use Rattle.nofs_mirror.specs.Copying.{HasCopied};
-ghost use Rattle.nofs_law_mirror.specs.Laws.{MirrorKeeps};
-ghost use Rattle.nofs_law_mirror.specs.Mirror.{ChangesSides, Counts, EitherReads, IsFrom, IsReadFault, IsSide, LeadBack, LeavesOut, OpensMirror, OtherBack, ReadFails, Refuses, SideLeaves, SideServes, last_span};
-ghost use Rattle.nofs_sides.specs.Past.{past_calls};
+ghost use Rattle.nofs_mirror.specs.Laws.{MirrorKeeps};
+ghost use Rattle.nofs_mirror.specs.Mirror.{ChangesSides, Counts, EitherReads, IsFrom, IsReadFault, IsSide, LeadBack, LeavesOut, OpensMirror};
+ghost use Rattle.nofs_mirror.specs.Mirror.{OtherBack, ReadFails, Refuses, SideLeaves, SideServes, last_span};
+ghost use Rattle.nofs_mirror.specs.Past.{past_calls};
 
 use crate::copying::{CopyFault, copy_and_flush};
+use crate::sides::asking::{SideAnswer, flush_side, read_side, write_side};
+use crate::sides::log::{Log, Sides, flush_effect};
+use crate::sides::opening::{MirrorCause, MirrorStart};
+use crate::sides::past::{Effect, Span};
 use nofs_disk::{Cell, Disk, Failed};
-use nofs_sides::{
-    Effect, Log, MirrorCause, MirrorStart, SideAnswer, Sides, Span, flush_effect, flush_side,
-    read_side, write_side,
-};
 use std::alloc::AllocError;
 use std::snapshot::Snapshot;
 
@@ -218,8 +219,8 @@ impl<A: Disk + Drop, B: Disk + Drop> Mirror<A, B> {
 }
 
 impl<A: Disk + Drop, B: Disk + Drop> Disk for Mirror<A, B> {
-    ghost use Rattle.nofs_law_mirror.specs.Mirror.{mirror_state};
-    ghost use Rattle.nofs_law_mirror.specs.Laws.{mirror_is};
+    ghost use Rattle.nofs_mirror.specs.Mirror.{mirror_state};
+    ghost use Rattle.nofs_mirror.specs.Laws.{mirror_is};
 
     ghost state = { λ m. mirror_state (A.state m.lead) (B.state m.other) (A.state m.first.value) m.opening
         (past_calls m.log.past.value) m.log.spare m.log.faults };

@@ -1,1 +1,13 @@
+pub mod Find
+pub mod Paths
+pub mod Chains
+pub mod Owners
+pub mod Sound
+pub mod EntryTests
+pub mod Spells
+pub mod Vectors
+pub mod Meanings
+pub mod NameMeanings
+pub mod OwnerMeanings
+pub mod Formatted
 pub mod Parents

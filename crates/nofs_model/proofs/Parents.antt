@@ -6,12 +6,12 @@ use Rattle.std.proofs.lemmas.List.Folds.{list_any_none}
 use Rattle.std.proofs.lemmas.List.Sums.{fails_before_first, sum_by-cons}
 use Rattle.nofs_inode.specs.InodeRecords.{allows_kind, allows_record, is_tidy_link, link_count, has_rest, record_with, record_or_free}
 use Rattle.nofs_inode.specs.declared.inode.FileKind.TheVariants.{File, Directory as Folder}
-use Rattle.nofs_image.specs.Cells.{FileKind, BackLink, Record, is_null, is_empty_link, free_record, record_of, record_at, fields_in}
-use Rattle.nofs_image.specs.Image.{Image, cell_at, is_inode, inode, FileState, Files, file_from, files_in, is_folder, pairs, is_pair}
-use Rattle.nofs_image.specs.Image.{agreed, links_of, links_in_file, is_root, is_special}
-use Rattle.nofs_image.specs.Files.{has_agreed_link, IsParent}
-use Rattle.nofs_image.proofs.Find.{and-both}
-use Rattle.nofs_image.proofs.Chains.{pair-of, agreed-is}
+use Rattle.nofs_model.specs.Cells.{FileKind, BackLink, Record, is_null, is_empty_link, free_record, record_of, record_at, fields_in}
+use Rattle.nofs_model.specs.Image.{Image, cell_at, is_inode, inode, FileState, Files, file_from, files_in, is_folder, pairs, is_pair, agreed}
+use Rattle.nofs_model.specs.Image.{links_of, links_in_file, is_root, is_special}
+use Rattle.nofs_model.specs.Files.{has_agreed_link, IsParent}
+use Rattle.nofs_model.proofs.Find.{and-both}
+use Rattle.nofs_model.proofs.Chains.{pair-of, agreed-is}
 use Rattle.std.proofs.lemmas.List.Quantifiers.{position-Some}
 
 -- a place counts where it is full

@@ -1,7 +1,13 @@
 //! Cells and records of an image.
+pub(crate) mod entry;
+pub(crate) mod path;
+pub(crate) mod place;
+pub(crate) mod tags;
+pub(crate) mod value;
+
 ghost use Rattle.std.specs.Prelude.{◌≡◌, ◌<◌, length};
-ghost use Rattle.nofs_image.specs.Geometry as image;
-ghost use Rattle.nofs_image.specs.Places.{IsRead, IsRecord};
+ghost use Rattle.nofs_model.specs.Geometry as image;
+ghost use Rattle.nofs_model.specs.Places.{IsRead, IsRecord};
 
 use nofs_disk::{Cell, read_u32_at, read_u64_at};
 use nofs_inode::{FREE_RECORD, Record, record_at};
@@ -16,7 +22,7 @@ pub(crate) fn cell_at(cells: &[Cell], block: u64) -> &Cell
 }
 
 /// The numbers of a mountable image.
-#[tactic(auto, unfolding(nofs_image::specs::Geometry::super_at))]
+#[tactic(auto, unfolding(crate::specs::Geometry::super_at))]
 pub(crate) fn numbers_of(cells: &[Cell]) -> SuperBlock
     requires { image.IsMountable cells.now }
     ensures { IsRead cells.now result }
@@ -37,7 +43,7 @@ pub(crate) fn super_in(payload: &[u8; 1024]) -> SuperBlock
 }
 
 /// The record of an inode: free where its bytes spell none, and where there is no such inode.
-#[tactic(auto, unfolding(nofs_image::specs::Geometry::inode))]
+#[tactic(auto, unfolding(crate::specs::Geometry::inode))]
 pub(crate) fn read_inode(cells: &[Cell], at: &SuperBlock, inode: u32) -> Record
     requires { IsRead cells.now at.now }
     ensures { IsRecord cells.now at.now inode result }

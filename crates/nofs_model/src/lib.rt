@@ -6,12 +6,19 @@
 #![tactic(auto)]
 
 mod image;
+mod laws;
 mod mountable;
 mod names;
 mod owner;
 mod scan;
 mod slots;
 
+pub use image::entry::names_inode;
+pub use image::path::PathAnswer;
+pub use image::place::{Place, place_of, slot_number};
+pub use image::tags::{is_tag, kind_in, record_pointer};
+pub use image::value::Value;
+pub use laws::{law_formatted, law_sound};
 pub use mountable::is_mountable;
 pub use names::agreed;
 pub use owner::{is_slot, owner_of};

@@ -1,6 +1,6 @@
 //! Whether an image can be mounted.
 ghost use Rattle.std.specs.Prelude.{◌≡◌, ◌↔◌, ◌<◌, ◌==◌, IsTrue, IsNone, is_none, length, not, position};
-ghost use Rattle.nofs_image.specs.Geometry as image;
+ghost use Rattle.nofs_model.specs.Geometry as image;
 ghost use Rattle.nofs_super.specs.Super.{has_magic, is_super, is_version, rest_fault};
 
 use crate::image::{cell_at, super_in};
@@ -9,7 +9,7 @@ use nofs_super::MAGIC;
 
 /// Whether cells are an image that can be mounted: block 0 spells a superblock of version 1 or 2
 /// whose numbers format would accept on a device of so many blocks.
-#[tactic(auto, unfolding(nofs_image::specs::Geometry::super_at))]
+#[tactic(auto, unfolding(crate::specs::Geometry::super_at))]
 pub fn is_mountable(cells: &[Cell]) -> bool
     ensures { IsTrue result ↔ image.IsMountable cells.now }
 {

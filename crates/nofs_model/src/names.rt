@@ -2,15 +2,16 @@
 ghost use Rattle.std.specs.Prelude.{◌≡◌, ◌<◌, ◌&&◌, Some, true, false, IfSome, IsNone, IsTrue};
 ghost use Rattle.std.specs.List.{list_any, position};
 ghost use Rattle.nofs_inode.specs.declared.inode.FileKind.TheVariants as kind;
-ghost use Rattle.nofs_image.specs.Files as files;
-ghost use Rattle.nofs_image.specs.Geometry as image;
-ghost use Rattle.nofs_image.specs.Places.{AreAgreed, IsRead, IsRecord, is_known};
+ghost use Rattle.nofs_model.specs.Files as files;
+ghost use Rattle.nofs_model.specs.Geometry as image;
+ghost use Rattle.nofs_model.specs.Places.{AreAgreed, IsRead, IsRecord, is_known};
 
+use crate::image::entry::names_inode;
+use crate::image::path::PathAnswer;
 use crate::image::{cell_at, numbers_of, read_inode};
 use crate::slots::find_number;
 use nofs_dirent::ENTRY_LIMIT;
 use nofs_disk::Cell;
-use nofs_image::{PathAnswer, names_inode};
 use nofs_inode::{BackLink, FileKind, Record};
 use nofs_super::SuperBlock;
 

@@ -1,15 +1,15 @@
 //! Which slot has a block.
 ghost use Rattle.std.specs.Prelude.{◌≡◌, ◌<◌, Some, length};
-ghost use Rattle.nofs_image.specs.Geometry.{IsMountable};
-ghost use Rattle.nofs_image.specs.Owners as owners;
-ghost use Rattle.nofs_image.specs.Places.{AreAgreed, IsRead};
-ghost use Rattle.nofs_image.specs.Slots.{is_slot};
+ghost use Rattle.nofs_model.specs.Geometry.{IsMountable};
+ghost use Rattle.nofs_model.specs.Owners as owners;
+ghost use Rattle.nofs_model.specs.Places.{AreAgreed, IsRead};
+ghost use Rattle.nofs_model.specs.Slots.{is_slot};
 
+use crate::image::path::PathAnswer;
 use crate::image::{cell_at, numbers_of};
 use crate::names::is_agreed;
 use crate::slots::find_number;
 use nofs_disk::{Cell, Tag, read_tag};
-use nofs_image::PathAnswer;
 use nofs_ptrs::SLOT_LIMIT;
 use nofs_super::SuperBlock;
 
@@ -23,7 +23,7 @@ pub fn owner_of(cells: &[Cell], block: u64) -> Option<(u32, u64)>
     find_owner(cells, &at, &[], block)
 }
 
-#[tactic(auto, using(nofs_image::proofs::Owners::owner_past), unfolding(nofs_image::specs::Owners::owner))]
+#[tactic(auto, using(crate::proofs::Owners::owner_past), unfolding(crate::specs::Owners::owner))]
 pub(crate) fn find_owner(
     cells: &[Cell],
     at: &SuperBlock,

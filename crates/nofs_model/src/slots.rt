@@ -1,17 +1,18 @@
 //! What stands in the slots of an image.
 ghost use Rattle.std.specs.Prelude.{◌≡◌, ◌<◌, ◌≤◌, ◌+◌, ◌/◌, length, IfOk, IsTrue};
 ghost use Rattle.nofs_ptrs.specs.Paths.{slot_limit};
-ghost use Rattle.nofs_image.specs.Geometry.{IsMountable};
-ghost use Rattle.nofs_image.specs.Places.{InArea, IsPlace, IsRead, IsRecord, place_path};
-ghost use Rattle.nofs_image.specs.Slots as slots;
+ghost use Rattle.nofs_model.specs.Geometry.{IsMountable};
+ghost use Rattle.nofs_model.specs.Places.{InArea, IsPlace, IsRead, IsRecord, place_path};
+ghost use Rattle.nofs_model.specs.Slots as slots;
 
+use crate::image::path::PathAnswer;
+use crate::image::place::{Place, place_of, slot_number};
+use crate::image::tags::{is_tag, kind_in, record_pointer};
+use crate::image::value::Value;
 use crate::image::{cell_at, numbers_of, read_inode};
+use nofs_dirent::Content;
 use nofs_disk::{Cell, Pointer, Tag};
-use nofs_image::{
-    PathAnswer, Place, Value, is_tag, kind_in, place_of, record_pointer, slot_number,
-};
 use nofs_inode::Record;
-use nofs_lists::Content;
 use nofs_ptrs::read_pointer;
 use nofs_super::SuperBlock;
 use std::alloc::{AllocError, Global};

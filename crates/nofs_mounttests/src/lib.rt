@@ -6,4 +6,13 @@
 #[cfg(test)]
 mod mounts;
 #[cfg(test)]
+mod outs;
+#[cfg(test)]
 mod rows;
+mod servetests;
+mod sharedtests;
+mod testmounts;
+
+pub use testmounts::{
+    full_below_24, is_stored, is_used, mounted, put, put_step, refusal, seen, two_passes,
+};

@@ -1,11 +1,12 @@
 //! Steps at a mount on a formatted disk in memory.
+use crate::testmounts::{is_stored, mounted, refusal, seen};
+use nofs_dirent::{Content, Name};
+use nofs_history::{ElementKind, Refusal, Reply, Step};
 use nofs_inode::FileKind;
-use nofs_lists::{Content, Name};
-use nofs_machine::{ElementKind, Refusal, Reply, Step};
 use nofs_memdisk::MemDisk;
-use nofs_shared::{Mount, judge};
+use nofs_scan::judge;
+use nofs_shared::Mount;
 use nofs_testdisks::formatted;
-use nofs_testmounts::{is_stored, mounted, refusal, seen};
 use std::alloc::Global;
 use std::test::Fail;
 

@@ -1,12 +1,12 @@
 //! Rows of steps at a mount of a disk in memory: what is refused for want of blocks, stamps or a read,
 //! and what a mount costs the device.
+use crate::testmounts::{full_below_24, is_stored, is_used, mounted, put, refusal};
 use nofs_disk::Cell;
-use nofs_machine::{Refusal, Reply, Step};
+use nofs_history::{Refusal, Reply, Step};
 use nofs_memdisk::MemDisk;
 use nofs_shared::{BeginFault, Mount};
 use nofs_super::{MountFault, SuperBlock, write_super};
 use nofs_testdisks::formatted;
-use nofs_testmounts::{full_below_24, is_stored, is_used, mounted, put, refusal};
 use nofs_versions::{CallCounts, CallKind, FaultAt};
 use std::alloc::Global;
 use std::test::Fail;

@@ -4,30 +4,34 @@ use Rattle.std.proofs.Common.{ap, ◌∙◌, subst, arith, eqb-true, eq-eqb}
 use Rattle.std.specs.Prelude.{slice_get}
 use Rattle.std.proofs.lemmas.Bool.{cases_lt}
 use Rattle.std.proofs.lemmas.Option.{slice_get_within}
-use Rattle.nofs_image.specs.Cells.{Entry}
-use Rattle.nofs_image.specs.Image.{Image, Files, entry_at}
-use Rattle.nofs_machine.specs.Machine.{found, place_for, link_to, given_by}
-use Rattle.nofs_machine.specs.History.{agreed_files}
-use Rattle.nofs_machine.specs.Steps.{Made}
-use Rattle.nofs_machine.specs.World.{World}
-use Rattle.nofs_machine.specs.Next.{Next}
-use Rattle.nofs_machine.specs.declared.history.Entry1.{Entry1}
-use Rattle.nofs_machine.specs.declared.steps.Step.{Step}
-use Rattle.nofs_machine.specs.declared.steps.Step.TheVariants as step
-use Rattle.nofs_machine.specs.declared.replies.Reply.TheVariants as reply
-use Rattle.nofs_task.specs.declared.commands.Command.TheVariants as command
-use Rattle.nofs_task.specs.declared.commands.Path.{Path}
-use Rattle.nofs_task.specs.Places.{last_name}
-use Rattle.nofs_law_moves.specs.Handed.{files_before, KeepsEntry, named_entry}
-use Rattle.nofs_law_moves.proofs.Handed.{files-after, IsSane, Linked, linked-range, linked-paired, Guard, SaneRun, moment-at, linked-along, sane-run}
-use Rattle.nofs_law_moves.proofs.Handed.{Places, look-places, link-place-is}
-use Rattle.nofs_law_moves.proofs.Handed.{Only, plain-guard, keeping-guard, found-name, name-finds, look-linked, link-linked}
-use Rattle.nofs_law_moves.specs.Own.{done_of, RunBy, place_in, end_of}
-use Rattle.nofs_law_moves.specs.Linked.{is_idle, DropMade, LinkedSteps}
+use Rattle.nofs_model.specs.Cells.{Entry}
+use Rattle.nofs_model.specs.Image.{Image, Files, entry_at}
+use Rattle.nofs_history.specs.Machine.{found, place_for, link_to, given_by}
+use Rattle.nofs_history.specs.History.{agreed_files}
+use Rattle.nofs_history.specs.Steps.{Made}
+use Rattle.nofs_history.specs.World.{World}
+use Rattle.nofs_history.specs.Next.{Next}
+use Rattle.nofs_history.specs.declared.machine.history.Entry1.{Entry1}
+use Rattle.nofs_history.specs.declared.machine.steps.Step.{Step}
+use Rattle.nofs_history.specs.declared.machine.steps.Step.TheVariants as step
+use Rattle.nofs_history.specs.declared.machine.replies.Reply.TheVariants as reply
+use Rattle.nofs_client.specs.declared.task.commands.Command.TheVariants as command
+use Rattle.nofs_client.specs.declared.task.commands.Path.{Path}
+use Rattle.nofs_client.specs.Places.{last_name}
+use Rattle.nofs_crashlaw.specs.Runs.{files_before}
+use Rattle.nofs_crashlaw.specs.PathMoves.{KeepsEntry, named_entry}
+use Rattle.nofs_crashlaw.proofs.RunLaws.{files-after}
+use Rattle.nofs_crashlaw.proofs.Links.{IsSane, Linked, linked-range, linked-paired}
+use Rattle.nofs_crashlaw.proofs.Along.{Guard, SaneRun, moment-at, linked-along}
+use Rattle.nofs_crashlaw.proofs.Base.{sane-run}
+use Rattle.nofs_crashlaw.proofs.Alone.{Places, look-places, link-place-is}
+use Rattle.nofs_crashlaw.proofs.Moving.{Only, plain-guard, keeping-guard, found-name, name-finds, look-linked, link-linked}
+use Rattle.nofs_move.specs.Own.{done_of, RunBy, place_in, end_of}
+use Rattle.nofs_move.specs.Linked.{is_idle, DropMade, LinkedSteps}
 use Rattle.nofs_move.specs.Laws.{NamesStay, LeavesName, NamesLeft, LawNamesLeft}
-use Rattle.nofs_law_moves.proofs.Own.{OwnEntry}
-use Rattle.nofs_law_moves.proofs.Replies.{idle-keeps}
-use Rattle.nofs_law_moves.proofs.Entries.{own, rises, by-end, Between, between}
+use Rattle.nofs_move.proofs.Own.{OwnEntry}
+use Rattle.nofs_move.proofs.Replies.{idle-keeps}
+use Rattle.nofs_move.proofs.Entries.{own, rises, by-end, Between, between}
 
 -- An entry whose step leaves a name keeps its link
 

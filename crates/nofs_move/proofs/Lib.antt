@@ -1,2 +1,11 @@
+pub mod Own
+pub mod Driver
+pub mod Stages
+pub mod Walk
+pub mod Looks
+pub mod Replies
+pub mod Entries
+pub mod Scripts
+pub mod MoveSteps
 pub mod Moves
 pub mod Left

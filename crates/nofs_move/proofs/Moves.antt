@@ -4,23 +4,27 @@ use Rattle.std.proofs.Common.{eqb-true, eq-eqb}
 use Rattle.std.specs.Prelude.{slice_get}
 use Rattle.std.proofs.lemmas.Bool.{cases_lt}
 use Rattle.std.proofs.lemmas.Option.{slice_get_within}
-use Rattle.nofs_image.specs.Image.{Image, Files}
-use Rattle.nofs_machine.specs.Machine.{place_for, given_by}
-use Rattle.nofs_machine.specs.Steps.{Made}
-use Rattle.nofs_machine.specs.declared.history.Entry1.{Entry1}
-use Rattle.nofs_machine.specs.declared.steps.Step.TheVariants as step
-use Rattle.nofs_machine.specs.declared.replies.Reply.TheVariants as reply
-use Rattle.nofs_task.specs.declared.commands.Command.TheVariants as command
-use Rattle.nofs_task.specs.declared.commands.Path.{Path}
-use Rattle.nofs_task.specs.Places.{last_name}
-use Rattle.nofs_law_moves.specs.Handed.{files_before, KeepsEntry, named_entry, IsMove, HasDrop}
-use Rattle.nofs_law_moves.proofs.Handed.{SaneRun, moment-at, sane-run, Places, look-places, link-place-is, law-move, law-moved}
-use Rattle.nofs_law_moves.specs.Own.{done_of, RunBy, place_in, end_of}
-use Rattle.nofs_law_moves.specs.Linked.{is_idle, DropMade, LinkedSteps}
+use Rattle.nofs_model.specs.Image.{Image, Files}
+use Rattle.nofs_history.specs.Machine.{place_for, given_by}
+use Rattle.nofs_history.specs.Steps.{Made}
+use Rattle.nofs_history.specs.declared.machine.history.Entry1.{Entry1}
+use Rattle.nofs_history.specs.declared.machine.steps.Step.TheVariants as step
+use Rattle.nofs_history.specs.declared.machine.replies.Reply.TheVariants as reply
+use Rattle.nofs_client.specs.declared.task.commands.Command.TheVariants as command
+use Rattle.nofs_client.specs.declared.task.commands.Path.{Path}
+use Rattle.nofs_client.specs.Places.{last_name}
+use Rattle.nofs_crashlaw.specs.Runs.{files_before}
+use Rattle.nofs_crashlaw.specs.PathMoves.{KeepsEntry, named_entry, IsMove, HasDrop}
+use Rattle.nofs_crashlaw.proofs.Along.{SaneRun, moment-at}
+use Rattle.nofs_crashlaw.proofs.Base.{sane-run}
+use Rattle.nofs_crashlaw.proofs.Alone.{Places, look-places, link-place-is}
+use Rattle.nofs_crashlaw.proofs.PathMoves.{law-move, law-moved}
+use Rattle.nofs_move.specs.Own.{done_of, RunBy, place_in, end_of}
+use Rattle.nofs_move.specs.Linked.{is_idle, DropMade, LinkedSteps}
 use Rattle.nofs_move.specs.Laws.{NamesStay, MoveAt, LawIsMove, LawOneName, LawNewName}
-use Rattle.nofs_law_moves.proofs.Own.{OwnEntry}
-use Rattle.nofs_law_moves.proofs.Replies.{idle-keeps}
-use Rattle.nofs_law_moves.proofs.Entries.{own, rises, by-end, between}
+use Rattle.nofs_move.proofs.Own.{OwnEntry}
+use Rattle.nofs_move.proofs.Replies.{idle-keeps}
+use Rattle.nofs_move.proofs.Entries.{own, rises, by-end, between}
 
 module _ (B : Image) (H : List Entry1) (r : SaneRun B H) (c : ℕ) (from to : Path) (made : List Made) (run : RunBy c (command.Move from to) made H)
     (s : LinkedSteps from to made) where

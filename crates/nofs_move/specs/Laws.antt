@@ -2,21 +2,24 @@
 --
 -- The premises are ones that a user can see: the replies to the steps of the command, and what other callers did meanwhile.
 use Rattle.std.specs.Prelude.{◌≡◌, ◌≢◌, ℕ, ◌<◌, ◌≤◌, ◌⊎◌, List, length, Some, slice_get}
-use Rattle.nofs_image.specs.Cells.{Entry}
-use Rattle.nofs_image.specs.Image.{Image, entry_at}
-use Rattle.nofs_machine.specs.Machine.{found, place_for, given_by}
-use Rattle.nofs_machine.specs.HistoryState.{HistoryState}
-use Rattle.nofs_machine.specs.Allowed.{IsAllowed}
-use Rattle.nofs_machine.specs.Steps.{Made}
-use Rattle.nofs_machine.specs.declared.history.Entry1.{Entry1}
-use Rattle.nofs_machine.specs.declared.steps.Step.{Step}
-use Rattle.nofs_machine.specs.declared.steps.Step.TheVariants as step
-use Rattle.nofs_task.specs.declared.commands.Command.TheVariants as command
-use Rattle.nofs_task.specs.declared.commands.Path.{Path}
-use Rattle.nofs_task.specs.Places.{last_name}
-use Rattle.nofs_law_moves.specs.Handed.{IsHistory, files_before, Finds, KeepsEntry, named_entry, IsMove, DropIsLate}
-use Rattle.nofs_law_moves.specs.Own.{RunBy, place_in, end_of}
-use Rattle.nofs_law_moves.specs.Linked.{DropMade, LinkedSteps}
+use Rattle.nofs_model.specs.Cells.{Entry}
+use Rattle.nofs_model.specs.Image.{Image, entry_at}
+use Rattle.nofs_history.specs.Machine.{found, place_for, given_by}
+use Rattle.nofs_history.specs.HistoryState.{HistoryState}
+use Rattle.nofs_history.specs.Allowed.{IsAllowed}
+use Rattle.nofs_history.specs.Steps.{Made}
+use Rattle.nofs_history.specs.declared.machine.history.Entry1.{Entry1}
+use Rattle.nofs_history.specs.declared.machine.steps.Step.{Step}
+use Rattle.nofs_history.specs.declared.machine.steps.Step.TheVariants as step
+use Rattle.nofs_client.specs.declared.task.commands.Command.TheVariants as command
+use Rattle.nofs_client.specs.declared.task.commands.Path.{Path}
+use Rattle.nofs_client.specs.Places.{last_name}
+use Rattle.nofs_crashlaw.specs.Bases.{IsHistory}
+use Rattle.nofs_crashlaw.specs.Runs.{files_before}
+use Rattle.nofs_crashlaw.specs.Finds.{Finds}
+use Rattle.nofs_crashlaw.specs.PathMoves.{KeepsEntry, named_entry, IsMove, DropIsLate}
+use Rattle.nofs_move.specs.Own.{RunBy, place_in, end_of}
+use Rattle.nofs_move.specs.Linked.{DropMade, LinkedSteps}
 
 -- the entry e at place p is not one of the run's: another caller's, or one behind the end of the run
 abbrev pub IsOther : ℕ → ℕ → ℕ → Entry1 → Type 0

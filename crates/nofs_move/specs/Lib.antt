@@ -1,1 +1,4 @@
+pub mod Own
+pub mod Linked
+pub mod Steps
 pub mod Laws

@@ -9,7 +9,8 @@
 mod laws;
 mod mover;
 mod paths;
+mod steps;
 
 pub use laws::law_move_run;
 pub use mover::move_file;
-pub use nofs_law_moves::law_move_steps;
+pub use steps::law_move_steps;

@@ -3,14 +3,13 @@
 //! Promise: it makes just the steps of the command, in order, and ends with its line. What these steps
 //! promise of a crash the laws say.
 ghost use Rattle.std.specs.Prelude.{◌≡◌, IfOk};
-ghost use Rattle.nofs_task.specs.Commands.{HasName};
-ghost use Rattle.nofs_task.specs.declared.commands.Command.TheVariants as command;
+ghost use Rattle.nofs_client.specs.Commands.{HasName};
+ghost use Rattle.nofs_client.specs.declared.task.commands.Command.TheVariants as command;
 ghost use Rattle.nofs_client.specs.Runs.{RunsTo, RunsPartly};
 
 use crate::paths::copy_path;
-use nofs_client::Client;
-use nofs_machine::Steps;
-use nofs_task::{Command, Line, Path};
+use nofs_client::{Client, Command, Line, Path};
+use nofs_history::Steps;
 use std::alloc::{AllocError, Global};
 
 fn move_command(alloc: Global, from: &Path, to: &Path) -> Result<Command, AllocError>

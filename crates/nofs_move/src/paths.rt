@@ -1,8 +1,8 @@
 //! Copies of paths.
 ghost use Rattle.std.specs.Prelude.{◌≡◌, IfOk};
 
-use nofs_client::PathNames;
-use nofs_task::Path;
+use nofs_client::Path;
+use nofs_dirent::PathNames;
 use std::alloc::{AllocError, Global};
 
 fn copy_names(alloc: Global, names: &PathNames) -> Result<PathNames, AllocError>
@@ -16,7 +16,7 @@ fn copy_names(alloc: Global, names: &PathNames) -> Result<PathNames, AllocError>
 }
 
 /// A second path with the same names.
-pub fn copy_path(alloc: Global, path: &Path) -> Result<Path, AllocError>
+pub(crate) fn copy_path(alloc: Global, path: &Path) -> Result<Path, AllocError>
     ensures { IfOk result (λ copy. copy ≡ path.now) }
 {
     match path {

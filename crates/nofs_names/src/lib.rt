@@ -3,8 +3,19 @@
 //! Promise: each answers as the machine does, and leaves the mount standing.
 #![tactic(auto)]
 
-pub use nofs_drops::drop_name;
-pub use nofs_links::link;
-pub use nofs_listing::{Ended, Listed, list, look};
-pub use nofs_makes::make;
-pub use nofs_renames::rename;
+mod dropping;
+mod entering;
+mod finding;
+mod links;
+mod lists;
+mod makes;
+mod new_files;
+mod new_names;
+mod renames;
+
+pub use dropping::drops::drop_name;
+pub use finding::looks::look;
+pub use links::link;
+pub use lists::{Listed, list};
+pub use makes::make;
+pub use renames::rename;

@@ -3,24 +3,24 @@ use Rattle.std.proofs.Common.{◌≡◌, ℕ, zero, suc, Bool, true, false, cond
 use Rattle.std.specs.Prelude.{option_map}
 use Rattle.std.specs.List.{list_any}
 use Rattle.std.proofs.lemmas.Bool.{and_parts}
-use Rattle.nofs_image.specs.Cells.{Entry, entry_limit}
-use Rattle.nofs_image.specs.Image.{FileState, Files, entry_at, links_in_file, is_pair}
-use Rattle.nofs_image.specs.declared.value.Value.{Value}
-use Rattle.nofs_image.specs.declared.value.Value.TheVariants.{Hole, Bytes, Lost}
+use Rattle.nofs_model.specs.Cells.{Entry, entry_limit}
+use Rattle.nofs_model.specs.Image.{FileState, Files, entry_at, links_in_file, is_pair}
+use Rattle.nofs_model.specs.declared.image.value.Value.{Value}
+use Rattle.nofs_model.specs.declared.image.value.Value.TheVariants.{Hole, Bytes, Lost}
 use Rattle.std.specs.Str.{bytes_eq}
-use Rattle.nofs_machine.specs.Search.{first_of, least_from}
-use Rattle.nofs_machine.specs.Machine.{first_dead, first_lost_slot, found, generation_of, entry_has_name, is_hole, is_lost, is_paired, is_refused, link_to}
-use Rattle.nofs_machine.specs.Machine.{same_link, value_of}
-use Rattle.nofs_machine.specs.World.{World}
-use Rattle.nofs_machine.specs.Refusals.{bad_name, missing, not_directory, not_empty, rows, stale}
-use Rattle.nofs_machine.specs.Answers.{dropped_entry, dropped_reply, found_entry, found_file, found_reply, got_reply, listed_reply, lines_in_slot, reply_of}
-use Rattle.nofs_machine.specs.Answers.{stat_file}
-use Rattle.nofs_machine.specs.declared.history.Claims.{Claims}
-use Rattle.nofs_machine.specs.declared.steps.Step.{Step}
-use Rattle.nofs_machine.specs.declared.steps.Step.TheVariants as step
-use Rattle.nofs_machine.specs.declared.replies.Reply.TheVariants as reply
-use Rattle.nofs_machine.specs.declared.replies.Refusal.{Refusal}
-use Rattle.nofs_machine.specs.declared.replies.Refusal.TheVariants as refusal
+use Rattle.nofs_history.specs.Search.{first_of, least_from}
+use Rattle.nofs_history.specs.Machine.{first_dead, first_lost_slot, found, generation_of, entry_has_name, is_hole, is_lost, is_paired, is_refused}
+use Rattle.nofs_history.specs.Machine.{link_to, same_link, value_of}
+use Rattle.nofs_history.specs.World.{World}
+use Rattle.nofs_history.specs.Refusals.{bad_name, missing, not_directory, not_empty, rows, stale}
+use Rattle.nofs_history.specs.Answers.{dropped_entry, dropped_reply, found_entry, found_file, found_reply, got_reply, listed_reply, lines_in_slot}
+use Rattle.nofs_history.specs.Answers.{reply_of, stat_file}
+use Rattle.nofs_history.specs.declared.machine.history.Claims.{Claims}
+use Rattle.nofs_history.specs.declared.machine.steps.Step.{Step}
+use Rattle.nofs_history.specs.declared.machine.steps.Step.TheVariants as step
+use Rattle.nofs_history.specs.declared.machine.replies.Reply.TheVariants as reply
+use Rattle.nofs_history.specs.declared.machine.replies.Refusal.{Refusal}
+use Rattle.nofs_history.specs.declared.machine.replies.Refusal.TheVariants as refusal
 
 fourth-none : (a b c d : Option Refusal) (os : List (Option Refusal)) → first_of (a ∷ b ∷ c ∷ d ∷ os) ≡ None → d ≡ None
 fourth-none None None None None os e = refl

@@ -1,11 +1,11 @@
 -- The history decides the files and the homes.
 use Rattle.std.proofs.Common.{◌≡◌, ◌/◌, ◌⊎◌, inl, inr, true, false, leb, ◌||◌, [], ◌∷◌, is_some, refl, sym, ap, ◌∙◌}
-use Rattle.nofs_image.specs.Image.{Files, is_special}
-use Rattle.nofs_machine.specs.Machine.{gives, files_after, is_refused}
-use Rattle.nofs_machine.specs.World.{World}
-use Rattle.nofs_machine.specs.Claims.{homes_after}
-use Rattle.nofs_machine.specs.Next.{Keeps, Next, AfterFault, ByRow, Done, ByRead, ByWrite}
-use Rattle.nofs_machine.specs.declared.history.Entry1.{Entry1}
+use Rattle.nofs_model.specs.Image.{Files, is_special}
+use Rattle.nofs_history.specs.Machine.{gives, files_after, is_refused}
+use Rattle.nofs_history.specs.World.{World}
+use Rattle.nofs_history.specs.Claims.{homes_after}
+use Rattle.nofs_history.specs.Next.{Keeps, Next, AfterFault, ByRow, Done, ByRead, ByWrite}
+use Rattle.nofs_history.specs.declared.machine.history.Entry1.{Entry1}
 use Rattle.nofs_racelaw.specs.Laws.{LawLate, LawOneRun, SameState}
 use Rattle.nofs_racelaw.proofs.Accepted.{done-accepts}
 use Rattle.nofs_racelaw.proofs.Stale.{law-passes}

@@ -1,9 +1,9 @@
 -- What is not known at the end of a run has one verdict all along.
 use Rattle.std.proofs.Common.{◌≡◌, ◌≢◌, ℕ, Bool, true, false, List, [], ◌∷◌, refl, ap, ◌∙◌, subst}
-use Rattle.nofs_machine.specs.declared.history.Entry1.{Entry1}
-use Rattle.nofs_machine.specs.World.{World, uses_inode, uses_block}
-use Rattle.nofs_machine.specs.Next.{Learns, Next, AfterFault, ByRow, Done, ByRead, ByWrite, Run}
-use Rattle.nofs_machine.specs.Good.{IsUnchanged}
+use Rattle.nofs_history.specs.declared.machine.history.Entry1.{Entry1}
+use Rattle.nofs_history.specs.World.{World, uses_inode, uses_block}
+use Rattle.nofs_history.specs.Next.{Learns, Next, AfterFault, ByRow, Done, ByRead, ByWrite, Run}
+use Rattle.nofs_history.specs.Good.{IsUnchanged}
 
 both-ways : (a b : Bool) → (a ≢ b → ⊥) → a ≡ b
 both-ways true true h = refl

@@ -1,10 +1,10 @@
 -- The laws of unchanged and of stale verdicts.
 use Rattle.std.specs.Prelude.{◌≡◌, ℕ, ◌<◌, false, List, ◌++◌, Bool}
-use Rattle.nofs_image.specs.Image.{Image, is_used_inode, is_used_block}
-use Rattle.nofs_machine.specs.declared.history.Entry1.{Entry1}
-use Rattle.nofs_machine.specs.World.{World}
-use Rattle.nofs_machine.specs.Next.{Run}
-use Rattle.nofs_machine.specs.Good.{IsGood, IsUnchanged}
+use Rattle.nofs_model.specs.Image.{Image, is_used_inode, is_used_block}
+use Rattle.nofs_history.specs.declared.machine.history.Entry1.{Entry1}
+use Rattle.nofs_history.specs.World.{World}
+use Rattle.nofs_history.specs.Next.{Run}
+use Rattle.nofs_history.specs.Good.{IsGood, IsUnchanged}
 
 -- What is not known at the end of a run has one verdict in each of its worlds.
 abbrev pub LawUnchanged : Type 0

@@ -1,8 +1,9 @@
 //! Drills. The numbers of longer ones were computed from the definition by a program of its own, in another language.
 
+use crate::testruns::disks::{failing, fault};
+use crate::testruns::runs::{USAGE, prints, run_on, run_with};
 use nofs_io::{MemSink, MemSource};
 use nofs_memdisk::MemDisk;
-use nofs_testruns::{USAGE, failing, fault, prints, run_on, run_with};
 use nofs_versions::CallKind;
 use std::test::Fail;
 

@@ -1,8 +1,10 @@
 //! Frames over a source and a sink, with the bytes that a client sees.
 
+use crate::testruns::images::patched_empty;
+use crate::testruns::runs::{run_on, run_with};
 use nofs_io::{MemSink, MemSource};
 use nofs_memdisk::MemDisk;
-use nofs_testruns::{disk_with, patched_empty, run_on, run_with};
+use nofs_testdisks::disk_with;
 use std::alloc::Global;
 use std::test::Fail;
 

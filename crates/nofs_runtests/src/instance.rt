@@ -2,11 +2,11 @@
 
 ghost use Rattle.std.specs.Prelude.{IfOk};
 ghost use Rattle.nofs_memdisk.specs.Parts.{memory_state};
-ghost use Rattle.nofs_beginning.specs.Whole.{IsMet};
+ghost use Rattle.nofs_tool.specs.Whole.{IsMet};
 
+use crate::testruns::runs::run_on;
 use nofs_memdisk::MemDisk;
 use nofs_super::format;
-use nofs_testruns::run_on;
 use std::alloc::{AllocError, Global};
 use std::test::Fail;
 

@@ -3,14 +3,14 @@ use Rattle.std.proofs.Common.{◌≡◌, ℕ, ◌+◌, inl, inr, List, [], ◌�
 use Rattle.std.specs.Prelude.{All, slice_get}
 use Rattle.std.proofs.lemmas.List.Elements.{All-nil, All-cons, All-append, All-get_or}
 use Rattle.std.proofs.lemmas.Option.{get_or_from_slice_get, slice_get_within}
-use Rattle.nofs_image.specs.Image.{Files}
-use Rattle.nofs_lost.specs.declared.answers.Handle.{Handle}
-use Rattle.nofs_lost.specs.declared.tree.Tree.{Tree}
-use Rattle.nofs_asking.specs.Refusing.{is_there, HasRoots, MayAsk}
-use Rattle.nofs_lost.specs.Handles.{root_handle, with_handle}
-use Rattle.nofs_asking.specs.Told.{AreFolders, IsRooted}
-use Rattle.nofs_lost.specs.InHand.{handles_in}
-use Rattle.nofs_asking.proofs.Refusing.{ask-root}
+use Rattle.nofs_model.specs.Image.{Files}
+use Rattle.nofs_salvage.specs.declared.lost.answers.Handle.{Handle}
+use Rattle.nofs_salvage.specs.declared.lost.tree.Tree.{Tree}
+use Rattle.nofs_salvage.specs.Refusing.{is_there, HasRoots, MayAsk}
+use Rattle.nofs_salvage.specs.Handles.{root_handle, with_handle}
+use Rattle.nofs_salvage.specs.Told.{AreFolders, IsRooted}
+use Rattle.nofs_salvage.specs.InHand.{handles_in}
+use Rattle.nofs_salvage.proofs.Refusing.{ask-root}
 
 -- one more directory
 with-folder : (F : Files) (handles : List Handle) (at : Handle) (b : Bool) → All (MayAsk F true) handles → MayAsk F true at

@@ -8,29 +8,29 @@ use Rattle.std.proofs.lemmas.List.{take-append-drop}
 use Rattle.std.proofs.lemmas.List.Folds.{list_any-append}
 use Rattle.std.proofs.lemmas.List.Elements.{All-head}
 use Rattle.std.proofs.lemmas.Slice.Eq.{bytes_eq-Decides}
-use Rattle.nofs_image.specs.Kinds as kind
-use Rattle.nofs_image.specs.Cells.{Entry, is_name, entry_limit}
-use Rattle.nofs_image.specs.Image.{Files, is_folder, entry_at}
-use Rattle.nofs_machine.specs.Search.{least_from}
-use Rattle.nofs_machine.specs.Machine.{found, is_folder_at, is_paired, entry_has_name, is_lost, value_of}
-use Rattle.nofs_machine.specs.World.{World}
-use Rattle.nofs_machine.specs.Answers.{kind_named, line_of, lines_from, lines_in_slot}
-use Rattle.nofs_machine.specs.Steps.{Made}
-use Rattle.nofs_machine.specs.declared.replies.NameLine.{NameLine}
-use Rattle.nofs_machine.specs.declared.replies.Refusal.{Refusal}
-use Rattle.nofs_lost.specs.Report.{inode_in, inode_at, inode_found, is_doubled, lines_below}
-use Rattle.nofs_lost.specs.Answered.{first_held, AreAnswered, IsListedFrom}
-use Rattle.nofs_lost.specs.declared.findings.Findings.{Findings}
-use Rattle.nofs_lost.specs.declared.seen.SeenNames.{SeenNames}
-use Rattle.nofs_lost.specs.declared.answers.Listed.{Listed}
-use Rattle.nofs_lost.specs.declared.answers.Listed.TheVariants as list
-use Rattle.nofs_lost.specs.Trees.{AreSeen, IsWalked}
-use Rattle.nofs_asking.specs.Refusing.{LeadsTo, AreFair}
-use Rattle.nofs_lost.specs.Reads.{Reads}
-use Rattle.nofs_asking.specs.Told.{IsTold, AreTold, IsFolderPart}
-use Rattle.nofs_lost.proofs.Reading.{all-last, answered-both}
-use Rattle.nofs_asking.proofs.Refusing.{right-on}
-use Rattle.nofs_lost.proofs.Walking.{walked-seen}
+use Rattle.nofs_model.specs.Kinds as kind
+use Rattle.nofs_model.specs.Cells.{Entry, is_name, entry_limit}
+use Rattle.nofs_model.specs.Image.{Files, is_folder, entry_at}
+use Rattle.nofs_history.specs.Search.{least_from}
+use Rattle.nofs_history.specs.Machine.{found, is_folder_at, is_paired, entry_has_name, is_lost, value_of}
+use Rattle.nofs_history.specs.World.{World}
+use Rattle.nofs_history.specs.Answers.{kind_named, line_of, lines_from, lines_in_slot}
+use Rattle.nofs_history.specs.Steps.{Made}
+use Rattle.nofs_history.specs.declared.machine.replies.NameLine.{NameLine}
+use Rattle.nofs_history.specs.declared.machine.replies.Refusal.{Refusal}
+use Rattle.nofs_salvage.specs.Report.{inode_in, inode_at, inode_found, is_doubled, lines_below}
+use Rattle.nofs_salvage.specs.Answered.{first_held, AreAnswered, IsListedFrom}
+use Rattle.nofs_salvage.specs.declared.lost.findings.Findings.{Findings}
+use Rattle.nofs_salvage.specs.declared.lost.seen.SeenNames.{SeenNames}
+use Rattle.nofs_salvage.specs.declared.lost.answers.Listed.{Listed}
+use Rattle.nofs_salvage.specs.declared.lost.answers.Listed.TheVariants as list
+use Rattle.nofs_salvage.specs.Trees.{AreSeen, IsWalked}
+use Rattle.nofs_salvage.specs.Refusing.{LeadsTo, AreFair}
+use Rattle.nofs_salvage.specs.Reads.{Reads}
+use Rattle.nofs_salvage.specs.Told.{IsTold, AreTold, IsFolderPart}
+use Rattle.nofs_salvage.proofs.Reading.{all-last, answered-both}
+use Rattle.nofs_salvage.proofs.Refusing.{right-on}
+use Rattle.nofs_salvage.proofs.Walking.{walked-seen}
 
 -- entry e is a pair of this name
 abbrev is_named_pair : Files → ℕ → List ℕ → ℕ → Bool

@@ -1,19 +1,19 @@
 -- What a part of a walk has noted where it ends well: the steps that were made grew from `made` to `new_made`, and the findings
 -- from old to new. What it says of a world W holds where these steps were answered in W, while no file changed.
 use Rattle.std.specs.Prelude.{◌≡◌, ℕ, ◌<◌, ◌≤◌, Bool, true, List, ◌++◌}
-use Rattle.nofs_machine.specs.World.{World}
-use Rattle.nofs_machine.specs.Steps.{Made}
-use Rattle.nofs_machine.specs.declared.replies.NameLine.{NameLine}
-use Rattle.nofs_lost.specs.declared.answers.Handle.{Handle}
-use Rattle.nofs_lost.specs.declared.report.Loss.{Loss}
-use Rattle.nofs_lost.specs.declared.findings.Findings.{Findings}
-use Rattle.nofs_lost.specs.declared.seen.SeenNames.{SeenNames}
-use Rattle.nofs_lost.specs.Report.{lines_losses, lines_folders, losses_below, folders_below, tree_of, tree_losses}
-use Rattle.nofs_lost.specs.Answered.{AreAnswered}
-use Rattle.nofs_lost.specs.Trees.{AreSeen, Adds, IsWalked}
-use Rattle.nofs_asking.specs.Refusing.{is_there}
-use Rattle.nofs_asking.specs.Told.{AreTold, AreFolders}
-use Rattle.nofs_asking.specs.Asks.{Asks, HasReached, AreGiven, AreReached}
+use Rattle.nofs_history.specs.World.{World}
+use Rattle.nofs_history.specs.Steps.{Made}
+use Rattle.nofs_history.specs.declared.machine.replies.NameLine.{NameLine}
+use Rattle.nofs_salvage.specs.declared.lost.answers.Handle.{Handle}
+use Rattle.nofs_salvage.specs.declared.lost.report.Loss.{Loss}
+use Rattle.nofs_salvage.specs.declared.lost.findings.Findings.{Findings}
+use Rattle.nofs_salvage.specs.declared.lost.seen.SeenNames.{SeenNames}
+use Rattle.nofs_salvage.specs.Report.{lines_losses, lines_folders, losses_below, folders_below, tree_of, tree_losses}
+use Rattle.nofs_salvage.specs.Answered.{AreAnswered}
+use Rattle.nofs_salvage.specs.Trees.{AreSeen, Adds, IsWalked}
+use Rattle.nofs_salvage.specs.Refusing.{is_there}
+use Rattle.nofs_salvage.specs.Told.{AreTold, AreFolders}
+use Rattle.nofs_salvage.specs.Asks.{Asks, HasReached, AreGiven, AreReached}
 
 -- these lines of directory `at`, behind earlier ones of it
 pub record LinesNoted (picks : List ℕ → Bool) (at : Handle) (lines : List NameLine) (made new_made : List Made) (old new : Findings)

@@ -3,19 +3,24 @@
 //! Promise: each lost slot is noted, and each line of each slot that has lines, in order.
 ghost use Rattle.std.specs.Prelude.{◌≡◌, ◌+◌, ◌<◌, ◌≤◌, ℕ, Bool, true, List, IfOk, OnOk};
 ghost use Rattle.std.specs.Fn.{FnReturnsAt};
-ghost use Rattle.nofs_machine.specs.World.{World};
-ghost use Rattle.nofs_lost.specs.declared.findings.Findings.{Findings as Found};
-ghost use Rattle.nofs_lost.specs.Reads.{Reads, refusal_by};
-ghost use Rattle.nofs_lost.specs.Answered.{AreAnswered};
-ghost use Rattle.nofs_lost.specs.Trees.{IsWalked};
-ghost use Rattle.nofs_asking.specs.Refusing.{AreFair, MayAsk};
+ghost use Rattle.nofs_history.specs.World.{World};
+ghost use Rattle.nofs_salvage.specs.declared.lost.findings.Findings.{Findings as Found};
+ghost use Rattle.nofs_salvage.specs.Reads.{Reads, refusal_by};
+ghost use Rattle.nofs_salvage.specs.Answered.{AreAnswered};
+ghost use Rattle.nofs_salvage.specs.Trees.{IsWalked};
+ghost use Rattle.nofs_salvage.specs.Refusing.{AreFair, MayAsk};
 ghost use Rattle.nofs_salvage.specs.Noted.{SlotsNoted, FolderNoted};
-ghost use Rattle.nofs_asking.specs.Asks.{AsksOn};
+ghost use Rattle.nofs_salvage.specs.Asks.{AsksOn};
 
 use crate::lines::note_lines;
-use nofs_asking::list;
-use nofs_lost::{Findings, Handle, Listed, Loss, NameFilter, NameRule, SalvageFault, SeenNames};
-use nofs_machine::Steps;
+use crate::lost::answers::{Handle, Listed};
+use crate::lost::fault::SalvageFault;
+use crate::lost::filter::{NameFilter, NameRule};
+use crate::lost::findings::Findings;
+use crate::lost::report::Loss;
+use crate::lost::seen::SeenNames;
+use crate::steps::list;
+use nofs_history::Steps;
 use std::alloc::Global;
 
 // How many slots a directory has.
@@ -70,7 +75,7 @@ fn note_next<S: Steps, P: Fn(&[u8]) -> bool, R: NameRule>(
 }
 
 /// Notes the lost slots and the names of a directory.
-pub fn note_folder<S: Steps, P: Fn(&[u8]) -> bool, R: NameRule>(
+pub(crate) fn note_folder<S: Steps, P: Fn(&[u8]) -> bool, R: NameRule>(
     alloc: Global,
     steps: &mut S,
     filter: &NameFilter<P, R>,

@@ -6,7 +6,12 @@
 
 mod folders;
 mod lines;
+mod lost;
 mod slots;
+mod steps;
 mod walk;
 
+pub use lost::fault::SalvageFault;
+pub use lost::filter::{All, NameFilter, NameRule, Prefix};
+pub use lost::report::{Loss, Report};
 pub use walk::salvage;

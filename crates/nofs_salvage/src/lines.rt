@@ -2,26 +2,29 @@
 //!
 //! Promise: each line is noted as what it is: dead, doubled, a file with its lost slots, or a directory.
 ghost use Rattle.std.specs.Prelude.{◌≡◌, ◌++◌, ℕ, Bool, true, false, List, [], ◌∷◌, OnOk};
-ghost use Rattle.nofs_image.specs.Image.{is_folder};
+ghost use Rattle.nofs_model.specs.Image.{is_folder};
 ghost use Rattle.std.specs.Fn.{FnReturnsAt};
-ghost use Rattle.nofs_machine.specs.World.{World};
-ghost use Rattle.nofs_machine.specs.Steps.{Made};
-ghost use Rattle.nofs_machine.specs.declared.replies.NameLine.{NameLine as Line};
-ghost use Rattle.nofs_lost.specs.Reads.{Reads, refusal_by};
-ghost use Rattle.nofs_lost.specs.Report.{pair_losses, pair_folders, line_losses, line_folders};
-ghost use Rattle.nofs_lost.specs.Answered.{AreAnswered};
-ghost use Rattle.nofs_lost.specs.Trees.{AreSeen, Adds};
-ghost use Rattle.nofs_asking.specs.Refusing.{AreFair, MayAsk, LeadsTo};
-ghost use Rattle.nofs_asking.specs.Told.{IsTold, AreTold, AreFolders};
-ghost use Rattle.nofs_asking.specs.Asks.{Asks, HasGiven, AreGiven, AreReached};
+ghost use Rattle.nofs_history.specs.World.{World};
+ghost use Rattle.nofs_history.specs.Steps.{Made};
+ghost use Rattle.nofs_history.specs.declared.machine.replies.NameLine.{NameLine as Line};
+ghost use Rattle.nofs_salvage.specs.Reads.{Reads, refusal_by};
+ghost use Rattle.nofs_salvage.specs.Report.{pair_losses, pair_folders, line_losses, line_folders};
+ghost use Rattle.nofs_salvage.specs.Answered.{AreAnswered};
+ghost use Rattle.nofs_salvage.specs.Trees.{AreSeen, Adds};
+ghost use Rattle.nofs_salvage.specs.Refusing.{AreFair, MayAsk, LeadsTo};
+ghost use Rattle.nofs_salvage.specs.Told.{IsTold, AreTold, AreFolders};
+ghost use Rattle.nofs_salvage.specs.Asks.{Asks, HasGiven, AreGiven, AreReached};
 ghost use Rattle.nofs_salvage.specs.Noted.{LinesNoted};
 
+use crate::lost::answers::Handle;
+use crate::lost::fault::SalvageFault;
+use crate::lost::filter::{NameFilter, NameRule};
+use crate::lost::findings::{Findings, NameFlaw, note_name};
+use crate::lost::seen::SeenNames;
 use crate::slots::note_file;
-use nofs_asking::find;
-use nofs_lost::{
-    Findings, Handle, NameFilter, NameFlaw, NameRule, SalvageFault, SeenNames, note_name,
-};
-use nofs_machine::{FileKind, NameLine, NameList, Steps};
+use crate::steps::find;
+use nofs_history::{NameLine, NameList, Steps};
+use nofs_inode::inode::FileKind;
 use std::alloc::Global;
 
 // What a pair leads to is noted: a directory joins the list, and of a file, where it is wanted, the lost slots are noted.
@@ -113,7 +116,7 @@ fn note_line<S: Steps>(
 }
 
 /// Notes the lines of one slot, behind earlier lines of the directory.
-pub fn note_lines<S: Steps, P: Fn(&[u8]) -> bool, R: NameRule>(
+pub(crate) fn note_lines<S: Steps, P: Fn(&[u8]) -> bool, R: NameRule>(
     alloc: Global,
     steps: &mut S,
     filter: &NameFilter<P, R>,

@@ -2,19 +2,21 @@
 //!
 //! Promise: each lost slot below the size is noted, in order, and no other.
 ghost use Rattle.std.specs.Prelude.{◌≡◌, ◌<◌, ℕ, List, ◌++◌, min, true, false, IfOk, OnOk};
-ghost use Rattle.nofs_machine.specs.Steps.{Made};
-ghost use Rattle.nofs_machine.specs.Machine.{slots_in as slots_of_size};
-ghost use Rattle.nofs_machine.specs.Refusals.{slots as slots_of};
-ghost use Rattle.nofs_machine.specs.World.{World};
-ghost use Rattle.nofs_lost.specs.Reads.{Reads, refusal_by};
-ghost use Rattle.nofs_lost.specs.Report.{lost_below, file_losses};
-ghost use Rattle.nofs_lost.specs.Answered.{AreAnswered, IsNoted};
-ghost use Rattle.nofs_asking.specs.Refusing.{is_there, AreFair, MayAsk};
-ghost use Rattle.nofs_asking.specs.Asks.{Asks, AsksOn, HasReached, HasTold};
+ghost use Rattle.nofs_history.specs.Steps.{Made};
+ghost use Rattle.nofs_history.specs.Machine.{slots_in as slots_of_size};
+ghost use Rattle.nofs_history.specs.Refusals.{slots as slots_of};
+ghost use Rattle.nofs_history.specs.World.{World};
+ghost use Rattle.nofs_salvage.specs.Reads.{Reads, refusal_by};
+ghost use Rattle.nofs_salvage.specs.Report.{lost_below, file_losses};
+ghost use Rattle.nofs_salvage.specs.Answered.{AreAnswered, IsNoted};
+ghost use Rattle.nofs_salvage.specs.Refusing.{is_there, AreFair, MayAsk};
+ghost use Rattle.nofs_salvage.specs.Asks.{Asks, AsksOn, HasReached, HasTold};
 
-use nofs_asking::{get, size_of};
-use nofs_lost::{Got, Handle, Loss, Report, SalvageFault};
-use nofs_machine::Steps;
+use crate::lost::answers::{Got, Handle};
+use crate::lost::fault::SalvageFault;
+use crate::lost::report::{Loss, Report};
+use crate::steps::{get, size_of};
+use nofs_history::Steps;
 
 // How many slots a size reaches into.
 fn slots_in(size: u64) -> u64
@@ -79,7 +81,7 @@ fn note_slots<S: Steps>(
 }
 
 /// Notes the lost slots of a file.
-pub fn note_file<S: Steps>(
+pub(crate) fn note_file<S: Steps>(
     steps: &mut S,
     at: Handle,
     report: &mut Report,

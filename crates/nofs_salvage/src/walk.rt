@@ -4,21 +4,25 @@
 //! one for a slot beyond what a file can have, and else, where no file changed meanwhile, gives the report of the definition.
 ghost use Rattle.std.specs.Prelude.{◌≡◌, ℕ, Bool, true, List, [], ◌∷◌, IfOk, OnOk, IfSome};
 ghost use Rattle.std.specs.Fn.{FnReturnsAt};
-ghost use Rattle.nofs_machine.specs.World.{World};
-ghost use Rattle.nofs_machine.specs.Steps.{Made};
-ghost use Rattle.nofs_lost.specs.Reads.{Reads, refusal_by};
-ghost use Rattle.nofs_lost.specs.Report.{report_of};
-ghost use Rattle.nofs_lost.specs.Answered.{AreAnswered};
-ghost use Rattle.nofs_asking.specs.Refusing.{is_there, HasRoots, MayRefuse, AreFair};
-ghost use Rattle.nofs_lost.specs.Handles.{root_handle};
-ghost use Rattle.nofs_lost.specs.InHand.{handles_in};
+ghost use Rattle.nofs_history.specs.World.{World};
+ghost use Rattle.nofs_history.specs.Steps.{Made};
+ghost use Rattle.nofs_salvage.specs.Reads.{Reads, refusal_by};
+ghost use Rattle.nofs_salvage.specs.Report.{report_of};
+ghost use Rattle.nofs_salvage.specs.Answered.{AreAnswered};
+ghost use Rattle.nofs_salvage.specs.Refusing.{is_there, HasRoots, MayRefuse, AreFair};
+ghost use Rattle.nofs_salvage.specs.Handles.{root_handle};
+ghost use Rattle.nofs_salvage.specs.InHand.{handles_in};
 ghost use Rattle.nofs_salvage.specs.Noted.{TreeNoted};
-ghost use Rattle.nofs_asking.specs.Asks.{Asks};
+ghost use Rattle.nofs_salvage.specs.Asks.{Asks};
 
 use crate::folders::note_folder;
+use crate::lost::answers::Handle;
+use crate::lost::fault::SalvageFault;
+use crate::lost::filter::{NameFilter, NameRule};
+use crate::lost::findings::Findings;
+use crate::lost::report::Report;
 use crate::slots::note_file;
-use nofs_lost::{Findings, Handle, NameFilter, NameRule, Report, SalvageFault};
-use nofs_machine::Steps;
+use nofs_history::Steps;
 use std::alloc::Global;
 
 // Notes what is lost in all directories.

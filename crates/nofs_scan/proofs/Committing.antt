@@ -3,21 +3,25 @@ use Rattle.std.proofs.Common.{◌≡◌, ℕ, ◌-◌, ◌<◌, ◌≤◌, Bool,
 use Rattle.nofs_bits.specs.Bits.{is_set}
 use Rattle.nofs_disk.specs.Disk.{DiskState, IsDisk}
 use Rattle.nofs_disk.specs.Chains.{KeepsCells-refl, StaysButFaults-refl}
-use Rattle.nofs_image.specs.Cells.{SuperBlock}
-use Rattle.nofs_image.specs.Image.{Image}
-use Rattle.nofs_machine.specs.World.{world_of}
-use Rattle.nofs_machine.specs.Next.{Run}
-use Rattle.nofs_machine.specs.Good.{IsUnchanged}
-use Rattle.nofs_machine.specs.declared.history.Entry1.{Entry1}
-use Rattle.nofs_machine.specs.declared.steps.ElementKind.{ElementKind}
-use Rattle.nofs_machine.specs.declared.steps.ElementKind.TheVariants as element
+use Rattle.nofs_model.specs.Cells.{SuperBlock}
+use Rattle.nofs_model.specs.Image.{Image}
+use Rattle.nofs_history.specs.World.{world_of}
+use Rattle.nofs_history.specs.Next.{Run}
+use Rattle.nofs_history.specs.Good.{IsUnchanged}
+use Rattle.nofs_history.specs.declared.machine.history.Entry1.{Entry1}
+use Rattle.nofs_history.specs.declared.machine.steps.ElementKind.{ElementKind}
+use Rattle.nofs_history.specs.declared.machine.steps.ElementKind.TheVariants as element
 use Rattle.nofs_racelaw.proofs.OneRun.{law-late}
-use Rattle.nofs_state.specs.Handed.{IsSafe, IsOpen, Past, Settles, StaysSo, LearnsIt, Books}
-use Rattle.nofs_state.proofs.Handed.{are-agreed, machine-block, machine-inode, seen-causes}
-use Rattle.nofs_sights.specs.Elements.{HasElement, IsRight, MayLearn, is_used, learned, least_free, see_step, verdict_of}
+use Rattle.nofs_state.specs.Books.{IsSafe}
+use Rattle.nofs_state.specs.Standing.{IsOpen, Past}
+use Rattle.nofs_state.specs.Verdicts.{Settles, StaysSo, LearnsIt}
+use Rattle.nofs_state.specs.declared.books.Books.{Books}
+use Rattle.nofs_state.proofs.Machine.{are-agreed}
+use Rattle.nofs_state.proofs.Seeing.{machine-block, machine-inode, seen-causes}
+use Rattle.nofs_scan.specs.Elements.{HasElement, IsRight, MayLearn, is_used, learned, least_free, see_step, verdict_of}
 use Rattle.nofs_scan.specs.Late.{Commits, WasOpen}
-use Rattle.nofs_sights.specs.declared.evidence.Verdict.{Verdict}
-use Rattle.nofs_sights.proofs.Elements.{IsElement, block-element, inode-element}
+use Rattle.nofs_scan.specs.declared.sights.evidence.Verdict.{Verdict}
+use Rattle.nofs_scan.proofs.Elements.{IsElement, block-element, inode-element}
 
 -- what is not known now had the same verdict then
 unchanged : (d : DiskState) (k now : Books) (H : List Entry1) (p : Past) → IsOpen d now H p → (early : DiskState) (w : WasOpen early k now H p)

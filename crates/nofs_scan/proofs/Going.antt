@@ -2,16 +2,19 @@
 use Rattle.std.proofs.Common.{◌≡◌, ℕ, Bool, false, subst, List, [], ◌∷◌, ◌++◌, IsTrue, refl, sym, ap, ◌∙◌}
 use Rattle.std.proofs.lemmas.List.{append_assoc, append-nil}
 use Rattle.nofs_disk.specs.Disk.{DiskState}
-use Rattle.nofs_machine.specs.declared.history.Entry1.{Entry1}
-use Rattle.nofs_machine.specs.HistoryState.{HistoryState}
-use Rattle.nofs_image.specs.Image.{Image}
-use Rattle.nofs_machine.specs.Claims.{no_claims}
-use Rattle.nofs_machine.specs.declared.steps.ElementKind.{ElementKind}
-use Rattle.nofs_machine.specs.declared.steps.Step.{Step}
-use Rattle.nofs_machine.specs.declared.replies.Reply.TheVariants as reply
-use Rattle.nofs_state.specs.Handed.{with_history, IsOpen, Past, Stands, going, ended, Moves, SameMount, entry, Books}
-use Rattle.nofs_state.proofs.Handed.{open-with}
-use Rattle.nofs_sights.specs.Elements.{see_step}
+use Rattle.nofs_history.specs.declared.machine.history.Entry1.{Entry1}
+use Rattle.nofs_history.specs.HistoryState.{HistoryState}
+use Rattle.nofs_model.specs.Image.{Image}
+use Rattle.nofs_history.specs.Claims.{no_claims}
+use Rattle.nofs_history.specs.declared.machine.steps.ElementKind.{ElementKind}
+use Rattle.nofs_history.specs.declared.machine.steps.Step.{Step}
+use Rattle.nofs_history.specs.declared.machine.replies.Reply.TheVariants as reply
+use Rattle.nofs_state.specs.Books.{with_history}
+use Rattle.nofs_state.specs.Standing.{IsOpen, Past, Stands, going, ended}
+use Rattle.nofs_state.specs.Steps.{Moves, SameMount, entry}
+use Rattle.nofs_state.specs.declared.books.Books.{Books}
+use Rattle.nofs_state.proofs.Sessions.{open-with}
+use Rattle.nofs_scan.specs.Elements.{see_step}
 use Rattle.nofs_scan.specs.Late.{Commits, IsOfMount, WasOpen}
 
 -- the state that is looked at

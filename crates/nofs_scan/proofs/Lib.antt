@@ -1,5 +1,8 @@
+pub mod Elements
+pub mod Seeing
+pub mod EntryNames
+pub mod Sighted
 pub mod Committing
 pub mod Lookups
 pub mod Going
 pub mod Swept
-pub mod Handed

@@ -8,26 +8,26 @@ use Rattle.std.proofs.lemmas.List.{map-append, take_all, take_more}
 use Rattle.nofs_disk.specs.declared.Failed.{Failed}
 use Rattle.nofs_disk.specs.Disk.{DiskState, StaysButFaults}
 use Rattle.nofs_disk.specs.Chains.{Rose-within, StaysButFaults-refl, StaysButFaults-trans}
-use Rattle.nofs_image.specs.Cells.{SuperBlock}
-use Rattle.nofs_image.specs.Image.{Image, is_fixed_block}
-use Rattle.nofs_machine.specs.declared.steps.ElementKind.{ElementKind}
-use Rattle.nofs_machine.specs.declared.steps.ElementKind.TheVariants as element
-use Rattle.nofs_machine.specs.declared.replies.Refusal.{Refusal}
-use Rattle.nofs_machine.specs.declared.replies.Refusal.TheVariants as refusal
+use Rattle.nofs_model.specs.Cells.{SuperBlock}
+use Rattle.nofs_model.specs.Image.{Image, is_fixed_block}
+use Rattle.nofs_history.specs.declared.machine.steps.ElementKind.{ElementKind}
+use Rattle.nofs_history.specs.declared.machine.steps.ElementKind.TheVariants as element
+use Rattle.nofs_history.specs.declared.machine.replies.Refusal.{Refusal}
+use Rattle.nofs_history.specs.declared.machine.replies.Refusal.TheVariants as refusal
 use Rattle.nofs_agree.specs.Chains.{AreTrue, Learns}
 use Rattle.nofs_agree.specs.Reading.{IsAt}
 use Rattle.nofs_agree.proofs.Climbs.{told-on}
 use Rattle.nofs_agree.proofs.Learning.{learns-more, learns-none}
-use Rattle.nofs_sights.specs.Elements.{HasElement, IsSeen, is_used, items_of, least_free}
+use Rattle.nofs_scan.specs.Elements.{HasElement, IsSeen, is_used, items_of, least_free}
 use Rattle.nofs_scan.specs.Looking.{LooksAll, LooksAt, LooksFail}
-use Rattle.nofs_sights.specs.Seeing.{Sees}
-use Rattle.nofs_sights.specs.Sights.{block_sight, inode_sight, item_of, sight_verdict, sight_in, verdict_by}
-use Rattle.nofs_sights.specs.declared.evidence.Verdict.{Verdict}
-use Rattle.nofs_sights.specs.declared.sights.BlockSight.{BlockSight}
-use Rattle.nofs_sights.specs.declared.sights.InodeSight.{InodeSight}
-use Rattle.nofs_sights.specs.declared.sights.Sight.{Sight}
-use Rattle.nofs_sights.specs.declared.sights.Sight.TheVariants as sight
-use Rattle.nofs_sights.proofs.Sighted.{judged-is}
+use Rattle.nofs_scan.specs.Seeing.{Sees}
+use Rattle.nofs_scan.specs.Sights.{block_sight, inode_sight, item_of, sight_verdict, sight_in, verdict_by}
+use Rattle.nofs_scan.specs.declared.sights.evidence.Verdict.{Verdict}
+use Rattle.nofs_scan.specs.declared.sights.sights.BlockSight.{BlockSight}
+use Rattle.nofs_scan.specs.declared.sights.sights.InodeSight.{InodeSight}
+use Rattle.nofs_scan.specs.declared.sights.sights.Sight.{Sight}
+use Rattle.nofs_scan.specs.declared.sights.sights.Sight.TheVariants as sight
+use Rattle.nofs_scan.proofs.Sighted.{judged-is}
 
 -- what was read of an element gives the verdict of the scan
 right-of : (old new : DiskState) (at : SuperBlock) (known more : List (Option Bool)) (kind : ElementKind) (item : ℕ) (s : Sight) → IsAt old at

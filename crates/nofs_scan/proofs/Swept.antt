@@ -4,16 +4,17 @@ use Rattle.std.proofs.Common.{subst, arith}
 use Rattle.std.proofs.lemmas.Bool.Decides.{nat_tests}
 use Rattle.nofs_bits.specs.Bits.{is_set}
 use Rattle.nofs_disk.specs.Disk.{DiskState, IsDisk}
-use Rattle.nofs_machine.specs.World.{World, world_of}
-use Rattle.nofs_machine.specs.Next.{Next, AfterFault, ByRow, Done, ByRead, ByWrite, Run, sees_block, sees_inode}
-use Rattle.nofs_machine.specs.declared.history.Entry1.{Entry1}
-use Rattle.nofs_machine.specs.declared.steps.ElementKind.{ElementKind}
-use Rattle.nofs_machine.specs.declared.steps.ElementKind.TheVariants as element
-use Rattle.nofs_machine.specs.declared.steps.Step.{Step}
-use Rattle.nofs_machine.specs.declared.replies.Reply.TheVariants as reply
+use Rattle.nofs_history.specs.World.{World, world_of}
+use Rattle.nofs_history.specs.Next.{Next, AfterFault, ByRow, Done, ByRead, ByWrite, Run, sees_block, sees_inode}
+use Rattle.nofs_history.specs.declared.machine.history.Entry1.{Entry1}
+use Rattle.nofs_history.specs.declared.machine.steps.ElementKind.{ElementKind}
+use Rattle.nofs_history.specs.declared.machine.steps.ElementKind.TheVariants as element
+use Rattle.nofs_history.specs.declared.machine.steps.Step.{Step}
+use Rattle.nofs_history.specs.declared.machine.replies.Reply.TheVariants as reply
 use Rattle.nofs_racelaw.proofs.Verdicts.{run-unchanged}
-use Rattle.nofs_state.specs.Handed.{IsOpen, Past, Books}
-use Rattle.nofs_sights.specs.Elements.{see_step, verdict_of}
+use Rattle.nofs_state.specs.Standing.{IsOpen, Past}
+use Rattle.nofs_state.specs.declared.books.Books.{Books}
+use Rattle.nofs_scan.specs.Elements.{see_step, verdict_of}
 use Rattle.nofs_scan.specs.Scanned.{IsExamined, LawScanned}
 use Rattle.nofs_scan.proofs.Committing.{element-of}
 

@@ -1,14 +1,18 @@
 -- A verdict of an earlier state of the mount, committed later.
 use Rattle.std.specs.Prelude.{◌≡◌, ◌<◌, ℕ, List, ◌++◌, length, Bool, false, IsTrue}
 use Rattle.nofs_disk.specs.Disk.{DiskState}
-use Rattle.nofs_image.specs.Image.{Image}
-use Rattle.nofs_machine.specs.Claims.{no_claims}
-use Rattle.nofs_machine.specs.declared.history.Entry1.{Entry1}
-use Rattle.nofs_machine.specs.declared.steps.ElementKind.{ElementKind}
-use Rattle.nofs_machine.specs.declared.replies.Reply.TheVariants as reply
-use Rattle.nofs_state.specs.Handed.{IsSafe, IsOpen, Past, Stands, Causes, Follows, SameMount, entry, Settles, Books}
-use Rattle.nofs_sights.specs.Elements.{is_used, learned, see_step, verdict_at, verdict_of}
-use Rattle.nofs_sights.specs.declared.evidence.Verdict.{Verdict}
+use Rattle.nofs_model.specs.Image.{Image}
+use Rattle.nofs_history.specs.Claims.{no_claims}
+use Rattle.nofs_history.specs.declared.machine.history.Entry1.{Entry1}
+use Rattle.nofs_history.specs.declared.machine.steps.ElementKind.{ElementKind}
+use Rattle.nofs_history.specs.declared.machine.replies.Reply.TheVariants as reply
+use Rattle.nofs_state.specs.Books.{IsSafe}
+use Rattle.nofs_state.specs.Standing.{IsOpen, Past, Stands}
+use Rattle.nofs_state.specs.Steps.{Causes, Follows, SameMount, entry}
+use Rattle.nofs_state.specs.Verdicts.{Settles}
+use Rattle.nofs_state.specs.declared.books.Books.{Books}
+use Rattle.nofs_scan.specs.Elements.{is_used, learned, see_step, verdict_at, verdict_of}
+use Rattle.nofs_scan.specs.declared.sights.evidence.Verdict.{Verdict}
 
 -- the mount stood open in this state before, after a part of its history
 pub record WasOpen (old : DiskState) (k : Books) (now : Books) (H : List Entry1) (p : Past) : Type 0 where

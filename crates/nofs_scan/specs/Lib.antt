@@ -1,5 +1,7 @@
+pub mod Elements
+pub mod Sights
+pub mod Seeing
 pub mod Seen
 pub mod Scanned
 pub mod Late
 pub mod Looking
-pub mod Handed

@@ -2,16 +2,17 @@
 use Rattle.std.specs.Prelude.{◌≡◌, ◌≤◌, ℕ, Bool, true, List, length, Option, All, IsTrue, map, Result, IfOk, IfErr}
 use Rattle.nofs_disk.specs.declared.Failed.{Failed}
 use Rattle.nofs_disk.specs.Disk.{DiskState, StaysButFaults, Rose}
-use Rattle.nofs_image.specs.Cells.{SuperBlock}
-use Rattle.nofs_machine.specs.declared.steps.ElementKind.{ElementKind}
-use Rattle.nofs_machine.specs.declared.replies.Refusal.{Refusal}
-use Rattle.nofs_machine.specs.declared.replies.Refusal.TheVariants as refusal
-use Rattle.nofs_state.specs.Handed.{with_agreement, Books}
+use Rattle.nofs_model.specs.Cells.{SuperBlock}
+use Rattle.nofs_history.specs.declared.machine.steps.ElementKind.{ElementKind}
+use Rattle.nofs_history.specs.declared.machine.replies.Refusal.{Refusal}
+use Rattle.nofs_history.specs.declared.machine.replies.Refusal.TheVariants as refusal
+use Rattle.nofs_state.specs.Knowing.{with_agreement}
+use Rattle.nofs_state.specs.declared.books.Books.{Books}
 use Rattle.nofs_agree.specs.Chains.{AreTrue, Learns}
-use Rattle.nofs_sights.specs.Elements.{HasElement, IsSeen, items_of}
-use Rattle.nofs_sights.specs.Seeing.{Sees}
-use Rattle.nofs_sights.specs.Sights.{item_of, sight_in, verdict_by}
-use Rattle.nofs_sights.specs.declared.sights.Sight.{Sight}
+use Rattle.nofs_scan.specs.Elements.{HasElement, IsSeen, items_of}
+use Rattle.nofs_scan.specs.Seeing.{Sees}
+use Rattle.nofs_scan.specs.Sights.{item_of, sight_in, verdict_by}
+use Rattle.nofs_scan.specs.declared.sights.sights.Sight.{Sight}
 
 -- one element: what was read of it is what the disk has, where it tells, and its verdict is right
 pub record LooksAt (old : DiskState) (at : SuperBlock) (known more : List (Option Bool)) (new : DiskState) (kind : ElementKind) (item : ℕ)

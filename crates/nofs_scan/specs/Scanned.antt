@@ -1,13 +1,15 @@
 -- What the maps are once each element was examined.
 use Rattle.std.specs.Prelude.{◌≡◌, List, ◌∷◌, ◌++◌, ℕ, Bool, false, Some}
 use Rattle.nofs_disk.specs.Disk.{DiskState}
-use Rattle.nofs_image.specs.Cells.{SuperBlock}
-use Rattle.nofs_image.specs.Image.{Image}
-use Rattle.nofs_machine.specs.declared.history.Entry1.{Entry1}
-use Rattle.nofs_machine.specs.declared.steps.ElementKind.{ElementKind}
-use Rattle.nofs_machine.specs.declared.replies.Reply.TheVariants as reply
-use Rattle.nofs_state.specs.Handed.{IsSafe, IsOpen, Past, Books}
-use Rattle.nofs_sights.specs.Elements.{HasElement, is_used, see_step, verdict_of}
+use Rattle.nofs_model.specs.Cells.{SuperBlock}
+use Rattle.nofs_model.specs.Image.{Image}
+use Rattle.nofs_history.specs.declared.machine.history.Entry1.{Entry1}
+use Rattle.nofs_history.specs.declared.machine.steps.ElementKind.{ElementKind}
+use Rattle.nofs_history.specs.declared.machine.replies.Reply.TheVariants as reply
+use Rattle.nofs_state.specs.Books.{IsSafe}
+use Rattle.nofs_state.specs.Standing.{IsOpen, Past}
+use Rattle.nofs_state.specs.declared.books.Books.{Books}
+use Rattle.nofs_scan.specs.Elements.{HasElement, is_used, see_step, verdict_of}
 
 -- an entry of the history has its verdict
 pub record IsExamined (H : List Entry1) (kind : ElementKind) (item : ℕ) : Type 0 where

@@ -1,13 +1,14 @@
 -- What a See step answers.
 use Rattle.std.specs.Prelude.{◌≡◌, Bool, false, Result, Ok, Err}
 use Rattle.nofs_disk.specs.Disk.{DiskState}
-use Rattle.nofs_machine.specs.Claims.{no_claims}
-use Rattle.nofs_machine.specs.Steps.{is_out_of_memory}
-use Rattle.nofs_machine.specs.declared.replies.Reply.{Reply}
-use Rattle.nofs_machine.specs.declared.replies.Reply.TheVariants as reply
-use Rattle.nofs_machine.specs.declared.replies.Refusal.{Refusal}
-use Rattle.nofs_machine.specs.declared.steps.Step.{Step}
-use Rattle.nofs_state.specs.Handed.{Goes, Books}
+use Rattle.nofs_history.specs.Claims.{no_claims}
+use Rattle.nofs_history.specs.Steps.{is_out_of_memory}
+use Rattle.nofs_history.specs.declared.machine.replies.Reply.{Reply}
+use Rattle.nofs_history.specs.declared.machine.replies.Reply.TheVariants as reply
+use Rattle.nofs_history.specs.declared.machine.replies.Refusal.{Refusal}
+use Rattle.nofs_history.specs.declared.machine.steps.Step.{Step}
+use Rattle.nofs_state.specs.Steps.{Goes}
+use Rattle.nofs_state.specs.declared.books.Books.{Books}
 
 abbrev pub seen_answer : Result Bool Refusal → Reply
 seen_answer (Ok used) = reply.Seen used

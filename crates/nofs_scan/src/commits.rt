@@ -1,12 +1,12 @@
 //! A verdict that was found before is committed.
 ghost use Rattle.std.specs.Prelude.{◌≡◌, ◌<◌, ◌^◌, length};
-ghost use Rattle.nofs_state.specs.Handed.{Settles};
-ghost use Rattle.nofs_sights.specs.Elements.{HasElement, learned, verdict_at, verdict_of};
+ghost use Rattle.nofs_state.specs.Verdicts.{Settles};
+ghost use Rattle.nofs_scan.specs.Elements.{HasElement, learned, verdict_at, verdict_of};
 ghost use Rattle.nofs_scan.specs.Late.{Commits, MayCommit};
 
+use crate::sights::evidence::Evidence;
 use nofs_disk::Disk;
-use nofs_machine::ElementKind;
-use nofs_sights::Evidence;
+use nofs_history::ElementKind;
 use nofs_state::{Books, Core};
 
 /// Commits a verdict of an evidence: it is set where the element was not examined since, and else

@@ -1,14 +1,15 @@
 //! A commit as a mount takes it: with its entry.
 ghost use Rattle.std.specs.Prelude.{◌≡◌, ℕ, ◌<◌, ◌^◌, IsTrue};
-ghost use Rattle.nofs_image.specs.Image.{Image};
-ghost use Rattle.nofs_state.specs.Handed.{IsSafe, Stands};
-ghost use Rattle.nofs_sights.specs.Elements.{see_step};
+ghost use Rattle.nofs_model.specs.Image.{Image};
+ghost use Rattle.nofs_state.specs.Books.{IsSafe};
+ghost use Rattle.nofs_state.specs.Standing.{Stands};
+ghost use Rattle.nofs_scan.specs.Elements.{see_step};
 ghost use Rattle.nofs_scan.specs.Late.{IsOfMount, MayCommit};
 
 use crate::commits::commit;
+use crate::sights::evidence::Evidence;
 use nofs_disk::Disk;
-use nofs_machine::{ElementKind, NO_CLAIMS, Reply, Step};
-use nofs_sights::Evidence;
+use nofs_history::{ElementKind, NO_CLAIMS, Reply, Step};
 use nofs_state::Core;
 
 /// Commits a verdict as one See step of the history. It takes no memory.

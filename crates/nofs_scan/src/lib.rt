@@ -9,9 +9,11 @@ mod laws;
 mod looks;
 mod reading;
 mod sees;
+mod sights;
 
 pub use commits::commit;
 pub use entries::{commit_step, step_of};
 pub use laws::law_scanned;
 pub use looks::look_batch;
 pub use sees::{see_block, see_inode};
+pub use sights::evidence::{Evidence, judge};

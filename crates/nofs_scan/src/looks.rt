@@ -1,17 +1,18 @@
 //! Several elements are looked at in one turn.
 ghost use Rattle.std.specs.Prelude.{◌≡◌, ◌<◌, ◌^◌, length, false, true, All, Err, IfErr, IfOk};
 ghost use Rattle.nofs_agree.specs.Reading.{IsAt};
-ghost use Rattle.nofs_machine.specs.declared.replies.Refusal.TheVariants as refusal;
-ghost use Rattle.nofs_state.specs.Handed.{IsSafe};
-ghost use Rattle.nofs_sights.specs.Elements.{HasElement, items_of};
+ghost use Rattle.nofs_history.specs.declared.machine.replies.Refusal.TheVariants as refusal;
+ghost use Rattle.nofs_state.specs.Books.{IsSafe};
+ghost use Rattle.nofs_scan.specs.Elements.{HasElement, items_of};
 ghost use Rattle.nofs_scan.specs.Looking.{IsBatch, LookFails, LooksAll, OnlyLearns};
 
 use crate::reading::read_sight;
+use crate::sights::evidence::{Evidence, Verdicts};
+use crate::sights::sights::Sight;
 use nofs_agree::Known;
+use nofs_dirent::ListOf;
 use nofs_disk::Disk;
-use nofs_lists::ListOf;
-use nofs_machine::{ElementKind, Refusal};
-use nofs_sights::{Evidence, Sight, Verdicts};
+use nofs_history::{ElementKind, Refusal};
 use nofs_state::Core;
 use nofs_super::SuperBlock;
 use std::alloc::Global;

@@ -5,27 +5,28 @@
 ghost use Rattle.std.specs.Prelude.{◌≡◌, ◌<◌, ◌^◌, IsTrue, length};
 ghost use Rattle.nofs_inode.specs.declared.inode.FileKind.TheVariants as kind;
 ghost use Rattle.nofs_dirent.specs.Entries.{entry_in};
-ghost use Rattle.nofs_image.specs.Files as files;
-ghost use Rattle.nofs_image.specs.Geometry as image;
-ghost use Rattle.nofs_image.specs.Places.{IsPlace, place_path};
-ghost use Rattle.nofs_image.specs.Slots as slots;
-ghost use Rattle.nofs_image.specs.Cells as cells;
+ghost use Rattle.nofs_model.specs.Files as files;
+ghost use Rattle.nofs_model.specs.Geometry as image;
+ghost use Rattle.nofs_model.specs.Places.{IsPlace, place_path};
+ghost use Rattle.nofs_model.specs.Slots as slots;
+ghost use Rattle.nofs_model.specs.Cells as cells;
 ghost use Rattle.nofs_agree.specs.Reading.{IsAt, IsLast, KnowsDirectory};
-ghost use Rattle.nofs_sights.specs.Elements.{HasElement};
+ghost use Rattle.nofs_scan.specs.Elements.{HasElement};
 ghost use Rattle.nofs_scan.specs.Looking.{LooksAt};
-ghost use Rattle.nofs_sights.specs.Seeing.{ReadsAnswer, Sees};
-ghost use Rattle.nofs_sights.specs.Sights as sights;
+ghost use Rattle.nofs_scan.specs.Seeing.{ReadsAnswer, Sees};
+ghost use Rattle.nofs_scan.specs.Sights as sights;
 
+use crate::sights::judging::is_slot;
+use crate::sights::sights::{
+    Above, BlockSight, BlocksAbove, InodeSight, LinkSight, Named, Sight, TagSight,
+};
 use nofs_agree::{Known, LastRead, PathAnswer, find_slot, learn_chain, read_block, read_inode};
 use nofs_dirent::bytes_of;
 use nofs_disk::{Disk, Failed, Tag, read_tag, read_u32_at, read_u64_at};
-use nofs_image::{Place, names_inode, place_of, record_pointer};
+use nofs_history::ElementKind;
 use nofs_inode::{BackLink, FileKind, Record};
-use nofs_machine::ElementKind;
+use nofs_model::{Place, names_inode, place_of, record_pointer};
 use nofs_ptrs::read_pointer;
-use nofs_sights::{
-    Above, BlockSight, BlocksAbove, InodeSight, LinkSight, Named, Sight, TagSight, is_slot,
-};
 use nofs_super::SuperBlock;
 
 /// Reads what the disk has of an element: an inode's record and what each of its back links leads to; or a block's tag and what
@@ -34,7 +35,7 @@ use nofs_super::SuperBlock;
 /// # Errors
 ///
 /// `Failed` where a read failed.
-pub fn read_sight<D: Disk>(
+pub(crate) fn read_sight<D: Disk>(
     disk: &mut D,
     at: &SuperBlock,
     known: &mut Known,

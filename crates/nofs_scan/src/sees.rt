@@ -1,11 +1,11 @@
 //! One element is examined in one step.
 ghost use Rattle.std.specs.Prelude.{◌≡◌, ◌||◌, ◌==◌, nat_lt};
-ghost use Rattle.nofs_machine.specs.declared.steps.Step.TheVariants as step;
-ghost use Rattle.nofs_state.specs.Handed.{IsSafe};
+ghost use Rattle.nofs_history.specs.declared.machine.steps.Step.TheVariants as step;
+ghost use Rattle.nofs_state.specs.Books.{IsSafe};
 ghost use Rattle.nofs_scan.specs.Seen.{Examines};
 
 use nofs_disk::Disk;
-use nofs_machine::Refusal;
+use nofs_history::Refusal;
 use nofs_state::Core;
 
 /// Whether a block is used. It is known from then on. It takes no memory.

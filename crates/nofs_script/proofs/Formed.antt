@@ -6,10 +6,10 @@ use Rattle.std.specs.Str.{bytes_eq}
 use Rattle.std.proofs.lemmas.Bool.{ltb-true, eqb-false}
 use Rattle.hex.specs.Hex.{decode_of}
 use Rattle.hex.proofs.HexLemmas.{decode_of-ok}
-use Rattle.nofs_task.specs.declared.commands.Path.{Path}
-use Rattle.nofs_task.specs.declared.commands.Path.TheVariants.{Label, Names}
-use Rattle.nofs_task.specs.declared.commands.Command.{Command}
-use Rattle.nofs_task.specs.Commands.{HasName, IsWellFormed}
+use Rattle.nofs_client.specs.declared.task.commands.Path.{Path}
+use Rattle.nofs_client.specs.declared.task.commands.Path.TheVariants.{Label, Names}
+use Rattle.nofs_client.specs.declared.task.commands.Command.{Command}
+use Rattle.nofs_client.specs.Commands.{HasName, IsWellFormed}
 use Rattle.nofs_script.specs.declared.commands.Verb.{Verb}
 use Rattle.nofs_script.specs.declared.commands.Verb.TheVariants as verb
 use Rattle.nofs_script.specs.declared.faults.ScriptKind.{ScriptKind}

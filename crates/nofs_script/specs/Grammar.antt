@@ -4,10 +4,10 @@ use Rattle.std.specs.List.{slice_split, list_all}
 use Rattle.std.specs.Str.{bytes_eq}
 use Rattle.std.specs.declared.option.Option.{Option}
 use Rattle.hex.specs.Hex.{decode_of}
-use Rattle.nofs_task.specs.declared.commands.Path.{Path}
-use Rattle.nofs_task.specs.declared.commands.Path.TheVariants.{Label, Names}
-use Rattle.nofs_task.specs.declared.commands.Command.{Command}
-use Rattle.nofs_task.specs.declared.commands.Command.TheVariants as command
+use Rattle.nofs_client.specs.declared.task.commands.Path.{Path}
+use Rattle.nofs_client.specs.declared.task.commands.Path.TheVariants.{Label, Names}
+use Rattle.nofs_client.specs.declared.task.commands.Command.{Command}
+use Rattle.nofs_client.specs.declared.task.commands.Command.TheVariants as command
 use Rattle.nofs_script.specs.declared.commands.Verb.{Verb}
 use Rattle.nofs_script.specs.declared.commands.Verb.TheVariants as verb
 use Rattle.nofs_script.specs.declared.faults.ScriptKind.{ScriptKind}

@@ -5,9 +5,9 @@ use Rattle.std.specs.List.{AllByRecursion}
 use Rattle.std.specs.Str.{bytes_eq}
 use Rattle.std.specs.Str.Lines.{strip_carriage_return}
 use Rattle.std.specs.declared.option.Option.{Option}
-use Rattle.nofs_task.specs.declared.commands.Command.{Command}
-use Rattle.nofs_task.specs.declared.commands.Command.TheVariants as command
-use Rattle.nofs_task.specs.Commands.{IsWellFormed}
+use Rattle.nofs_client.specs.declared.task.commands.Command.{Command}
+use Rattle.nofs_client.specs.declared.task.commands.Command.TheVariants as command
+use Rattle.nofs_client.specs.Commands.{IsWellFormed}
 use Rattle.nofs_script.specs.declared.commands.Verb.{Verb}
 use Rattle.nofs_script.specs.declared.faults.ScriptKind.{ScriptKind}
 use Rattle.nofs_script.specs.declared.faults.ScriptKind.TheVariants.{UnknownCommand, WordCount, TooManyUsers, TooMuchAsked, TooManyCommands}

@@ -7,8 +7,8 @@ ghost use Rattle.nofs_script.specs.Grammar.{Gives, path_word, new_path_word, num
 
 use crate::faults::{LineFault, ScriptKind};
 use crate::words::number_of;
-use nofs_lists::{Content, Name, PathNames};
-use nofs_task::{Command, Path};
+use nofs_client::{Command, Path};
+use nofs_dirent::{Content, Name, PathNames};
 use std::alloc::{AllocError, Global};
 
 /// What the first word of a line asks for.
@@ -30,7 +30,7 @@ pub enum Verb {
 
 /// The verb of a word.
 #[tactic(auto, unfolding(crate::specs::Grammar::verb_in))]
-pub fn verb_of(word: &[u8]) -> Option<Verb>
+pub(crate) fn verb_of(word: &[u8]) -> Option<Verb>
     ensures { result ≡ verb_in word.now }
 {
     if word == b"make".as_slice() {
@@ -257,7 +257,7 @@ fn three_words(
 }
 
 /// The command of a verb with the words after it.
-pub fn command(alloc: Global, verb: Verb, args: &[&[u8]]) -> Result<Command, LineFault>
+pub(crate) fn command(alloc: Global, verb: Verb, args: &[&[u8]]) -> Result<Command, LineFault>
     ensures { Gives (λ command. command) result (command_of verb (map piece_of args.now)) }
 {
     match args {

@@ -7,8 +7,10 @@
 mod commands;
 mod faults;
 mod session;
+mod text;
 mod words;
 
 pub use faults::{ParseFault, ScriptFault, ScriptKind, TextFault};
 pub use session::{Session, parse};
+pub use text::{line_text, push_number};
 pub use words::number_of;

@@ -9,8 +9,8 @@ ghost use Rattle.nofs_script.specs.Sessions.{IsSession, asked_by as asked_in, wi
 use crate::commands::{Verb, command, verb_of};
 use crate::faults::{LineFault, ParseFault, ScriptFault, ScriptKind};
 use crate::words::{place_of, text_after, words};
-use nofs_lists::ListOf;
-use nofs_task::{Command, CommandList};
+use nofs_client::{Command, CommandList};
+use nofs_dirent::ListOf;
 use std::alloc::Global;
 
 /// The scripts of a session, one a user, each the list of its commands.

@@ -13,7 +13,7 @@ use std::alloc::{AllocError, Global};
 const MOST_WORDS: usize = 5;
 
 /// The first place of a byte. The lines of puts are long, so the search is one by vectors.
-pub fn place_of(byte: u8, text: &[u8]) -> Option<usize>
+pub(crate) fn place_of(byte: u8, text: &[u8]) -> Option<usize>
     ensures first { MatchOption result (All (λ other. other ≢ byte) text.now)
         (λ end. (slice_get text.now end ≡ Some byte) × All (λ other. other ≢ byte) (take end text.now)) }
     ensures within { IfSome result (λ end. end < length text.now) }
@@ -22,7 +22,7 @@ pub fn place_of(byte: u8, text: &[u8]) -> Option<usize>
 }
 
 /// The text behind a place.
-pub fn text_after(text: &[u8], end: usize) -> &[u8]
+pub(crate) fn text_after(text: &[u8], end: usize) -> &[u8]
     requires { end < length text.now }
     ensures { result.now ≡ drop (end + 1) text.now }
 {
@@ -41,7 +41,7 @@ fn push_word<'a>(words: &mut Vec<&'a [u8]>, piece: &'a [u8]) -> Result<(), Alloc
 }
 
 /// The first five words of a line: no command has as many.
-pub fn words<'a>(alloc: Global, line: &'a [u8]) -> Result<Vec<&'a [u8]>, AllocError>
+pub(crate) fn words<'a>(alloc: Global, line: &'a [u8]) -> Result<Vec<&'a [u8]>, AllocError>
     ensures { IfOk result (λ words. map piece_of words.items ≡ take 5 (words_of line.now)) }
 {
     let mut words = Vec::new(alloc);

@@ -1,2 +1,6 @@
+pub mod Joining
+pub mod Gathering
+pub mod Working
+pub mod Teaming
+pub mod Looking
 pub mod Visiting
-pub mod Handed

@@ -1,20 +1,21 @@
 -- A whole visit: its sweepers, its flusher and its visitor, and what it leaves in a history.
 use Rattle.std.proofs.Common.{◌≡◌, ◌≢◌, ◌⊎◌, inl, inr, ℕ, zero, suc, ◌-◌, ◌<◌, Bool, List, [], length, drop, refl, sym, ap, ◌∙◌, subst, arith}
 use mathlib.Core.List.{IsPrefix}
-use Rattle.nofs_turn_rule.specs.declared.view.View.{View}
-use Rattle.nofs_turn_rule.specs.Lists.{numbered, chosen}
-use Rattle.nofs_turn_rule.proofs.Words.{prefix_trans}
-use Rattle.nofs_machine.specs.Steps.{Made}
-use Rattle.nofs_machine.specs.declared.history.Entry1.{Entry1}
-use Rattle.nofs_machine.specs.declared.steps.ElementKind.TheVariants.{Inode, Block}
-use Rattle.nofs_task.specs.declared.lines.Line.{Line}
-use Rattle.nofs_teams.specs.Handed.{is_by, own_steps, steps_by, SameSeat}
-use Rattle.nofs_teams.proofs.Handed.{steps_of}
+use Rattle.nofs_turn.specs.declared.turn_rule.view.View.{View}
+use Rattle.nofs_turn.specs.Lists.{numbered, chosen}
+use Rattle.nofs_turn.proofs.Words.{prefix_trans}
+use Rattle.nofs_history.specs.Steps.{Made}
+use Rattle.nofs_history.specs.declared.machine.history.Entry1.{Entry1}
+use Rattle.nofs_history.specs.declared.machine.steps.ElementKind.TheVariants.{Inode, Block}
+use Rattle.nofs_client.specs.declared.task.lines.Line.{Line}
+use Rattle.nofs_shared.specs.Owned.{is_by, own_steps, steps_by}
+use Rattle.nofs_shared.specs.Seats.{SameSeat}
+use Rattle.nofs_shared.proofs.Collecting.{steps_of}
 use Rattle.nofs_workers.specs.Sweeps.{Sweeps}
-use Rattle.nofs_teams.specs.Joins.{JoinsOwn, made_by}
-use Rattle.nofs_teams.specs.Served.{TeamGathered}
+use Rattle.nofs_serve.specs.Joins.{JoinsOwn, made_by}
+use Rattle.nofs_serve.specs.Served.{TeamGathered}
 use Rattle.nofs_serve.specs.Visiting.{VisitMade, VisitGathered, VisitServed}
-use Rattle.nofs_teams.proofs.Joining.{joins-own, joins-other, gathers-more}
+use Rattle.nofs_serve.proofs.Joining.{joins-own, joins-other, gathers-more}
 
 module _ {F : Type 0} (Visits : List Made → Type 0) (inodes blocks : ℕ) (short : Bool) where
   -- a visitor's pass is joined to those of a team without users

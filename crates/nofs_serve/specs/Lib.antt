@@ -1,2 +1,4 @@
+pub mod Joins
+pub mod Teams
+pub mod Served
 pub mod Visiting
-pub mod Handed

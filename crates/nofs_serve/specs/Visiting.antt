@@ -1,13 +1,13 @@
 -- What a visitor, the sweepers and the flusher leave.
 use Rattle.std.specs.Prelude.{◌≡◌, ◌≢◌, ℕ, ◌-◌, Bool, List, [], length, drop}
 use mathlib.Core.List.{IsPrefix}
-use Rattle.nofs_turn_rule.specs.declared.view.View.{View}
-use Rattle.nofs_machine.specs.Steps.{Made}
-use Rattle.nofs_machine.specs.declared.history.Entry1.{Entry1}
-use Rattle.nofs_machine.specs.declared.steps.ElementKind.TheVariants.{Inode, Block}
-use Rattle.nofs_teams.specs.Handed.{steps_by}
+use Rattle.nofs_turn.specs.declared.turn_rule.view.View.{View}
+use Rattle.nofs_history.specs.Steps.{Made}
+use Rattle.nofs_history.specs.declared.machine.history.Entry1.{Entry1}
+use Rattle.nofs_history.specs.declared.machine.steps.ElementKind.TheVariants.{Inode, Block}
+use Rattle.nofs_shared.specs.Owned.{steps_by}
 use Rattle.nofs_workers.specs.Sweeps.{Sweeps}
-use Rattle.nofs_teams.specs.Joins.{Gathers, made_by}
+use Rattle.nofs_serve.specs.Joins.{Gathers, made_by}
 
 -- The steps that each caller made: caller 1's are those of the visit, and those of the sweeps are one for each element, the inodes
 -- upwards and the blocks downwards. Where memory was wanting the sweeps may end early

@@ -5,8 +5,10 @@
 #![tactic(auto)]
 
 mod session;
+mod teams;
 mod visit;
 
-pub use nofs_teams::{Counts, Mount, Plan, Sweeps, Visits, WriteOuts};
 pub use session::{Served, serve};
+pub use teams::team::{Plan, Sweeps, WriteOuts};
+pub use teams::works::Visits;
 pub use visit::{Visited, attend};

@@ -3,13 +3,13 @@
 //! Promise: the history has of each user just the steps that its commands ask for, in order, and of each sweep one step for each
 //! element. The flusher has none.
 ghost use Rattle.std.specs.Prelude.{◌≡◌, ◌<◌, ◌≤◌, ◌^◌, true, All, map, vec_len};
-ghost use Rattle.nofs_task.specs.Commands.{AreWellFormed};
-ghost use Rattle.nofs_teams.specs.Served.{TeamServed};
+ghost use Rattle.nofs_client.specs.Commands.{AreWellFormed};
+ghost use Rattle.nofs_serve.specs.Served.{TeamServed};
 
-use nofs_task::LineList;
-use nofs_teams::{
-    Gathered, Plan, Serves, ShareFault, SharedMount, Sweeps, TeamRoom, WriteOuts, run_team,
-};
+use crate::teams::gather::Gathered;
+use crate::teams::team::{Plan, Sweeps, TeamRoom, WriteOuts, run_team};
+use nofs_client::LineList;
+use nofs_shared::{Serves, ShareFault, SharedMount};
 use nofs_workers::Gate;
 use std::alloc::Global;
 use std::sync::Wait;

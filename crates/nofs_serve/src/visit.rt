@@ -3,14 +3,16 @@
 //! Promise: the history has of caller 1 just the steps of the visit, and of each sweep one step for each element. The flusher has
 //! none, nor has any other caller.
 ghost use Rattle.std.specs.Prelude.{◌≡◌, ℕ, ◌+◌, ◌<◌, ◌^◌, [], All, IfErr, IfOk, vec_len};
-ghost use Rattle.nofs_turn_rule.specs.declared.view.View.{View};
+ghost use Rattle.nofs_turn.specs.declared.turn_rule.view.View.{View};
 ghost use Rattle.nofs_turn.specs.Turns.{view_of, IsPassOf};
-ghost use Rattle.nofs_machine.specs.declared.history.Entry1.{Entry1};
+ghost use Rattle.nofs_history.specs.declared.machine.history.Entry1.{Entry1};
 ghost use Rattle.nofs_serve.specs.Visiting.{VisitGathered, VisitServed};
 
-use nofs_teams::{
-    Serves, ShareFault, SharedMount, Sweeps, Visits, WriteOuts, either, join_way, seat, work_beside,
-};
+use crate::teams::gather::{either, join_way};
+use crate::teams::lend::work_beside;
+use crate::teams::team::{Sweeps, WriteOuts, seat};
+use crate::teams::works::Visits;
+use nofs_shared::{Serves, ShareFault, SharedMount};
 use nofs_turn::Pass;
 use nofs_workers::{Downwards, Flusher, Gate, Sweeper, Upwards};
 use std::alloc::Global;

@@ -3,12 +3,13 @@ use Rattle.std.proofs.Common.{◌≡◌, ◌≢◌, ℕ, ◌+◌, ne_eqb, eqb-tr
 use Rattle.std.proofs.Common.{arith, append_assoc}
 use Rattle.std.specs.Prelude.{filter}
 use mathlib.Core.List.{IsPrefix}
-use Rattle.nofs_turn_rule.specs.declared.view.View.{View}
-use Rattle.nofs_turn_rule.specs.Lists.{rises, merge, numbered, chosen}
-use Rattle.nofs_turn_rule.specs.Views.{joined}
+use Rattle.nofs_turn.specs.declared.turn_rule.view.View.{View}
+use Rattle.nofs_turn.specs.Lists.{rises, merge, numbered, chosen}
+use Rattle.nofs_turn.specs.Views.{joined}
 use Rattle.nofs_turn.proofs.Callers.{entries_of-numbered, filter-entries_of, joined_own, joined_other}
-use Rattle.nofs_machine.specs.declared.history.Entry1.{Entry1}
-use Rattle.nofs_mount.specs.Handed.{done_of, is_by, all_by, own_steps, steps_by, FollowEach, IdleIn, Task, WholeEach, step_of}
+use Rattle.nofs_history.specs.declared.machine.history.Entry1.{Entry1}
+use Rattle.nofs_shared.specs.Owned.{done_of, is_by, all_by, own_steps, steps_by}
+use Rattle.nofs_shared.specs.Ends.{FollowEach, IdleIn, Task, WholeEach, step_of}
 use Rattle.nofs_shared.specs.Passes.{Seat, AllOut, Apart, Did, DidAll, Others, Sorts, TellsAll, Without}
 
 pub chosen_by : (c : ℕ) (m : List (ℕ × Entry1)) → all_by c m ≡ true → chosen (is_by c) m ≡ m

@@ -3,14 +3,16 @@ use Rattle.std.proofs.Common.{◌≡◌, ℕ, ◌+◌, ◌<◌, ◌≤◌, List,
 use Rattle.std.specs.Prelude.{Result, Ok, Err, IfOk}
 use Rattle.std.proofs.lemmas.List.{drop_all}
 use mathlib.Core.List.{IsPrefix}
-use Rattle.nofs_turn_rule.specs.declared.view.View.{View}
-use Rattle.nofs_turn_rule.specs.Lists.{numbered}
-use Rattle.nofs_turn_rule.specs.Passes.{MayRun, Ran}
-use Rattle.nofs_turn_rule.proofs.Words.{prefix_trans}
-use Rattle.nofs_machine.specs.declared.history.Entry1.{Entry1}
-use Rattle.nofs_machine.specs.declared.steps.Step.{Step}
-use Rattle.nofs_machine.specs.declared.replies.Reply.{Reply}
-use Rattle.nofs_mount.specs.Handed.{CommitRan, TellsStep, SameSeat}
+use Rattle.nofs_turn.specs.declared.turn_rule.view.View.{View}
+use Rattle.nofs_turn.specs.Lists.{numbered}
+use Rattle.nofs_turn.specs.Passes.{MayRun, Ran}
+use Rattle.nofs_turn.proofs.Words.{prefix_trans}
+use Rattle.nofs_history.specs.declared.machine.history.Entry1.{Entry1}
+use Rattle.nofs_history.specs.declared.machine.steps.Step.{Step}
+use Rattle.nofs_history.specs.declared.machine.replies.Reply.{Reply}
+use Rattle.nofs_shared.specs.Commits.{CommitRan}
+use Rattle.nofs_shared.specs.Owned.{TellsStep}
+use Rattle.nofs_shared.specs.Seats.{SameSeat}
 
 module _ {F Out : Type 0} (tells : F → List Entry1 → List Entry1 → Out → Type 0) (v w : View Entry1 F) (out : Out) (h : Ran tells v w out) where
   -- the seat stays

@@ -4,17 +4,19 @@ use Rattle.std.specs.Prelude.{All}
 use Rattle.std.specs.List.{AllByRecursion}
 use Rattle.std.proofs.lemmas.List.Elements.{recursion_from_All}
 use mathlib.Core.List.{IsPrefix}
-use Rattle.nofs_turn_rule.specs.declared.view.View.{View}
-use Rattle.nofs_turn_rule.specs.Lists.{rises, merge, numbered, chosen}
-use Rattle.nofs_turn_rule.specs.Views.{fresh, joined}
-use Rattle.nofs_turn_rule.proofs.Words.{prefix_trans}
+use Rattle.nofs_turn.specs.declared.turn_rule.view.View.{View}
+use Rattle.nofs_turn.specs.Lists.{rises, merge, numbered, chosen}
+use Rattle.nofs_turn.specs.Views.{fresh, joined}
+use Rattle.nofs_turn.proofs.Words.{prefix_trans}
 use Rattle.nofs_turn.proofs.Callers.{joined_own, joined_other}
-use Rattle.nofs_machine.specs.Steps.{Made}
-use Rattle.nofs_machine.specs.declared.history.Entry1.{Entry1}
-use Rattle.nofs_machine.specs.declared.steps.Step.{Step}
-use Rattle.nofs_machine.specs.declared.steps.Step.TheVariants as step
-use Rattle.nofs_machine.specs.declared.replies.Reply.{Reply}
-use Rattle.nofs_mount.specs.Handed.{AddsStep, AllFollow, FollowEach, Task, WholeEach, step_of, is_by, own_steps, steps_by}
+use Rattle.nofs_history.specs.Steps.{Made}
+use Rattle.nofs_history.specs.declared.machine.history.Entry1.{Entry1}
+use Rattle.nofs_history.specs.declared.machine.steps.Step.{Step}
+use Rattle.nofs_history.specs.declared.machine.steps.Step.TheVariants as step
+use Rattle.nofs_history.specs.declared.machine.replies.Reply.{Reply}
+use Rattle.nofs_shared.specs.Added.{AddsStep}
+use Rattle.nofs_shared.specs.Ends.{AllFollow, FollowEach, Task, WholeEach, step_of}
+use Rattle.nofs_shared.specs.Owned.{is_by, own_steps, steps_by}
 use Rattle.nofs_shared.specs.Served.{AllServed, Served, two_users}
 use Rattle.nofs_shared.proofs.Collecting.{chosen_by, chosen_not, steps_of}
 

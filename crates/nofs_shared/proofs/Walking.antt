@@ -1,9 +1,9 @@
 -- A script is walked, and two passes are joined.
 use Rattle.std.proofs.Common.{◌≡◌, true, false, List, [], ◌∷◌, ◌++◌, length, map, refl, sym, ap, ◌∙◌, arith, append_assoc, append-nil}
-use Rattle.nofs_machine.specs.Steps.{Made, is_out_of_memory, with_made}
-use Rattle.nofs_machine.specs.declared.steps.Step.{Step}
-use Rattle.nofs_machine.specs.declared.replies.Reply.{Reply}
-use Rattle.nofs_mount.specs.Handed.{step_of}
+use Rattle.nofs_history.specs.Steps.{Made, is_out_of_memory, with_made}
+use Rattle.nofs_history.specs.declared.machine.steps.Step.{Step}
+use Rattle.nofs_history.specs.declared.machine.replies.Reply.{Reply}
+use Rattle.nofs_shared.specs.Ends.{step_of}
 use Rattle.nofs_shared.specs.Served.{Walked, Walks}
 
 pub walks-begin : (made : List Made) (script : List Step) → Walks made made script script

@@ -1,10 +1,11 @@
 -- Passes that were given back, each with its caller, and what a history has of them.
 use Rattle.std.specs.Prelude.{◌≡◌, ◌≢◌, ℕ, true, List, [], ◌∷◌, map}
 use mathlib.Core.List.{IsPrefix}
-use Rattle.nofs_turn_rule.specs.declared.view.View.{View}
-use Rattle.nofs_turn_rule.specs.Lists.{chosen}
-use Rattle.nofs_machine.specs.declared.history.Entry1.{Entry1}
-use Rattle.nofs_mount.specs.Handed.{Task, step_of, all_by, is_by, own_steps, steps_by}
+use Rattle.nofs_turn.specs.declared.turn_rule.view.View.{View}
+use Rattle.nofs_turn.specs.Lists.{chosen}
+use Rattle.nofs_history.specs.declared.machine.history.Entry1.{Entry1}
+use Rattle.nofs_shared.specs.Ends.{Task, step_of}
+use Rattle.nofs_shared.specs.Owned.{all_by, is_by, own_steps, steps_by}
 
 -- a caller, and what its pass knows
 abbrev pub Seat : Type 0 → Type 0

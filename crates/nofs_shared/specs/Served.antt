@@ -1,11 +1,13 @@
 -- What a user's worker leaves of its pass.
 use Rattle.std.specs.Prelude.{◌≡◌, ℕ, Bool, true, false, List, [], ◌∷◌, ◌++◌, length, drop, map}
 use mathlib.Core.List.{IsPrefix}
-use Rattle.nofs_turn_rule.specs.declared.view.View.{View}
-use Rattle.nofs_machine.specs.Steps.{Made}
-use Rattle.nofs_machine.specs.declared.history.Entry1.{Entry1}
-use Rattle.nofs_machine.specs.declared.steps.Step.{Step}
-use Rattle.nofs_mount.specs.Handed.{all_by, own_steps, steps_by, SameSeat, FollowEach, IdleIn, Task, WholeEach, step_of}
+use Rattle.nofs_turn.specs.declared.turn_rule.view.View.{View}
+use Rattle.nofs_history.specs.Steps.{Made}
+use Rattle.nofs_history.specs.declared.machine.history.Entry1.{Entry1}
+use Rattle.nofs_history.specs.declared.machine.steps.Step.{Step}
+use Rattle.nofs_shared.specs.Owned.{all_by, own_steps, steps_by}
+use Rattle.nofs_shared.specs.Seats.{SameSeat}
+use Rattle.nofs_shared.specs.Ends.{FollowEach, IdleIn, Task, WholeEach, step_of}
 
 -- the steps of a script, in order, or the first ones of them
 pub record Walked (before after : List Made) (script : List Step) (short : Bool) : Type 0 where

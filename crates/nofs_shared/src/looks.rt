@@ -1,15 +1,17 @@
 //! Batches of verdicts behind a turn: a look is one section, and each commit another.
 ghost use Rattle.std.specs.Prelude.{◌≡◌, ◌<◌, ◌≤◌, IfOk, get_or, length};
-ghost use Rattle.nofs_turn_rule.specs.Passes.{MayRun};
+ghost use Rattle.nofs_turn.specs.Passes.{MayRun};
 ghost use Rattle.nofs_turn.specs.Turns.{view_of};
-ghost use Rattle.nofs_machine.specs.Steps.{Fits, with_made};
-ghost use Rattle.nofs_sights.specs.Elements as elements;
-ghost use Rattle.nofs_mount.specs.Handed.{CommitRan, own_steps, SameSeat};
+ghost use Rattle.nofs_history.specs.Steps.{Fits, with_made};
+ghost use Rattle.nofs_scan.specs.Elements as elements;
+ghost use Rattle.nofs_shared.specs.Commits.{CommitRan};
+ghost use Rattle.nofs_shared.specs.Owned.{own_steps};
+ghost use Rattle.nofs_shared.specs.Seats.{SameSeat};
 
+use crate::mount::serves::Serves;
 use crate::shared::SharedPass;
-use nofs_machine::{ElementKind, Refusal, Reply};
-use nofs_mount::Serves;
-use nofs_turn_rule::Section;
+use nofs_history::{ElementKind, Refusal, Reply};
+use nofs_turn::Section;
 use std::alloc::Global;
 use std::sync::Wait;
 
@@ -49,8 +51,8 @@ struct Settle<'a, V: Serves> {
 
 impl<V: Serves> Section<V> for Settle<'_, V> {
     ghost use Rattle.std.specs.Prelude.{◌≡◌, ◌<◌, get_or, length};
-    ghost use Rattle.nofs_mount.specs.Handed.{see_step};
-    ghost use Rattle.nofs_mount.specs.Handed.{TellsStep};
+    ghost use Rattle.nofs_scan.specs.Elements.{see_step};
+    ghost use Rattle.nofs_shared.specs.Owned.{TellsStep};
 
     type Out = Reply;
 

@@ -5,12 +5,13 @@
 //! that the section would give then. All of these steps are sequentially consistent.
 ghost use Rattle.std.specs.Prelude.{◌≡◌, ◌<◌};
 ghost use Rattle.nofs_turn.specs.Turns.{view_of};
-ghost use Rattle.nofs_mount.specs.Handed.{own_steps, SameSeat};
+ghost use Rattle.nofs_shared.specs.Owned.{own_steps};
+ghost use Rattle.nofs_shared.specs.Seats.{SameSeat};
 
+use crate::mount::serves::Serves;
 use crate::shared::SharedPass;
 use nofs_disk::OutFault;
-use nofs_mount::Serves;
-use nofs_turn_rule::Section;
+use nofs_turn::Section;
 use std::sync::Wait;
 use std::sync::atomic::{AtomicBool, Ordering};
 

@@ -1,14 +1,18 @@
 //! A session of two users.
 ghost use Rattle.std.specs.Prelude.{◌≡◌, ◌≢◌, ◌^◌, ◌≤◌, ◌||◌, true, [], IfSome, IfNone};
 ghost use Rattle.nofs_turn.specs.Turns.{view_of, IsPassOf};
-ghost use Rattle.nofs_mount.specs.Handed.{all_by, own_steps, SameSeat, Headline};
+ghost use Rattle.nofs_shared.specs.Owned.{all_by, own_steps};
+ghost use Rattle.nofs_shared.specs.Seats.{SameSeat};
+ghost use Rattle.nofs_shared.specs.Ends.{Headline};
 ghost use Rattle.nofs_shared.specs.Served.{AllServed, Served, Walked, two_users};
-ghost use Rattle.nofs_mount.specs.Begins.{Unmounted};
+ghost use Rattle.nofs_shared.specs.Begins.{Unmounted};
 
+use crate::mount::mount::{BeginFault, Mount};
+use crate::mount::serves::Serves;
+use crate::mount::steps::wants_memory;
 use crate::sharing::{ShareFault, SharedMount};
 use nofs_disk::Disk;
-use nofs_machine::{History, Step, Steps};
-use nofs_mount::{BeginFault, Mount, Serves, wants_memory};
+use nofs_history::{History, Step, Steps};
 use nofs_turn::Pass;
 use std::alloc::Global;
 use std::sync::Wait;

@@ -1,15 +1,15 @@
 //! Passes by which callers make steps at a shared mount.
 ghost use Rattle.std.specs.Prelude.{◌≡◌, ◌+◌, ◌*◌, ◌/◌, ◌%◌, ◌<◌, ◌≤◌, true, [], length, vec_len, All, IfOk, IfErr, OnErr};
 ghost use Rattle.nofs_turn.specs.Turns.{view_of, IsPassOf, IsFreshPass};
-ghost use Rattle.nofs_turn_rule.specs.Views.{looked};
-ghost use Rattle.nofs_turn_rule.specs.Passes.{Closes};
-ghost use Rattle.nofs_machine.specs.Steps.{Fits, with_made};
-ghost use Rattle.nofs_mount.specs.Handed.{all_by, own_steps, SameSeat};
+ghost use Rattle.nofs_turn.specs.Views.{looked};
+ghost use Rattle.nofs_turn.specs.Passes.{Closes};
+ghost use Rattle.nofs_history.specs.Steps.{Fits, with_made};
+ghost use Rattle.nofs_shared.specs.Owned.{all_by, own_steps};
+ghost use Rattle.nofs_shared.specs.Seats.{SameSeat};
 
-use nofs_machine::{Reply, Step, Steps};
-use nofs_mount::Serves;
-use nofs_turn::{Busy, Pass, Turn};
-use nofs_turn_rule::Section;
+use crate::mount::serves::Serves;
+use nofs_history::{Reply, Step, Steps};
+use nofs_turn::{Busy, Pass, Section, Turn};
 use std::alloc::Global;
 use std::sync::Wait;
 use std::sync::atomic::{AtomicBool, Ordering};
@@ -24,7 +24,7 @@ struct Move<'a> {
 }
 
 impl<V: Serves> Section<V> for Move<'_> {
-    ghost use Rattle.nofs_mount.specs.Handed.{TellsStep};
+    ghost use Rattle.nofs_shared.specs.Owned.{TellsStep};
 
     type Out = Reply;
 
@@ -130,7 +130,7 @@ impl<'a, R, V: Serves> SharedPass<'a, R, V> {
 
 impl<R: Wait, V: Serves> Steps for SharedPass<'_, R, V> {
     ghost use Rattle.std.proofs.Common.{refl, ◌∙◌};
-    ghost use Rattle.nofs_mount.specs.Handed.{same_seat, same_seats};
+    ghost use Rattle.nofs_shared.specs.Seats.{same_seat, same_seats};
 
     ghost made = { λ p. own_steps (view_of p.pass).mine };
 

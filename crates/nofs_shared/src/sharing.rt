@@ -1,11 +1,11 @@
 //! A mount that several callers share.
 ghost use Rattle.std.specs.Prelude.{◌≡◌, ◌+◌, ◌<◌, ◌≤◌, [], vec_len, All, IfOk, IfErr};
 ghost use Rattle.nofs_turn.specs.Turns.{view_of, IsPassOf, IsFreshPass};
-ghost use Rattle.nofs_turn_rule.specs.Views.{joined};
-ghost use Rattle.nofs_turn_rule.specs.Passes.{Closes};
+ghost use Rattle.nofs_turn.specs.Views.{joined};
+ghost use Rattle.nofs_turn.specs.Passes.{Closes};
 
+use crate::mount::serves::Serves;
 use crate::shared::SharedPass;
-use nofs_mount::Serves;
 use nofs_turn::{Pass, PassesOut, Turn, TurnFault};
 use std::alloc::Global;
 use std::sync::atomic::AtomicBool;

@@ -5,23 +5,23 @@ use Rattle.std.proofs.lemmas.Bool.{ltb-true, cases_lt}
 use Rattle.std.proofs.lemmas.Bool.Decides.{nat_tests}
 use Rattle.nofs_bits.specs.Bits.{is_set}
 use Rattle.nofs_disk.specs.Disk.{DiskState, IsDisk, IsSettled}
-use Rattle.nofs_image.specs.Cells.{SuperBlock}
-use Rattle.nofs_image.specs.Image.{Image, super_at, is_mountable, is_special, IsBelow, path_of, Home, owner}
-use Rattle.nofs_image.proofs.Find.{and-both, find-held}
-use Rattle.nofs_image.proofs.Owners.{owner-holds}
-use Rattle.nofs_machine.specs.World.{world_of}
-use Rattle.nofs_machine.specs.History.{agreed_files}
-use Rattle.nofs_machine.specs.HistoryState.{HistoryState}
+use Rattle.nofs_model.specs.Cells.{SuperBlock}
+use Rattle.nofs_model.specs.Image.{Image, super_at, is_mountable, is_special, IsBelow, path_of, Home, owner}
+use Rattle.nofs_model.proofs.Find.{and-both, find-held}
+use Rattle.nofs_model.proofs.Owners.{owner-holds}
+use Rattle.nofs_history.specs.World.{world_of}
+use Rattle.nofs_history.specs.History.{agreed_files}
+use Rattle.nofs_history.specs.HistoryState.{HistoryState}
 use Rattle.nofs_crashlaw.proofs.FirstStage.{law-first-stage}
 use Rattle.nofs_agree.specs.Chains.{told}
 use Rattle.nofs_agree.specs.Reading.{IsAt}
 use Rattle.nofs_agree.proofs.Learning.{told-nothing}
-use Rattle.nofs_books.specs.Books.{IsRoom, Says}
-use Rattle.nofs_examining.specs.Handed.{IsOpen}
+use Rattle.nofs_state.specs.Books.{IsRoom, Says}
+use Rattle.nofs_state.specs.Standing.{IsOpen}
 use Rattle.nofs_state.specs.Beginning.{first_past}
-use Rattle.nofs_books.specs.declared.books.Books.{Books}
-use Rattle.nofs_books.specs.declared.books.Room.{Room}
-use Rattle.nofs_books.proofs.Maps.{set-none}
+use Rattle.nofs_state.specs.declared.books.Books.{Books}
+use Rattle.nofs_state.specs.declared.books.Room.{Room}
+use Rattle.nofs_state.proofs.Maps.{set-none}
 
 -- no block behind the last has an owner
 pub owner-beyond : (X : Image) (b : ℕ) → (super_at X).blocks ≤ b → owner X b ≡ None

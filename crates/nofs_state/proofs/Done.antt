@@ -4,38 +4,43 @@ use Rattle.std.proofs.Common.{ltb-true, ◌/◌, IsTrue, refl, sym, ap, ◌∙�
 use Rattle.nofs_disk.specs.Disk.{DiskState, IsDisk, IsSameDisk, KeepsPast, cell_at}
 use Rattle.nofs_disk.specs.Adds.{Adds, WasOr}
 use Rattle.nofs_super.specs.Geometry.{IsGeometry}
-use Rattle.nofs_image.specs.Cells.{Cell, SuperBlock}
-use Rattle.nofs_image.specs.Image.{super_at, is_super, is_mountable, Files, Home}
-use Rattle.nofs_image.proofs.Sound.{supers, mountable-law}
-use Rattle.nofs_image.proofs.Find.{and-both, find-held}
-use Rattle.nofs_crashlaw.specs.Handed.{Proper, during}
-use Rattle.nofs_machine.specs.Search.{first_of}
-use Rattle.nofs_machine.specs.Machine.{gives, given_by, files_by, files_after, is_refused}
-use Rattle.nofs_machine.specs.World.{World, inodes_needed, blocks_needed}
-use Rattle.nofs_machine.specs.Claims.{IsClaim, claimed_home, homes_after, next_stamp}
-use Rattle.nofs_machine.specs.Refusals.{rows}
-use Rattle.nofs_machine.specs.Answers.{reply_of}
-use Rattle.nofs_machine.specs.Good.{IsFresh}
-use Rattle.nofs_machine.specs.History.{FilesMatch, agreed_files, files_along, is_flushed, mark_at}
-use Rattle.nofs_machine.specs.Steady.{SteadyRest}
-use Rattle.nofs_machine.specs.Next.{Next, Done, Learns}
-use Rattle.nofs_machine.specs.declared.history.Claims.{Claims}
-use Rattle.nofs_machine.specs.declared.history.Entry1.{Entry1}
-use Rattle.nofs_machine.specs.declared.steps.Step.{Step}
-use Rattle.nofs_machine.specs.declared.replies.Reply.{Reply}
-use Rattle.nofs_law_images.proofs.Lives.{along-append}
-use Rattle.nofs_law_maps.specs.Fresh.{Numbered, CellNumbers}
-use Rattle.nofs_law_maps.specs.Homes.{HomesMove, HomesMatch}
-use Rattle.nofs_law_maps.proofs.Fresh.{law-fresh}
-use Rattle.nofs_law_maps.proofs.Homes.{law-homes}
+use Rattle.nofs_model.specs.Cells.{Cell, SuperBlock}
+use Rattle.nofs_model.specs.Image.{super_at, is_super, is_mountable, Files, Home}
+use Rattle.nofs_model.proofs.Sound.{supers, mountable-law}
+use Rattle.nofs_model.proofs.Find.{and-both, find-held}
+use Rattle.nofs_crashlaw.specs.Proper.{Proper}
+use Rattle.nofs_crashlaw.specs.Moments.{during}
+use Rattle.nofs_history.specs.Search.{first_of}
+use Rattle.nofs_history.specs.Machine.{gives, given_by, files_by, files_after, is_refused}
+use Rattle.nofs_history.specs.World.{World, inodes_needed, blocks_needed}
+use Rattle.nofs_history.specs.Claims.{IsClaim, claimed_home, homes_after, next_stamp}
+use Rattle.nofs_history.specs.Refusals.{rows}
+use Rattle.nofs_history.specs.Answers.{reply_of}
+use Rattle.nofs_history.specs.Good.{IsFresh}
+use Rattle.nofs_history.specs.History.{FilesMatch, agreed_files, files_along, is_flushed, mark_at}
+use Rattle.nofs_history.specs.Steady.{SteadyRest}
+use Rattle.nofs_history.specs.Next.{Next, Done, Learns}
+use Rattle.nofs_history.specs.declared.machine.history.Claims.{Claims}
+use Rattle.nofs_history.specs.declared.machine.history.Entry1.{Entry1}
+use Rattle.nofs_history.specs.declared.machine.steps.Step.{Step}
+use Rattle.nofs_history.specs.declared.machine.replies.Reply.{Reply}
+use Rattle.nofs_crashlaw.proofs.ImageLives.{along-append}
+use Rattle.nofs_crashlaw.specs.Fresh.{Numbered, CellNumbers}
+use Rattle.nofs_crashlaw.specs.Homes.{HomesMove, HomesMatch}
+use Rattle.nofs_crashlaw.proofs.Fresh.{law-fresh}
+use Rattle.nofs_crashlaw.proofs.MapHomes.{law-homes}
 use Rattle.nofs_crashlaw.specs.Stage.{AddsProper, Stage}
 use Rattle.nofs_crashlaw.proofs.Staging.{law-stage}
-use Rattle.nofs_books.specs.Books.{IsSafe, Says, knows_inode, knows_block}
-use Rattle.nofs_examining.specs.Handed.{IsOpen, IsStopped, Past, Sounds, Goes, entry}
+use Rattle.nofs_state.specs.Books.{IsSafe, Says, knows_inode, knows_block}
+use Rattle.nofs_state.specs.Standing.{IsOpen, IsStopped, Past, Sounds}
+use Rattle.nofs_state.specs.Steps.{Goes, entry}
 use Rattle.nofs_state.specs.Writing.{OneOf}
-use Rattle.nofs_books.specs.declared.books.Books.{Books}
-use Rattle.nofs_examining.proofs.Handed.{run-more, takes-none, open-files, faults-append, accepted-fault, accepted-memory, safely-done, safely-goes}
-use Rattle.nofs_flushing.proofs.Sounded.{sounds-adds}
+use Rattle.nofs_state.specs.declared.books.Books.{Books}
+use Rattle.nofs_state.proofs.Idle.{run-more, takes-none}
+use Rattle.nofs_state.proofs.Replies.{open-files}
+use Rattle.nofs_state.proofs.Runs.{faults-append}
+use Rattle.nofs_state.proofs.SafeSteps.{accepted-fault, accepted-memory, safely-done, safely-goes}
+use Rattle.nofs_state.proofs.Sounded.{sounds-adds}
 
 -- weaker cells
 pub Adds-map : (P Q : ℕ → Cell → Type 0) (old new : DiskState) → ((b : ℕ) (c : Cell) → P b c → Q b c) → Adds P old new → Adds Q old new

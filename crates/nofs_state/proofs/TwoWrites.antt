@@ -3,19 +3,19 @@ use Rattle.std.proofs.Common.{◌≡◌, ◌≢◌, ℕ, ◌⊎◌, Bool, inl, i
 use Rattle.std.specs.Prelude.{OnOk, OnErr, slice_set}
 use Rattle.nofs_disk.specs.Disk.{DiskState, IsDisk, Writes, Rose, cell_at, no_cell}
 use Rattle.std.proofs.lemmas.List.{get_or-set_other}
-use Rattle.nofs_image.proofs.Sound.{supers}
-use Rattle.nofs_books.specs.Books.{IsSafe}
-use Rattle.nofs_books.specs.declared.books.Books.{Books}
+use Rattle.nofs_model.proofs.Sound.{supers}
+use Rattle.nofs_state.specs.Books.{IsSafe}
+use Rattle.nofs_state.specs.declared.books.Books.{Books}
 use Rattle.nofs_disk.specs.Adds.{Adds-trans, Adds-writes}
 use Rattle.nofs_disk.specs.Chains.{Rose-within}
 use Rattle.nofs_disk.specs.declared.Failed.{Failed}
-use Rattle.nofs_image.specs.Cells.{Cell}
-use Rattle.nofs_image.specs.Image.{Image}
-use Rattle.nofs_machine.specs.declared.replies.Refusal.{Refusal}
-use Rattle.nofs_machine.specs.declared.replies.Refusal.TheVariants as refusal
+use Rattle.nofs_model.specs.Cells.{Cell}
+use Rattle.nofs_model.specs.Image.{Image}
+use Rattle.nofs_history.specs.declared.machine.replies.Refusal.{Refusal}
+use Rattle.nofs_history.specs.declared.machine.replies.Refusal.TheVariants as refusal
 use Rattle.nofs_state.specs.Writing.{OneOf, IsApart, NotStored, Stored, Stores, image_after, stopped_books, WritesAll}
 use Rattle.nofs_state.proofs.Done.{Adds-map}
-use Rattle.nofs_books.proofs.SafeBooks.{safe-over}
+use Rattle.nofs_state.proofs.SafeBooks.{safe-over}
 
 -- other blocks stay, whatever comes of a write
 pub write-other : (old new : DiskState) (block : ℕ) (cell : Cell) (r : Result (Unit {0}) Failed) (b : ℕ) → Writes old new block cell r → b ≢ block

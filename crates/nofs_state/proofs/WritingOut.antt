@@ -8,17 +8,17 @@ use Rattle.nofs_disk.specs.Moments.{AtEach}
 use Rattle.nofs_disk.specs.declared.Failed.{Failed}
 use Rattle.nofs_disk.specs.declared.OutFault.{OutFault}
 use Rattle.nofs_disk.specs.declared.OutFault.TheVariants as fault
-use Rattle.nofs_image.specs.Cells.{Cell}
-use Rattle.nofs_image.specs.Image.{Image, IsSound, super_at}
-use Rattle.nofs_machine.specs.Allowed.{IsAllowed}
-use Rattle.nofs_machine.specs.declared.history.Entry1.{Entry1}
+use Rattle.nofs_model.specs.Cells.{Cell}
+use Rattle.nofs_model.specs.Image.{Image, IsSound, super_at}
+use Rattle.nofs_history.specs.Allowed.{IsAllowed}
+use Rattle.nofs_history.specs.declared.machine.history.Entry1.{Entry1}
 use Rattle.nofs_crashlaw.specs.Stage.{Lasts}
-use Rattle.nofs_books.specs.Books.{IsSafe}
-use Rattle.nofs_examining.specs.Handed.{IsOpen, IsStopped, Past, Sounds}
+use Rattle.nofs_state.specs.Books.{IsSafe}
+use Rattle.nofs_state.specs.Standing.{IsOpen, IsStopped, Past, Sounds}
 use Rattle.nofs_state.specs.WritingOut.{WroteOne}
-use Rattle.nofs_books.specs.declared.books.Books.{Books}
-use Rattle.nofs_examining.proofs.Handed.{Keeping, open-keeps, stopped-keeps}
-use Rattle.nofs_books.proofs.SafeBooks.{safe-over}
+use Rattle.nofs_state.specs.declared.books.Books.{Books}
+use Rattle.nofs_state.proofs.Keeping.{Keeping, open-keeps, stopped-keeps}
+use Rattle.nofs_state.proofs.SafeBooks.{safe-over}
 
 -- there was no room for the call
 pub out-refused : {E : Type 0} (old new : DiskState) (result : Result (Unit {0}) E) → IsDisk new → MakesReady old new 1 result

@@ -1,11 +1,11 @@
 -- A mount that has just begun: its books, and what only proofs know of it.
 use Rattle.std.specs.Prelude.{◌≡◌, ℕ, ◌+◌, ◌*◌, ◌^◌, ◌≤◌, false, []}
 use Rattle.nofs_disk.specs.Disk.{DiskState}
-use Rattle.nofs_image.specs.Cells.{SuperBlock}
-use Rattle.nofs_image.specs.Image.{super_at}
-use Rattle.nofs_machine.specs.World.{world_of}
-use Rattle.nofs_examining.specs.Handed.{Past}
-use Rattle.nofs_books.specs.declared.books.Books.{Books}
+use Rattle.nofs_model.specs.Cells.{SuperBlock}
+use Rattle.nofs_model.specs.Image.{super_at}
+use Rattle.nofs_history.specs.World.{world_of}
+use Rattle.nofs_state.specs.Standing.{Past}
+use Rattle.nofs_state.specs.declared.books.Books.{Books}
 
 -- the books of a mount with this superblock, before its first step
 pub record HasBegun (d : DiskState) (it : SuperBlock) (k : Books) : Type 0 where

@@ -1,14 +1,14 @@
 -- What the write of a step asks of its caller: that no row refuses the step, and a record in its cell.
 use Rattle.std.specs.Prelude.{◌≡◌, ℕ, ◌-◌, ◌%◌, ◌<◌, ◌≢◌, List, Some, None, IsTrue}
 use Rattle.nofs_disk.specs.Disk.{DiskState}
-use Rattle.nofs_image.specs.Cells.{Cell, Record, record_of}
-use Rattle.nofs_machine.specs.Search.{first_of}
-use Rattle.nofs_machine.specs.World.{World}
-use Rattle.nofs_machine.specs.Refusals.{rows}
-use Rattle.nofs_machine.specs.declared.history.Entry1.{Entry1}
-use Rattle.nofs_machine.specs.declared.steps.Step.{Step}
-use Rattle.nofs_examining.specs.Handed.{IsOpen, Past}
-use Rattle.nofs_books.specs.declared.books.Books.{Books}
+use Rattle.nofs_model.specs.Cells.{Cell, Record, record_of}
+use Rattle.nofs_history.specs.Search.{first_of}
+use Rattle.nofs_history.specs.World.{World}
+use Rattle.nofs_history.specs.Refusals.{rows}
+use Rattle.nofs_history.specs.declared.machine.history.Entry1.{Entry1}
+use Rattle.nofs_history.specs.declared.machine.steps.Step.{Step}
+use Rattle.nofs_state.specs.Standing.{IsOpen, Past}
+use Rattle.nofs_state.specs.declared.books.Books.{Books}
 
 -- a cell of the table with another record of inode i in it
 pub record RecordIn (old : Cell) (i : ℕ) (r : Record) (new : Cell) : Type 0 where

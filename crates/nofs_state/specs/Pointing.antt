@@ -4,10 +4,10 @@ use Rattle.nofs_disk.specs.declared.Failed.{Failed}
 use Rattle.nofs_disk.specs.Disk.{DiskState, cell_at}
 use Rattle.nofs_disk.specs.Pointer.{put_pointer}
 use Rattle.nofs_ptrs.specs.Cells.{pointer_at}
-use Rattle.nofs_image.specs.Cells.{Cell, Pointer}
-use Rattle.nofs_image.specs.Slots.{Path, InRecord, Under}
+use Rattle.nofs_model.specs.Cells.{Cell, Pointer}
+use Rattle.nofs_model.specs.Slots.{Path, InRecord, Under}
 use Rattle.nofs_state.specs.Writing.{WritesAll, stopped_books}
-use Rattle.nofs_books.specs.declared.books.Books.{Books}
+use Rattle.nofs_state.specs.declared.books.Books.{Books}
 use Rattle.nofs_state.specs.declared.pointing.SlotCells.{SlotCells}
 use Rattle.nofs_state.specs.declared.pointing.Spot.{Spot}
 

@@ -3,11 +3,11 @@ use Rattle.std.specs.Prelude.{◌≡◌, ◌≢◌, ℕ, ◌<◌, ◌⊎◌, Lis
 use Rattle.nofs_disk.specs.Disk.{DiskState, Rose, cell_at}
 use Rattle.nofs_disk.specs.Adds.{Adds}
 use Rattle.nofs_disk.specs.declared.Failed.{Failed}
-use Rattle.nofs_machine.specs.declared.replies.Refusal.{Refusal}
-use Rattle.nofs_machine.specs.declared.replies.Refusal.TheVariants as refusal
-use Rattle.nofs_books.specs.declared.books.Books.{Books}
-use Rattle.nofs_image.specs.Cells.{Cell}
-use Rattle.nofs_image.specs.Image.{Image}
+use Rattle.nofs_history.specs.declared.machine.replies.Refusal.{Refusal}
+use Rattle.nofs_history.specs.declared.machine.replies.Refusal.TheVariants as refusal
+use Rattle.nofs_state.specs.declared.books.Books.{Books}
+use Rattle.nofs_model.specs.Cells.{Cell}
+use Rattle.nofs_model.specs.Image.{Image}
 
 -- one of these cells of these blocks
 abbrev pub OneOf : List (ℕ × Cell) → ℕ → Cell → Type 0

@@ -1,16 +1,16 @@
 //! A mounted disk.
 ghost use Rattle.std.specs.Prelude.{◌≡◌, ◌+◌, ◌-◌, ◌∷◌, ◌++◌, ◌*◌, ◌^◌, ◌<◌, ◌≤◌, [], IsTrue};
 ghost use Rattle.nofs_disk.specs.Disk.{IsSettled};
-ghost use Rattle.nofs_image.specs.Image as image;
+ghost use Rattle.nofs_model.specs.Image as image;
 ghost use Rattle.nofs_agree.specs.Reading.{IsAt};
-ghost use Rattle.nofs_books.specs.Books.{IsRoom, IsSafe, with_history};
-ghost use Rattle.nofs_examining.specs.Handed.{IsOpen};
+ghost use Rattle.nofs_state.specs.Books.{IsRoom, IsSafe, with_history};
+ghost use Rattle.nofs_state.specs.Standing.{IsOpen};
 ghost use Rattle.nofs_state.specs.Beginning.{HasBegun, first_past};
 ghost use Rattle.nofs_state.specs.WritingOut.{WroteOne};
 
-use nofs_books::{Books, Room};
+use crate::books::{Books, Room};
 use nofs_disk::{Disk, OutFault};
-use nofs_machine::{Claims, Entry1, Reply, Step};
+use nofs_history::{Claims, Entry1, Reply, Step};
 use nofs_super::SuperBlock;
 
 /// A device, and what a mount keeps in memory of it.

@@ -1,8 +1,8 @@
 //! How a step that may claim has ended, and where the record of an inode stands.
 ghost use Rattle.std.specs.Prelude.{◌≡◌, ◌+◌, ◌-◌, ◌/◌, ◌≤◌, Err};
-ghost use Rattle.nofs_machine.specs.Claims.{no_claims};
+ghost use Rattle.nofs_history.specs.Claims.{no_claims};
 
-use nofs_machine::{Claims, NO_CLAIMS, Refusal};
+use nofs_history::{Claims, NO_CLAIMS, Refusal};
 
 /// How a step that may claim has ended. Its claims stand in its entry also where a write failed.
 #[derive(Drop)]

@@ -1,11 +1,11 @@
 //! Elements are verified: by the maps where a verdict stands, and else by the disk.
 ghost use Rattle.std.specs.Prelude.{◌≡◌, ◌<◌, ◌≤◌, None};
-ghost use Rattle.nofs_books.specs.Books.{IsSafe};
-ghost use Rattle.nofs_books.specs.Verdicts.{VerifiesBlock, VerifiesInode, verdict_of_block, verdict_of_inode};
+ghost use Rattle.nofs_state.specs.Books.{IsSafe};
+ghost use Rattle.nofs_state.specs.Verdicts.{VerifiesBlock, VerifiesInode, verdict_of_block, verdict_of_inode};
 
+use crate::checks::{check_block, check_inode};
 use crate::cores::Core;
 use nofs_disk::{Disk, Failed};
-use nofs_examining::{check_block, check_inode};
 
 impl<D: Disk + Drop> Core<D> {
     /// Whether a block is used: by the maps, where it was examined, and else by the disk. It is

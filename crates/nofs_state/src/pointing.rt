@@ -3,14 +3,14 @@
 //! Promise: one write of one cell, in which that pointer alone is another one.
 ghost use Rattle.std.specs.Prelude.{◌≡◌, ◌≤◌, ◌<◌, ◌∷◌, [], IsTrue};
 ghost use Rattle.nofs_disk.specs.Disk.{cell_at};
-ghost use Rattle.nofs_image.specs.Slots.{is_slot, path_of};
-ghost use Rattle.nofs_image.specs.Places.{IsPlace, place_path};
+ghost use Rattle.nofs_model.specs.Slots.{is_slot, path_of};
+ghost use Rattle.nofs_model.specs.Places.{IsPlace, place_path};
 ghost use Rattle.nofs_state.specs.Pointing.{IsPointed, SetsPointer, record_number, spot_at};
 ghost use Rattle.nofs_state.specs.Writing.{WritesAll};
 
 use crate::cores::Core;
 use nofs_disk::{Cell, Disk, Failed, Pointer};
-use nofs_image::{Place, place_of};
+use nofs_model::{Place, place_of};
 use nofs_ptrs::{read_pointer, write_pointer};
 
 /// The cells in which the pointers on the way to a slot stand.

@@ -2,10 +2,10 @@
 ghost use Rattle.std.specs.Prelude.{◌≡◌, ◌<◌, ◌≤◌, ◌∷◌, []};
 ghost use Rattle.nofs_state.specs.Writing.{Stores, stopped_books};
 
+use crate::books::Books;
 use crate::cores::Core;
-use nofs_books::Books;
 use nofs_disk::{Cell, Disk};
-use nofs_machine::Refusal;
+use nofs_history::Refusal;
 
 // A write failed: the mount is stopped.
 fn stop(books: &mut Books) -> Refusal

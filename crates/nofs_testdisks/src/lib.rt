@@ -3,12 +3,22 @@
 //! Promise: the numbers that are read from a disk are those that it can be mounted with.
 #![tactic(auto)]
 
+mod examples;
+
 ghost use Rattle.std.specs.Prelude.{◌<◌, ◌^◌, IfSome};
 ghost use Rattle.nofs_disk.specs.Disk.{IsSettled};
 ghost use Rattle.nofs_memdisk.specs.Parts.{memory_state};
 ghost use Rattle.nofs_super.specs.Geometry.{IsGeometry};
 ghost use Rattle.nofs_agree.specs.Reading.{IsAt};
 
+pub use examples::images::{
+    blocks_under_the_top, bytes_ff, empty, inode_made_again, residue_past_the_size,
+    stamp_that_differs, two_owners, two_owners_the_other_way,
+};
+pub use examples::names::{
+    chain_of_directories, dead_second_link, entry_of_a_free_record, entry_of_another_generation,
+    loop_of_directories, one_name_twice,
+};
 use nofs_disk::{Cell, Disk};
 use nofs_memdisk::MemDisk;
 use nofs_super::{SuperBlock, format, read_super};

@@ -1,10 +1,10 @@
 //! Which replies fit a step.
 ghost use Rattle.std.specs.Prelude.{◌≡◌, ◌≤◌, ◌<◌, ◌^◌, IsTrue, All, length};
 ghost use Rattle.nofs_dirent.specs.Names.{is_name};
-ghost use Rattle.nofs_machine.specs.Steps.{Fits, InRange};
+ghost use Rattle.nofs_history.specs.Steps.{Fits, InRange};
 
 use nofs_dirent::name_ok;
-use nofs_machine::{NameList, Refusal, Reply, Step};
+use nofs_history::{NameList, Refusal, Reply, Step};
 
 fn are_names(names: &NameList) -> bool
     ensures { IsTrue result → All (λ line. IsTrue (is_name line.name)) names.now }

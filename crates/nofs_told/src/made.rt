@@ -1,8 +1,8 @@
 //! The steps that a stand-in made, for proofs alone.
 ghost use Rattle.std.specs.Prelude.{◌≡◌, [], not};
-ghost use Rattle.nofs_machine.specs.Steps.{is_out_of_memory, with_made};
+ghost use Rattle.nofs_history.specs.Steps.{is_out_of_memory, with_made};
 
-use nofs_machine::{Refusal, Reply, Step};
+use nofs_history::{Refusal, Reply, Step};
 use std::marker::Model;
 use std::mem;
 use std::snapshot::Snapshot;
@@ -22,7 +22,7 @@ pub struct MadeSteps {
 
 impl Model for MadeSteps {
     ghost use Rattle.std.specs.Prelude.{List, [], ◌∷◌, ◌++◌};
-    ghost use Rattle.nofs_machine.specs.Steps.{Made};
+    ghost use Rattle.nofs_history.specs.Steps.{Made};
     ghost use Rattle.nofs_told.specs.declared.made.Past.TheOpen.{Past-F};
     ghost use Rattle.nofs_told.specs.declared.made.Past.TheFolds.{fold-Past};
 

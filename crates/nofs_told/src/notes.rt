@@ -1,7 +1,7 @@
 //! Replies that are given in turn, and notes of the steps that were asked for.
 
 use crate::told::Answers;
-use nofs_machine::{Refusal, Reply, Step};
+use nofs_history::{Refusal, Reply, Step};
 use std::alloc::{AllocError, Global};
 use std::fmt::Debug;
 

@@ -1,6 +1,7 @@
 //! The parts of steps that notes are made of, in one form for all steps.
 
-use nofs_machine::{FileKind, Step};
+use nofs_history::Step;
+use nofs_inode::inode::FileKind;
 
 /// A word for each step.
 pub fn word_of(step: &Step) -> &'static str {

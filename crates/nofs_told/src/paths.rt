@@ -1,6 +1,6 @@
 //! Paths of tests, from their texts.
 
-use nofs_lists::{Name, PathNames};
+use nofs_dirent::{Name, PathNames};
 use std::alloc::{AllocError, Global};
 
 /// The names of a path: what stands between its strokes, without what is empty.

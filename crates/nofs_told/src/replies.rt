@@ -1,7 +1,8 @@
 //! Replies that several tables of tests tell.
 
-use nofs_lists::Name;
-use nofs_machine::{FileKind, NameLine, NameList, Refusal};
+use nofs_dirent::Name;
+use nofs_history::{NameLine, NameList, Refusal};
+use nofs_inode::inode::FileKind;
 use std::alloc::{AllocError, Global};
 
 /// The entries of a slot: the name of each, its kind, and whether it is dead.

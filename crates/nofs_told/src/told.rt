@@ -1,10 +1,10 @@
 //! The stand-in itself.
 ghost use Rattle.std.specs.Prelude.{◌≡◌, []};
-ghost use Rattle.nofs_machine.specs.Steps.{Fits};
+ghost use Rattle.nofs_history.specs.Steps.{Fits};
 
 use crate::fitting::fits;
 use crate::made::MadeSteps;
-use nofs_machine::{Refusal, Reply, Step, Steps};
+use nofs_history::{Refusal, Reply, Step, Steps};
 
 /// What a stand-in replies, and what it remembers of the steps that it was asked for.
 pub trait Answers {

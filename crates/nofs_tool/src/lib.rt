@@ -3,9 +3,15 @@
 //! Promise: each status says what came of the run, and wherever there is a history, the headline holds of it.
 #![tactic(auto)]
 
+mod beginning;
+mod drills;
+mod reads;
 mod running;
+mod sessions;
 mod upgrading;
+mod walks;
 mod wiring;
 
-pub use nofs_headline::{FixedLine, fixed_text, task_of};
+pub use beginning::faults::{FixedLine, fixed_text};
+pub use beginning::words::task_of;
 pub use running::{Outcome, tool};

@@ -8,26 +8,34 @@ ghost use Rattle.std.specs.Prelude.{◌≡◌, ◌≢◌, ◌≤◌, ◌↔◌, 
 ghost use Rattle.nofs_disk.specs.Disk.{Rose};
 ghost use Rattle.nofs_io.specs.Texts.{AppendsAll};
 ghost use Rattle.nofs_script.specs.Sessions.{IsSession};
-ghost use Rattle.nofs_headline.specs.Handed.{picks_in, task_in, status_of as status_in, AreReads, IsSalvaged, SaysWalk, FollowsVisit, has_fault, IsDrillDone};
-ghost use Rattle.nofs_headline.specs.Handed.{Says, SaysOrNot, IsScanned};
-ghost use Rattle.nofs_headline.specs.Said.{Said, SaysCause, SaysCounts, SaysDrill, SaysFault, SaysSession};
-ghost use Rattle.nofs_headline.specs.Headline.{HeadlineIn, HeadlineOf, IsDrillHeadline, IsHeadline, IsHeadlineOf};
-ghost use Rattle.nofs_headline.specs.Complete.{IsReady, NoneRose};
-ghost use Rattle.nofs_headline.specs.Statuses.{HoldsOfTask, IsExplained, KeepsDevice};
-ghost use Rattle.nofs_headline.specs.Tool.{IsBad, IsDone, IsRefusedBy, IsRefusedTask, IsAnswered, MountEnds, SessionEnds, WithSession, WithText};
+ghost use Rattle.nofs_tool.specs.Words.{picks_in, task_in};
+ghost use Rattle.nofs_tool.specs.Begin.{status_of as status_in};
+ghost use Rattle.nofs_tool.specs.Salvaging.{AreReads, IsSalvaged, SaysWalk};
+ghost use Rattle.nofs_tool.specs.Visits.{FollowsVisit};
+ghost use Rattle.nofs_tool.specs.Entries.{has_fault};
+ghost use Rattle.nofs_tool.specs.Drill.{IsDrillDone};
+ghost use Rattle.nofs_tool.specs.Says.{Says, SaysOrNot};
+ghost use Rattle.nofs_tool.specs.Counts.{IsScanned};
+ghost use Rattle.nofs_tool.specs.Said.{Said, SaysCause, SaysCounts, SaysDrill, SaysFault, SaysSession};
+ghost use Rattle.nofs_tool.specs.Headline.{HeadlineIn, HeadlineOf, IsDrillHeadline, IsHeadline, IsHeadlineOf};
+ghost use Rattle.nofs_tool.specs.Complete.{IsReady, NoneRose};
+ghost use Rattle.nofs_tool.specs.Statuses.{HoldsOfTask, IsExplained, KeepsDevice};
+ghost use Rattle.nofs_tool.specs.Tool.{IsBad, IsDone, IsRefusedBy, IsRefusedTask, IsAnswered, MountEnds, SessionEnds, WithSession, WithText};
 
+use crate::beginning::begin::{Numbers, Refused, format_and_mount, mount, status_of};
+use crate::beginning::faults::{FixedLine, cause_text, fixed_text, script_text};
+use crate::beginning::words::{Request, task_of};
+use crate::drills::drill::run_drill;
+use crate::sessions::serve::{Ran, has_fault_in, run_scan, run_session};
 use crate::upgrading::upgrade_outcome;
+use crate::walks::salvaging::run_salvage;
 use crate::wiring::wire_outcome;
+use nofs_dirent::Content;
 use nofs_disk::Disk;
-use nofs_headline::{
-    FixedLine, Mount, Numbers, Ran, Refused, Request, cause_text, fixed_text, format_and_mount,
-    has_fault_in, mount, run_drill, run_salvage, run_scan, run_session, script_text, status_of,
-    task_of,
-};
+use nofs_history::History;
 use nofs_io::{Failed, ReadFault, Sink, Source, TEXT_LIMIT, read_all, write_all};
-use nofs_lists::Content;
-use nofs_machine::History;
 use nofs_script::{ParseFault, Session, parse};
+use nofs_shared::Mount;
 use std::alloc::{AllocError, Global};
 use std::sync::Wait;
 use std::thread::Threads;

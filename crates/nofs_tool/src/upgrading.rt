@@ -5,13 +5,15 @@
 ghost use Rattle.std.specs.Prelude.{◌≡◌, ◌⊎◌, None};
 ghost use Rattle.nofs_disk.specs.Disk.{Rose};
 ghost use Rattle.nofs_io.specs.Texts.{AppendsAll};
-ghost use Rattle.nofs_headline.specs.Handed.{fixed_line, Upgraded as UpgradedLine, Says};
-ghost use Rattle.nofs_headline.specs.Said.{SaysUpgrade};
-ghost use Rattle.nofs_headline.specs.Upgrading.{UpgradeEnds, upgrade_status as status_in};
+ghost use Rattle.nofs_tool.specs.Lines.{fixed_line};
+ghost use Rattle.nofs_tool.specs.declared.beginning.faults.FixedLine.TheVariants.{Upgraded as UpgradedLine};
+ghost use Rattle.nofs_tool.specs.Says.{Says};
+ghost use Rattle.nofs_tool.specs.Said.{SaysUpgrade};
+ghost use Rattle.nofs_tool.specs.Upgrading.{UpgradeEnds, upgrade_status as status_in};
 
+use crate::beginning::faults::{FixedLine, fixed_text, upgrade_text};
 use crate::running::{Outcome, say, told_text};
 use nofs_disk::Disk;
-use nofs_headline::{FixedLine, fixed_text, upgrade_text};
 use nofs_io::Sink;
 use nofs_super::MountFault;
 use nofs_upgrade::{UpgradeFault, upgrade};
@@ -44,7 +46,11 @@ fn said<K: Sink>(sink: &mut K) -> u8
 }
 
 /// What comes of an upgrade.
-pub fn upgrade_outcome<K: Sink, D: Disk + Drop>(alloc: Global, sink: &mut K, disk: D) -> Outcome<D>
+pub(crate) fn upgrade_outcome<K: Sink, D: Disk + Drop>(
+    alloc: Global,
+    sink: &mut K,
+    disk: D,
+) -> Outcome<D>
     ensures history { result.history ≡ None }
     ensures ends { UpgradeEnds (D.state disk) (D.state result.disk) (K.state sink.old) (K.state sink.new) result.status }
     ensures says { (result.status ≡ 3) ⊎ (result.status ≡ 4) ⊎ (result.status ≡ 5) → SaysUpgrade (K.state sink.old) (K.state sink.new) result.status }

@@ -6,16 +6,24 @@
 ghost use Rattle.std.specs.Prelude.{◌≡◌, ◌≢◌, ◌⊎◌, ◌+◌, ◌≤◌, [], None, Some, true, false, IfSome, IfErr};
 ghost use Rattle.nofs_disk.specs.Disk.{Rose};
 ghost use Rattle.nofs_wire.specs.Serves.{Serves};
-ghost use Rattle.nofs_headline.specs.Handed.{steps_by, FollowsVisit, IsVisitRun, has_fault, IsClosed, Finished};
-ghost use Rattle.nofs_headline.specs.Wiring.{IsWired, WireEnds, end_status, wire_status};
-ghost use Rattle.nofs_headline.specs.Headline.{IsHeadlineOf};
-ghost use Rattle.nofs_headline.specs.Said.{SaysCause};
+ghost use Rattle.nofs_shared.specs.Owned.{steps_by};
+ghost use Rattle.nofs_tool.specs.Visits.{FollowsVisit, IsVisitRun};
+ghost use Rattle.nofs_tool.specs.Entries.{has_fault};
+ghost use Rattle.nofs_tool.specs.Serving.{IsClosed};
+ghost use Rattle.nofs_tool.specs.Whole.{Finished};
+ghost use Rattle.nofs_tool.specs.Wiring.{IsWired, WireEnds, end_status, wire_status};
+ghost use Rattle.nofs_tool.specs.Headline.{IsHeadlineOf};
+ghost use Rattle.nofs_tool.specs.Said.{SaysCause};
 
+use crate::beginning::begin::mount;
 use crate::running::{Outcome, refused};
+use crate::sessions::serve::has_fault_in;
+use crate::walks::visiting::visit_and_close;
 use nofs_disk::Disk;
-use nofs_headline::{Mount, Visited, Visits, has_fault_in, mount, visit_and_close};
+use nofs_history::{History, Steps};
 use nofs_io::{Sink, Source};
-use nofs_machine::{History, Steps};
+use nofs_serve::{Visited, Visits};
+use nofs_shared::Mount;
 use nofs_wire::{WireEnd, serve};
 use std::alloc::Global;
 use std::sync::Wait;
@@ -33,7 +41,7 @@ struct Server<'a, 'b, Q, K> {
 impl<Q: Source, K: Sink> Visits for Server<'_, '_, Q, K> {
     ghost use Rattle.std.proofs.Common.{◌≡◌, refl};
     ghost use Rattle.nofs_wire.specs.declared.serving.WireEnd.TheVariants as ended;
-    ghost use Rattle.nofs_headline.specs.Wiring.{HasServed, served_none};
+    ghost use Rattle.nofs_tool.specs.Wiring.{HasServed, served_none};
 
     ghost is_ready = { λ s. s.end ≡ ended.OutOfMemory };
 
@@ -162,7 +170,7 @@ fn mounted<R: Threads + Wait + Sync, Q: Source, K: Sink, D: Disk + Drop + Send>(
 }
 
 /// What comes of the frames of a source.
-pub fn wire_outcome<R: Threads + Wait + Sync, Q: Source, K: Sink, D: Disk + Drop + Send>(
+pub(crate) fn wire_outcome<R: Threads + Wait + Sync, Q: Source, K: Sink, D: Disk + Drop + Send>(
     rt: &R,
     alloc: Global,
     source: &mut Q,

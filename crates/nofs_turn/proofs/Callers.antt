@@ -3,7 +3,7 @@ use Rattle.std.proofs.Common.{◌≡◌, ℕ, ◌+◌, ◌≤◌, List, [], ◌�
 use Rattle.std.proofs.Common.{lt-ltb, le-ltb}
 use Rattle.std.specs.Prelude.{filter}
 use Rattle.std.proofs.lemmas.Bool.{leb-true, le-leb}
-use Rattle.nofs_turn_rule.specs.Lists.{rises, merge_in, merge, numbered, entries_of, chosen}
+use Rattle.nofs_turn.specs.Lists.{rises, merge_in, merge, numbered, entries_of, chosen}
 
 both_true : (a b : Bool) → a && b ≡ true → (a ≡ true) × (b ≡ true)
 both_true true b e = (refl, e)

@@ -17,8 +17,10 @@ ghost use Rattle.std.specs.Prelude.{◌≡◌, ℕ, ◌+◌, ◌*◌, ◌/◌, �
 ghost use mathlib.Core.List.{IsPrefix};
 
 use crate::turn::{Busy, Pass, PassesOut, Turn};
+use crate::turn_rule::kept::{Kept, Section};
+use crate::turn_rule::rule::{Give, Look, Settle, Take, Unite};
+use crate::turn_rule::view::View;
 use atomic_table::Seat;
-use nofs_turn_rule::{Give, Kept, Look, Section, Settle, Take, Unite, View};
 use std::hint::spin_loop;
 use std::sync::Wait;
 use std::sync::atomic::Ordering;
@@ -33,11 +35,11 @@ const LOOKS: u32 = 50;
 const NAP: u64 = 1;
 
 impl<V: Kept> Turn<V> {
-    ghost use Rattle.nofs_turn_rule.specs.Views.{looked, gave, joined};
-    ghost use Rattle.nofs_turn_rule.specs.Passes.{Ran, RanOnce, Carries, HasRun, MayRun, Closes, Waited};
-    ghost use Rattle.nofs_turn_rule.specs.Rules.{TakesFree, TakesBusy};
+    ghost use Rattle.nofs_turn.specs.Views.{looked, gave, joined};
+    ghost use Rattle.nofs_turn.specs.Passes.{Ran, RanOnce, Carries, HasRun, MayRun, Closes, Waited};
+    ghost use Rattle.nofs_turn.specs.Rules.{TakesFree, TakesBusy};
     ghost use Rattle.nofs_turn.specs.Turns.{view_of, IsPassOf};
-    ghost use Rattle.nofs_turn_rule.specs.Lists.{rises};
+    ghost use Rattle.nofs_turn.specs.Lists.{rises};
 
     /// The number of entries, at least as many as the pass had seen. It makes one look, waits for nobody and takes
     /// no memory.

@@ -9,5 +9,7 @@
 mod calls;
 mod making;
 mod turn;
+mod turn_rule;
 
 pub use turn::{Busy, Pass, PassesOut, Turn, TurnFault};
+pub use turn_rule::kept::{Kept, Section};

@@ -4,14 +4,16 @@
 ghost use Rattle.std.specs.Prelude.{◌≡◌, ℕ, ◌+◌, ◌-◌, ◌*◌, ◌^◌, ◌<◌, ◌≤◌, All, [], ◌∷◌, length, vec_len, vec_capacity, Some, IfOk, IfErr};
 
 use crate::turn::{Pass, Turn, TurnFault};
+use crate::turn_rule::kept::Kept;
+use crate::turn_rule::rule::Deal;
+use crate::turn_rule::view::{Opening, View};
 use atomic_table::{Refused, Seat, Table};
-use nofs_turn_rule::{Deal, Kept, Opening, View};
 use std::alloc::Global;
 use std::snapshot::Snapshot;
 use std::sync::atomic::AtomicU64;
 
 impl<V: Kept> Turn<V> {
-    ghost use Rattle.nofs_turn_rule.specs.Views.{maker, fresh, newcomer, Deals};
+    ghost use Rattle.nofs_turn.specs.Views.{maker, fresh, newcomer, Deals};
     ghost use Rattle.nofs_turn.specs.Turns.{view_of, IsPassOf, IsFreshPass, made_over};
 
     /// A turn over the value, and as many passes as there are seats, 1 to 64. Each pass has seen the value's

@@ -16,10 +16,12 @@
 //! A pass rests, or its section runs and it has the turn. It stands for itself and those that were joined to it; the one that stands
 //! for all can close the turn.
 ghost use Rattle.std.specs.Prelude.{◌≡◌, ℕ, ◌<◌, ◌≤◌, false, true, [], length};
-ghost use Rattle.nofs_turn_rule.specs.Lists.{rises};
+ghost use Rattle.nofs_turn.specs.Lists.{rises};
 
+use crate::turn_rule::kept::Kept;
+use crate::turn_rule::rule::Counted;
+use crate::turn_rule::view::{Opening, View};
 use atomic_table::{Seat, Table};
-use nofs_turn_rule::{Counted, Kept, Opening, View};
 use std::alloc::Global;
 use std::sync::atomic::AtomicU64;
 

@@ -1,8 +1,8 @@
 -- The laws of an upgrade between two lives.
 use Rattle.std.proofs.Common.{inl, inr, sym, subst, arith}
 use Rattle.nofs_disk.specs.Disk.{DiskState}
-use Rattle.nofs_image.specs.Image.{Image}
-use Rattle.nofs_law_lives.specs.Lives.{SameOrUpgraded, Upgraded}
+use Rattle.nofs_model.specs.Image.{Image}
+use Rattle.nofs_crashlaw.specs.Lives.{SameOrUpgraded, Upgraded}
 use Rattle.nofs_upgrade.specs.Between.{LawSoundUpgrade, LawUpgradeAgain, LawUpgradeBetween}
 
 pub law-sound : (old new : DiskState) → LawSoundUpgrade old new

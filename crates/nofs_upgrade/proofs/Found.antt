@@ -11,11 +11,11 @@ use Rattle.nofs_disk.specs.Number.{IsBytes}
 use Rattle.nofs_super.specs.Format.{super_cell}
 use Rattle.nofs_super.specs.Raise.{IsRaised, IsSuperCell}
 use Rattle.nofs_super.specs.Super.{CanMount, super_of}
-use Rattle.nofs_image.specs.Cells.{Cell, SuperBlock}
-use Rattle.nofs_image.specs.Image.{Image, cell_at}
-use Rattle.nofs_law_lives.specs.Lives.{SaysTheSame}
-use Rattle.nofs_law_lives.proofs.Begin.{law-upgraded}
-use Rattle.nofs_law_lives.proofs.OnlySuper.{law-only-super}
+use Rattle.nofs_model.specs.Cells.{Cell, SuperBlock}
+use Rattle.nofs_model.specs.Image.{Image, cell_at}
+use Rattle.nofs_crashlaw.specs.Lives.{SaysTheSame}
+use Rattle.nofs_crashlaw.proofs.Begin.{law-upgraded}
+use Rattle.nofs_crashlaw.proofs.OnlySuper.{law-only-super}
 use Rattle.nofs_upgrade.specs.Upgrades.{CanUpgrade, IsFoundOrSecond, IsSecond, IsUpgraded, StaysOrUpgrades, check_upgrade, second}
 use Rattle.nofs_upgrade.proofs.Seconds.{second-of, second-spelled}
 

@@ -9,10 +9,10 @@ use Rattle.nofs_disk.specs.Tag.{tag_bytes}
 use Rattle.nofs_super.specs.Format.{super_cell, super_payload}
 use Rattle.nofs_super.specs.Spelling.{super_of-only, super_of-payload}
 use Rattle.nofs_super.specs.Super.{CanMount, has_magic, is_version, magic, rest_fault, super_of}
-use Rattle.nofs_image.specs.Cells.{Cell, SuperBlock, tag_of}
-use Rattle.nofs_image.specs.Image.{Image, cell_at, is_super, super_at, super_in}
-use Rattle.nofs_image.proofs.Spells.{Spells, spells, super_tag, super-tag}
-use Rattle.nofs_law_lives.specs.Lives.{HasSuperCell}
+use Rattle.nofs_model.specs.Cells.{Cell, SuperBlock, tag_of}
+use Rattle.nofs_model.specs.Image.{Image, cell_at, is_super, super_at, super_in}
+use Rattle.nofs_model.proofs.Spells.{Spells, spells, super_tag, super-tag}
+use Rattle.nofs_crashlaw.specs.Lives.{HasSuperCell}
 use Rattle.nofs_upgrade.specs.Upgrades.{IsSecond, second, second_cell}
 
 -- What a payload spells

@@ -2,9 +2,9 @@
 use Rattle.std.specs.Prelude.{ℕ}
 use Rattle.nofs_disk.specs.Disk.{DiskState, Picks}
 use Rattle.nofs_disk.specs.Moments.{AtEach}
-use Rattle.nofs_image.specs.Image.{Image, IsSound}
-use Rattle.nofs_machine.specs.Allowed.{IsAllowed}
-use Rattle.nofs_law_lives.specs.Lives.{Life, NextLife, Raised, SameOrUpgraded}
+use Rattle.nofs_model.specs.Image.{Image, IsSound}
+use Rattle.nofs_history.specs.Allowed.{IsAllowed}
+use Rattle.nofs_crashlaw.specs.Lives.{Life, NextLife, Raised, SameOrUpgraded}
 use Rattle.nofs_upgrade.specs.Upgrades.{StaysOrUpgrades}
 
 -- each image that picks from what the disk may hold is sound

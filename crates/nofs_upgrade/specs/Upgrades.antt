@@ -8,9 +8,9 @@ use Rattle.nofs_super.specs.Format.{super_cell}
 use Rattle.nofs_super.specs.Super.{CanMount, check_super, super_of}
 use Rattle.nofs_super.specs.declared.superblock.MountFault.{MountFault}
 use Rattle.nofs_super.specs.declared.superblock.MountFault.TheVariants as mount
-use Rattle.nofs_image.specs.Cells.{Cell, Super, SuperBlock}
-use Rattle.nofs_image.specs.Image.{Image, cell_at, IsSound}
-use Rattle.nofs_law_lives.specs.Lives.{HasSuperCell, SameOrUpgraded, SaysTheSame, Upgraded}
+use Rattle.nofs_model.specs.Cells.{Cell, Super, SuperBlock}
+use Rattle.nofs_model.specs.Image.{Image, cell_at, IsSound}
+use Rattle.nofs_crashlaw.specs.Lives.{HasSuperCell, SameOrUpgraded, SaysTheSame, Upgraded}
 use Rattle.nofs_upgrade.specs.declared.fault.UpgradeFault.{UpgradeFault}
 use Rattle.nofs_upgrade.specs.declared.fault.UpgradeFault.TheVariants.{Already, Mount}
 

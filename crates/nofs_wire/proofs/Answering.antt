@@ -6,20 +6,20 @@ use Rattle.std.specs.Io.KnownBytes.{Appends}
 use Rattle.std.proofs.KnownBytes.{Appends-nil}
 use Rattle.nofs_dirent.specs.Names.{is_name}
 use Rattle.nofs_dirent.specs.NameLaws.{is_name-Decides}
-use Rattle.nofs_machine.specs.Steps.{Made, Fits, with_made, is_out_of_memory}
-use Rattle.nofs_machine.specs.declared.steps.Step.{Step}
-use Rattle.nofs_machine.specs.declared.steps.Step.TheVariants as step
-use Rattle.nofs_machine.specs.declared.replies.NameLine.{NameLine}
-use Rattle.nofs_machine.specs.declared.replies.Reply.{Reply}
-use Rattle.nofs_machine.specs.declared.replies.Reply.TheVariants as reply
-use Rattle.nofs_machine.specs.declared.replies.Refusal.{Refusal}
-use Rattle.nofs_machine.specs.declared.replies.Refusal.TheVariants as refusal
+use Rattle.nofs_history.specs.Steps.{Made, Fits, with_made, is_out_of_memory}
+use Rattle.nofs_history.specs.declared.machine.steps.Step.{Step}
+use Rattle.nofs_history.specs.declared.machine.steps.Step.TheVariants as step
+use Rattle.nofs_history.specs.declared.machine.replies.NameLine.{NameLine}
+use Rattle.nofs_history.specs.declared.machine.replies.Reply.{Reply}
+use Rattle.nofs_history.specs.declared.machine.replies.Reply.TheVariants as reply
+use Rattle.nofs_history.specs.declared.machine.replies.Refusal.{Refusal}
+use Rattle.nofs_history.specs.declared.machine.replies.Refusal.TheVariants as refusal
 use Rattle.nofs_wire.specs.declared.answers.Answered.{Answered}
 use Rattle.nofs_wire.specs.declared.answers.Answered.TheVariants as answered
-use Rattle.nofs_stream.specs.Replies.{HasSpelling, IsShort, line_bytes, body_bytes, field_bytes, kept_bytes, reply_bytes}
-use Rattle.nofs_requests.specs.Fields.{kind_byte, truth_byte, number_bytes}
+use Rattle.nofs_wire.specs.Replies.{HasSpelling, IsShort, line_bytes, body_bytes, field_bytes, kept_bytes, reply_bytes}
+use Rattle.nofs_wire.specs.Fields.{kind_byte, truth_byte, number_bytes}
 use Rattle.nofs_wire.specs.Turns.{AnswersSo, AnswersInPart, GivesReply}
-use Rattle.nofs_requests.proofs.Fields.{length-number_bytes}
+use Rattle.nofs_wire.proofs.Fields.{length-number_bytes}
 
 -- what a mount replies can be spelled in a frame
 pub record IsSpelled (r : Reply) : Type 0 where

@@ -1,3 +1,8 @@
+pub mod Fields
+pub mod Spelling
+pub mod Reading
+pub mod Framing
+pub mod Taking
 pub mod Splitting
 pub mod Answering
 pub mod Along

@@ -7,12 +7,12 @@ use Rattle.std.proofs.lemmas.List.{drop_at, drop-append-le, drop-take, length-ta
 use Rattle.byteorder.specs.Endian.{little_number}
 use Rattle.byteorder.specs.Numbers.{little_from-append}
 use Rattle.nofs_disk.specs.Number.{number_at}
-use Rattle.nofs_machine.specs.Steps.{Made}
-use Rattle.nofs_machine.specs.declared.steps.Step.{Step}
-use Rattle.nofs_stream.specs.declared.frames.Front.{Front}
-use Rattle.nofs_stream.specs.declared.frames.Front.TheVariants as front
-use Rattle.nofs_stream.specs.Frames.{length_of, sized_front, front_of, body_of, behind, behind_in, step_in, joined, split_in, split_of}
-use Rattle.nofs_requests.specs.Requests.{step_of}
+use Rattle.nofs_history.specs.Steps.{Made}
+use Rattle.nofs_history.specs.declared.machine.steps.Step.{Step}
+use Rattle.nofs_wire.specs.declared.stream.frames.Front.{Front}
+use Rattle.nofs_wire.specs.declared.stream.frames.Front.TheVariants as front
+use Rattle.nofs_wire.specs.Frames.{length_of, sized_front, front_of, body_of, behind, behind_in, step_in, joined, split_in, split_of}
+use Rattle.nofs_wire.specs.Requests.{step_of}
 use Rattle.nofs_wire.specs.Serves.{made_step}
 use Rattle.nofs_wire.specs.Turns.{IsFramed, HasNone}
 

@@ -2,12 +2,12 @@
 use Rattle.std.specs.Prelude.{◌≡◌, ℕ, ◌+◌, ◌≤◌, List, [], ◌++◌, length, take, map, flat_map}
 use Rattle.std.specs.declared.option.Option.{Option}
 use Rattle.std.specs.Io.KnownBytes.{Consumes, Appends, IsAtEnd}
-use Rattle.nofs_machine.specs.Steps.{Made}
-use Rattle.nofs_machine.specs.declared.steps.Step.{Step}
+use Rattle.nofs_history.specs.Steps.{Made}
+use Rattle.nofs_history.specs.declared.machine.steps.Step.{Step}
 use Rattle.nofs_wire.specs.declared.serving.WireEnd.{WireEnd}
 use Rattle.nofs_wire.specs.declared.serving.WireEnd.TheVariants as ended
-use Rattle.nofs_stream.specs.Frames.{frames_of, rest_of, IsBad, IsCut}
-use Rattle.nofs_stream.specs.Replies.{reply_bytes}
+use Rattle.nofs_wire.specs.Frames.{frames_of, rest_of, IsBad, IsCut}
+use Rattle.nofs_wire.specs.Replies.{reply_bytes}
 
 -- the step that was made, and the frame of its reply
 abbrev pub made_step : Made → Step

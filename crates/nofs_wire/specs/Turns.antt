@@ -3,16 +3,16 @@ use Rattle.std.specs.Prelude.{◌≡◌, ℕ, ◌+◌, ◌*◌, ◌<◌, ◌≤�
 use Rattle.std.specs.declared.option.Option.{Option}
 use Rattle.std.specs.Io.KnownBytes.{Consumes, Appends, IsAtEnd}
 use Rattle.nofs_io.specs.Calls.{Rose}
-use Rattle.nofs_machine.specs.Steps.{Made}
-use Rattle.nofs_machine.specs.declared.steps.Step.{Step}
+use Rattle.nofs_history.specs.Steps.{Made}
+use Rattle.nofs_history.specs.declared.machine.steps.Step.{Step}
 use Rattle.nofs_wire.specs.declared.answers.Answered.{Answered}
 use Rattle.nofs_wire.specs.declared.answers.Answered.TheVariants as answered
 use Rattle.nofs_wire.specs.declared.serving.WireEnd.{WireEnd}
 use Rattle.nofs_wire.specs.declared.serving.WireEnd.TheVariants as ended
-use Rattle.nofs_stream.specs.Frames.{front_of, split_of, step_in, IsBad, IsCut}
-use Rattle.nofs_stream.specs.Replies.{reply_bytes}
+use Rattle.nofs_wire.specs.Frames.{front_of, split_of, step_in, IsBad, IsCut}
+use Rattle.nofs_wire.specs.Replies.{reply_bytes}
 use Rattle.nofs_wire.specs.Serves.{made_step, replies_of}
-use Rattle.nofs_stream.specs.Inbox.{InboxState}
+use Rattle.nofs_wire.specs.Inbox.{InboxState}
 
 -- the count of faults of a source or a sink, where an end may be its fault
 pub record FailsAt (end : Type 0) (before now : ℕ) : Type 0 where

@@ -3,16 +3,16 @@
 //! Promise: a body that spells a step has it made once, and its reply written whole; of any other nothing is made.
 ghost use Rattle.std.specs.Prelude.{◌≡◌, ◌≤◌, not, Some};
 ghost use Rattle.nofs_io.specs.Calls.{Rose};
-ghost use Rattle.nofs_machine.specs.Steps.{Fits, is_out_of_memory};
-ghost use Rattle.nofs_machine.specs.declared.steps.Step.{Step};
-ghost use Rattle.nofs_stream.specs.Replies.{reply_bytes};
-ghost use Rattle.nofs_requests.specs.Requests.{step_of};
+ghost use Rattle.nofs_history.specs.Steps.{Fits, is_out_of_memory};
+ghost use Rattle.nofs_history.specs.declared.machine.steps.Step.{Step};
+ghost use Rattle.nofs_wire.specs.Replies.{reply_bytes};
+ghost use Rattle.nofs_wire.specs.Requests.{step_of};
 ghost use Rattle.nofs_wire.specs.Turns.{AnswersSo, GivesReply};
 
+use crate::requests::read_step;
+use crate::stream::replies::write_reply;
+use nofs_history::{Refusal, Reply, Step, Steps};
 use nofs_io::{Sink, write_all};
-use nofs_machine::{Refusal, Reply, Step, Steps};
-use nofs_requests::read_step;
-use nofs_stream::write_reply;
 use std::alloc::Global;
 
 /// How far the step of a body was answered.
@@ -29,7 +29,7 @@ pub enum Answered {
 }
 
 /// Makes the step that a body spells, and gives the frame of its reply to the sink. `out` is room for that frame.
-pub fn answer<S: Steps, K: Sink>(
+pub(crate) fn answer<S: Steps, K: Sink>(
     alloc: Global,
     steps: &mut S,
     sink: &mut K,

@@ -5,6 +5,8 @@
 #![tactic(auto)]
 
 mod answers;
+mod requests;
 mod serving;
+mod stream;
 
 pub use serving::{STREAM_LIMIT, WireEnd, serve, serve_up_to};

@@ -4,20 +4,21 @@
 //! taken. No frame is answered before it is whole, and none is made up where the source ends.
 ghost use Rattle.std.specs.Prelude.{◌≡◌, ◌+◌, ◌<◌, ◌≤◌, ◌^◌, [], IfSome, IfNone, List, None, Some, length, ℕ};
 ghost use Rattle.nofs_io.specs.Calls.{Rose};
-ghost use Rattle.nofs_stream.specs.Frames.{HasFront, front_of as front_in};
+ghost use Rattle.nofs_wire.specs.Frames.{HasFront, front_of as front_in};
 ghost use Rattle.nofs_wire.specs.Serves.{Serves};
 ghost use Rattle.nofs_wire.specs.Turns.{FailsAt, GoesOn, Stops, StopsSo};
-ghost use Rattle.nofs_stream.specs.Inbox.{MayTake};
+ghost use Rattle.nofs_wire.specs.Inbox.{MayTake};
 ghost use Rattle.nofs_wire.specs.declared.serving.WireEnd.TheVariants.{Bad as bad_end};
-ghost use Rattle.nofs_machine.specs.Steps.{Made};
+ghost use Rattle.nofs_history.specs.Steps.{Made};
 ghost use Rattle.std.specs.declared.option.Option.{Option};
 ghost use Rattle.std.specs.Io.KnownBytes.{IsAtEnd};
-ghost use Rattle.nofs_stream.specs.declared.frames.Front.TheVariants.{Whole as whole_front, Short as short_front};
+ghost use Rattle.nofs_wire.specs.declared.stream.frames.Front.TheVariants.{Whole as whole_front, Short as short_front};
 
 use crate::answers::{Answered, answer};
+use crate::stream::frames::{FRAME_LIMIT, Front, LENGTH_BYTES, front_body, front_of};
+use crate::stream::inbox::Inbox;
+use nofs_history::Steps;
 use nofs_io::{Sink, Source};
-use nofs_machine::Steps;
-use nofs_stream::{FRAME_LIMIT, Front, Inbox, LENGTH_BYTES, front_body, front_of};
 use std::alloc::Global;
 
 /// How many bytes a stream may have, 16 MiB.

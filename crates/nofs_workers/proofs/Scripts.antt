@@ -4,9 +4,9 @@ use mathlib.Core.HLevel.{×_prop, Unit-prop}
 use native.Mathlib.Bridge.{le_prop}
 use Rattle.std.proofs.Common.{List}
 use Rattle.std.specs.List.{AllByRecursion-prop}
-use Rattle.nofs_task.specs.declared.commands.Command.{Command}
-use Rattle.nofs_task.specs.declared.commands.Command.TheVariants as command
-use Rattle.nofs_task.specs.Commands.{IsWellFormed, AreWellFormed}
+use Rattle.nofs_client.specs.declared.task.commands.Command.{Command}
+use Rattle.nofs_client.specs.declared.task.commands.Command.TheVariants as command
+use Rattle.nofs_client.specs.Commands.{IsWellFormed, AreWellFormed}
 
 IsWellFormed-prop : (c : Command) → IsProp (IsWellFormed c)
 IsWellFormed-prop (command.Make path) = le_prop

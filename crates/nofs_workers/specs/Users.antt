@@ -1,6 +1,6 @@
 -- What a user's worker has done.
 use Rattle.std.specs.Prelude.{◌≡◌, List, false}
-use Rattle.nofs_machine.specs.Steps.{Made}
+use Rattle.nofs_history.specs.Steps.{Made}
 use Rattle.nofs_client.specs.Runs.{RunsAll, RunsSome, LinesFollow}
 use Rattle.nofs_workers.specs.declared.user.UserWorker.{UserWorker}
 

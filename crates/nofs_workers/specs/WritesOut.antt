@@ -2,7 +2,7 @@
 use Rattle.std.specs.Prelude.{◌≡◌, ℕ, zero, suc, List, Option, OnOk, OnErr}
 use Rattle.std.specs.declared.result.Result.{Result}
 use Rattle.nofs_disk.specs.declared.OutFault.{OutFault}
-use Rattle.nofs_machine.specs.Steps.{Made}
+use Rattle.nofs_history.specs.Steps.{Made}
 use Rattle.nofs_workers.specs.declared.flusher.Flusher.{Flusher}
 
 module _ {S : Type 0} where

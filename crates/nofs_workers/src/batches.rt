@@ -3,10 +3,10 @@
 //! Promise: whoever judges a batch hears for each element the verdict that was seen for it, and each
 //! commit is one step.
 ghost use Rattle.std.specs.Prelude.{◌≡◌, ℕ, ◌<◌, ◌≤◌, length, IfOk, get_or};
-ghost use Rattle.nofs_machine.specs.Steps.{Fits, with_made};
+ghost use Rattle.nofs_history.specs.Steps.{Fits, with_made};
 ghost use Rattle.nofs_workers.specs.Sweeps.{Looked, AreInRange, see_of};
 
-use nofs_machine::{ElementKind, Refusal, Reply, Steps};
+use nofs_history::{ElementKind, Refusal, Reply, Steps};
 
 /// A way to the mount whose steps on elements can be made in two parts: a look at up to 64 of them,
 /// and then a commit for each.

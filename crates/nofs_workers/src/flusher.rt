@@ -9,7 +9,7 @@ ghost use Rattle.nofs_workers.specs.WritesOut.{WroteOut, Flushes};
 
 use crate::gate::Gate;
 use nofs_disk::OutFault;
-use nofs_machine::Steps;
+use nofs_history::Steps;
 
 /// A way to the mount through which dirty blocks are written out.
 pub trait WritesOut: Steps {

@@ -1,7 +1,7 @@
 //! Gates that hold a worker before its steps, and hear of each reply.
 ghost use Rattle.std.specs.Prelude.{◌≡◌};
 
-use nofs_machine::{Reply, Step, Steps};
+use nofs_history::{Reply, Step, Steps};
 
 /// Holds a worker before a step, and hears of each reply.
 pub trait Gate {

@@ -2,14 +2,14 @@
 //!
 //! Promise: one step for each place of the order, in order; fewer only where memory was wanting.
 ghost use Rattle.std.specs.Prelude.{◌≡◌, ℕ, ◌+◌, ◌-◌, ◌^◌, ◌<◌, ◌≤◌, length, get_or, take, not, IsTrue, false};
-ghost use Rattle.nofs_machine.specs.Steps.{Fits, with_made, is_out_of_memory};
-ghost use Rattle.nofs_machine.specs.declared.steps.ElementKind.TheVariants.{Inode};
+ghost use Rattle.nofs_history.specs.Steps.{Fits, with_made, is_out_of_memory};
+ghost use Rattle.nofs_history.specs.declared.machine.steps.ElementKind.TheVariants.{Inode};
 ghost use Rattle.nofs_workers.specs.Sweeps.{Looked, AreInRange, AreOrdered, IsOrdered, MakesFirst, Sweeps, element_number as number_in, see_of as step_to_see};
 
 use crate::batches::Batches;
 use crate::course::Course;
 use crate::gate::Gate;
-use nofs_machine::{ElementKind, Refusal, Reply, Step, Steps};
+use nofs_history::{ElementKind, Refusal, Reply, Step, Steps};
 
 /// The most elements of one batch.
 const BATCH: u64 = 64;

@@ -2,7 +2,7 @@
 //!
 //! Promise: one step for each place of the order, in order; fewer only where memory was wanting.
 ghost use Rattle.std.specs.Prelude.{◌≡◌, ◌^◌, ◌<◌, false};
-ghost use Rattle.nofs_machine.specs.declared.steps.ElementKind.TheVariants.{Inode, Block};
+ghost use Rattle.nofs_history.specs.declared.machine.steps.ElementKind.TheVariants.{Inode, Block};
 ghost use Rattle.nofs_workers.specs.Sweeps.{Sweeps};
 
 use crate::batches::Batches;
@@ -10,7 +10,7 @@ use crate::course::Course;
 use crate::gate::Gate;
 use crate::sweep::sweep;
 use crate::tasks::Elements;
-use nofs_machine::ElementKind;
+use nofs_history::ElementKind;
 
 /// A worker that examines elements: item `n` of its order is inode `n + 1`, or block `n`.
 #[derive(Drop)]

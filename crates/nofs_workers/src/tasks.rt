@@ -1,11 +1,11 @@
 //! What workers are given to do, with the facts that their work rests on.
 ghost use Rattle.std.specs.Prelude.{◌≡◌, ◌^◌, ◌<◌, All};
-ghost use Rattle.nofs_machine.specs.declared.steps.ElementKind.TheVariants.{Inode};
-ghost use Rattle.nofs_task.specs.Commands.{IsWellFormed, AreWellFormed};
+ghost use Rattle.nofs_history.specs.declared.machine.steps.ElementKind.TheVariants.{Inode};
+ghost use Rattle.nofs_client.specs.Commands.{IsWellFormed, AreWellFormed};
 
 use crate::course::Course;
-use nofs_machine::ElementKind;
-use nofs_task::CommandList;
+use nofs_client::CommandList;
+use nofs_history::ElementKind;
 
 /// The commands of one user, each well formed.
 #[derive(Drop)]

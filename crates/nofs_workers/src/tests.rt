@@ -1,6 +1,6 @@
 //! Workers over a stand-in for a mount, which notes what it is asked.
 ghost use Rattle.std.specs.Prelude.{IfOk};
-ghost use Rattle.nofs_task.specs.Commands.{AreWellFormed};
+ghost use Rattle.nofs_client.specs.Commands.{AreWellFormed};
 
 mod fake;
 mod gates;
@@ -8,7 +8,7 @@ mod gates;
 use crate::tests::fake::Fake;
 use crate::tests::gates::{CountGate, no_calls};
 use crate::{Downwards, Flusher, OpenGate, Sweeper, Upwards, UserWorker};
-use nofs_task::{Command, CommandList, Path};
+use nofs_client::{Command, CommandList, Path};
 use nofs_told::Told;
 use std::alloc::{AllocError, Global};
 use std::sync::atomic::Ordering;

@@ -2,14 +2,13 @@
 //!
 //! Promise: its steps are just those that its commands ask for, in order, and its lines are theirs.
 ghost use Rattle.std.specs.Prelude.{◌≡◌, false, []};
-ghost use Rattle.nofs_task.specs.Commands.{AreWellFormed};
+ghost use Rattle.nofs_client.specs.Commands.{AreWellFormed};
 ghost use Rattle.nofs_workers.specs.Users.{steps_in, WorkedAsUser};
 
 use crate::gate::{Gate, Gated};
 use crate::tasks::Script;
-use nofs_client::Client;
-use nofs_machine::Steps;
-use nofs_task::{CommandList, LineList};
+use nofs_client::{Client, CommandList, LineList};
+use nofs_history::Steps;
 use std::alloc::Global;
 
 /// A worker that runs the commands of one user, with a gate before each of its steps.

@@ -1,7 +1,8 @@
 //! The replies of the tables.
 
-use nofs_lists::Content;
-use nofs_machine::{FileKind, Found, Refusal, Reply, Stat};
+use nofs_dirent::Content;
+use nofs_history::{Found, Refusal, Reply, Stat};
+use nofs_inode::inode::FileKind;
 use nofs_told::{full, name_list};
 use std::alloc::{AllocError, Global};
 
@@ -74,7 +75,7 @@ fn stat(kind: FileKind, size: u64) -> Reply {
 }
 
 /// The reply, its bytes and names made anew.
-pub fn reply(alloc: Global, answer: Answer<'_>) -> Result<Reply, AllocError> {
+pub(crate) fn reply(alloc: Global, answer: Answer<'_>) -> Result<Reply, AllocError> {
     Ok(match answer {
         Answer::File => found(3, 7, FileKind::File),
         Answer::Folder => found(4, 9, FileKind::Directory),

@@ -1,7 +1,7 @@
 //! The commands of the tables.
 
-use nofs_lists::{Content, Name};
-use nofs_task::{Command, Path};
+use nofs_client::{Command, Path};
+use nofs_dirent::{Content, Name};
 use nofs_told::path_names;
 use std::alloc::{AllocError, Global};
 
@@ -49,7 +49,7 @@ fn path_of(alloc: Global, text: &str) -> Result<Path, AllocError> {
 }
 
 /// The command, its texts copied.
-pub fn command(alloc: Global, asked: Asked<'_>) -> Result<Command, AllocError> {
+pub(crate) fn command(alloc: Global, asked: Asked<'_>) -> Result<Command, AllocError> {
     let path = path_of(alloc, place_of(asked))?;
     Ok(match asked {
         Asked::Make(_) => Command::Make { path },

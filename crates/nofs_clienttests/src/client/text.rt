@@ -1,7 +1,8 @@
 //! Steps and lines as short texts.
 
-use nofs_machine::{FileKind, NameLine, Step};
-use nofs_task::{GotPart, Line, ListPart};
+use nofs_client::{GotPart, Line, ListPart};
+use nofs_history::{NameLine, Step};
+use nofs_inode::inode::FileKind;
 use nofs_told::{Notepad, Notes, generation_of, inode_of, name_of, number_of, word_of};
 use std::alloc::AllocError;
 
@@ -72,7 +73,7 @@ fn note_listed(pad: &mut Notepad, part: &ListPart) -> Result<(), AllocError> {
 }
 
 /// Appends a line.
-pub fn note_line(pad: &mut Notepad, line: &Line) -> Result<(), AllocError> {
+pub(crate) fn note_line(pad: &mut Notepad, line: &Line) -> Result<(), AllocError> {
     match line {
         Line::Made => pad.word("made"),
         Line::Put(count) => pad.counted("put", *count),

@@ -1,6 +1,6 @@
 //! The steps of a move as a short text.
 
-use nofs_machine::Step;
+use nofs_history::Step;
 use nofs_told::{Notepad, Notes, generation_of, inode_of, name_of, word_of};
 use std::alloc::AllocError;
 

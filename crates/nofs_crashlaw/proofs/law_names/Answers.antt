@@ -1,4 +1,4 @@
-use Rattle.nofs_machine.proofs.Names.{names-stay}
+use Rattle.nofs_history.proofs.Names.{names-stay}
 use Rattle.nofs_crashlaw.proofs.law_names.Goals as goal
 
 pub returns : goal.returns

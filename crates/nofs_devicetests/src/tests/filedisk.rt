@@ -169,7 +169,10 @@ fn a_run_that_could_not_be_put_stays(rt: HostRuntime) -> Result<(), Fail> {
     assert!(rt; put(&mut disk, 9, 1));
     disk.ready(1)?;
     assert!(rt; disk.flush().is_ok());
-    assert_eq!(rt; wrong_block(&mut disk, &[(3, 0), (4, 9), (5, 8), (6, 0), (9, 1)]), None);
+    assert_eq!(rt;
+        wrong_block(&mut disk, &[(3, 0), (4, 9), (5, 8), (6, 0), (9, 1)]),
+        None
+    );
     let file = disk.file();
     assert_eq!(rt; file.durable(), file.bytes());
     assert_eq!(rt; file.bytes().len(), 10 * 1056);

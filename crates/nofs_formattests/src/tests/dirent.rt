@@ -1,7 +1,6 @@
 //! Worked bytes of an entry, and which bytes and names are none.
-use nofs_dirent::*;
+use nofs_dirent::{Name, *};
 use nofs_disk::write_bytes_at;
-use nofs_lists::Name;
 
 /// The first stamp of the first mount.
 const S: u64 = 1_099_511_627_776;

@@ -1,5 +1,5 @@
 //! Lists of items: each call once, on a name.
-use nofs_lists::{ListOf, Name};
+use nofs_dirent::{ListOf, Name};
 use std::test::Fail;
 
 #[test]

@@ -3,8 +3,7 @@
 ghost use Rattle.std.specs.Prelude.{◌≡◌, ◌+◌, ◌<◌, All, IfOk, IfSome, length, vec_len};
 ghost use Rattle.nofs_turn.specs.Turns.{view_of, IsPassOf};
 
-use nofs_turn::{Busy, Pass, PassesOut, Turn, TurnFault};
-use nofs_turn_rule::{Kept, Section};
+use nofs_turn::{Busy, Kept, Pass, PassesOut, Section, Turn, TurnFault};
 use std::alloc::{AllocError, Global};
 use std::sync::Wait;
 use std::test::Fail;

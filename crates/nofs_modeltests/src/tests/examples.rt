@@ -1,11 +1,10 @@
 //! What the definitions say of each example image, derived by hand.
-ghost use Rattle.nofs_image.specs.Cells.{slot_limit};
+ghost use Rattle.nofs_model.specs.Cells.{slot_limit};
 ghost use Rattle.std.specs.Prelude.{◌<◌};
 
 use nofs_disk::Cell;
-use nofs_examples::*;
-use nofs_image::Value;
-use nofs_model::{agreed, full_scan, is_mountable, owner_of, value_of};
+use nofs_model::{Value, agreed, full_scan, is_mountable, owner_of, value_of};
+use nofs_testdisks::*;
 use std::alloc::{AllocError, Global};
 use std::process::Abort;
 use std::test::Fail;

@@ -1,9 +1,10 @@
 //! The lists of two worked histories.
+use nofs_dirent::{Content, Name};
 use nofs_disk::{Cell, Pointer, write_pointer_at, write_u32_at, write_u64_at};
-use nofs_history::{Claims, Entry1, FileKind, History, Reply, Step, accepted_of};
-use nofs_image::Value;
-use nofs_lists::{Content, Name};
-use nofs_machine::NO_CLAIMS;
+use nofs_history::{Claims, Entry1, History, NO_CLAIMS, Reply, Step};
+use nofs_inode::inode::FileKind;
+use nofs_model::Value;
+use nofs_replay::accepted_of;
 use nofs_super::{SuperBlock, write_super};
 use std::alloc::{AllocError, Global};
 use std::test::Fail;

@@ -1,7 +1,7 @@
 //! A history keeps its entries in their order.
 ghost use Rattle.std.specs.Prelude.{◌<◌};
 
-use nofs_machine::{Entry1, History, NO_CLAIMS, Reply, Step};
+use nofs_history::{Entry1, History, NO_CLAIMS, Reply, Step};
 use std::alloc::AllocError;
 
 fn flushed(from: u64) -> Entry1

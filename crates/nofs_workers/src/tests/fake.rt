@@ -5,7 +5,8 @@ ghost use Rattle.nofs_workers.specs.Sweeps.{AreInRange};
 use crate::sweep::see_of;
 use crate::{Batches, WritesOut};
 use nofs_disk::OutFault;
-use nofs_machine::{ElementKind, FileKind, Refusal, Reply, Stat, Step, Steps};
+use nofs_history::{ElementKind, Refusal, Reply, Stat, Step, Steps};
+use nofs_inode::inode::FileKind;
 use nofs_told::{Answers, Told};
 use std::alloc::Global;
 

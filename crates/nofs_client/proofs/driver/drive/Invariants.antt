@@ -1,5 +1,5 @@
 use Rattle.std.proofs.Common.{◌≡◌, take, drop}
-use Rattle.nofs_task.specs.Task.{TaskStands}
+use Rattle.nofs_client.specs.Task.{TaskStands}
 use Rattle.nofs_client.specs.Drive.{AllAnswer, progress}
 use Rattle.nofs_client.proofs.driver.drive.Given as goal
 

@@ -1,7 +1,7 @@
 use Rattle.std.proofs.Common.{◌≡◌, Some}
 use Rattle.nofs_inode.specs.declared.inode.FileKind.TheVariants as kind
-use Rattle.nofs_image.specs.Files as files
-use Rattle.nofs_image.specs.Geometry as image
+use Rattle.nofs_model.specs.Files as files
+use Rattle.nofs_model.specs.Geometry as image
 use Rattle.nofs_model.proofs.names.is_agreed_directory.Given as goal
 
 abbrev pub invariant-loop-directory : goal.invariant-loop-directory

@@ -1,4 +1,4 @@
-use Rattle.nofs_image.specs.Places.{AreFound}
+use Rattle.nofs_model.specs.Places.{AreFound}
 use Rattle.nofs_model.proofs.scan.agreed_inodes.Given as goal
 
 abbrev pub invariant-loop-place : goal.invariant-loop-place

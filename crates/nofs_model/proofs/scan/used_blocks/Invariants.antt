@@ -1,6 +1,6 @@
 use Rattle.std.proofs.Common.{◌≡◌, ◌<◌, ℕ, length}
 use Rattle.nofs_bits.specs.Bits.{is_set}
-use Rattle.nofs_image.specs.Owners.{is_used_block}
+use Rattle.nofs_model.specs.Owners.{is_used_block}
 use Rattle.nofs_model.proofs.scan.used_blocks.Given as goal
 
 abbrev pub invariant-loop-block : goal.invariant-loop-block

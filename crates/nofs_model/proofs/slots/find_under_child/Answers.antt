@@ -1,5 +1,5 @@
 use Rattle.std.proofs.Common.{refl}
-use Rattle.nofs_image.specs.Slots as slots
+use Rattle.nofs_model.specs.Slots as slots
 use Rattle.nofs_model.proofs.slots.find_under_child.Goals as goal
 
 pub returns-clause-found : goal.returns-clause-found

@@ -1,8 +1,8 @@
 use Rattle.std.proofs.Common.{arith, rules}
-use Rattle.nofs_lost.proofs.Reading.{reads-none, reads-on, answered-both}
-use Rattle.nofs_lost.proofs.Walking.{walked-none}
-use Rattle.nofs_asking.proofs.Refusing.{right-none, right-on}
-use Rattle.nofs_asking.proofs.Asking.{met-on}
+use Rattle.nofs_salvage.proofs.Reading.{reads-none, reads-on, answered-both}
+use Rattle.nofs_salvage.proofs.Walking.{walked-none}
+use Rattle.nofs_salvage.proofs.Refusing.{right-none, right-on}
+use Rattle.nofs_salvage.proofs.Asking.{met-on}
 use Rattle.nofs_salvage.proofs.folders.note_folder.Goals as goal
 
 pub loop-slot-init : goal.loop-slot-init

@@ -1,12 +1,12 @@
 use Rattle.std.proofs.Common.{◌≡◌, ◌<◌, ◌≤◌, ◌-◌, List, true, None}
-use Rattle.nofs_machine.specs.World.{World}
-use Rattle.nofs_machine.specs.Steps.{Made}
-use Rattle.nofs_lost.specs.Reads.{Reads}
-use Rattle.nofs_lost.specs.Answered.{AreAnswered}
-use Rattle.nofs_lost.specs.Trees.{IsWalked}
-use Rattle.nofs_asking.specs.Refusing.{is_there, MayAsk, AreFair}
-use Rattle.nofs_asking.specs.Told.{AreFolders}
-use Rattle.nofs_asking.specs.Asks.{Asks, HasReached, AreReached}
+use Rattle.nofs_history.specs.World.{World}
+use Rattle.nofs_history.specs.Steps.{Made}
+use Rattle.nofs_salvage.specs.Reads.{Reads}
+use Rattle.nofs_salvage.specs.Answered.{AreAnswered}
+use Rattle.nofs_salvage.specs.Trees.{IsWalked}
+use Rattle.nofs_salvage.specs.Refusing.{is_there, MayAsk, AreFair}
+use Rattle.nofs_salvage.specs.Told.{AreFolders}
+use Rattle.nofs_salvage.specs.Asks.{Asks, HasReached, AreReached}
 use Rattle.nofs_salvage.proofs.folders.note_folder.Given as goal
 
 abbrev pub invariant-loop-slot : goal.invariant-loop-slot

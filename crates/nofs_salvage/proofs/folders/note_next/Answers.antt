@@ -1,10 +1,10 @@
 use Rattle.std.proofs.Common.{◌≤◌, refl, arith, rules}
-use Rattle.nofs_lost.specs.Reads.{Reads, refusal_by}
-use Rattle.nofs_lost.proofs.Reading.{reads-on, answered-both}
-use Rattle.nofs_lost.proofs.Walking.{walked-names, walked-lost, walked-end}
-use Rattle.nofs_lost.specs.Report.{lines_below}
+use Rattle.nofs_salvage.specs.Reads.{Reads, refusal_by}
+use Rattle.nofs_salvage.proofs.Reading.{reads-on, answered-both}
+use Rattle.nofs_salvage.proofs.Walking.{walked-names, walked-lost, walked-end}
+use Rattle.nofs_salvage.specs.Report.{lines_below}
 use Rattle.nofs_salvage.proofs.Telling.{names-told, names-right}
-use Rattle.nofs_asking.proofs.Asking.{all-met-on}
+use Rattle.nofs_salvage.proofs.Asking.{all-met-on}
 use Rattle.nofs_salvage.proofs.folders.note_next.Goals as goal
 
 pub returns-in_err-note_lines-in-Names-clause-reads : goal.returns-in_err-note_lines-in-Names-clause-reads

@@ -1,4 +1,4 @@
-use Rattle.nofs_asking.proofs.Refusing.{right-none}
+use Rattle.nofs_salvage.proofs.Refusing.{right-none}
 use Rattle.nofs_salvage.proofs.lines.note_line.Goals as goal
 
 pub returns-in_err-note_name-clause-right : goal.returns-in_err-note_name-clause-right

@@ -1,9 +1,9 @@
 use Rattle.std.proofs.Common.{◌≡◌, ◌+◌, ◌++◌, take, rules}
-use Rattle.nofs_lost.proofs.Reading.{reads-none, reads-on, answered-both}
-use Rattle.nofs_lost.proofs.Adding.{is-at, lines-none, lines-on, seen-none, seen-on}
-use Rattle.nofs_asking.proofs.Refusing.{right-none, right-on}
+use Rattle.nofs_salvage.proofs.Reading.{reads-none, reads-on, answered-both}
+use Rattle.nofs_salvage.proofs.Adding.{is-at, lines-none, lines-on, seen-none, seen-on}
+use Rattle.nofs_salvage.proofs.Refusing.{right-none, right-on}
 use Rattle.nofs_salvage.proofs.Telling.{told-at}
-use Rattle.nofs_asking.proofs.Asking.{given-at}
+use Rattle.nofs_salvage.proofs.Asking.{given-at}
 use Rattle.nofs_salvage.proofs.lines.note_lines.Goals as goal
 
 pub loop-line-init : goal.loop-line-init

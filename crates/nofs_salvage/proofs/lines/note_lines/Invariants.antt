@@ -1,14 +1,14 @@
 use Rattle.std.proofs.Common.{◌++◌, List, take, true, None}
-use Rattle.nofs_machine.specs.World.{World}
-use Rattle.nofs_machine.specs.Steps.{Made}
-use Rattle.nofs_machine.specs.declared.replies.NameLine.{NameLine}
-use Rattle.nofs_lost.specs.Reads.{Reads}
-use Rattle.nofs_lost.specs.Report.{lines_losses, lines_folders}
-use Rattle.nofs_lost.specs.Answered.{AreAnswered}
-use Rattle.nofs_lost.specs.Trees.{AreSeen, Adds}
-use Rattle.nofs_asking.specs.Refusing.{MayAsk, AreFair}
-use Rattle.nofs_asking.specs.Told.{AreTold, AreFolders}
-use Rattle.nofs_asking.specs.Asks.{Asks, AreGiven, AreReached}
+use Rattle.nofs_history.specs.World.{World}
+use Rattle.nofs_history.specs.Steps.{Made}
+use Rattle.nofs_history.specs.declared.machine.replies.NameLine.{NameLine}
+use Rattle.nofs_salvage.specs.Reads.{Reads}
+use Rattle.nofs_salvage.specs.Report.{lines_losses, lines_folders}
+use Rattle.nofs_salvage.specs.Answered.{AreAnswered}
+use Rattle.nofs_salvage.specs.Trees.{AreSeen, Adds}
+use Rattle.nofs_salvage.specs.Refusing.{MayAsk, AreFair}
+use Rattle.nofs_salvage.specs.Told.{AreTold, AreFolders}
+use Rattle.nofs_salvage.specs.Asks.{Asks, AreGiven, AreReached}
 use Rattle.nofs_salvage.proofs.lines.note_lines.Given as goal
 
 abbrev pub invariant-loop-line : goal.invariant-loop-line

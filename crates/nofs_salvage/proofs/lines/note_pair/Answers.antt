@@ -1,10 +1,10 @@
 use Rattle.std.proofs.Common.{refl, true, false}
-use Rattle.nofs_lost.proofs.Reading.{reads-on, answered-both}
-use Rattle.nofs_lost.proofs.LostSlots.{on-ok}
-use Rattle.nofs_lost.proofs.Adding.{found-losses, pair-file}
-use Rattle.nofs_asking.proofs.Refusing.{right-none, right-on, ask-found}
+use Rattle.nofs_salvage.proofs.Reading.{reads-on, answered-both}
+use Rattle.nofs_salvage.proofs.LostSlots.{on-ok}
+use Rattle.nofs_salvage.proofs.Adding.{found-losses, pair-file}
+use Rattle.nofs_salvage.proofs.Refusing.{right-none, right-on, ask-found}
 use Rattle.nofs_salvage.proofs.Handing.{folders-on}
-use Rattle.nofs_asking.proofs.Asking.{all-met-on, met-with}
+use Rattle.nofs_salvage.proofs.Asking.{all-met-on, met-with}
 use Rattle.nofs_salvage.proofs.lines.note_pair.Goals as goal
 
 pub returns-else-wanted-clause-right : goal.returns-else-wanted-clause-right

@@ -1,8 +1,8 @@
-use Rattle.nofs_lost.proofs.Reading.{reads-on, answered-both}
-use Rattle.nofs_lost.proofs.LostSlots.{noted-size, on-ok}
+use Rattle.nofs_salvage.proofs.Reading.{reads-on, answered-both}
+use Rattle.nofs_salvage.proofs.LostSlots.{noted-size, on-ok}
 use Rattle.std.proofs.Common.{false}
-use Rattle.nofs_asking.proofs.Refusing.{right-on}
-use Rattle.nofs_asking.proofs.Asking.{met-on}
+use Rattle.nofs_salvage.proofs.Refusing.{right-on}
+use Rattle.nofs_salvage.proofs.Asking.{met-on}
 use Rattle.nofs_salvage.proofs.slots.note_file.Goals as goal
 
 pub returns-clause-reads : goal.returns-clause-reads

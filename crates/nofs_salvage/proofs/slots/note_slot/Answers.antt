@@ -1,5 +1,5 @@
 use Rattle.std.proofs.Common.{refl}
-use Rattle.nofs_lost.proofs.LostSlots.{noted-kept, noted-lost}
+use Rattle.nofs_salvage.proofs.LostSlots.{noted-kept, noted-lost}
 use Rattle.nofs_salvage.proofs.slots.note_slot.Goals as goal
 
 pub returns-in-Kept-clause-noted : goal.returns-in-Kept-clause-noted

@@ -1,10 +1,10 @@
 use Rattle.std.proofs.Common.{◌≡◌, ◌<◌, true, false, arith, rules}
-use Rattle.nofs_machine.specs.Machine.{slots_in}
-use Rattle.nofs_lost.specs.Reads.{Reads, refusal_by}
-use Rattle.nofs_lost.proofs.Reading.{reads-none, reads-on, answered-both}
-use Rattle.nofs_lost.proofs.LostSlots.{lost-none, noted-on, noted-end}
-use Rattle.nofs_asking.proofs.Refusing.{right-none, right-on}
-use Rattle.nofs_asking.proofs.Asking.{met-on}
+use Rattle.nofs_history.specs.Machine.{slots_in}
+use Rattle.nofs_salvage.specs.Reads.{Reads, refusal_by}
+use Rattle.nofs_salvage.proofs.Reading.{reads-none, reads-on, answered-both}
+use Rattle.nofs_salvage.proofs.LostSlots.{lost-none, noted-on, noted-end}
+use Rattle.nofs_salvage.proofs.Refusing.{right-none, right-on}
+use Rattle.nofs_salvage.proofs.Asking.{met-on}
 use Rattle.nofs_salvage.proofs.slots.note_slots.Goals as goal
 
 pub loop-slot-init : goal.loop-slot-init

@@ -1,12 +1,12 @@
 use Rattle.std.proofs.Common.{◌≡◌, ◌≤◌, ◌++◌, List, false, None}
-use Rattle.nofs_machine.specs.Refusals.{slots}
-use Rattle.nofs_machine.specs.World.{World}
-use Rattle.nofs_machine.specs.Steps.{Made}
-use Rattle.nofs_lost.specs.Reads.{Reads}
-use Rattle.nofs_lost.specs.Report.{lost_below}
-use Rattle.nofs_lost.specs.Answered.{AreAnswered}
-use Rattle.nofs_asking.specs.Refusing.{MayAsk, AreFair}
-use Rattle.nofs_asking.specs.Asks.{Asks, HasReached, HasTold}
+use Rattle.nofs_history.specs.Refusals.{slots}
+use Rattle.nofs_history.specs.World.{World}
+use Rattle.nofs_history.specs.Steps.{Made}
+use Rattle.nofs_salvage.specs.Reads.{Reads}
+use Rattle.nofs_salvage.specs.Report.{lost_below}
+use Rattle.nofs_salvage.specs.Answered.{AreAnswered}
+use Rattle.nofs_salvage.specs.Refusing.{MayAsk, AreFair}
+use Rattle.nofs_salvage.specs.Asks.{Asks, HasReached, HasTold}
 use Rattle.nofs_salvage.proofs.slots.note_slots.Given as goal
 
 abbrev pub invariant-loop-slot : goal.invariant-loop-slot

@@ -1,10 +1,10 @@
 use Rattle.std.proofs.Common.{◌≡◌, ◌≤◌, ◌^◌, None, inl, map, refl, sym, ap, ◌∙◌, arith, rules}
-use Rattle.nofs_lost.specs.Handles.{inode_of}
-use Rattle.nofs_lost.proofs.Reading.{reads-none, reads-on, answered-both}
-use Rattle.nofs_lost.proofs.Growing.{grown-none, grown-on, grown-end, none-left}
-use Rattle.nofs_asking.proofs.Refusing.{right-none, right-on}
+use Rattle.nofs_salvage.specs.Handles.{inode_of}
+use Rattle.nofs_salvage.proofs.Reading.{reads-none, reads-on, answered-both}
+use Rattle.nofs_salvage.proofs.Growing.{grown-none, grown-on, grown-end, none-left}
+use Rattle.nofs_salvage.proofs.Refusing.{right-none, right-on}
 use Rattle.nofs_salvage.proofs.Handing.{folders-root, folder-at, rooted-on, rooted-end}
-use Rattle.nofs_asking.proofs.Asking.{met-root, met-at}
+use Rattle.nofs_salvage.proofs.Asking.{met-root, met-at}
 use Rattle.nofs_salvage.proofs.walk.note_tree.Goals as goal
 
 pub loop-directory-init : goal.loop-directory-init

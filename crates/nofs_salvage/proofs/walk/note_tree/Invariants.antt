@@ -1,12 +1,12 @@
 use Rattle.std.proofs.Common.{◌-◌, ◌^◌, List, None}
-use Rattle.nofs_machine.specs.World.{World}
-use Rattle.nofs_machine.specs.Steps.{Made}
-use Rattle.nofs_lost.specs.Reads.{Reads}
-use Rattle.nofs_lost.specs.Answered.{AreAnswered}
-use Rattle.nofs_asking.specs.Refusing.{HasRoots, AreFair}
-use Rattle.nofs_asking.specs.Told.{AreFolders, IsRooted}
-use Rattle.nofs_asking.specs.Asks.{Asks, AreReached}
-use Rattle.nofs_lost.proofs.Growing.{IsGrown}
+use Rattle.nofs_history.specs.World.{World}
+use Rattle.nofs_history.specs.Steps.{Made}
+use Rattle.nofs_salvage.specs.Reads.{Reads}
+use Rattle.nofs_salvage.specs.Answered.{AreAnswered}
+use Rattle.nofs_salvage.specs.Refusing.{HasRoots, AreFair}
+use Rattle.nofs_salvage.specs.Told.{AreFolders, IsRooted}
+use Rattle.nofs_salvage.specs.Asks.{Asks, AreReached}
+use Rattle.nofs_salvage.proofs.Growing.{IsGrown}
 use Rattle.nofs_salvage.proofs.walk.note_tree.Given as goal
 
 abbrev pub invariant-loop-directory : goal.invariant-loop-directory

@@ -1,9 +1,9 @@
 use Rattle.std.proofs.Common.{rules}
-use Rattle.nofs_lost.specs.Reads.{Reads, refusal_by}
-use Rattle.nofs_lost.proofs.Reading.{reads-on, answered-both}
-use Rattle.nofs_lost.proofs.Growing.{report-is}
-use Rattle.nofs_asking.proofs.Refusing.{right-on, refused-right, ask-label}
-use Rattle.nofs_asking.proofs.Asking.{asks-none, met-label}
+use Rattle.nofs_salvage.specs.Reads.{Reads, refusal_by}
+use Rattle.nofs_salvage.proofs.Reading.{reads-on, answered-both}
+use Rattle.nofs_salvage.proofs.Growing.{report-is}
+use Rattle.nofs_salvage.proofs.Refusing.{right-on, refused-right, ask-label}
+use Rattle.nofs_salvage.proofs.Asking.{asks-none, met-label}
 use Rattle.nofs_salvage.proofs.walk.salvage.Goals as goal
 
 pub returns-in_err-note_tree-clause-reads : goal.returns-in_err-note_tree-clause-reads

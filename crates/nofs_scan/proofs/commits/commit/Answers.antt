@@ -1,7 +1,7 @@
 use Rattle.std.proofs.Common.{ℕ, false, subst}
 use Rattle.std.proofs.lemmas.List.Elements.{All-get_or}
-use Rattle.nofs_state.specs.Handed.{Settles}
-use Rattle.nofs_sights.specs.Elements.{IsRight, learned, verdict_at, verdict_of}
+use Rattle.nofs_state.specs.Verdicts.{Settles}
+use Rattle.nofs_scan.specs.Elements.{IsRight, learned, verdict_at, verdict_of}
 use Rattle.nofs_scan.proofs.Committing.{commits}
 use Rattle.nofs_scan.proofs.commits.commit.Goals as goal
 

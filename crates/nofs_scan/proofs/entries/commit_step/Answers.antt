@@ -1,8 +1,10 @@
 use Rattle.std.proofs.Common.{◌-◌, refl, sym, ap, ◌∙◌, subst₂}
 use Rattle.nofs_disk.specs.Disk.{DiskState}
-use Rattle.nofs_state.specs.Handed.{IsSafe, Stands, Books}
-use Rattle.nofs_state.proofs.Handed.{safe-with}
-use Rattle.nofs_sights.specs.Elements.{see_step, verdict_at}
+use Rattle.nofs_state.specs.Books.{IsSafe}
+use Rattle.nofs_state.specs.Standing.{Stands}
+use Rattle.nofs_state.specs.declared.books.Books.{Books}
+use Rattle.nofs_state.proofs.Sessions.{safe-with}
+use Rattle.nofs_scan.specs.Elements.{see_step, verdict_at}
 use Rattle.nofs_scan.proofs.Going.{stands-committed}
 use Rattle.nofs_scan.proofs.entries.commit_step.Goals as goal
 

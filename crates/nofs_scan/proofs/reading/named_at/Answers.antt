@@ -1,7 +1,7 @@
 use Rattle.std.proofs.Common.{ℕ, List, sym, ap, ◌∙◌}
 use Rattle.nofs_disk.specs.Number.{number_at}
 use Rattle.nofs_dirent.specs.Entries.{entry_bytes, entry_in}
-use Rattle.nofs_sights.proofs.EntryNames.{named-none, named-some}
+use Rattle.nofs_scan.proofs.EntryNames.{named-none, named-some}
 use Rattle.nofs_scan.proofs.reading.named_at.Goals as goal
 
 pub returns-then-names_inode : goal.returns-then-names_inode

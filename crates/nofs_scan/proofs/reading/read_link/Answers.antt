@@ -1,7 +1,7 @@
 use Rattle.std.proofs.Common.{refl}
-use Rattle.nofs_image.specs.Image.{agreed, files_in}
-use Rattle.nofs_sights.specs.Sights.{entry_linked, link_sight}
-use Rattle.nofs_sights.proofs.Seeing.{agreed-sees, reads-sees, sees-both}
+use Rattle.nofs_model.specs.Image.{agreed, files_in}
+use Rattle.nofs_scan.specs.Sights.{entry_linked, link_sight}
+use Rattle.nofs_scan.proofs.Seeing.{agreed-sees, reads-sees, sees-both}
 use Rattle.nofs_scan.proofs.reading.read_link.Goals as goal
 
 pub returns : goal.returns

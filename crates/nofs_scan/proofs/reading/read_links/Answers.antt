@@ -1,7 +1,7 @@
 use Rattle.std.proofs.Common.{◌∷◌, [], get_or, refl}
-use Rattle.nofs_image.specs.Cells.{no_link}
-use Rattle.nofs_sights.specs.Sights.{link_sight, link_sights}
-use Rattle.nofs_sights.proofs.Seeing.{sees-both}
+use Rattle.nofs_model.specs.Cells.{no_link}
+use Rattle.nofs_scan.specs.Sights.{link_sight, link_sights}
+use Rattle.nofs_scan.proofs.Seeing.{sees-both}
 use Rattle.nofs_scan.proofs.reading.read_links.Goals as goal
 
 pub returns : goal.returns

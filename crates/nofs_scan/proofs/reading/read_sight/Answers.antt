@@ -1,11 +1,11 @@
 use Rattle.std.proofs.Common.{subst, refl}
-use Rattle.nofs_image.specs.Cells.{tag_of}
-use Rattle.nofs_image.specs.Image.{cell_at, inode}
-use Rattle.nofs_machine.specs.declared.steps.ElementKind.{ElementKind}
-use Rattle.nofs_sights.specs.Elements.{HasElement}
-use Rattle.nofs_sights.specs.Sights.{block_sight, inode_sight, link_sights, tagged_in}
+use Rattle.nofs_model.specs.Cells.{tag_of}
+use Rattle.nofs_model.specs.Image.{cell_at, inode}
+use Rattle.nofs_history.specs.declared.machine.steps.ElementKind.{ElementKind}
+use Rattle.nofs_scan.specs.Elements.{HasElement}
+use Rattle.nofs_scan.specs.Sights.{block_sight, inode_sight, link_sights, tagged_in}
 use Rattle.nofs_scan.proofs.Lookups.{block-looked, inode-looked}
-use Rattle.nofs_sights.proofs.Seeing.{reads-sees, sees-both}
+use Rattle.nofs_scan.proofs.Seeing.{reads-sees, sees-both}
 use Rattle.nofs_scan.proofs.reading.read_sight.Goals as goal
 
 pub returns-in_ok-links-in-Inode : goal.returns-in_ok-links-in-Inode

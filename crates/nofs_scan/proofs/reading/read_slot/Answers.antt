@@ -1,7 +1,7 @@
-use Rattle.nofs_image.specs.Image.{agreed, files_in, inode}
-use Rattle.nofs_image.specs.Places.{place_path}
-use Rattle.nofs_sights.specs.Sights.{tag_sight, way_in}
-use Rattle.nofs_sights.proofs.Seeing.{agreed-sees, reads-sees, sees-both}
+use Rattle.nofs_model.specs.Image.{agreed, files_in, inode}
+use Rattle.nofs_model.specs.Places.{place_path}
+use Rattle.nofs_scan.specs.Sights.{tag_sight, way_in}
+use Rattle.nofs_scan.proofs.Seeing.{agreed-sees, reads-sees, sees-both}
 use Rattle.nofs_scan.proofs.reading.read_slot.Goals as goal
 
 pub returns : goal.returns

@@ -1,8 +1,8 @@
 use Rattle.std.proofs.Common.{refl}
-use Rattle.nofs_image.specs.Image.{inode}
-use Rattle.nofs_image.specs.Places.{place_path}
-use Rattle.nofs_sights.specs.Sights.{way_in}
-use Rattle.nofs_sights.proofs.Seeing.{reads-both}
+use Rattle.nofs_model.specs.Image.{inode}
+use Rattle.nofs_model.specs.Places.{place_path}
+use Rattle.nofs_scan.specs.Sights.{way_in}
+use Rattle.nofs_scan.proofs.Seeing.{reads-both}
 use Rattle.nofs_scan.proofs.reading.read_slot_way.Goals as goal
 
 pub returns : goal.returns

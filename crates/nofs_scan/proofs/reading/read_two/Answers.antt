@@ -1,6 +1,6 @@
 use Rattle.std.proofs.Common.{refl}
-use Rattle.nofs_sights.specs.Sights.{link_sight}
-use Rattle.nofs_sights.proofs.Seeing.{sees-both}
+use Rattle.nofs_scan.specs.Sights.{link_sight}
+use Rattle.nofs_scan.proofs.Seeing.{sees-both}
 use Rattle.nofs_scan.proofs.reading.read_two.Goals as goal
 
 pub returns : goal.returns

@@ -1,6 +1,6 @@
 use Rattle.std.proofs.Common.{refl}
-use Rattle.nofs_sights.specs.Sights.{above_in, under_top}
-use Rattle.nofs_sights.proofs.Seeing.{reads-both}
+use Rattle.nofs_scan.specs.Sights.{above_in, under_top}
+use Rattle.nofs_scan.proofs.Seeing.{reads-both}
 use Rattle.nofs_scan.proofs.reading.read_under_top.Goals as goal
 
 pub returns : goal.returns

@@ -1,8 +1,8 @@
 use Rattle.std.proofs.Common.{refl}
 use Rattle.nofs_disk.specs.Chains.{StaysButFaults-refl}
-use Rattle.nofs_machine.specs.declared.steps.Step.TheVariants as step
-use Rattle.nofs_state.proofs.Handed.{goes-stopped}
-use Rattle.nofs_sights.proofs.Elements.{block-beyond, block-verified}
+use Rattle.nofs_history.specs.declared.machine.steps.Step.TheVariants as step
+use Rattle.nofs_state.proofs.Replies.{goes-stopped}
+use Rattle.nofs_scan.proofs.Elements.{block-beyond, block-verified}
 use Rattle.nofs_scan.proofs.sees.see_block.Goals as goal
 
 pub returns-then-core : goal.returns-then-core

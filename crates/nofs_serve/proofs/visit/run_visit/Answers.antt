@@ -1,14 +1,15 @@
 use Rattle.std.proofs.Common.{◌≡◌, ◌∙◌, ◌-◌, ℕ, List, [], true, ap, subst, arith}
-use Rattle.nofs_turn_rule.specs.declared.view.View.{View}
+use Rattle.nofs_turn.specs.declared.turn_rule.view.View.{View}
 use Rattle.nofs_turn.specs.Turns.{view_of}
-use Rattle.nofs_machine.specs.Steps.{Made}
-use Rattle.nofs_machine.specs.declared.history.Entry1.{Entry1}
-use Rattle.nofs_machine.specs.declared.steps.ElementKind.{ElementKind}
-use Rattle.nofs_teams.specs.Handed.{all_by, own_steps, SameSeat}
+use Rattle.nofs_history.specs.Steps.{Made}
+use Rattle.nofs_history.specs.declared.machine.history.Entry1.{Entry1}
+use Rattle.nofs_history.specs.declared.machine.steps.ElementKind.{ElementKind}
+use Rattle.nofs_shared.specs.Owned.{all_by, own_steps}
+use Rattle.nofs_shared.specs.Seats.{SameSeat}
 use Rattle.nofs_workers.specs.Sweeps.{Sweeps}
-use Rattle.nofs_teams.specs.Joins.{JoinsOwn}
-use Rattle.nofs_teams.proofs.Gathering.{users-none}
-use Rattle.nofs_teams.proofs.Teaming.{team-gathers}
+use Rattle.nofs_serve.specs.Joins.{JoinsOwn}
+use Rattle.nofs_serve.proofs.Gathering.{users-none}
+use Rattle.nofs_serve.proofs.Teaming.{team-gathers}
 use Rattle.nofs_serve.proofs.Visiting.{visit-gathers}
 use Rattle.nofs_serve.proofs.visit.run_visit.Goals as goal
 

@@ -1,12 +1,12 @@
 use Rattle.std.proofs.Common.{◌≡◌, ℕ, sym, ap, ◌∙◌, subst, subst₂}
 use Rattle.std.proofs.Math.Logic.{∥∥₁_elim, ∥∥₁_prop}
-use Rattle.nofs_mount.specs.Handed.{AllFollow, Ends}
+use Rattle.nofs_shared.specs.Ends.{AllFollow, Ends}
 use Rattle.nofs_shared.specs.Served.{two_users}
 use denote.Param.{param}
 use denote.Exit.{no}
 use mir.Syntax.{of_param}
 use denote.Param.Send.{Quiet-if}
-use Rattle.nofs_mount.proofs.Sends.{evidence-send, mount-send}
+use Rattle.nofs_shared.proofs.Sends.{evidence-send, mount-send}
 use Rattle.nofs_shared.proofs.Two.{all-follow}
 use Rattle.nofs_shared.proofs.sessions.session.Goals as goal
 

@@ -1,9 +1,9 @@
 use Rattle.std.proofs.Common.{sym, subst}
 use Rattle.std.specs.Prelude.{IfSome}
-use Rattle.nofs_headline.specs.Headline.{FollowsDrill, IsHeadlineOf}
-use Rattle.nofs_headline.proofs.Handed.{drill-taken}
-use Rattle.nofs_headline.proofs.Headlines.{drill-headline, drill-of}
-use Rattle.nofs_headline.proofs.Outcomes.{mounted-ends, run-ends}
+use Rattle.nofs_tool.specs.Headline.{FollowsDrill, IsHeadlineOf}
+use Rattle.nofs_tool.proofs.DrillEnds.{drill-taken}
+use Rattle.nofs_tool.proofs.Headlines.{drill-headline, drill-of}
+use Rattle.nofs_tool.proofs.Outcomes.{mounted-ends, run-ends}
 use Rattle.nofs_tool.proofs.running.drill_outcome.Goals as goal
 
 pub returns-in-Ok-clause-ends : goal.returns-in-Ok-clause-ends

@@ -1,11 +1,13 @@
 use Rattle.std.proofs.Common.{◌≡◌, ℕ, List, false, sym, subst}
-use Rattle.nofs_task.specs.declared.lines.Line.{Line}
-use Rattle.nofs_headline.specs.Handed.{session_text, Says, IsSessionRun}
-use Rattle.nofs_headline.proofs.Saying.{told-text}
+use Rattle.nofs_client.specs.declared.task.lines.Line.{Line}
+use Rattle.nofs_tool.specs.Entries.{session_text}
+use Rattle.nofs_tool.specs.Says.{Says}
+use Rattle.nofs_tool.specs.Serving.{IsSessionRun}
+use Rattle.nofs_tool.proofs.Saying.{told-text}
 use Rattle.std.specs.Prelude.{IfSome}
-use Rattle.nofs_headline.specs.Headline.{IsHeadline}
-use Rattle.nofs_headline.proofs.Headlines.{headline-of}
-use Rattle.nofs_headline.proofs.Outcomes.{run-ends}
+use Rattle.nofs_tool.specs.Headline.{IsHeadline}
+use Rattle.nofs_tool.proofs.Headlines.{headline-of}
+use Rattle.nofs_tool.proofs.Outcomes.{run-ends}
 use Rattle.nofs_tool.proofs.running.mounted.Goals as goal
 
 pub returns-clause-ends : goal.returns-clause-ends

@@ -1,5 +1,5 @@
 use Rattle.std.proofs.Common.{sym, ◌∙◌}
-use Rattle.nofs_headline.specs.Handed.{cause_line}
+use Rattle.nofs_tool.specs.Lines.{cause_line}
 use Rattle.nofs_tool.proofs.running.refused.Goals as goal
 
 pub returns-clause-says : goal.returns-clause-says

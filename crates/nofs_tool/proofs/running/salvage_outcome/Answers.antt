@@ -1,10 +1,12 @@
 use Rattle.std.proofs.Common.{map, string_bytes, sym, subst}
 use Rattle.std.specs.Prelude.{IfSome}
-use Rattle.nofs_headline.specs.Headline.{IsHeadlineOf}
-use Rattle.nofs_headline.specs.Handed.{AreReads, IsSalvaged, FollowsVisit, picks_in}
-use Rattle.nofs_headline.proofs.Headlines.{visit-of}
-use Rattle.nofs_headline.proofs.Outcomes.{old-ends}
-use Rattle.nofs_headline.proofs.Handed.{salvage-done, salvage-said}
+use Rattle.nofs_tool.specs.Headline.{IsHeadlineOf}
+use Rattle.nofs_tool.specs.Salvaging.{AreReads, IsSalvaged}
+use Rattle.nofs_tool.specs.Visits.{FollowsVisit}
+use Rattle.nofs_tool.specs.Words.{picks_in}
+use Rattle.nofs_tool.proofs.Headlines.{visit-of}
+use Rattle.nofs_tool.proofs.Outcomes.{old-ends}
+use Rattle.nofs_tool.proofs.Salvages.{salvage-done, salvage-said}
 use Rattle.nofs_tool.proofs.running.salvage_outcome.Goals as goal
 
 pub returns-in-Ok-clause-headline : goal.returns-in-Ok-clause-headline

@@ -1,10 +1,10 @@
 use Rattle.std.proofs.Common.{[], sym, subst}
 use Rattle.std.specs.Prelude.{IfSome}
-use Rattle.nofs_headline.specs.Headline.{IsHeadline}
-use Rattle.nofs_headline.specs.Handed.{IsScanned}
-use Rattle.nofs_headline.proofs.Handed.{scan-done}
-use Rattle.nofs_headline.proofs.Headlines.{headline-of, old-headline}
-use Rattle.nofs_headline.proofs.Outcomes.{old-ends}
+use Rattle.nofs_tool.specs.Headline.{IsHeadline}
+use Rattle.nofs_tool.specs.Counts.{IsScanned}
+use Rattle.nofs_tool.proofs.Counted.{scan-done}
+use Rattle.nofs_tool.proofs.Headlines.{headline-of, old-headline}
+use Rattle.nofs_tool.proofs.Outcomes.{old-ends}
 use Rattle.nofs_tool.proofs.running.scan_outcome.Goals as goal
 
 pub returns-in-Ok-clause-ends : goal.returns-in-Ok-clause-ends

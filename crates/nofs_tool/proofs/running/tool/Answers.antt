@@ -1,13 +1,15 @@
 use Rattle.std.proofs.Common.{◌≡◌, Option, Some, None, map, string_bytes, sym, ap, ◌∙◌, subst}
 use Rattle.nofs_io.specs.declared.texts.TheConstants.{TEXT_LIMIT}
-use Rattle.nofs_headline.specs.Handed.{Request, New, Run, Scan, Drill, Upgrade, Salvage, Wire, task_in}
-use Rattle.nofs_headline.specs.Complete.{IsReady}
-use Rattle.nofs_headline.specs.Said.{Said}
-use Rattle.nofs_headline.specs.Statuses.{KeepsDevice}
-use Rattle.nofs_headline.specs.Tool.{IsRefusedTask}
-use Rattle.nofs_headline.proofs.Complete.{scan-completes, session-completes, upgrade-completes}
-use Rattle.nofs_headline.proofs.Frames.{wire-completes}
-use Rattle.nofs_headline.proofs.Outcomes.{upgrade-keeps}
+use Rattle.nofs_tool.specs.declared.beginning.words.Request.{Request}
+use Rattle.nofs_tool.specs.declared.beginning.words.Request.TheVariants.{New, Run, Scan, Drill, Upgrade, Salvage, Wire}
+use Rattle.nofs_tool.specs.Words.{task_in}
+use Rattle.nofs_tool.specs.Complete.{IsReady}
+use Rattle.nofs_tool.specs.Said.{Said}
+use Rattle.nofs_tool.specs.Statuses.{KeepsDevice}
+use Rattle.nofs_tool.specs.Tool.{IsRefusedTask}
+use Rattle.nofs_tool.proofs.Complete.{scan-completes, session-completes, upgrade-completes}
+use Rattle.nofs_tool.proofs.Frames.{wire-completes}
+use Rattle.nofs_tool.proofs.Outcomes.{upgrade-keeps}
 use Rattle.nofs_tool.proofs.running.tool.Goals as goal
 
 pub returns-in-Some-Run-clause-complete : goal.returns-in-Some-Run-clause-complete

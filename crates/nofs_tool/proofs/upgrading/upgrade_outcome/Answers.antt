@@ -1,5 +1,5 @@
 use Rattle.std.proofs.Common.{inr, sym, ◌∙◌}
-use Rattle.nofs_headline.specs.Handed.{upgrade_line}
+use Rattle.nofs_tool.specs.Lines.{upgrade_line}
 use Rattle.nofs_tool.proofs.upgrading.upgrade_outcome.Goals as goal
 
 pub returns-in-Err-clause-says : goal.returns-in-Err-clause-says

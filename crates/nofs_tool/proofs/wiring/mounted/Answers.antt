@@ -1,7 +1,7 @@
 use Rattle.std.proofs.Common.{◌≡◌, ◌∙◌, sym, ap}
-use Rattle.nofs_headline.specs.Handed.{has_fault}
-use Rattle.nofs_headline.specs.Wiring.{wire_status}
-use Rattle.nofs_headline.proofs.Frames.{short-seven, wire-ends, wire-headline, zero-end}
+use Rattle.nofs_tool.specs.Entries.{has_fault}
+use Rattle.nofs_tool.specs.Wiring.{wire_status}
+use Rattle.nofs_tool.proofs.Frames.{short-seven, wire-ends, wire-headline, zero-end}
 use Rattle.nofs_tool.proofs.wiring.mounted.Goals as goal
 
 pub returns-clause-ends : goal.returns-clause-ends

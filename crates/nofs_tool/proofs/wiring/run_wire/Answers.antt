@@ -1,14 +1,17 @@
 use Rattle.std.proofs.Common.{◌≡◌, ◌∙◌, ℕ, List, [], sym, ap, subst, subst₂}
 use Rattle.std.proofs.Math.Logic.{∥∥₁_elim, ∥∥₁_prop}
 use Rattle.nofs_disk.specs.Disk.{Rose}
-use Rattle.nofs_machine.specs.HistoryState.{HistoryState}
-use Rattle.nofs_machine.specs.Steps.{Made}
-use Rattle.nofs_machine.specs.declared.history.Entry1.{Entry1}
-use Rattle.nofs_headline.specs.Handed.{steps_by, IsVisitRun, Finished}
+use Rattle.nofs_history.specs.HistoryState.{HistoryState}
+use Rattle.nofs_history.specs.Steps.{Made}
+use Rattle.nofs_history.specs.declared.machine.history.Entry1.{Entry1}
+use Rattle.nofs_shared.specs.Owned.{steps_by}
+use Rattle.nofs_tool.specs.Visits.{IsVisitRun}
+use Rattle.nofs_tool.specs.Whole.{Finished}
 use Rattle.nofs_wire.specs.Serves.{Serves}
-use Rattle.nofs_headline.specs.Wiring.{IsWired}
-use Rattle.nofs_headline.proofs.Frames.{serves-wired}
-use Rattle.nofs_headline.proofs.Handed.{visit-steps, mount-finishes}
+use Rattle.nofs_tool.specs.Wiring.{IsWired}
+use Rattle.nofs_tool.proofs.Frames.{serves-wired}
+use Rattle.nofs_tool.proofs.Visits.{visit-steps}
+use Rattle.nofs_tool.proofs.Whole.{mount-finishes}
 use Rattle.nofs_tool.proofs.wiring.run_wire.Goals as goal
 
 pub returns-clause-ends : goal.returns-clause-ends

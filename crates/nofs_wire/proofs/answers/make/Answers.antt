@@ -1,5 +1,5 @@
 use Rattle.std.proofs.Common.{◌≡◌, true, false, arith}
-use Rattle.nofs_machine.specs.Steps.{is_out_of_memory}
+use Rattle.nofs_history.specs.Steps.{is_out_of_memory}
 use Rattle.nofs_wire.proofs.Answering.{answers-made, answers-unmade}
 use Rattle.nofs_wire.proofs.answers.make.Goals as goal
 

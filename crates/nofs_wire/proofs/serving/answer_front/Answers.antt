@@ -1,5 +1,5 @@
 use Rattle.std.proofs.Common.{◌≡◌, ◌∙◌, ap}
-use Rattle.nofs_stream.specs.Frames.{body_of}
+use Rattle.nofs_wire.specs.Frames.{body_of}
 use Rattle.nofs_wire.proofs.Turning.{goes-answered, stops-body}
 use Rattle.nofs_wire.proofs.serving.answer_front.Goals as goal
 

@@ -1,5 +1,5 @@
 use Rattle.std.proofs.Common.{◌≡◌, ◌<◌, ◌∙◌, ap, arith}
-use Rattle.nofs_stream.specs.Frames.{front_of}
+use Rattle.nofs_wire.specs.Frames.{front_of}
 use Rattle.nofs_wire.proofs.Turning.{goes-on, stops-ended, unmoved}
 use Rattle.nofs_wire.proofs.serving.take_more.Goals as goal
 

@@ -1,6 +1,6 @@
 use Rattle.std.proofs.Common.{◌∙◌, refl, sym, ap}
 use Rattle.std.proofs.KnownBytes.{Appends-nil}
-use Rattle.nofs_stream.specs.Frames.{front_of}
+use Rattle.nofs_wire.specs.Frames.{front_of}
 use Rattle.nofs_wire.proofs.Turning.{bad-front, stops-bad}
 use Rattle.nofs_wire.proofs.serving.turn.Goals as goal
 

@@ -1,5 +1,5 @@
 use Rattle.std.proofs.Common.{◌≡◌, ◌+◌, ◌^◌, ◌<◌, rules, length}
-use Rattle.nofs_machine.specs.declared.steps.ElementKind.TheVariants.{Inode}
+use Rattle.nofs_history.specs.declared.machine.steps.ElementKind.TheVariants.{Inode}
 use Rattle.nofs_workers.specs.Sweeps.{IsOrdered}
 use Rattle.nofs_workers.proofs.Filling.{filled-more, in-range}
 use Rattle.nofs_workers.proofs.sweep.fill.Goals as goal

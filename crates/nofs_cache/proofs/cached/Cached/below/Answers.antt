@@ -1,7 +1,7 @@
-use Rattle.nofs_dirty.specs.DirtyBlocks.{entries_of}
-use Rattle.nofs_dirty.specs.Past.{past_calls}
+use Rattle.nofs_cache.specs.DirtyBlocks.{entries_of}
+use Rattle.nofs_cache.specs.Past.{past_calls}
 use Rattle.nofs_cache.proofs.CacheCalls.{agrees_of, not_dirty_clean}
-use Rattle.nofs_dirty.proofs.Settling.{agrees_clean, no_entries}
+use Rattle.nofs_cache.proofs.Settling.{agrees_clean, no_entries}
 use Rattle.nofs_cache.proofs.cached.Cached.below.Goals as goal
 
 pub returns-clause-now : goal.returns-clause-now

@@ -1,4 +1,4 @@
-use Rattle.nofs_dirty.specs.DirtyBlocks.{entries_of}
+use Rattle.nofs_cache.specs.DirtyBlocks.{entries_of}
 use Rattle.nofs_cache.proofs.CacheCalls.{clean_not_dirty}
 use Rattle.nofs_cache.proofs.CachedCalls.{below_reads, kept_reads, read_holds}
 use Rattle.nofs_cache.proofs.cached.CachedDisk.read.Goals as goal

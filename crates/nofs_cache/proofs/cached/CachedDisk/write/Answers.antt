@@ -1,4 +1,4 @@
-use Rattle.nofs_dirty.specs.declared.past.CacheCall.TheVariants.{Write}
+use Rattle.nofs_cache.specs.declared.dirty.past.CacheCall.TheVariants.{Write}
 use Rattle.nofs_cache.proofs.CachedCalls.{call_leaves, write_does, write_holds}
 use Rattle.nofs_cache.proofs.cached.CachedDisk.write.Goals as goal
 

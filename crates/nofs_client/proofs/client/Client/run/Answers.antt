@@ -1,8 +1,8 @@
 use Rattle.std.proofs.Common.{arith, ◌≡◌, ◌∙◌, sym, ap, false, ◌++◌, ◌∷◌, []}
-use Rattle.nofs_machine.specs.Steps.{is_out_of_memory}
-use Rattle.nofs_task.specs.declared.next.Next.TheVariants.{Do}
+use Rattle.nofs_history.specs.Steps.{is_out_of_memory}
+use Rattle.nofs_client.specs.declared.task.next.Next.TheVariants.{Do}
 use Rattle.nofs_client.specs.Drive.{asks, progress_after, drive_of}
-use Rattle.nofs_task.specs.Asks.{Answers}
+use Rattle.nofs_client.specs.Asks.{Answers}
 use Rattle.nofs_client.proofs.Rank.{rank-falls}
 use Rattle.nofs_client.proofs.Runs.{progress-more, step-more}
 use Rattle.nofs_client.proofs.client.Client.run.Goals as goal

@@ -1,6 +1,6 @@
 use Rattle.std.proofs.Common.{◌≡◌, ◌++◌, List, map}
-use Rattle.nofs_machine.specs.Steps.{Made}
-use Rattle.nofs_task.specs.Task.{TaskStands}
+use Rattle.nofs_history.specs.Steps.{Made}
+use Rattle.nofs_client.specs.Task.{TaskStands}
 use Rattle.nofs_client.specs.Drive.{progress, start_of}
 use Rattle.nofs_client.specs.Runs.{Asked, made_reply}
 use Rattle.nofs_client.proofs.Rank.{rank}

@@ -1,5 +1,5 @@
 use Rattle.std.proofs.Common.{take, drop}
-use Rattle.nofs_task.specs.Commands.{AreWellFormed}
+use Rattle.nofs_client.specs.Commands.{AreWellFormed}
 use Rattle.nofs_client.specs.Runs.{RunsAll}
 use Rattle.nofs_client.proofs.client.Client.run_all.Given as goal
 

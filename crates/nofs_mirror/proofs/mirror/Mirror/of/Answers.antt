@@ -1,9 +1,9 @@
 use Rattle.std.proofs.Common.{refl, sym, subst, ◌≡◌, true, List}
 use Rattle.std.proofs.lemmas.Bool.{or_left}
-use Rattle.nofs_sides.specs.declared.opening.MirrorStart.{MirrorStart}
-use Rattle.nofs_sides.specs.declared.past.MirrorCall.{MirrorCall}
-use Rattle.nofs_law_mirror.specs.Mirror.{last_span}
-use Rattle.nofs_sides.specs.Past.{past_calls}
+use Rattle.nofs_mirror.specs.declared.sides.opening.MirrorStart.{MirrorStart}
+use Rattle.nofs_mirror.specs.declared.sides.past.MirrorCall.{MirrorCall}
+use Rattle.nofs_mirror.specs.Mirror.{last_span}
+use Rattle.nofs_mirror.specs.Past.{past_calls}
 use Rattle.nofs_mirror.proofs.Copied.{kept_begins, side_begins}
 use Rattle.nofs_mirror.proofs.mirror.Mirror.of.Goals as goal
 

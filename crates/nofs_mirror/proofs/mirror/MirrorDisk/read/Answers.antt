@@ -1,5 +1,5 @@
 use Rattle.std.proofs.Common.{ap, arith, refl}
-use Rattle.nofs_sides.specs.Past.{past_calls}
+use Rattle.nofs_mirror.specs.Past.{past_calls}
 use Rattle.nofs_mirror.proofs.MirrorReads.{mirror_reads, rest_noted, rest_stays, stays_rests}
 use Rattle.nofs_mirror.proofs.mirror.MirrorDisk.read.Goals as goal
 

@@ -1,4 +1,4 @@
-use Rattle.nofs_sides.specs.declared.past.Effect.TheVariants.{Write}
+use Rattle.nofs_mirror.specs.declared.sides.past.Effect.TheVariants.{Write}
 use Rattle.nofs_mirror.proofs.MirrorCalls.{called_holds, called_leaves}
 use Rattle.nofs_mirror.proofs.WriteCalls.{mirror_writes, write_kept, writes_sides}
 use Rattle.nofs_mirror.proofs.mirror.MirrorDisk.write.Goals as goal

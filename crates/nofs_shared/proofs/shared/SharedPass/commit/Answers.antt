@@ -1,6 +1,6 @@
 use Rattle.std.proofs.Common.{refl}
 use Rattle.nofs_shared.proofs.Examining.{commit-ran, commit-step, knows-on, seat-stays}
-use Rattle.nofs_mount.proofs.Handed.{ran_owns, ran_made}
+use Rattle.nofs_shared.proofs.Owning.{ran_owns, ran_made}
 use Rattle.nofs_shared.proofs.shared.SharedPass.commit.Goals as goal
 
 pub invariant_of-self : goal.invariant_of-self

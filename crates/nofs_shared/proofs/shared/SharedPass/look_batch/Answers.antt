@@ -1,6 +1,6 @@
 use Rattle.std.proofs.Common.{◌≡◌, List, ℕ, true, refl, sym, ap, subst}
-use Rattle.nofs_machine.specs.declared.history.Entry1.{Entry1}
-use Rattle.nofs_mount.specs.Handed.{all_by, own_steps}
+use Rattle.nofs_history.specs.declared.machine.history.Entry1.{Entry1}
+use Rattle.nofs_shared.specs.Owned.{all_by, own_steps}
 use Rattle.nofs_shared.proofs.Examining.{knows-looked, mine-stays, seat-stays}
 use Rattle.nofs_shared.proofs.shared.SharedPass.look_batch.Goals as goal
 

@@ -1,4 +1,4 @@
-use Rattle.nofs_mount.proofs.Handed.{tried_owns, ran_made}
+use Rattle.nofs_shared.proofs.Owning.{tried_owns, ran_made}
 use Rattle.nofs_shared.proofs.shared.SharedPass.try_step.Goals as goal
 
 pub invariant_of-self : goal.invariant_of-self

@@ -1,4 +1,4 @@
-use Rattle.nofs_mount.proofs.Handed.{ran_owns, ran_made}
+use Rattle.nofs_shared.proofs.Owning.{ran_owns, ran_made}
 use Rattle.nofs_shared.proofs.shared.SharedPassSteps.step.Goals as goal
 
 pub invariant_of-self : goal.invariant_of-self

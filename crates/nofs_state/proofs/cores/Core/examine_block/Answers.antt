@@ -1,5 +1,5 @@
 use Rattle.std.proofs.Common.{refl}
-use Rattle.nofs_examining.proofs.Examined.{examined, of-ok, unread}
+use Rattle.nofs_state.proofs.Examined.{examined, of-ok, unread}
 use Rattle.nofs_state.proofs.cores.Core.examine_block.Goals as goal
 
 pub check_block-requires-clause-books : goal.check_block-requires-clause-books

@@ -1,5 +1,5 @@
 use Rattle.std.proofs.Common.{refl}
-use Rattle.nofs_examining.proofs.Examined.{examined, unread}
+use Rattle.nofs_state.proofs.Examined.{examined, unread}
 use Rattle.nofs_state.proofs.cores.Core.examine_inode.Goals as goal
 
 pub check_inode-requires : goal.check_inode-requires

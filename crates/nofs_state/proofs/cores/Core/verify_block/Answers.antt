@@ -1,6 +1,6 @@
 use Rattle.std.proofs.Common.{refl, sym, ◌∙◌}
 use Rattle.nofs_disk.specs.Chains.{StaysButFaults-refl}
-use Rattle.nofs_books.specs.Verdicts.{Stood}
+use Rattle.nofs_state.specs.Verdicts.{Stood}
 use Rattle.nofs_state.proofs.cores.Core.verify_block.Goals as goal
 
 pub returns-in-Some : goal.returns-in-Some

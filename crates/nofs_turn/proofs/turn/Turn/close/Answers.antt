@@ -1,9 +1,9 @@
 use Rattle.std.proofs.Common.{rules, ◌≡◌, ◌∙◌, sym, subst, Option, Some, None, arith}
 use Rattle.std.specs.Slots.{slots_items}
 use mathlib.Core.Option.{some-injective}
-use Rattle.nofs_turn_rule.specs.Passes.{Closes}
+use Rattle.nofs_turn.specs.Passes.{Closes}
 use Rattle.nofs_turn.specs.Turns.{view_of}
-use Rattle.nofs_turn_rule.proofs.Seats.{Found, ends}
+use Rattle.nofs_turn.proofs.Seats.{Found, ends}
 use Rattle.nofs_turn.proofs.turn.Turn.close.Goals as goal
 
 pub unreachable-requires : goal.unreachable-requires

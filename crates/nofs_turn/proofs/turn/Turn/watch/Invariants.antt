@@ -1,4 +1,4 @@
-use Rattle.nofs_turn_rule.specs.Passes.{Waited}
+use Rattle.nofs_turn.specs.Passes.{Waited}
 use Rattle.nofs_turn.specs.Turns.{view_of, IsPassOf}
 use Rattle.nofs_turn.proofs.turn.Turn.watch.Given as goal
 

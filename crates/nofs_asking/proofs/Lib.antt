@@ -1,4 +1,0 @@
-pub mod Answers
-pub mod Asking
-pub mod Refusing
-pub mod Roots

@@ -1,4 +1,0 @@
-pub mod Books
-pub mod Verdicts
-pub mod Owning
-pub mod Counted

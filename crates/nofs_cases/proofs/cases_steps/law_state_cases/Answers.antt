@@ -1,0 +1,14 @@
+use Rattle.nofs_cases.proofs.StateCases.{homes-case, good-case, moves-case, grow-case, shrink-case, fresh-case, pieces-case}
+use Rattle.nofs_cases.proofs.cases_steps.law_state_cases.Goals as goal
+
+pub returns : goal.returns
+returns c = record {
+  homes = homes-case;
+  good = good-case;
+  moves = moves-case;
+  grow = grow-case;
+  shrink = shrink-case;
+  fresh = fresh-case;
+  pieces =
+      pieces-case;
+}

@@ -1,3 +1,0 @@
-pub mod OpenMount
-pub mod Replies
-pub mod TwoMounts

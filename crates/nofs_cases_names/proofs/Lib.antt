@@ -1,4 +1,0 @@
-pub mod Roots
-pub mod RootSteps
-pub mod Entries
-pub mod NameCases

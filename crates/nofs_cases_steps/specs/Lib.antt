@@ -1,5 +1,0 @@
-pub mod Images
-pub mod Worlds
-pub mod FileCases
-pub mod StateCases
-pub mod LeafCase

@@ -1,5 +1,0 @@
-pub mod Kept
-pub mod Ways
-pub mod Parts
-pub mod Climbing
-pub mod Needs

@@ -1,0 +1,5 @@
+use Rattle.nofs_crashlaw.proofs.EntryPlace.{law-entry-place}
+use Rattle.nofs_crashlaw.proofs.homes.law_entry_place.Goals as goal
+
+pub returns : goal.returns
+returns c = law-entry-place

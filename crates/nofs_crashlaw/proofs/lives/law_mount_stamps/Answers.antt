@@ -1,0 +1,5 @@
+use Rattle.nofs_crashlaw.proofs.Within.{law-mount-stamps}
+use Rattle.nofs_crashlaw.proofs.lives.law_mount_stamps.Goals as goal
+
+pub returns : goal.returns
+returns c = law-mount-stamps

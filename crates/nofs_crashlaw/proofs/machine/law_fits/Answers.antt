@@ -1,0 +1,5 @@
+use Rattle.nofs_crashlaw.proofs.Fitting.{law-fits}
+use Rattle.nofs_crashlaw.proofs.machine.law_fits.Goals as goal
+
+pub returns : goal.returns
+returns c = law-fits

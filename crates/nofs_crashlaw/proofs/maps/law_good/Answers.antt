@@ -1,0 +1,6 @@
+use Rattle.nofs_crashlaw.proofs.Good.{law-good-done, law-good-kept, law-claims}
+use Rattle.nofs_crashlaw.proofs.Next.{law-good-next}
+use Rattle.nofs_crashlaw.proofs.maps.law_good.Goals as goal
+
+pub returns : goal.returns
+returns c = record { done = law-good-done; kept = law-good-kept; claims = law-claims; next = law-good-next }

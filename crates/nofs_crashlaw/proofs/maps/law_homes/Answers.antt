@@ -1,0 +1,5 @@
+use Rattle.nofs_crashlaw.proofs.MapHomes.{law-homes, law-good}
+use Rattle.nofs_crashlaw.proofs.maps.law_homes.Goals as goal
+
+pub returns : goal.returns
+returns c = record { homes = law-homes; good = law-good }

@@ -1,0 +1,5 @@
+use Rattle.nofs_crashlaw.proofs.WrittenCells.{law-pointer-numbers}
+use Rattle.nofs_crashlaw.proofs.numbers.law_pointer_numbers.Goals as goal
+
+pub returns : goal.returns
+returns c = law-pointer-numbers

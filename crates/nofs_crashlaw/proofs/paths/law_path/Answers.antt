@@ -1,0 +1,5 @@
+use Rattle.nofs_crashlaw.proofs.Finds.{law-sure-chain, law-sure-name}
+use Rattle.nofs_crashlaw.proofs.paths.law_path.Goals as goal
+
+pub returns : goal.returns
+returns c = record { chain = law-sure-chain; name = law-sure-name }

@@ -1,0 +1,5 @@
+use Rattle.nofs_crashlaw.proofs.Keeps.{law-directory, law-rooted, law-pair}
+use Rattle.nofs_crashlaw.proofs.runs.law_run.Goals as goal
+
+pub returns : goal.returns
+returns c = record { directory = law-directory; rooted = law-rooted; pair = law-pair }

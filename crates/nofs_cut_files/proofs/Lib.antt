@@ -1,4 +1,0 @@
-pub mod CutImage
-pub mod CutHomes
-pub mod CutDone
-pub mod Handed

@@ -1,2 +1,0 @@
-pub mod Resizing
-pub mod Handed

@@ -1,0 +1,125 @@
+//! Disks in memory that these tests begin with, and calls on any disk with cells of one byte, as tables
+//! write them down.
+
+use nofs_disk::{Cell, Disk, Failed};
+use nofs_memdisk::MemDisk;
+use nofs_versions::{CallKind, FaultAt};
+use std::alloc::{AllocError, Global};
+
+/// A disk of four blocks, of which one call fails.
+pub(crate) fn failing(
+    alloc: Global,
+    call: CallKind,
+    number: u64,
+    taken: bool,
+) -> Result<MemDisk, AllocError> {
+    let mut disk = MemDisk::new(alloc, 4)?;
+    disk.fail_at(&[FaultAt {
+        call,
+        number,
+        taken,
+    }])?;
+    Ok(disk)
+}
+
+/// Writes a cell of one byte; whether the call succeeded.
+pub(crate) fn wrote<D: Disk>(disk: &mut D, block: u64, byte: u8) -> Result<bool, AllocError> {
+    disk.ready(1)?;
+    Ok(block < disk.blocks() && disk.write(block, &cell_of(byte)).is_ok())
+}
+
+fn cell_of(byte: u8) -> Cell {
+    Cell {
+        payload: [byte; 1024],
+        tag: [byte; 32],
+    }
+}
+
+/// Flushes; whether the call succeeded.
+pub(crate) fn flushed<D: Disk>(disk: &mut D) -> Result<bool, AllocError> {
+    disk.ready(1)?;
+    Ok(disk.flush().is_ok())
+}
+
+fn written_out<D: Disk>(disk: &mut D) -> Result<Result<Option<u64>, Failed>, AllocError> {
+    disk.ready(1)?;
+    Ok(disk.write_out())
+}
+
+/// The last byte of a block's payload; `None` where the read fails.
+pub(crate) fn byte_of<D: Disk>(disk: &mut D, block: u64) -> Option<u8> {
+    if block >= disk.blocks() {
+        return None;
+    }
+    let mut cell = Cell::ZERO;
+    disk.read(block, &mut cell).ok()?;
+    Some(cell.payload[1023])
+}
+
+/// A call of a disk.
+#[derive(Clone, Copy)]
+pub enum Call {
+    /// Writes a cell of one byte to a block.
+    Write(u64, u8),
+    Flush,
+    WriteOut,
+    /// Reads a block.
+    Read(u64),
+}
+
+/// What a call is answered.
+#[derive(Clone, Copy, PartialEq, Eq)]
+pub enum Answer {
+    /// Whether a write or a flush succeeded.
+    Done(bool),
+    /// The block that was written out.
+    Out(Option<u64>),
+    OutFailed,
+    /// The last byte of the payload; `None` where the read fails.
+    Byte(Option<u8>),
+}
+
+/// A write that succeeds.
+pub(crate) fn put(block: u64, byte: u8) -> (Call, Answer) {
+    (Call::Write(block, byte), Answer::Done(true))
+}
+
+/// A flush, and whether it succeeds.
+pub(crate) fn flush(done: bool) -> (Call, Answer) {
+    (Call::Flush, Answer::Done(done))
+}
+
+/// A write-out, and the block that is written.
+pub(crate) fn out(block: Option<u64>) -> (Call, Answer) {
+    (Call::WriteOut, Answer::Out(block))
+}
+
+/// A read, and the byte of the block.
+pub(crate) fn reads(block: u64, byte: u8) -> (Call, Answer) {
+    (Call::Read(block), Answer::Byte(Some(byte)))
+}
+
+fn made<D: Disk>(disk: &mut D, call: Call) -> Result<Answer, AllocError> {
+    Ok(match call {
+        Call::Write(block, byte) => Answer::Done(wrote(disk, block, byte)?),
+        Call::Flush => Answer::Done(flushed(disk)?),
+        Call::WriteOut => match written_out(disk)? {
+            Ok(block) => Answer::Out(block),
+            Err(_) => Answer::OutFailed,
+        },
+        Call::Read(block) => Answer::Byte(byte_of(disk, block)),
+    })
+}
+
+/// Makes these calls: the place of the first that is answered otherwise, if one is.
+pub(crate) fn first_wrong<D: Disk>(
+    disk: &mut D,
+    cases: &[(Call, Answer)],
+) -> Result<Option<usize>, AllocError> {
+    for (place, (call, want)) in cases.iter().enumerate() {
+        if made(disk, *call)? != *want {
+            return Ok(Some(place));
+        }
+    }
+    Ok(None)
+}

@@ -1,3 +1,0 @@
-pub mod WritesBack
-pub mod Settling
-pub mod Reordering

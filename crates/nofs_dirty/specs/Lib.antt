@@ -1,4 +1,0 @@
-pub mod DirtyEntries
-pub mod DirtyBlocks
-pub mod Past
-pub mod Cache

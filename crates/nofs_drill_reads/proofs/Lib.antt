@@ -1,2 +1,0 @@
-pub mod Drills
-pub mod Handed

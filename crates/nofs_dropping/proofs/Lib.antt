@@ -1,4 +1,0 @@
-pub mod Dropping
-pub mod DropFacts
-pub mod Dropped
-pub mod Removed

@@ -1,4 +1,0 @@
-pub mod Blocks
-pub mod Kept
-pub mod Fullness
-pub mod Handed

@@ -1,4 +1,0 @@
-pub mod Owning
-pub mod Keeping
-pub mod Filled
-pub mod Handed

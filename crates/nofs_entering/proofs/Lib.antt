@@ -1,4 +1,0 @@
-pub mod Entered
-pub mod EnteredHole
-pub mod LinkClaims
-pub mod Handed

@@ -1,0 +1,13 @@
+use Rattle.std.proofs.Common.{ℕ, List, Some, ap, ◌∙◌}
+use Rattle.nofs_model.specs.Cells.{Leaf, is_null, pointer_at}
+use Rattle.nofs_state.proofs.ZeroPointers.{zeros-null}
+use Rattle.nofs_files.proofs.putting.puts.pointers_cell.Goals as goal
+
+pub returns : goal.returns
+returns c = record {
+  tag = c.write_tag.ensures.read ∙ ap (λ (n : ℕ). Some (record
+      { kind = Leaf; inode = c.args.put.now.inode; generation = c.args.put.now.generation; slot = n; stamp = c.args.stamp })) c.slot_number.ensures;
+  pointer = c.write_pointer.ensures.written;
+  others = λ j ne lt. ap is_null (c.write_pointer.ensures.others j ne lt ∙ ap (λ (q : List ℕ). pointer_at q j) c.clear_payload.ensures)
+      ∙ zeros-null 1024 j;
+}

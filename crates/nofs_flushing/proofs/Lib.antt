@@ -1,3 +1,0 @@
-pub mod Sounded
-pub mod Faults
-pub mod Flushed

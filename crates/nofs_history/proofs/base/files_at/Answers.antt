@@ -1,9 +1,0 @@
-use Rattle.std.proofs.Common.{ℕ, subst}
-use Rattle.nofs_history.specs.BaseFiles.{AreFiles}
-use Rattle.nofs_history.proofs.BaseFiles.{files-whole}
-use Rattle.nofs_history.proofs.base.files_at.Goals as goal
-
-pub returns : goal.returns
-returns c =
-    let files = c.in_ok-files.files in
-    files-whole c.args.base.now (record { files = files }) (subst (λ (n : ℕ). AreFiles c.args.base.now n files.items) c.inodes_of.ensures c.in_ok-files.ensures)

@@ -1,5 +1,0 @@
-use Rattle.nofs_history.specs.BaseFiles.{AreFiles}
-use Rattle.nofs_history.proofs.base.read_files.Given as goal
-
-abbrev pub invariant-loop-place : goal.invariant-loop-place
-invariant-loop-place l = AreFiles l.base l.place l.files.items

@@ -1,3 +1,0 @@
-pub mod Padded
-pub mod LinkLists
-pub mod Resized

@@ -1,6 +1,0 @@
-use Rattle.std.proofs.Common.{sym, ◌∙◌}
-use Rattle.nofs_machine.proofs.EntryPut.{zeros-are}
-use Rattle.nofs_kept.proofs.cells.cleared.Goals as goal
-
-pub returns : goal.returns
-returns c = c.clear.ensures ∙ sym (zeros-are 64)

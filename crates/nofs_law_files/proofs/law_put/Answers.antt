@@ -1,6 +1,0 @@
-use Rattle.nofs_law_files.proofs.PutHeld.{law-put-held}
-use Rattle.nofs_law_files.proofs.PutLies.{law-put-files, law-put-homes}
-use Rattle.nofs_law_files.proofs.law_put.Goals as goal
-
-pub returns : goal.returns
-returns c = record { held = law-put-held; files = law-put-files; homes = law-put-homes }

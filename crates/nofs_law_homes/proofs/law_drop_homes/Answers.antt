@@ -1,5 +1,0 @@
-use Rattle.nofs_law_homes.proofs.OldHomes.{law-drop-name-homes, law-drop-file-homes}
-use Rattle.nofs_law_homes.proofs.law_drop_homes.Goals as goal
-
-pub returns : goal.returns
-returns c = record { name = law-drop-name-homes; file = law-drop-file-homes }

@@ -1,5 +1,0 @@
-use Rattle.nofs_law_homes.proofs.NewHomes.{law-link-in-place-homes, law-link-in-hole-homes}
-use Rattle.nofs_law_homes.proofs.law_link_homes.Goals as goal
-
-pub returns : goal.returns
-returns c = record { in_place = law-link-in-place-homes; in_hole = law-link-in-hole-homes }

@@ -1,4 +1,0 @@
-pub mod Reasons
-pub mod Proper
-pub mod Moments
-pub mod Handed

@@ -1,6 +1,0 @@
-pub mod OnlySuper
-pub mod Numbers
-pub mod Values
-pub mod Begin
-pub mod Within
-pub mod Handed

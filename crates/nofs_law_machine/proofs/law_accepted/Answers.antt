@@ -1,5 +1,0 @@
-use Rattle.nofs_law_images.proofs.Era.{current-accepted}
-use Rattle.nofs_law_machine.proofs.law_accepted.Goals as goal
-
-pub returns : goal.returns
-returns c = λ B H ok i f e. let current = current-accepted B H ok in (current.values i f e, current.meta i f e)

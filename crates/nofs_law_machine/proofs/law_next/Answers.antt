@@ -1,9 +1,0 @@
-use Rattle.nofs_law_machine.proofs.Total.{law-total}
-use Rattle.nofs_law_machine.proofs.Function.{law-function}
-use Rattle.nofs_law_machine.proofs.law_next.Goals as goal
-
-pub returns-clause-total : goal.returns-clause-total
-returns-clause-total c = law-total
-
-pub returns-clause-function : goal.returns-clause-function
-returns-clause-function c = law-function

@@ -1,5 +1,0 @@
-use Rattle.nofs_law_maps.proofs.Moves.{law-move, law-grow, law-shrink, law-bare}
-use Rattle.nofs_law_maps.proofs.law_moves.Goals as goal
-
-pub returns : goal.returns
-returns c = record { touched = law-move; grows = law-grow; shrinks = law-shrink; bare = law-bare }

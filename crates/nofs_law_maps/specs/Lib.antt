@@ -1,4 +1,0 @@
-pub mod Homes
-pub mod Fresh
-pub mod Moves
-pub mod Pieces

@@ -1,5 +1,0 @@
-pub mod Vectors
-pub mod Meanings
-pub mod NameMeanings
-pub mod OwnerMeanings
-pub mod Formatted

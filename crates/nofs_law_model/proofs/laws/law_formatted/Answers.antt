@@ -1,5 +1,0 @@
-use Rattle.nofs_law_model.proofs.Formatted.{formatted-law}
-use Rattle.nofs_law_model.proofs.laws.law_formatted.Goals as goal
-
-pub returns : goal.returns
-returns c = formatted-law

@@ -1,5 +1,0 @@
-use Rattle.nofs_law_model.proofs.NameMeanings.{names-law}
-use Rattle.nofs_law_model.proofs.laws.law_names.Goals as goal
-
-pub returns : goal.returns
-returns c = names-law

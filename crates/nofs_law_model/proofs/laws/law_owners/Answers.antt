@@ -1,5 +1,0 @@
-use Rattle.nofs_law_model.proofs.OwnerMeanings.{owners-law}
-use Rattle.nofs_law_model.proofs.laws.law_owners.Goals as goal
-
-pub returns : goal.returns
-returns c = owners-law

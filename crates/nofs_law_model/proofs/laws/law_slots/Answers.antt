@@ -1,5 +1,0 @@
-use Rattle.nofs_law_model.proofs.Meanings.{slots-law}
-use Rattle.nofs_law_model.proofs.laws.law_slots.Goals as goal
-
-pub returns : goal.returns
-returns c = slots-law

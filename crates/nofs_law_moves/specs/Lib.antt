@@ -1,4 +1,0 @@
-pub mod Own
-pub mod Linked
-pub mod Steps
-pub mod Handed

@@ -1,3 +1,0 @@
-pub mod Holes
-pub mod Moves
-pub mod Handed

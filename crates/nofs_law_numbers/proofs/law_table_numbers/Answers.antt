@@ -1,5 +1,0 @@
-use Rattle.nofs_law_numbers.proofs.WrittenTables.{law-table-numbers, law-table-moment}
-use Rattle.nofs_law_numbers.proofs.law_table_numbers.Goals as goal
-
-pub returns : goal.returns
-returns c = record { cell = law-table-numbers; moment = law-table-moment }

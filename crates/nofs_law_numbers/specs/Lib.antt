@@ -1,4 +1,0 @@
-pub mod Cells
-pub mod Files
-pub mod Names
-pub mod Handed

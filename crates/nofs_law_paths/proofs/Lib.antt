@@ -1,6 +1,0 @@
-pub mod Finds
-pub mod Since
-pub mod Moving
-pub mod Moves
-pub mod Alone
-pub mod Handed

@@ -1,5 +1,0 @@
-use Rattle.nofs_law_runs.proofs.Keeps.{law-directory, law-rooted, law-pair}
-use Rattle.nofs_law_runs.proofs.law_run.Goals as goal
-
-pub returns : goal.returns
-returns c = record { directory = law-directory; rooted = law-rooted; pair = law-pair }

@@ -1,3 +1,0 @@
-pub mod Bases
-pub mod Runs
-pub mod Handed

@@ -1,4 +1,0 @@
-pub mod Frames
-pub mod Grows
-pub mod Laws
-pub mod Handed

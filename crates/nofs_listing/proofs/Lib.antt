@@ -1,3 +1,0 @@
-pub mod ListWalk
-pub mod Lines
-pub mod Listings

@@ -1,3 +1,0 @@
-pub mod EntryPut
-pub mod Links
-pub mod Names

@@ -1,4 +1,0 @@
-pub mod MakeRows
-pub mod MakePlace
-pub mod MadeHole
-pub mod MadeGoes

@@ -1,0 +1,5 @@
+use Rattle.nofs_model.proofs.Formatted.{formatted-law}
+use Rattle.nofs_model.proofs.laws.law_formatted.Goals as goal
+
+pub returns : goal.returns
+returns c = formatted-law

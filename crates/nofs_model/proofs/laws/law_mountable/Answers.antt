@@ -1,0 +1,5 @@
+use Rattle.nofs_model.proofs.Sound.{mountable-law}
+use Rattle.nofs_model.proofs.laws.law_mountable.Goals as goal
+
+pub returns : goal.returns
+returns c = mountable-law

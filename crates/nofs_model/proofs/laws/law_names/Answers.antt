@@ -1,0 +1,5 @@
+use Rattle.nofs_model.proofs.NameMeanings.{names-law}
+use Rattle.nofs_model.proofs.laws.law_names.Goals as goal
+
+pub returns : goal.returns
+returns c = names-law

@@ -1,0 +1,5 @@
+use Rattle.nofs_model.proofs.OwnerMeanings.{owners-law}
+use Rattle.nofs_model.proofs.laws.law_owners.Goals as goal
+
+pub returns : goal.returns
+returns c = owners-law

@@ -1,0 +1,5 @@
+use Rattle.nofs_model.proofs.Meanings.{slots-law}
+use Rattle.nofs_model.proofs.laws.law_slots.Goals as goal
+
+pub returns : goal.returns
+returns c = slots-law

@@ -1,0 +1,5 @@
+use Rattle.nofs_model.proofs.Sound.{law-sound}
+use Rattle.nofs_model.proofs.laws.law_sound.Goals as goal
+
+pub returns : goal.returns
+returns c = law-sound

@@ -1,4 +1,0 @@
-pub mod Refusing
-pub mod Raising
-pub mod Sends
-pub mod Handed

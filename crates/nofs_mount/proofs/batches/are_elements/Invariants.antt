@@ -1,7 +1,0 @@
-use Rattle.std.proofs.Common.{take}
-use Rattle.std.specs.Prelude.{All}
-use Rattle.nofs_mounting.specs.Handed.{HasElement}
-use Rattle.nofs_mount.proofs.batches.are_elements.Given as goal
-
-abbrev pub invariant-loop-place : goal.invariant-loop-place
-invariant-loop-place l = All (HasElement l.kind l.at) (take l.place l.items)

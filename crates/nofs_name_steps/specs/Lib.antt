@@ -1,4 +1,0 @@
-pub mod Renames
-pub mod Drops
-pub mod Removing
-pub mod Handed

@@ -1,0 +1,461 @@
+-- Drop: the directory's cell and the record of the inode are written. The inode has another name, or it goes.
+use Rattle.std.proofs.Common.{◌≡◌, ◌≢◌, ℕ, ◌+◌, ◌-◌, ◌*◌, ◌/◌, ◌%◌, ◌<◌, ◌⊎◌, inl, inr, Bool, true, false, cond, eqb, eqb-true, eq-eqb, leb, leb-true, ltb}
+use Rattle.std.proofs.Common.{◌&&◌, not, List, [], ◌∷◌, length, Option, Some, None, is_some, IsTrue, refl, sym, ap, ◌∙◌, subst, subst₂, arith}
+use Rattle.std.proofs.lemmas.Bool.{cases_lt, lt-leb}
+use Rattle.std.specs.List.{list_any}
+use Rattle.nofs_dirent.specs.Entries.{entry_limit}
+use Rattle.nofs_disk.specs.Disk.{DiskState, IsDisk, cell_at}
+use Rattle.nofs_disk.specs.Number.{put_bytes}
+use Rattle.nofs_disk.specs.Number as number
+use Rattle.nofs_inode.specs.declared.inode.FileKind.TheVariants.{Directory as Folder}
+use Rattle.nofs_model.specs.Cells.{Cell, Entry, Pointer, Record, SuperBlock, tag_of, is_live}
+use Rattle.nofs_model.specs.Image.{Image, super_at, is_data_block, inode, path_of, find, record_pointer, files_in, agreed, is_folder, is_special}
+use Rattle.nofs_model.specs.Image.{FileState, Files, Home, is_pair}
+use Rattle.nofs_model.specs.declared.image.path.PathAnswer.TheVariants as answer
+use Rattle.nofs_model.specs.declared.image.value.Value.{Value}
+use Rattle.nofs_model.specs.declared.image.value.Value.TheVariants.{Bytes}
+use Rattle.nofs_model.proofs.Find.{and-both, find-held, HoldsAt}
+use Rattle.nofs_model.proofs.Owners.{owner-holds}
+use Rattle.nofs_model.proofs.Sound.{supers}
+use Rattle.nofs_crashlaw.specs.Proper.{Proper}
+use Rattle.nofs_crashlaw.specs.Moments.{during}
+use Rattle.nofs_history.specs.Meta.{Meta, Gone, Is, is_bytes, is_gone}
+use Rattle.nofs_history.specs.Marks.{Mark}
+use Rattle.nofs_history.specs.Machine as machine
+use Rattle.nofs_history.specs.Machine.{Given, gives, drop_given, drop_meta, entry_given, meta_given, is_at, without_link, link_to, zeros, at_place}
+use Rattle.nofs_history.specs.Machine.{files_after, value_of, with_entry, found, is_paired, nothing}
+use Rattle.nofs_history.specs.World.{World, is_fixed}
+use Rattle.nofs_history.specs.Claims.{no_claims, next_stamp, IsClaim, has_block}
+use Rattle.nofs_history.specs.Answers.{dropped_reply, dropped_entry}
+use Rattle.nofs_history.specs.History.{FilesMatch, mark_at}
+use Rattle.nofs_history.specs.declared.machine.history.Entry1.{Entry1}
+use Rattle.nofs_history.specs.declared.machine.steps.Step.TheVariants as step
+use Rattle.nofs_history.specs.declared.machine.replies.Reply.TheVariants as reply
+use Rattle.nofs_history.proofs.EntryPut.{with-entry-put, zeros-are}
+use Rattle.nofs_history.specs.Gives.{GivesNothing}
+use Rattle.nofs_crashlaw.proofs.Matching.{Matched, matched-agreed, matched-file}
+use Rattle.nofs_crashlaw.specs.Homes.{HomesMove}
+use Rattle.nofs_crashlaw.specs.Fresh.{Numbered, CellNumbers}
+use Rattle.nofs_crashlaw.specs.Names.{InPlace, Relinked, DropLies}
+use Rattle.nofs_crashlaw.proofs.NameLaws.{law-drop-entry, law-drop-name, law-drop-file}
+use Rattle.nofs_crashlaw.proofs.NameInPlace.{cell-elsewhere, in-place-writes}
+use Rattle.nofs_crashlaw.proofs.OldHomes.{law-drop-name-homes, law-drop-file-homes}
+use Rattle.nofs_crashlaw.proofs.NameNumbers.{law-drop-numbers}
+use Rattle.nofs_crashlaw.proofs.WrittenTables.{law-table-numbers}
+use Rattle.nofs_state.proofs.Machine.{agreed-live}
+use Rattle.nofs_state.proofs.Tables.{HasRecord, table_block, table-records}
+use Rattle.nofs_crashlaw.specs.CellNumbers.{RecordWritten, AsBefore, table_tag}
+use Rattle.nofs_state.specs.Standing.{IsOpen, Past}
+use Rattle.nofs_state.specs.declared.books.Books.{Books}
+use Rattle.nofs_state.specs.Writing.{OneOf, image_after}
+use Rattle.nofs_names.specs.Searching.{IsFoundEntry}
+use Rattle.nofs_names.specs.declared.finding.searching.Paired.{Paired}
+use Rattle.nofs_names.specs.Removing.{is_of}
+use Rattle.nofs_names.proofs.NameWrite as write
+use Rattle.nofs_names.proofs.NameWrite.{KeepsFile, file-used, file-blocks}
+use Rattle.nofs_names.proofs.NameSteps.{Follows, NameComes, NameStep, OpenImage, open-image}
+use Rattle.nofs_names.proofs.Quiet.{IsQuiet, quiet-claim, quiet-follows}
+use Rattle.nofs_names.proofs.Leaving.{IsLeaving, Freed, leaving-claim, leaving-follows}
+
+entry-bytes : (v : Value) (e : ℕ) (bytes : List ℕ) → is_bytes (with_entry v e bytes) ≡ true
+unfolding with_entry
+entry-bytes v e bytes = refl
+
+-- a meta that goes to inode i goes to no other
+meta-else : (i g : ℕ) (m : Meta) (j : ℕ) → j ≢ i → (h : ℕ) → meta_given i g m j h ≡ None
+meta-else i g m j ne h = go (eqb i j) refl
+  where
+    go : (b : Bool) → eqb i j ≡ b → meta_given i g m j h ≡ None
+    go true e = absurd (ne (sym (eqb-true i j e)))
+    go false e = rw e refl
+
+keeps-meta : (i g : ℕ) (m : Meta) → is_gone m ≡ false → (j h : ℕ) → KeepsFile (meta_given i g m j h)
+keeps-meta i g m stays j h = go (is_at i g j h) m stays
+  where
+    go : (b : Bool) (m : Meta) → is_gone m ≡ false → KeepsFile (cond b (Some m) None)
+    go false m e = tt
+    go true Gone e = cc e
+    go true (Is kind size links) e = tt
+
+keeps-else : (i g : ℕ) (m : Meta) (j : ℕ) → j ≢ i → (h : ℕ) → KeepsFile (meta_given i g m j h)
+keeps-else i g m j ne h = subst KeepsFile (sym (meta-else i g m j ne h)) tt
+
+abbrev given_for : Files → ℕ → ℕ → ℕ → Option Entry → Given
+given_for F d g e o = elim o [
+  | None ↦ nothing
+  | Some entry ↦ entry_given F d g e (zeros 64)
+      (meta_given entry.inode entry.generation (drop_meta F entry.inode (link_to d e g)))
+]
+
+-- what a Drop stands on: its directory, the entry that was found, and the two cells that are written
+pub record Drops (old : DiskState) (p : Past) (d g : ℕ) (name : List ℕ) (r : Record) (x : Pointer) (c1 c2 : Cell) (q : Paired) (r' : Record) : Type 0 where
+  pub record_is : inode old.now d ≡ r
+  pub kind : r.kind ≡ Some Folder
+  pub generation : r.generation ≡ g
+  pub agrees : agreed (files_in old.now) d ≡ true
+  pub pair : IsFoundEntry p.world.files old.now d name q
+  pub held : find old.now d (path_of (q.entry / 16)) ≡ answer.Holds x
+  pub whole : length (cell_at old.now x.block).payload ≡ 1024
+  pub payload : c1.payload ≡ put_bytes (64 * (q.entry % 16)) (number.zeros 64) (cell_at old.now x.block).payload
+  pub tag : c1.tag ≡ (cell_at old.now x.block).tag
+  pub has : HasRecord old.now q.inode r' c2
+  pub table_tag : tag_of c2.tag ≡ Some (table_tag (table_block q.inode))
+  pub no_names : machine.is_folder_at p.world.files q.inode ≡ true → (b : ℕ) → b < entry_limit → is_paired p.world.files q.inode b ≡ false
+
+module _ (old : DiskState) (k : Books) (H : List Entry1) (p : Past) (d g : ℕ) (name : List ℕ) (r : Record) (x : Pointer) (c1 c2 : Cell) (q : Paired)
+    (r' : Record) (is_old : IsDisk old) (tells : IsTrue old.tells) (o : IsOpen old k H p)
+    (drops : Drops old p d g name r x c1 c2 q r') where
+  abbrev W : World
+  W = p.world
+
+  abbrev X : Image
+  X = old.now
+
+  abbrev Y : Image
+  Y = image_after ((x.block, c1) ∷ (table_block q.inode, c2) ∷ []) old.now
+
+  abbrev it : Entry
+  it = drops.pair.pair.entry
+
+  same : it.inode ≡ q.inode
+  same = drops.pair.pair.names
+
+  on : OpenImage old H p
+  on = open-image old k H p is_old tells o
+
+  hx : HoldsAt X d (path_of (q.entry / 16)) x
+  hx = find-held X d (path_of (q.entry / 16)) x drops.held
+
+  area : is_data_block X x.block ≡ true
+  area = hx.agrees.area
+
+  own : Matched W.files X d
+  own = matched-agreed W.files X d on.match (agreed-live X d drops.agrees) drops.agrees
+
+  pub its : Matched W.files X q.inode
+  its = matched-agreed W.files X q.inode on.match (agreed-live X q.inode drops.pair.pair.agreed) drops.pair.pair.agreed
+
+  named : W.files it.inode ≡ Some its.file
+  named = ap W.files same ∙ its.is
+
+  here : inode Y q.inode ≡ r'
+  here = write.record-new X q.inode x c1 c2 r' on.geometry.fits on.geometry.table on.geometry.multiple area drops.has
+
+  in-slot : cell_at Y x.block ≡ c1
+  in-slot = write.in-slot X q.inode x c1 c2 r' on.geometry.fits on.geometry.table on.geometry.multiple area drops.has
+
+  in-table : cell_at Y (table_block q.inode) ≡ c2
+  in-table = write.in-table X q.inode x c1 c2 r' on.geometry.fits on.geometry.table on.geometry.multiple area drops.has
+
+  in-place : InPlace X Y x it.inode
+  in-place = subst (λ (i : ℕ). InPlace X Y x i) (sym same) (record {
+    super = write.super-stays X q.inode x c1 c2 r' on.geometry.fits on.geometry.table on.geometry.multiple area drops.has;
+    blocks = λ b data_b ne. write.data-stays X q.inode x c1 c2 r' on.geometry.fits on.geometry.table on.geometry.multiple area drops.has b data_b ne;
+    tag = ap (λ (z : Cell). tag_of z.tag) in-slot ∙ ap tag_of drops.tag;
+    records = λ j ne. write.record-old X q.inode x c1 c2 r' on.geometry.fits on.geometry.table on.geometry.multiple area drops.has j ne;
+  })
+
+  folder-at : is_folder its.file.kind ≡ true → machine.is_folder_at W.files q.inode ≡ true
+  folder-at e = let s = its.is in rw (s, machine.is_folder_at) e
+
+  lies : DropLies W.files X Y d g q.entry (next_stamp W) own.file its.file x it
+  lies = record {
+    files = on.match;
+    is = own.is;
+    generation = own.generation ∙ ap (λ (z : Record). z.generation) drops.record_is ∙ drops.generation;
+    found = drops.pair.pair.at;
+    paired = drops.pair.pair.paired;
+    named = named;
+    no_names = λ e b low. ap (λ (i : ℕ). is_paired W.files i b) same ∙ drops.no_names (folder-at e) b low;
+    held = drops.held;
+    whole = drops.whole;
+    content = ap (λ (z : Cell). Bytes z.payload) in-slot ∙ ap Bytes
+        (drops.payload ∙ ap (λ (z : List ℕ). put_bytes (64 * (q.entry % 16)) z (cell_at X x.block).payload) (sym (zeros-are 64)))
+        ∙ sym (with-entry-put (Bytes (cell_at X x.block).payload) q.entry (zeros 64) refl);
+    writes = in-place;
+    old = λ j some. on.pointers j (matched-file W.files X j on.match some).live;
+  }
+
+  -- what the step gives
+
+  gives-it : (F : Files) → F ≡ W.files → gives F (step.Drop d g name) no_claims ≡ drop_given F d g q.entry
+  unfolding gives
+  gives-it F e = ap (λ (at : Option ℕ). at_place at (λ n. drop_given F d g n)) (ap (λ (E : Files). found E d name) e ∙ drops.pair.found)
+
+  after-files : files_after W.files (gives W.files (step.Drop d g name) no_claims) ≡ files_after W.files (drop_given W.files d g q.entry)
+  after-files = ap (files_after W.files) (gives-it W.files refl)
+
+  cell-is : drop_given W.files d g q.entry ≡ machine.cell_given d g (q.entry / 16) (with_entry (value_of W.files d (q.entry / 16)) q.entry (zeros 64))
+      (meta_given it.inode it.generation (drop_meta W.files it.inode (link_to d q.entry g)))
+  cell-is = ap (given_for W.files d g q.entry) drops.pair.pair.at
+
+  -- The writes are proper
+
+  mark-table : is_data_block p.mark (table_block q.inode) ≡ false
+  mark-table = on.table (table_block q.inode) (write.table-low X q.inode x c1 c2 r' on.geometry.fits on.geometry.table on.geometry.multiple area drops.has)
+
+  super-after : super_at p.mark ≡ super_at Y
+  super-after = on.super ∙ sym (supers X Y in-place.super)
+
+  cell-proper : Proper (during (mark_at p.base H (old.moment + 1) p.mark p.stamps) (drop_given W.files d g q.entry)) X x.block c1
+  cell-proper = subst (λ (z : Cell). Proper (during (mark_at p.base H (old.moment + 1) p.mark p.stamps) (drop_given W.files d g q.entry)) X x.block z) in-slot
+      (law-drop-entry W.files X Y d g q.entry (next_stamp W) own.file its.file x it lies (mark_at p.base H (old.moment + 1) p.mark p.stamps)
+      (on.area x.block area))
+
+  -- what both endings owe of the table
+  record EndsWell : Type 0 where
+    pub numbered : Relinked X Y it.inode (without_link (link_to d q.entry g) its.file.links) ⊎ ((inode Y it.inode).kind ≡ None)
+    pub table : Proper (during (mark_at p.base H (old.moment + 1) p.mark p.stamps) (drop_given W.files d g q.entry)) X (table_block q.inode) c2
+    pub files : FilesMatch (files_after W.files (drop_given W.files d g q.entry)) Y
+    pub claim : IsClaim W (step.Drop d g name) no_claims
+    pub move : HomesMove W.files (step.Drop d g name) no_claims X Y
+    pub others : (j : ℕ) → j ≢ it.inode → is_some (files_after W.files (drop_given W.files d g q.entry) j) ≡ is_some (W.files j)
+    pub owned : is_live (inode Y it.inode) ≡ true → is_some (files_after W.files (drop_given W.files d g q.entry) it.inode) ≡ true
+
+  module _ (w : EndsWell) where
+    proper : (b : ℕ) (cell : Cell) → OneOf ((x.block, c1) ∷ (table_block q.inode, c2) ∷ []) b cell
+        → Proper (during (mark_at p.base H (old.moment + 1) p.mark p.stamps) (drop_given W.files d g q.entry)) X b cell
+    proper b cell (inl one) = subst₂ (λ (n : ℕ) (z : Cell). Proper (during (mark_at p.base H (old.moment + 1) p.mark p.stamps) (drop_given W.files d g q.entry))
+        X n z) (sym one.0) (sym one.1) cell-proper
+    proper b cell (inr (inl one)) = subst₂ (λ (n : ℕ) (z : Cell). Proper
+        (during (mark_at p.base H (old.moment + 1) p.mark p.stamps) (drop_given W.files d g q.entry)) X n z) (sym one.0) (sym one.1) w.table
+    proper b cell (inr (inr none)) = absurd none
+
+    numbers : (b : ℕ) (cell : Cell) → OneOf ((x.block, c1) ∷ (table_block q.inode, c2) ∷ []) b cell → CellNumbers (Numbered W no_claims) X b cell
+    numbers b cell (inl one) = subst₂ (λ (n : ℕ) (z : Cell). CellNumbers (Numbered W no_claims) X n z) (sym one.0) (sym one.1)
+        (subst (λ (z : Cell). CellNumbers (Numbered W no_claims) X x.block z) in-slot
+        (law-drop-numbers W X Y d g q.entry (next_stamp W) own.file its.file x it no_claims on.numbers lies).0)
+    numbers b cell (inr (inl one)) = subst₂ (λ (n : ℕ) (z : Cell). CellNumbers (Numbered W no_claims) X n z) (sym one.0) (sym one.1)
+        (law-table-numbers W no_claims X (table_block q.inode) c2 on.numbers drops.table_tag (λ j e s. elim (table-records X q.inode r' c2 drops.has j e s) [
+          | inl new ↦ subst (λ (z : Record). RecordWritten W no_claims X j z) (sym (new.1 ∙ sym here ∙ ap (inode Y) (sym new.0)))
+              ((law-drop-numbers W X Y d g q.entry (next_stamp W) own.file its.file x it no_claims on.numbers lies).1 w.numbered j)
+          | inr was ↦ AsBefore was
+        ]))
+    numbers b cell (inr (inr none)) = absurd none
+
+    nothing-else : (j : ℕ) → j ≢ d → j ≢ it.inode → GivesNothing (drop_given W.files d g q.entry) j
+    nothing-else j nd ni = subst (λ (z : Given). GivesNothing z j) (sym cell-is)
+        (cell-elsewhere d g (q.entry / 16) (with_entry (value_of W.files d (q.entry / 16)) q.entry (zeros 64))
+        (meta_given it.inode it.generation (drop_meta W.files it.inode (link_to d q.entry g))) j nd
+        (λ h. meta-else it.inode it.generation (drop_meta W.files it.inode (link_to d q.entry g)) j ni h))
+
+    drop-step : NameStep old H p (step.Drop d g name) no_claims ((x.block, c1) ∷ (table_block q.inode, c2) ∷ [])
+    drop-step = record {
+      given = drop_given W.files d g q.entry;
+      directory = d;
+      file = it.inode;
+      gives = record {
+        is = gives-it W.files refl;
+        claim = w.claim;
+        nothing = nothing-else;
+        there = ap is_some own.is;
+        used = w.others;
+        owned = w.owned;
+      };
+      ends = record {
+        proper = proper;
+        numbers = numbers;
+        files = w.files;
+        move = w.move;
+        writes = in-place-writes (next_stamp W) d it.inode (q.entry / 16) X Y x drops.held in-place;
+      };
+    }
+
+    answer-is : reply.Dropped (is_gone (drop_meta W.files it.inode (link_to d q.entry g))) ≡ dropped_reply W.files d (found W.files d name)
+    answer-is = sym (ap (dropped_reply W.files d) drops.pair.found
+        ∙ (λ j. dropped_entry W.files (link_to d q.entry (generation-is j)) (drops.pair.pair.at j)))
+      where
+        generation-is : machine.generation_of W.files d ≡ g
+        generation-is = (let s = own.is in rw (s, machine.generation_of) refl) ∙ lies.generation
+
+    drop-comes : (l : Books) (removed : Bool) → is_gone (drop_meta W.files it.inode (link_to d q.entry g)) ≡ removed
+        → Follows W (step.Drop d g name) no_claims l
+        → NameComes old H p l (step.Drop d g name) no_claims (reply.Dropped removed) ((x.block, c1) ∷ (table_block q.inode, c2) ∷ [])
+    drop-comes l removed er follows = record { step = drop-step; follows = follows; answer = ap reply.Dropped (sym er) ∙ answer-is }
+
+  -- The inode drops.has another name
+
+  to-table : (P : ℕ → Cell → Type 0) → P (1 + (it.inode - 1) / 4) (cell_at Y (1 + (it.inode - 1) / 4)) → P (table_block q.inode) c2
+  to-table P h = subst (λ (z : Cell). P (table_block q.inode) z) in-table (subst (λ (i : ℕ). P (1 + (i - 1) / 4) (cell_at Y (1 + (i - 1) / 4))) same h)
+
+  after-as : (meta : Meta) → drop_meta W.files it.inode (link_to d q.entry g) ≡ meta
+      → drop_given W.files d g q.entry ≡ machine.cell_given d g (q.entry / 16) (with_entry (value_of W.files d (q.entry / 16)) q.entry (zeros 64))
+      (meta_given it.inode it.generation meta)
+  after-as meta e = cell-is ∙ (λ j. machine.cell_given d g (q.entry / 16) (with_entry (value_of W.files d (q.entry / 16)) q.entry (zeros 64))
+      (meta_given it.inode it.generation (e j)))
+
+  used-as : (meta : Meta) → drop_meta W.files it.inode (link_to d q.entry g) ≡ meta → (j : ℕ)
+      → ((h : ℕ) → KeepsFile (meta_given it.inode it.generation meta j h))
+      → is_some (files_after W.files (drop_given W.files d g q.entry) j) ≡ is_some (W.files j)
+  used-as meta e j keeps = (λ z. is_some (files_after W.files (after-as meta e z) j))
+      ∙ file-used W.files d g (q.entry / 16) (with_entry (value_of W.files d (q.entry / 16)) q.entry (zeros 64)) (meta_given it.inode it.generation meta)
+      j keeps
+
+  blocks-as : (meta : Meta) → drop_meta W.files it.inode (link_to d q.entry g) ≡ meta → (home : Home)
+      → ((h : ℕ) → KeepsFile (meta_given it.inode it.generation meta home.inode h)) → has_block W.files home ≡ true
+      → has_block (files_after W.files (drop_given W.files d g q.entry)) home ≡ true
+  blocks-as meta e home keeps h = subst (λ (z : Given). has_block (files_after W.files z) home ≡ true) (sym (after-as meta e))
+      (file-blocks W.files d g (q.entry / 16) (with_entry (value_of W.files d (q.entry / 16)) q.entry (zeros 64)) (meta_given it.inode it.generation meta)
+      home.inode keeps home.slot (entry-bytes (value_of W.files d (q.entry / 16)) q.entry (zeros 64)) h)
+
+  module _ (rec-q : inode old.now q.inode ≡ q.record) where
+    module _ (keep : drop_meta W.files it.inode (link_to d q.entry g) ≡ Is its.file.kind its.file.size (without_link (link_to d q.entry g) its.file.links))
+        (changed : r' ≡ record q.record { links = without_link (link_to d q.entry g) q.record.links }) where
+      new-record : inode Y it.inode ≡ record (inode X it.inode) { links = without_link (link_to d q.entry g) its.file.links }
+      new-record = ap (inode Y) same ∙ here ∙ changed ∙ (λ j. record (rec-i j) { links = without_link (link_to d q.entry g) (links-i j) })
+        where
+          rec-i : q.record ≡ inode X it.inode
+          rec-i = sym rec-q ∙ ap (inode X) (sym same)
+
+          links-i : q.record.links ≡ its.file.links
+          links-i = ap (λ (z : Record). z.links) (sym rec-q) ∙ sym its.links
+
+      relinked : Relinked X Y it.inode (without_link (link_to d q.entry g) its.file.links)
+      relinked = record {
+        kind = ap (λ (z : Record). z.kind) new-record;
+        generation = ap (λ (z : Record). z.generation) new-record;
+        size = ap (λ (z : Record). z.size) new-record;
+        links = ap (λ (z : Record). z.links) new-record;
+        pointers = λ n low. ap (λ (z : Record). record_pointer z n) new-record;
+      }
+
+      keeps : (j h : ℕ) → KeepsFile (meta_given it.inode it.generation (Is its.file.kind its.file.size (without_link (link_to d q.entry g) its.file.links)) j h)
+      keeps j h = keeps-meta it.inode it.generation (Is its.file.kind its.file.size (without_link (link_to d q.entry g) its.file.links)) refl j h
+
+      law-name : ((m : Mark) → super_at m.image ≡ super_at Y → is_data_block m.image (1 + (it.inode - 1) / 4) ≡ false
+          → Proper (during m (drop_given W.files d g q.entry)) X (1 + (it.inode - 1) / 4) (cell_at Y (1 + (it.inode - 1) / 4)))
+          × FilesMatch (files_after W.files (drop_given W.files d g q.entry)) Y
+      law-name = law-drop-name W.files X Y d g q.entry (next_stamp W) own.file its.file x it lies keep relinked
+
+      quiet : IsQuiet W (step.Drop d g name) (files_after W.files (drop_given W.files d g q.entry))
+      quiet = record {
+        no_inode = refl;
+        no_block = refl;
+        none_claimed = λ b. refl;
+        files = after-files;
+        used = λ j. used-as (Is its.file.kind its.file.size (without_link (link_to d q.entry g) its.file.links)) keep j (keeps j);
+        blocks = λ home h. blocks-as (Is its.file.kind its.file.size (without_link (link_to d q.entry g) its.file.links)) keep home (keeps home.inode) h;
+        sees_no_inode = λ i. refl;
+        sees_no_block = λ b. refl;
+      }
+
+      kept-claim : IsClaim W (step.Drop d g name) no_claims
+      kept-claim = quiet-claim X k W (step.Drop d g name) (files_after W.files (drop_given W.files d g q.entry)) o.says on.match o.homes o.homes_past quiet
+
+      kept-ends : EndsWell
+      kept-ends = record {
+        numbered = inl relinked;
+        table = to-table (λ b z. Proper (during (mark_at p.base H (old.moment + 1) p.mark p.stamps) (drop_given W.files d g q.entry)) X b z)
+            (law-name.0 (mark_at p.base H (old.moment + 1) p.mark p.stamps) super-after
+            (ap (λ (i : ℕ). is_data_block p.mark (1 + (i - 1) / 4)) same ∙ mark-table));
+        files = law-name.1;
+        claim = kept-claim;
+        move = law-drop-name-homes W X Y d g q.entry (next_stamp W) name own.file its.file x it no_claims lies keep relinked kept-claim;
+        others = λ j ne. quiet.used j;
+        owned = λ live. quiet.used it.inode ∙ ap is_some named;
+      }
+
+      pub kept-comes : NameComes old H p k (step.Drop d g name) no_claims (reply.Dropped false) ((x.block, c1) ∷ (table_block q.inode, c2) ∷ [])
+      kept-comes = drop-comes kept-ends k false (ap is_gone keep)
+          (quiet-follows X k W (step.Drop d g name) (files_after W.files (drop_given W.files d g q.entry)) o.says on.match o.homes o.homes_past quiet)
+
+    -- The inode goes
+
+    module _ (goes : drop_meta W.files it.inode (link_to d q.entry g) ≡ Gone) (free : r'.kind ≡ None) where
+      no-kind : (inode Y it.inode).kind ≡ None
+      no-kind = ap (λ (z : Record). z.kind) (ap (inode Y) same ∙ here) ∙ free
+
+      generation-is : it.generation ≡ its.file.generation
+      generation-is = drops.pair.pair.generation ∙ sym (its.generation ∙ ap (λ (z : Record). z.generation) rec-q)
+
+      -- what stands at the mark is this generation
+      stood : (n : ℕ) → (mark_at p.base H (old.moment + 1) p.mark p.stamps).stands it.inode n ≡ true → its.file.generation ≡ n
+      stood n st = its.generation ∙ ap (λ (i : ℕ). (inode X i).generation) (sym same) ∙ (on.survives.keeps.records it.inode n st).1
+
+      law-file : ((m : Mark) → super_at m.image ≡ super_at Y → is_data_block m.image (1 + (it.inode - 1) / 4) ≡ false
+          → ((n : ℕ) → m.stands it.inode n ≡ true → its.file.generation ≡ n)
+          → Proper (during m (drop_given W.files d g q.entry)) X (1 + (it.inode - 1) / 4) (cell_at Y (1 + (it.inode - 1) / 4)))
+          × FilesMatch (files_after W.files (drop_given W.files d g q.entry)) Y
+      law-file = law-drop-file W.files X Y d g q.entry (next_stamp W) own.file its.file x it lies goes no-kind
+
+      -- the root and the label file never go
+      plain : is_special it.inode ≡ false
+      plain = go (is_special it.inode) refl (sym (ap (λ (z : Option FileState). meta_of_file z) named) ∙ goes)
+        where
+          meta_of_file : Option FileState → Meta
+          meta_of_file z = elim z [
+            | None ↦ Gone
+            | Some f ↦ (cond
+                (not (is_special it.inode) && not (list_any (λ l. is_pair W.files it.inode l) (without_link (link_to d q.entry g) f.links))) Gone
+                (Is f.kind f.size (without_link (link_to d q.entry g) f.links)))
+          ]
+
+          go : (b : Bool) → is_special it.inode ≡ b → meta_of_file (Some its.file) ≡ Gone → is_special it.inode ≡ false
+          go false e h = e
+          go true e h = absurd (let z : meta_of_file (Some its.file) ≡ Is its.file.kind its.file.size (without_link (link_to d q.entry g) its.file.links) =
+              rw e refl in let w = ap is_gone (sym z ∙ h) in cc w)
+
+      gone-file-is : files_after W.files (drop_given W.files d g q.entry) it.inode ≡ None
+      gone-file-is = (λ z. files_after W.files (after-as Gone goes z) it.inode)
+          ∙ ap (λ (z : Option FileState). machine.file_after
+          (machine.cell_given d g (q.entry / 16) (with_entry (value_of W.files d (q.entry / 16)) q.entry (zeros 64))
+          (meta_given it.inode it.generation Gone)) it.inode z) named
+          ∙ (let a = eq-eqb it.inode it.inode refl in let b = eq-eqb it.generation its.file.generation generation-is in rw (a, b) refl)
+
+      leaving : IsLeaving W (step.Drop d g name) (files_after W.files (drop_given W.files d g q.entry)) it.inode
+      leaving = record {
+        no_inode = refl;
+        no_block = refl;
+        none_claimed = λ b. refl;
+        files = after-files;
+        gone = gone-file-is;
+        was = ap is_some named;
+        plain = plain;
+        used = λ j ne. used-as Gone goes j (keeps-else it.inode it.generation Gone j ne);
+        blocks = λ home ne h. blocks-as Gone goes home (keeps-else it.inode it.generation Gone home.inode ne) h;
+        moving = λ b own-b. moving b (W.homes b) refl own-b;
+        sees_no_inode = λ i. refl;
+        sees_no_block = λ b. refl;
+      }
+        where
+          inodes-are : W.inodes ≡ (super_at X).inodes
+          inodes-are = o.says.inodes ∙ ap (λ (z : SuperBlock). z.inodes) (sym o.at)
+
+          moving : (b : ℕ) (h : Option Home) → W.homes b ≡ h → is_of it.inode h ≡ true → is_fixed W b ≡ false
+          moving b None e t = cc t
+          moving b (Some home) e t = elim (cases_lt b W.blocks) [
+            | inl low ↦
+                let w = owner-holds X b home.inode home.slot (sym (o.homes b low) ∙ e) in
+                let a = and-both (leb (1 + (super_at X).inodes / 4) w.0.block) (ltb w.0.block (super_at X).blocks)
+                (find-held X home.inode (path_of home.slot) w.0 w.2).agrees.area in
+                let above = leb-true (1 + (super_at X).inodes / 4) w.0.block a.0 in
+                let s = w.3 in
+                let i = inodes-are in
+                lt-leb b (W.inodes / 4) (omega (arith, above, s, i))
+            | inr high ↦ absurd (let n = o.homes_past b high in cc (n, e))
+          ]
+
+      gone-claim : IsClaim W (step.Drop d g name) no_claims
+      gone-claim = leaving-claim W (step.Drop d g name) (files_after W.files (drop_given W.files d g q.entry)) it.inode leaving
+
+      gone-ends : EndsWell
+      gone-ends = record {
+        numbered = inr no-kind;
+        table = to-table (λ b z. Proper (during (mark_at p.base H (old.moment + 1) p.mark p.stamps) (drop_given W.files d g q.entry)) X b z)
+            (law-file.0 (mark_at p.base H (old.moment + 1) p.mark p.stamps) super-after
+            (ap (λ (i : ℕ). is_data_block p.mark (1 + (i - 1) / 4)) same ∙ mark-table) stood);
+        files = law-file.1;
+        claim = gone-claim;
+        move = law-drop-file-homes W X Y d g q.entry (next_stamp W) name own.file its.file x it no_claims lies goes no-kind gone-claim;
+        others = λ j ne. leaving.used j ne;
+        owned = λ live. absurd (let z : is_live (inode Y it.inode) ≡ false = let n = no-kind in rw n refl in cc (z, live));
+      }
+
+      pub gone-step : NameStep old H p (step.Drop d g name) no_claims ((x.block, c1) ∷ (table_block q.inode, c2) ∷ [])
+      gone-step = drop-step gone-ends
+
+      pub gone-comes : (l : Books) → Freed k l it.inode (λ b. is_of it.inode (W.homes b))
+          → NameComes old H p l (step.Drop d g name) no_claims (reply.Dropped true) ((x.block, c1) ∷ (table_block q.inode, c2) ∷ [])
+      gone-comes l freed = drop-comes gone-ends l true (ap is_gone goes)
+          (leaving-follows X k l W (step.Drop d g name) (files_after W.files (drop_given W.files d g q.entry))
+          it.inode o.says on.match o.homes o.homes_past leaving freed)

@@ -1,3 +1,0 @@
-pub mod CutRows
-pub mod CutGoes
-pub mod CutReads

@@ -1,0 +1,18 @@
+-- The inodes of directories, and lists of them.
+use Rattle.std.specs.Prelude.{ℕ, List, [], ◌∷◌, ◌++◌, map, if◌then◌else◌, ◌==◌}
+use Rattle.std.specs.List.{list_any}
+use Rattle.nofs_salvage.specs.declared.lost.answers.Handle.{Handle}
+
+abbrev pub inode_of : Handle → ℕ
+inode_of directory = directory.inode
+
+-- the root of a disk, and its label file
+abbrev pub root_handle : Handle
+root_handle = record { inode = 1; generation = 1 }
+
+abbrev pub label_handle : Handle
+label_handle = record { inode = 2; generation = 2 }
+
+-- one more, where its inode isn't there yet
+abbrev pub with_handle : List Handle → Handle → List Handle
+with_handle handles at = if list_any (λ x. x == at.inode) (map inode_of handles) then handles else handles ++ at ∷ []

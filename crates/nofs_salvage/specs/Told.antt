@@ -1,0 +1,44 @@
+-- What the lines of a directory tell, and the handles of a list of directories.
+use Rattle.std.specs.Prelude.{◌≡◌, ℕ, ◌⊎◌, true, false, List, [], ◌∷◌, ◌++◌, All, IsTrue}
+use Rattle.nofs_model.specs.Cells.{is_name}
+use Rattle.nofs_model.specs.Image.{Files, is_folder}
+use Rattle.nofs_history.specs.declared.machine.replies.NameLine.{NameLine}
+use Rattle.nofs_salvage.specs.declared.lost.answers.Listed.{Listed}
+use Rattle.nofs_salvage.specs.declared.lost.answers.Listed.TheVariants as listed
+use Rattle.nofs_salvage.specs.declared.lost.tree.Tree.{Tree}
+use Rattle.nofs_salvage.specs.Handles.{root_handle}
+use Rattle.nofs_salvage.specs.Report.{is_doubled}
+use Rattle.nofs_salvage.specs.Refusing.{is_there, MayAsk, LeadsTo}
+use Rattle.nofs_salvage.specs.Answered.{IsInFolder}
+use Rattle.nofs_salvage.specs.InHand.{handles_in}
+
+-- a line of directory d that is neither dead nor doubled leads to what it says
+abbrev pub IsTold : Files → ℕ → List NameLine → NameLine → Type 0
+IsTold F d earlier line = line.dead ≡ false → is_doubled earlier line.name ≡ false → LeadsTo F d line.name (is_folder line.kind)
+
+-- each of these lines does, behind earlier ones
+abbrev pub AreTold : Files → ℕ → List NameLine → List NameLine → Type 0
+AreTold F d earlier lines = (before after : List NameLine) (line : NameLine) → lines ≡ before ++ line ∷ after → IsTold F d (earlier ++ before) line
+
+-- the names of a list are names
+abbrev pub AreNames : Listed → Type 0
+AreNames (listed.Names l names) = All (λ line. IsTrue (is_name line.name)) names
+AreNames (listed.LostNames l) = Unit {0}
+AreNames listed.NoMore = Unit {0}
+
+-- what a list gives is a part of a directory
+pub record IsFolderPart (listed : Listed) : Type 0 where
+  -- a slot that directories have, if any
+  pub below : IsInFolder listed
+  -- and its names are names
+  pub names : AreNames listed
+
+-- The handles of a list of directories
+
+-- all are directories
+abbrev pub AreFolders : Files → Tree → Type 0
+AreFolders F tree = All (MayAsk F true) (handles_in tree)
+
+-- the first n directories of the list were gone through: the root was there, if there was any
+abbrev pub IsRooted : Files → ℕ → Tree → Type 0
+IsRooted F n tree = ((n ≡ 0) × (handles_in tree ≡ root_handle ∷ [])) ⊎ (is_there F 1 1 ≡ true)

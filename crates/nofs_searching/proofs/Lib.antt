@@ -1,5 +1,0 @@
-pub mod Places
-pub mod Least
-pub mod PairTests
-pub mod Passing
-pub mod Walking

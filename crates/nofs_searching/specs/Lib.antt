@@ -1,2 +1,0 @@
-pub mod Inodes
-pub mod Searching

@@ -1,0 +1,161 @@
+//! A team over one mount: a worker for each user, the two sweepers, and the flusher.
+//!
+//! Promise: each worker has a caller of its own. Users are callers 1 and up, in their order; the sweeper of the inodes is caller
+//! 9, that of the blocks caller 10, and the flusher, which makes no step, caller 11.
+ghost use Rattle.std.specs.Prelude.{◌≡◌, ℕ, ◌+◌, ◌<◌, ◌≤◌, ◌^◌, List, [], All, length, map, vec_len, vec_capacity};
+ghost use Rattle.nofs_turn.specs.declared.turn_rule.view.View.{View};
+ghost use Rattle.nofs_turn.specs.Turns.{view_of, IsPassOf};
+ghost use Rattle.nofs_history.specs.declared.machine.history.Entry1.{Entry1};
+ghost use Rattle.nofs_client.specs.Commands.{AreWellFormed};
+ghost use Rattle.nofs_serve.specs.Teams.{Stand, IsReady};
+ghost use Rattle.nofs_serve.specs.Served.{TeamGathered};
+
+use crate::teams::gather::{Gathered, either, gather_users, join_way};
+use crate::teams::lend::work_team;
+use crate::teams::way::Way;
+use nofs_client::{CommandList, LineList};
+use nofs_shared::{Serves, SharedMount};
+use nofs_turn::Pass;
+use nofs_workers::{Downwards, Flusher, Gate, Sweeper, Upwards, UserWorker};
+use std::alloc::Global;
+use std::sync::Wait;
+use std::thread::Threads;
+
+/// A user's commands, and the gate before each of its steps.
+#[derive(Drop)]
+pub struct Plan<T> {
+    pub commands: CommandList,
+    pub gate: T,
+}
+
+/// How many inodes and blocks are examined, and the gates of the sweepers.
+#[derive(Drop)]
+pub struct Sweeps<T> {
+    pub inodes: u64,
+    pub blocks: u64,
+    pub gates: (T, T),
+}
+
+/// How often the flusher writes out, and its gate.
+#[derive(Drop)]
+pub struct WriteOuts<T> {
+    pub turns: u64,
+    pub gate: T,
+}
+
+/// What a team is put together in: room for its users, and for their lines.
+#[derive(Drop)]
+pub struct TeamRoom<'a, R: Wait, V: Serves, T: Gate> {
+    pub users: Vec<UserWorker<Way<'a, R, V>, T>>,
+    pub lines: Vec<LineList>,
+}
+
+/// The pass that comes last, for this caller.
+pub(crate) fn seat<'a, R, V: Serves>(
+    rt: &'a R,
+    alloc: Global,
+    shared: &'a SharedMount<V>,
+    caller: u32,
+    passes: &mut Vec<Pass<V>>,
+) -> Way<'a, R, V>
+    requires some { 0 < vec_len passes.old }
+    requires new { All (λ p. IsPassOf shared.now.turn p × ((view_of p).mine ≡ [])) passes.old.items }
+    ensures way { (result.pass.turn.now ≡ shared.now.turn) × (result.pass.caller ≡ caller) }
+    ensures seen { (v : View Entry1 V.Fixed) → All (λ p. view_of p ≡ v) passes.old.items
+        → (view_of result.pass.pass ≡ v) × All (λ p. view_of p ≡ v) passes.new.items }
+    ensures rest { (vec_len passes.new + 1 ≡ vec_len passes.old) × All (λ p. IsPassOf shared.now.turn p × ((view_of p).mine ≡ [])) passes.new.items }
+{
+    let Some(pass) = passes.pop() else {
+        unreachable!()
+    };
+    Way {
+        pass: shared.pass(rt, alloc, caller, pass),
+    }
+}
+
+// A worker for each user. The list has room for them.
+fn seat_users<'a, R: Wait, V: Serves, T: Gate + Drop>(
+    rt: &'a R,
+    alloc: Global,
+    shared: &'a SharedMount<V>,
+    plans: Vec<Plan<T>>,
+    passes: &mut Vec<Pass<V>>,
+    room: Vec<UserWorker<Way<'a, R, V>, T>>,
+) -> Vec<UserWorker<Way<'a, R, V>, T>>
+    requires few { vec_len plans ≤ 8 }
+    requires formed { All (λ p. AreWellFormed p.commands) plans.items }
+    requires passes { (vec_len plans ≤ vec_len passes.old) × All (λ p. IsPassOf shared.now.turn p × ((view_of p).mine ≡ [])) passes.old.items }
+    requires room { (room.items ≡ []) × (vec_len plans ≤ vec_capacity room) }
+    ensures len { vec_len result ≡ vec_len plans }
+    ensures ways { All (λ w. w.client.steps.steps.pass.turn.now ≡ shared.now.turn) result.items }
+    ensures ready { (v : View Entry1 V.Fixed) → All (λ p. view_of p ≡ v) passes.old.items
+        → Stand (IsReady (λ c way. (way.pass.caller ≡ c) × (view_of way.pass.pass ≡ v))) 1 (map (λ p. p.commands) plans.items) result.items
+        × All (λ p. view_of p ≡ v) passes.new.items }
+    ensures rest { (vec_len passes.new + vec_len plans ≡ vec_len passes.old)
+        × All (λ p. IsPassOf shared.now.turn p × ((view_of p).mine ≡ [])) passes.new.items }
+{
+    let (mut plans, mut users) = (plans, room);
+    while !plans.is_empty() {
+        let caller = plans.len() as u32;
+        let Some(plan) = plans.pop() else {
+            unreachable!()
+        };
+        let Plan { commands, gate } = plan;
+        let way = seat(rt, alloc, shared, caller, passes);
+        users.push_reserved(UserWorker::new(alloc, way, commands, gate));
+    }
+    users
+}
+
+/// Puts a team of these users together, lets all work at once, and takes it apart.
+pub(crate) fn run_team<'a, R: Threads + Wait + Sync, V: Serves + Send, T: Gate + Send + Drop>(
+    rt: &'a R,
+    alloc: Global,
+    shared: &'a SharedMount<V>,
+    passes: Vec<Pass<V>>,
+    plans: Vec<Plan<T>>,
+    sweeps: Sweeps<T>,
+    outs: WriteOuts<T>,
+    room: TeamRoom<'a, R, V, T>,
+) -> Gathered<V>
+where
+    V::Evidence: Send,
+    requires few { vec_len plans ≤ 8 }
+    requires formed { All (λ p. AreWellFormed p.commands) plans.items }
+    requires small { sweeps.inodes < 2 ^ 32 }
+    requires passes { (vec_len plans + 3 ≡ vec_len passes) × All (λ p. IsPassOf shared.now.turn p × ((view_of p).mine ≡ [])) passes.items }
+    requires users { (room.users.items ≡ []) × (vec_len plans ≤ vec_capacity room.users) }
+    requires lines { (room.lines.items ≡ []) × (vec_len plans ≤ vec_capacity room.lines) }
+    ensures of { IsPassOf shared.now.turn result.pass }
+    ensures gathered { (v : View Entry1 V.Fixed) → v.stands ≡ 1 → v.mine ≡ [] → All (λ p. view_of p ≡ v) passes.items
+        → TeamGathered (map (λ p. p.commands) plans.items) sweeps.inodes sweeps.blocks
+        result.out_of_memory result.lines.items v (view_of result.pass) }
+{
+    let (mut passes, TeamRoom { users, lines }) = (passes, room);
+    let mut users = seat_users(rt, alloc, shared, plans, &mut passes, users);
+    let Sweeps {
+        inodes,
+        blocks,
+        gates: (gate, next_gate),
+    } = sweeps;
+    let way = seat(rt, alloc, shared, 9, &mut passes);
+    let mut inodes = Sweeper::of_inodes(way, Upwards { count: inodes }, gate);
+    let way = seat(rt, alloc, shared, 10, &mut passes);
+    let mut blocks = Sweeper::of_blocks(way, Downwards { count: blocks }, next_gate);
+    let way = seat(rt, alloc, shared, 11, &mut passes);
+    let mut flusher = Flusher::new(way, outs.gate, outs.turns);
+    work_team(rt, &mut users, &mut inodes, &mut blocks, &mut flusher);
+    let out_of_memory = either(inodes.out_of_memory, blocks.out_of_memory);
+    let mut pass = inodes.into_inner().back();
+    join_way(shared, &mut pass, blocks.into_inner());
+    join_way(shared, &mut pass, flusher.into_inner());
+    gather_users(
+        shared,
+        users,
+        Gathered {
+            pass,
+            lines,
+            out_of_memory,
+        },
+    )
+}

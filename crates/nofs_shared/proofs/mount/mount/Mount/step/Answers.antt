@@ -1,0 +1,72 @@
+use Rattle.std.proofs.Common.{List, refl, sym, ◌∙◌, subst, arith}
+use Rattle.std.proofs.Math.Logic.{∥∥₁_elim, ∥∥₁_prop}
+use Rattle.nofs_history.specs.declared.machine.history.Entry1.{Entry1}
+use Rattle.nofs_shared.specs.Added.{Unowned}
+use Rattle.nofs_shared.specs.Owned.{TellsStep}
+use Rattle.nofs_shared.proofs.Causing.{causes-roomed, causes-unroomed}
+use Rattle.nofs_shared.proofs.Claiming.{unowned-none}
+use Rattle.nofs_shared.proofs.Mounting.{mount-history}
+use Rattle.nofs_shared.proofs.Roomed.{roomed}
+use Rattle.nofs_shared.proofs.Rooming.{adds-none, few-left, settles-memory, sweep-served}
+use Rattle.nofs_shared.proofs.mount.mount.Mount.step.Goals as goal
+
+pub invariant_of-self-in-Some : goal.invariant_of-self-in-Some
+invariant_of-self-in-Some g c = record {
+  few = few-left c.args.caller c.args.step c.step_in.result c.take_room.new.history.entries c.step_in.new.core.books.history.entries c.in-Some.left
+      c.step_in.ensures.tells.adds c.in-Some.ensures.few;
+  room = (let a = c.in-Some.ensures.room in let b = c.step_in.ensures.goes_on.room in omega (arith, a, b));
+  safe = c.step_in.ensures.goes_on.safe;
+  stands = ∥∥₁_elim c.args.self.now.stands ∥∥₁_prop (λ m. ∣ c.step_in.ensures.keeps c.args.self.now.found.value c.args.self.now.first
+      (mount-history (g.D.Disk.state c.args.self.now.found.value) (g.D.Disk.state c.args.self.now.core.disk)
+      c.args.self.now.first c.args.self.now.core.books c.take_room.new.history c.take_room.ensures.stays.1 c.take_room.ensures.stays.0 m) ∣₁);
+}
+
+pub invariant_of-self : goal.invariant_of-self
+invariant_of-self g c =
+    let kept = roomed _ _ _ _ c.take_room.new.history _ c.take_room.ensures.stays c.args.self.now.few c.args.self.now.safe c.args.self.now.stands in
+    record { few = kept.few; room = c.take_room.ensures.kept; safe = kept.safe; stands = kept.stands }
+
+pub returns-in-None-clause-tells : goal.returns-in-None-clause-tells
+returns-in-None-clause-tells g c = record {
+  adds = adds-none c.args.caller c.args.step c.args.self.now.core.books.history.entries c.take_room.new.history.entries c.take_room.ensures.stays.0;
+  fits = tt;
+}
+
+pub returns-in-Some-clause-tells : goal.returns-in-Some-clause-tells
+returns-in-Some-clause-tells g c = subst (λ (H : List Entry1). TellsStep c.args.caller c.args.step H c.step_in.new.core.books.history.entries c.step_in.result)
+    c.take_room.ensures.stays.0 c.step_in.ensures.tells
+
+pub returns-in-None-clause-claims : goal.returns-in-None-clause-claims
+returns-in-None-clause-claims g c = λ q. ∣ unowned-none (g.D.Disk.state c.args.self.now.core.disk).now c.args.self.now.core.books.history.entries
+    c.take_room.new.history.entries c.take_room.ensures.stays.0 ∣₁
+
+pub returns-in-Some-clause-claims : goal.returns-in-Some-clause-claims
+returns-in-Some-clause-claims g c = λ q. ∥∥₁_elim c.args.self.now.stands ∥∥₁_prop (λ m.
+    ∣ subst (λ (H : List Entry1). Unowned (g.D.Disk.state c.args.self.now.core.disk).now H c.step_in.new.core.books.history.entries) c.take_room.ensures.stays.0
+    (c.step_in.ensures.claims c.args.self.now.found.value c.args.self.now.first
+    (mount-history (g.D.Disk.state c.args.self.now.found.value) (g.D.Disk.state c.args.self.now.core.disk)
+    c.args.self.now.first c.args.self.now.core.books c.take_room.new.history c.take_room.ensures.stays.1 c.take_room.ensures.stays.0 m) q) ∣₁)
+
+pub returns-in-Some-clause-kept : goal.returns-in-Some-clause-kept
+returns-in-Some-clause-kept g c = record {
+  sweeps = sweep-served c.args.caller c.args.step c.step_in.result c.args.self.now.kept c.in-Some.left
+      (λ e some. sym c.in-Some.is ∙ c.take_room.ensures.sweep e some) c.step_in.ensures.sees;
+  others = c.in-Some.ensures.others;
+}
+
+pub returns-in-None-clause-kept : goal.returns-in-None-clause-kept
+returns-in-None-clause-kept g c = record {
+  sweeps = λ e some. absurd (let t = c.take_room.ensures.sweep e some in let n = c.in-None.is in cc (t, n));
+  others = λ e. refl;
+}
+
+pub returns-in-None-clause-settled : goal.returns-in-None-clause-settled
+returns-in-None-clause-settled g c = settles-memory c.args.step (g.D.Disk.state c.args.self.now.core.disk)
+
+pub returns-in-None-clause-causes : goal.returns-in-None-clause-causes
+returns-in-None-clause-causes g c = causes-unroomed (g.D.Disk.state c.args.self.now.core.disk) c.args.self.now.core.books c.take_room.new.history
+
+pub returns-in-Some-clause-causes : goal.returns-in-Some-clause-causes
+returns-in-Some-clause-causes g c = causes-roomed (g.D.Disk.state c.args.self.now.core.disk) (g.D.Disk.state c.step_in.new.core.disk)
+    c.args.self.now.core.books c.step_in.new.core.books
+    c.step_in.result c.take_room.new.history c.step_in.ensures.causes

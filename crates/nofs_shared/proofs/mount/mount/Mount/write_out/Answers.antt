@@ -1,0 +1,20 @@
+use Rattle.std.proofs.Common.{◌+◌, ◌^◌, ◌≤◌, length, sym, subst}
+use Rattle.std.proofs.Math.Logic.{∥∥₁_elim, ∥∥₁_prop}
+use Rattle.nofs_state.specs.Books.{IsSafe}
+use Rattle.nofs_state.specs.declared.books.Books.{Books}
+use Rattle.nofs_state.proofs.WritingOut.{safe-out}
+use Rattle.nofs_shared.proofs.WritingOut.{mount-out-of}
+use Rattle.nofs_shared.proofs.mount.mount.Mount.write_out.Goals as goal
+
+pub invariant_of-self : goal.invariant_of-self
+invariant_of-self g c =
+    let S = g.D.Disk.state in
+    let same = c.write_out.ensures.books in
+    let out = c.write_out.ensures.out in
+    record {
+      few = subst (λ (b : Books). length b.history.entries + c.args.self.now.kept ≤ 2 ^ 62) (sym same) c.args.self.now.few;
+      room = subst (λ (b : Books). c.args.self.now.kept ≤ b.history.spare) (sym same) c.args.self.now.room;
+      safe = subst (λ (b : Books). IsSafe (S c.write_out.new.self.disk) b) (sym same) (safe-out _ _ _ out c.args.self.now.core.books c.args.self.now.safe);
+      stands = ∥∥₁_elim c.args.self.now.stands ∥∥₁_prop (λ m. ∣ mount-out-of (S c.args.self.now.found.value)
+          _ _ c.args.self.now.first c.args.self.now.core.books _ out m c.write_out.new.self.books same ∣₁);
+    }

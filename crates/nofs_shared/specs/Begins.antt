@@ -1,0 +1,42 @@
+-- What comes before the mount number is raised, and why a disk is not mounted.
+use Rattle.std.specs.Prelude.{◌≡◌, ◌≢◌, ◌<◌, ◌≤◌, IsTrue, Some, Result, Err, IfOk, IfErr}
+use Rattle.nofs_disk.specs.Disk.{DiskState, IsSameDisk, KeepsCells, KeepsPast, Rose, cell_at}
+use Rattle.nofs_super.specs.Super.{CanMount, check_super, super_of}
+use Rattle.nofs_super.specs.declared.superblock.MountFault.{MountFault}
+use Rattle.nofs_super.specs.declared.superblock.MountFault.TheVariants as fault
+use Rattle.nofs_state.specs.Books.{IsRoom}
+use Rattle.nofs_state.specs.Standing.{Sounds}
+use Rattle.nofs_shared.specs.declared.mount.begin.Prepared.{Prepared}
+use Rattle.nofs_shared.specs.Mounts.{IsSoundDisk}
+
+-- the superblock that was read, with the memory for its mount
+pub record IsPrepared (d : DiskState) (it : Prepared) : Type 0 where
+  pub can : CanMount d.blocks it.old
+  pub room : IsRoom it.old it.room
+  pub spare : 2 ≤ d.spare
+  pub spelled : IsTrue d.tells → super_of (cell_at d.now 0).payload ≡ Some it.old
+
+-- why a disk is not mounted: by the table of its superblock, by a failed read, or for want of memory
+pub record IsMountRefused (old new : DiskState) (why : MountFault) : Type 0 where
+  pub no_write : why ≢ fault.WriteFault
+  pub read : why ≡ fault.ReadFault → Rose old.faults new.faults
+  pub table : why ≢ fault.ReadFault → why ≢ fault.OutOfMemory → 0 < old.blocks → IsTrue old.tells → Err why ≡ check_super old.blocks (cell_at old.now 0).payload
+
+pub record Prepares (old new : DiskState) (result : Result Prepared MountFault) : Type 0 where
+  pub disk : IsSameDisk old new
+  pub past : KeepsPast old new
+  pub cells : KeepsCells old new
+  pub ok : IfOk result (IsPrepared new)
+  pub err : IfErr result (IsMountRefused old new)
+
+-- why a mount did not begin. Where a write or a flush failed, the next mount finds the disk as sound as this one
+pub record BeginFails (old new : DiskState) (why : MountFault) : Type 0 where
+  pub disk : IsSameDisk old new
+  pub past : KeepsPast old new
+  pub refused : why ≢ fault.WriteFault → KeepsCells old new × IsMountRefused old new why
+  pub wrote : why ≡ fault.WriteFault → Rose old.faults new.faults
+  pub sound : IsSoundDisk old → Sounds old.moment new
+
+-- the mount did not begin, for some cause
+abbrev pub Unmounted : DiskState → DiskState → Type 0
+Unmounted old new = ∥ ((why : MountFault) × BeginFails old new why) ∥₁

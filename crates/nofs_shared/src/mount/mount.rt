@@ -1,0 +1,159 @@
+//! A mounted disk with its history.
+//!
+//! Promise: one history stands over one base, from the flush of the mount on; what holds of it at the end is `Ends`.
+//!
+//! What a mount goes through (the ghost field `stands`, `IsMount`):
+//!
+//! ```text
+//!                raise_mount                a write or a flush fails in a step
+//!   unmounted ----------------> open ------------------------------------------> stopped
+//!                              |    ^                                           |       ^
+//!                              +----+ any other step, a look, a commit          +-------+ any step: Stopped
+//! ```
+//!
+//! - unmounted: `begin` may still refuse. All memory of the mount is taken before the write that raises its number.
+//! - open: over a disk that tells and was found sound, files, maps and history are the machine's, and every image that a crash
+//!   may leave is allowed (`IsOpen`).
+//! - stopped: every such image is still allowed (`IsStopped`), but the maps may be wrong, so no step is served.
+//! - A write-out that failed is no step: the mount stays open.
+ghost use Rattle.std.specs.Prelude.{◌≡◌, ◌+◌, ◌^◌, ◌≤◌, false, [], length, IfOk, IfErr};
+ghost use Rattle.nofs_history.specs.World.{World};
+ghost use Rattle.nofs_state.specs.Books.{IsSafe, Says};
+ghost use Rattle.nofs_state.specs.WritingOut.{WroteOne};
+ghost use Rattle.nofs_scan.specs.Scanned.{AreExamined, IsFullScan};
+ghost use Rattle.nofs_state.specs.Counted as counted;
+ghost use Rattle.nofs_shared.specs.Added.{Unowned};
+ghost use Rattle.nofs_shared.specs.Begins as begins;
+ghost use Rattle.nofs_shared.specs.Ends.{Ends};
+ghost use Rattle.nofs_shared.specs.Mounts.{IsMount, IsSoundDisk};
+ghost use Rattle.nofs_shared.specs.Owned.{TellsStep};
+ghost use Rattle.nofs_shared.specs.Sees.{TakesKept};
+ghost use Rattle.nofs_shared.specs.Settling.{Settles};
+ghost use Rattle.nofs_shared.specs.StepCauses.{StepCauses};
+
+use crate::acts::room::take_room;
+use crate::mount::begin::{Prepared, prepare};
+use crate::mount::steps::step_in;
+use nofs_disk::{Disk, OutFault};
+use nofs_history::{History, Refusal, Reply, Step};
+use nofs_state::{Core, Counts};
+use nofs_super::{MountFault, raise_mount};
+use std::alloc::Global;
+use std::snapshot::Snapshot;
+
+/// A mounted disk, for one caller at a time.
+#[derive(Drop)]
+pub struct Mount<D: Disk + Drop> {
+    pub(crate) core: Core<D>,
+    pub(crate) first: u64,
+    pub(crate) found: Snapshot<D>,
+    // The number of entries of the sweeps for which memory is kept.
+    pub(crate) kept: u64,
+    ghost few: { length core.books.history.entries + kept ≤ 2 ^ 62 },
+    ghost room: { kept ≤ core.books.history.spare },
+    ghost safe: { IsSafe (D.state core.disk) core.books },
+    ghost stands: { ∥ IsMount (D.state found.value) (D.state core.disk) first core.books ∥₁ },
+}
+
+/// Why a disk was not mounted. It comes back.
+#[derive(Drop)]
+pub struct BeginFault<D: Disk + Drop> {
+    pub disk: D,
+    pub cause: MountFault,
+}
+
+impl<D: Disk + Drop> Mount<D> {
+    /// Mounts a disk: its mount number is then one higher, durably.
+    pub fn begin(alloc: Global, disk: D, first: u64) -> Result<Mount<D>, BeginFault<D>>
+        requires { first ≤ 2 ^ 40 }
+        ensures mount { IfOk result (λ m. (m.found.value ≡ disk) × (m.first ≡ first)
+            × (m.core.books.history.entries ≡ []) × (m.kept ≡ m.core.books.at.inodes + m.core.books.at.blocks)) }
+        ensures fault { IfErr result (λ e. begins.BeginFails (D.state disk) (D.state e.disk) e.cause) }
+    {
+        let found = Snapshot::of(&disk);
+        let mut disk = disk;
+        let Prepared { old, room } = match prepare(alloc, &mut disk) {
+            Ok(it) => it,
+            Err(cause) => return Err(BeginFault { disk, cause }),
+        };
+        match raise_mount(&mut disk, &old) {
+            Ok(at) => Ok(Mount {
+                core: Core::over(disk, at, first, room),
+                first,
+                found,
+                kept: at.inodes + at.blocks,
+            }),
+            Err(cause) => Err(BeginFault { disk, cause }),
+        }
+    }
+
+    /// Makes one step of a caller. Each See step of the sweeps, callers 9 and 10, has its memory while
+    /// some is kept for them. Over any disk, a read fault comes only where its count of faults rose, a
+    /// write fault only where it rose and a write or a flush was made, `Stopped` exactly where one of
+    /// them failed before, and every other refusal leaves the cells.
+    pub fn step(&mut self, alloc: Global, caller: u32, step: Step) -> Reply
+        ensures tells { TellsStep caller step self.old.core.books.history.entries self.new.core.books.history.entries result }
+        ensures claims { IsSoundDisk (D.state self.old.found.value)
+            → ∥ Unowned (D.state self.old.core.disk).now self.old.core.books.history.entries self.new.core.books.history.entries ∥₁ }
+        ensures same { (self.new.found ≡ self.old.found) × (self.new.first ≡ self.old.first)
+            × (self.new.core.books.history.start ≡ self.old.core.books.history.start)
+            × (self.new.core.books.at ≡ self.old.core.books.at) }
+        ensures kept { TakesKept caller step result self.old.kept self.new.kept }
+        ensures settled { Settles step result (D.state self.new.core.disk) }
+        ensures causes { StepCauses (D.state self.old.core.disk) (D.state self.new.core.disk) self.old.core.books self.new.core.books result }
+    {
+        let history = &mut self.core.books.history;
+        match take_room(history, self.kept, caller, &step) {
+            None => Reply::Refused(Refusal::OutOfMemory),
+            Some(left) => {
+                self.kept = left;
+                step_in(&mut self.core, alloc, caller, step)
+            }
+        }
+    }
+
+    /// Writes out one block that the device kept back, and names it; `None` exactly where there is none. It makes no entry, no moment
+    /// passes, and each image that a crash may leave for it picks from what may be left.
+    ///
+    /// # Errors
+    ///
+    /// `Failed` only where the device's count of faults rose; `OutOfMemory`.
+    pub fn write_out(&mut self) -> Result<Option<u64>, OutFault>
+        ensures same { (self.new.core.books ≡ self.old.core.books) × (self.new.found ≡ self.old.found)
+            × (self.new.first ≡ self.old.first) × (self.new.kept ≡ self.old.kept) }
+        ensures out { WroteOne (D.state self.old.core.disk) (D.state self.new.core.disk) result }
+    {
+        self.core.write_out()
+    }
+
+    /// How many inodes and blocks are known to be used, are known to be free, and were not examined. Over
+    /// a disk that tells and was found sound, the maps that it counts are the full scan of the disk
+    /// once the history has a verdict of each element.
+    pub fn counts(&self) -> Counts
+        ensures inodes { result.inodes_used + result.inodes_free + result.inodes_unchecked ≡ self.now.core.books.at.inodes }
+        ensures blocks { result.blocks_used + result.blocks_free + result.blocks_unchecked ≡ self.now.core.books.at.blocks }
+        ensures machine { (W : World) → Says self.now.core.books W → counted.CountsInodes W result × counted.CountsBlocks W result }
+        ensures scan { IsSoundDisk (D.state self.now.found.value) → self.now.core.books.stopped ≡ false
+            → AreExamined self.now.core.books.history.entries self.now.core.books.at
+            → ∥ IsFullScan (D.state self.now.core.disk).now self.now.core.books ∥₁ }
+    {
+        self.core.books.counts()
+    }
+
+    /// The steps so far with their replies.
+    pub fn history(&self) -> &History
+        ensures { result.now ≡ self.now.core.books.history }
+    {
+        &self.core.books.history
+    }
+
+    /// The device and the history.
+    pub fn end(self) -> (D, History)
+        ensures is { (result.0 ≡ self.core.disk) × (result.1 ≡ self.core.books.history) }
+        ensures ends { ∥ Ends (D.state self.found.value) (D.state result.0) self.first result.1 ∥₁ }
+    {
+        let Mount { core, .. } = self;
+        let Core { disk, books } = core;
+        (disk, books.history)
+    }
+}

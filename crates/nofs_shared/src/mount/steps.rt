@@ -1,0 +1,64 @@
+//! One step of a caller, and its entry.
+ghost use Rattle.std.specs.Prelude.{◌≡◌, ℕ, true, false};
+ghost use Rattle.nofs_history.specs.Steps.{is_out_of_memory};
+ghost use Rattle.nofs_shared.specs.Added.{Unowned};
+ghost use Rattle.nofs_shared.specs.GoingOn.{BooksGoOn, CanStep};
+ghost use Rattle.nofs_shared.specs.Mounts.{IsMount, IsSoundDisk};
+ghost use Rattle.nofs_shared.specs.Owned.{TellsStep};
+ghost use Rattle.nofs_shared.specs.Sees.{is_see};
+ghost use Rattle.nofs_shared.specs.Settling.{Settles};
+ghost use Rattle.nofs_shared.specs.StepCauses.{StepCauses};
+
+use crate::acts::acts::{Acted, act};
+use nofs_disk::Disk;
+use nofs_history::{Entry1, Refusal, Reply, Step};
+use nofs_state::Core;
+use std::alloc::Global;
+
+/// Whether a reply tells of want of memory.
+pub(crate) fn wants_memory(reply: &Reply) -> bool
+    ensures { result ≡ is_out_of_memory reply.now }
+{
+    matches!(reply, Reply::Refused(Refusal::OutOfMemory))
+}
+
+/// Makes one step of a caller, for whose entry there is memory. It adds one entry, but none where
+/// memory was wanting.
+pub(crate) fn step_in<D: Disk + Drop>(
+    core: &mut Core<D>,
+    alloc: Global,
+    caller: u32,
+    step: Step,
+) -> Reply
+    requires can { CanStep (D.state core.old.disk) core.old.books }
+    ensures keeps { (found : D) (first : ℕ) → IsMount (D.state found) (D.state core.old.disk) first core.old.books
+        → IsMount (D.state found) (D.state core.new.disk) first core.new.books }
+    ensures claims { (found : D) (first : ℕ) → IsMount (D.state found) (D.state core.old.disk) first core.old.books
+        → IsSoundDisk (D.state found)
+        → Unowned (D.state core.old.disk).now core.old.books.history.entries core.new.books.history.entries }
+    ensures tells { TellsStep caller step core.old.books.history.entries core.new.books.history.entries result }
+    ensures goes_on { BooksGoOn (D.state core.new.disk) core.old.books core.new.books }
+    ensures sees { is_see step ≡ true → is_out_of_memory result ≡ false }
+    ensures settled { Settles step result (D.state core.new.disk) }
+    ensures causes { StepCauses (D.state core.old.disk) (D.state core.new.disk) core.old.books core.new.books result }
+{
+    let from = core.disk.moment();
+    let Acted {
+        reply,
+        kept,
+        claims,
+    } = act(core, alloc, &step);
+    if wants_memory(&reply) {
+        return reply;
+    }
+    let entry = Entry1 {
+        caller,
+        from,
+        to: core.disk.moment(),
+        step,
+        reply: kept,
+        claims,
+    };
+    core.books.history.push(entry);
+    reply
+}

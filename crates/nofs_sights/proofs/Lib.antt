@@ -1,4 +1,0 @@
-pub mod Elements
-pub mod Seeing
-pub mod EntryNames
-pub mod Sighted

@@ -1,9 +1,0 @@
-pub mod Runs
-pub mod Sounding
-pub mod Saying
-pub mod Idle
-pub mod Replies
-pub mod Keeping
-pub mod Sounds
-pub mod SafeSteps
-pub mod ClaimedBlocks

@@ -1,5 +1,0 @@
-pub mod Commands
-pub mod Places
-pub mod Task
-pub mod Asks
-pub mod Answers

@@ -1,6 +1,0 @@
-pub mod Joining
-pub mod Gathering
-pub mod Working
-pub mod Teaming
-pub mod Looking
-pub mod Handed

@@ -1,4 +1,0 @@
-pub mod Joins
-pub mod Teams
-pub mod Served
-pub mod Handed

@@ -1,0 +1,238 @@
+-- The drill: the session of its users, what caller 0 then reads of their files, and the line that tells of it.
+use Rattle.std.specs.Prelude.{◌≡◌, ℕ, ◌+◌, ◌*◌, Bool, true, false, List, [], ◌∷◌, ◌++◌, length, take, map, codes, sum, sum_by, count_by, bytes_eq, ◌≤◌}
+use Rattle.std.specs.Prelude.{if◌then◌else◌, Some, None, Result, IfOk, ⊤}
+use Rattle.std.specs.Fmt.{decimal}
+use Rattle.std.specs.declared.option.Option.{Option}
+use Rattle.nofs_model.specs.Cells.{SuperBlock}
+use Rattle.nofs_model.specs.declared.image.value.Value.{Value}
+use Rattle.nofs_model.specs.declared.image.value.Value.TheVariants as value
+use Rattle.nofs_history.specs.Machine.{cut_of, slots_in}
+use Rattle.nofs_history.specs.Steps.{Made, is_out_of_memory}
+use Rattle.nofs_history.specs.HistoryState.{HistoryState}
+use Rattle.nofs_history.specs.declared.machine.history.Entry1.{Entry1}
+use Rattle.nofs_history.specs.declared.machine.steps.Step.{Step}
+use Rattle.nofs_history.specs.declared.machine.steps.Step.TheVariants as step
+use Rattle.nofs_history.specs.declared.machine.replies.Found.{Found}
+use Rattle.nofs_history.specs.declared.machine.replies.Stat.{Stat}
+use Rattle.nofs_history.specs.declared.machine.replies.Reply.{Reply}
+use Rattle.nofs_history.specs.declared.machine.replies.Reply.TheVariants as reply
+use Rattle.nofs_client.specs.declared.task.commands.Command.{Command}
+use Rattle.nofs_client.specs.declared.task.lines.Line.{Line}
+use Rattle.nofs_client.specs.declared.task.lines.Line.TheVariants as line
+use Rattle.nofs_gen.specs.Script.{digit, script_of}
+use Rattle.nofs_gen.specs.Replay.{replay_of, slot_value}
+use Rattle.nofs_io.specs.Calls.{SinkState}
+use Rattle.nofs_io.specs.Texts.{AppendsAll}
+use Rattle.nofs_shared.specs.Added.{AddsStep}
+use Rattle.nofs_shared.specs.Owned.{steps_by}
+use Rattle.nofs_serve.specs.Served.{TeamMade}
+use Rattle.nofs_tool.specs.Entries.{has_fault, session_lines}
+use Rattle.nofs_tool.specs.declared.reads.FileRead.{FileRead}
+
+-- the scripts of the four users
+abbrev pub drill_session : ℕ → ℕ → List (List Command)
+drill_session start steps = map (script_of start steps) (1 ∷ 2 ∷ 3 ∷ 4 ∷ [])
+
+-- The reading of a file
+
+-- the file that a Look found
+abbrev pub found_in : Reply → Option Found
+found_in (reply.Found f) = Some f
+found_in _ = None
+
+-- what a Stat told
+abbrev pub stat_in : Reply → Option Stat
+stat_in (reply.Stat s) = Some s
+stat_in _ = None
+
+-- a Get of each slot of a file from k on, with these replies
+abbrev pub gets_from : Found → ℕ → List Reply → List Made
+gets_from f k [] = []
+gets_from f k (r ∷ rs) = (step.Get f.inode f.generation k, r) ∷ gets_from f (k + 1) rs
+
+-- each slot below the size of the file was read
+abbrev pub IsWholeRead : Found → Stat → Option FileRead → List Made → Type 0
+IsWholeRead f s None rest = ⊥
+IsWholeRead f s (Some file) rest =
+    (file.found ≡ f) × (file.size ≡ s.size) × (length file.slots.items ≡ slots_in s.size) × (rest ≡ gets_from f 0 file.slots.items)
+
+-- after a refusal nothing more was asked for, and there is no file; else it went on from what was answered
+abbrev pub GoesOn : {A : Type 0} → (A → Option FileRead → List Made → Type 0) → Option A → Option FileRead → List Made → Type 0
+GoesOn Next None read rest = (read ≡ None) × (rest ≡ [])
+GoesOn Next (Some it) read rest = Next it read rest
+
+-- the size of the file was asked for, and then its slots
+abbrev pub IsReadAt : Found → Option FileRead → List Made → Type 0
+IsReadAt f read made =
+    (r : Reply) × (rest : List Made) × (made ≡ (step.Stat f.inode f.generation, r) ∷ rest) × GoesOn (IsWholeRead f) (stat_in r) read rest
+
+-- a name of directory d was looked up, which found this
+abbrev pub IsLookedUp : ℕ → ℕ → List ℕ → Option Found → List Made → Type 0
+IsLookedUp d generation name found made = (r : Reply) × (made ≡ (step.Look d generation name, r) ∷ []) × (found ≡ found_in r)
+
+-- the file was looked up in its directory, and then read
+abbrev pub IsReadIn : Found → Option FileRead → List Made → Type 0
+IsReadIn d read made =
+    (r : Reply) × (rest : List Made) × (made ≡ (step.Look d.inode d.generation (codes "f"), r) ∷ rest) × GoesOn IsReadAt (found_in r) read rest
+
+-- the directory of a user was looked up in the root, and then its file
+abbrev pub IsFileRead : ℕ → Option FileRead → List Made → Type 0
+IsFileRead user read made =
+    (r : Reply) × (rest : List Made) × (made ≡ (step.Look 1 1 (digit user), r) ∷ rest) × GoesOn IsReadIn (found_in r) read rest
+
+-- the files of the users from one on were read, one after the other
+abbrev pub AreRead : ℕ → List (Option FileRead) → List Made → Type 0
+AreRead user [] made = made ≡ []
+AreRead user (read ∷ reads) made = (front : List Made) × (back : List Made) × (made ≡ front ++ back) × IsFileRead user read front × AreRead (user + 1)
+    reads back
+
+-- caller 0 added these steps with their replies, and no other caller anything
+pub record AddsOwn (made : List Made) (H K : List Entry1) : Type 0 where
+  pub own : steps_by 0 K ≡ steps_by 0 H ++ made
+  pub others : (c : ℕ) → 1 ≤ c → steps_by c K ≡ steps_by c H
+
+-- a step that changes nothing, as those are by which the files are read
+abbrev pub is_reading : Step → Bool
+is_reading (step.Look _ _ _) = true
+is_reading (step.Stat _ _) = true
+is_reading (step.Get _ _ _) = true
+is_reading _ = false
+
+-- all of these steps are such
+abbrev pub AreReadings : List Made → Type 0
+AreReadings [] = ⊤
+AreReadings (m ∷ made) = (is_reading m.0 ≡ true) × AreReadings made
+
+-- this step alone, with this reply
+abbrev pub IsOneStep : Step → Reply → List Made → Type 0
+IsOneStep s r made = made ≡ (s, r) ∷ []
+
+-- Whatever the result is, caller 0 added steps that read, and no other caller anything; and where it is Ok, more is said of it and
+-- of these steps
+pub record ReadsBy {T E : Type 0} (Is : T → List Made → Type 0) (result : Result T E) (H K : List Entry1) : Type 0 where
+  pub made : List Made
+  pub adds : AddsOwn made H K
+  pub readings : AreReadings made
+  pub read : IfOk result (λ t. Is t made)
+
+-- What the line tells
+
+-- the size of a file, 0 where it was not read
+abbrev pub size_told : Option FileRead → ℕ
+size_told None = 0
+size_told (Some file) = file.size
+
+-- the sum of the first bytes of a slot; a slot that has none counts 0
+abbrev pub slot_sum : ℕ → Reply → ℕ
+slot_sum cut (reply.Bytes bytes) = sum (take cut bytes)
+slot_sum cut _ = 0
+
+-- the sum of all bytes of the slots from k on that lie below the size
+abbrev pub slots_sum : ℕ → ℕ → List Reply → ℕ
+slots_sum size k [] = 0
+slots_sum size k (r ∷ rs) = slot_sum (cut_of size k) r + slots_sum size (k + 1) rs
+
+abbrev pub sum_told : Option FileRead → ℕ
+sum_told None = 0
+sum_told (Some file) = slots_sum file.size 0 file.slots.items
+
+-- whether a slot has this value
+abbrev pub is_hole_read : Reply → Bool
+is_hole_read reply.Hole = true
+is_hole_read _ = false
+
+abbrev pub is_bytes_read : List ℕ → Reply → Bool
+is_bytes_read bytes (reply.Bytes found) = bytes_eq bytes found
+is_bytes_read bytes _ = false
+
+abbrev pub is_value_read : Value → Reply → Bool
+is_value_read value.Hole r = is_hole_read r
+is_value_read (value.Bytes bytes) r = is_bytes_read bytes r
+is_value_read value.Lost r = false
+
+-- how many slots from k on differ from these values
+abbrev pub slots_wrong : List Value → ℕ → List Reply → ℕ
+slots_wrong values k [] = 0
+slots_wrong values k (r ∷ rs) = (if is_value_read (slot_value values k) r then 0 else 1) + slots_wrong values (k + 1) rs
+
+-- how many slots of a file differ from what its accepted steps give; a file that was not read counts 1
+abbrev pub wrong_told : List Entry1 → Option FileRead → ℕ
+wrong_told H None = 1
+wrong_told H (Some file) = slots_wrong (replay_of H file.found.inode file.found.generation) 0 file.slots.items
+
+-- whether a line tells of a refusal
+abbrev pub is_refused_line : Line → Bool
+is_refused_line (line.Refused _) = true
+is_refused_line (line.RefusedPut _ _) = true
+is_refused_line _ = false
+
+-- the line of a drill
+unfoldable pub drill_line : ℕ → ℕ → ℕ → ℕ → ℕ → ℕ → List ℕ
+drill_line start steps refused bytes total wrong =
+    codes "drill " ++ decimal start ++ codes " " ++ decimal steps ++ codes ": commands " ++ decimal (4 * (steps + 3))
+    ++ codes ", refused " ++ decimal refused ++ codes ", bytes " ++ decimal bytes ++ codes ", sum " ++ decimal total
+    ++ codes ", wrong " ++ decimal wrong ++ codes "\n"
+
+-- Caller 0 read the four files and made all durable; and the line has the numbers that follow from the replies to these reads and
+-- a replay of the history
+pub record IsReadOut (start steps refused : ℕ) (served H : List Entry1) (text : List ℕ) : Type 0 where
+  pub seen : List Entry1
+  pub reads : List (Option FileRead)
+  pub made : List Made
+  pub flush : Reply
+  pub read : AreRead 1 reads made
+  pub adds : AddsOwn made served seen
+  pub closes : AddsStep 0 (step.Flush 0 0) flush seen H
+  pub closed : is_out_of_memory flush ≡ false
+  pub tells : text ≡ drill_line start steps refused (sum_by size_told reads) (sum_by sum_told reads) (sum_by (wrong_told H) reads)
+
+-- The drawn users were served and every element examined, and then the files were read out. Of the lines, which follow from the
+-- replies in the history, those are counted that tell of a refusal
+pub record IsDrilled (start steps : ℕ) (H : List Entry1) (text : List ℕ) : Type 0 where
+  pub served : List Entry1
+  pub inodes : ℕ
+  pub blocks : ℕ
+  pub lines : List (List Line)
+  pub team : TeamMade (drill_session start steps) inodes blocks false lines (λ c. steps_by c served)
+  pub out : IsReadOut start steps (count_by is_refused_line (session_lines 1 (drill_session start steps) H)) served H text
+
+-- What a drill adds to the history of a new mount, whatever comes of it: the steps of the drawn users and of the sweeps, which are as
+-- those of every session; then of caller 0 none but such as read; then its flush of the whole disk. Where memory was wanting
+-- (`short`), each may have ended early; else the reads are just those of the four files
+pub record IsDrillRun (start steps inodes blocks : ℕ) (short : Bool) (H : List Entry1) : Type 0 where
+  pub served : List Entry1
+  pub seen : List Entry1
+  pub lines : List (List Line)
+  pub made : List Made
+  pub flush : Reply
+  pub team : TeamMade (drill_session start steps) inodes blocks short lines (λ c. steps_by c served)
+  pub adds : AddsOwn made served seen
+  pub readings : AreReadings made
+  pub read : short ≡ false → (reads : List (Option FileRead)) × AreRead 1 reads made
+  pub closes : AddsStep 0 (step.Flush 0 0) flush seen H
+  pub closed : short ≡ false → is_out_of_memory flush ≡ false
+
+-- what a drill leaves: its history, and whether there is a text of it
+pub record IsDrillFollowed (start steps : ℕ) (at : SuperBlock) (text : Option (List ℕ)) (H : List Entry1) : Type 0 where
+  pub short : Bool
+  pub early : short ≡ true → text ≡ None
+  pub follows : IsDrillRun start steps at.inodes at.blocks short H
+
+-- its end, after the users were served: `out` tells whether memory was wanting to them
+pub record IsReadFollowed (out : Bool) (served : List Entry1) (text : Option (List ℕ)) (H : List Entry1) : Type 0 where
+  pub short : Bool
+  pub early : short ≡ true → text ≡ None
+  pub less : short ≡ false → out ≡ false
+  pub seen : List Entry1
+  pub made : List Made
+  pub flush : Reply
+  pub adds : AddsOwn made served seen
+  pub readings : AreReadings made
+  pub read : short ≡ false → (reads : List (Option FileRead)) × AreRead 1 reads made
+  pub closes : AddsStep 0 (step.Flush 0 0) flush seen H
+  pub closed : short ≡ false → is_out_of_memory flush ≡ false
+
+-- a drill whose line the sink took
+abbrev pub IsDrillDone : ℕ → ℕ → Option HistoryState → SinkState → SinkState → Type 0
+IsDrillDone start steps None old new = ⊥
+IsDrillDone start steps (Some h) old new = (has_fault h.entries ≡ false) × ((text : List ℕ) × IsDrilled start steps h.entries text × AppendsAll old new text)

@@ -1,4 +1,0 @@
-pub mod Words
-pub mod Merging
-pub mod Steps
-pub mod Seats

@@ -1,4 +1,0 @@
-pub mod Lists
-pub mod Views
-pub mod Rules
-pub mod Passes
