@@ -125,7 +125,7 @@ pub below-ends : {old mid new : DiskState} {k l' l : Books} {p : Put} {r : Recor
 below-ends {old} {mid} {new} {k} {l'} {l} {p} {r} {c} {a} {n} {t} {y} {c1} {cu0} {cu} {c20} {c2} {result} asked room taking
     is_mid is_new stays held path content
     upper-read upper read table at-table stores =
-    asked-ends (Under a n) (below_at old.now p.inode a n c.cell y) (below_cells a n c1 cu) asked room taking.0 is_mid is_new stays
+    asked-ends (Under a n) (below_at old.now p.inode a n c.cell y) (below_cells a n c1 cu) asked room taking.0 is_mid is_new stays path.path
     (subst (λ (ws : List (ℕ × Cell)). IsApart ws 0) (sym (same-writes (table_block p.inode)))
     ((λ e. claimed-not-zero c.cell names.cell (sym e)), ((λ e. let q = held.positive in omega (arith, e, q)), ((λ e. omega (arith, e)), tt))))
     (λ t agrees. below-climbs (content-facts asked path.path content read table t agrees) (held.held t) names

@@ -60,7 +60,8 @@ use Rattle.nofs_crashlaw.specs.Stage.{AddsProper}
 use Rattle.nofs_state.specs.Books.{IsSafe, Says, knows_block, knows_inode}
 use Rattle.nofs_state.specs.Standing.{IsOpen, Past}
 use Rattle.nofs_state.specs.declared.books.Books.{Books}
-use Rattle.nofs_state.specs.Writing.{OneOf, image_after, WritesAll}
+use Rattle.nofs_state.specs.Writing.{HasOneEach, OneOf, image_after, WritesAll}
+use Rattle.nofs_state.proofs.TwoWrites.{one-each}
 use Rattle.nofs_history.specs.Good.{MatchesSuper}
 use Rattle.nofs_state.proofs.Done.{IsDone, Adds-map, after_world}
 use Rattle.nofs_crashlaw.proofs.Histories.{now-picks}
@@ -239,6 +240,13 @@ module _ (old new : DiskState) (k l : Books) (H : List Entry1) (p : Past) (i g s
         | inl e ↦ e.1
         | inr (a, qa, ea, ec) ↦ absurd (off-table (places a).block (area a (changed-above a qa)) (sym ea))
       ]) (inl (table-one places cells (table_block i, c2) m way))
+
+  -- each block gets one cell
+  pub climb-each : HasOneEach (way_writes places cells (table_block i, c2) m way)
+  climb-each = one-each (way_writes places cells (table_block i, c2) m way) Y (λ b q one. elim (one-is places cells (table_block i, c2) m way b q one) [
+    | inl e ↦ e.1 ∙ sym table-here ∙ ap (cell_at Y) (sym e.0)
+    | inr (a, u, eb, ec) ↦ ec ∙ sym (cell-here a u) ∙ ap (cell_at Y) (sym eb)
+  ])
 
   super-stays : cell_at Y 0 ≡ cell_at X 0
   super-stays = low-stays 0 (omega arith) (λ e. omega (arith, e))

@@ -1,5 +1,5 @@
 -- The contract of a Resize from the state before its writes.
-use Rattle.std.proofs.Common.{◌≡◌, ℕ, ◌+◌, ◌^◌, ◌⊎◌, Bool, true, false, List, Option, Some, None, IsTrue, Result, Ok, Err, refl, sym, ap, ◌∙◌}
+use Rattle.std.proofs.Common.{◌≡◌, ℕ, ◌+◌, ◌^◌, ◌≤◌, ◌⊎◌, Bool, true, false, List, [], ◌∷◌, length, Option, Some, None, IsTrue, Result, Ok, Err, refl, sym, ap, ◌∙◌}
 use Rattle.std.proofs.Common.{subst, subst₂, arith}
 use Rattle.std.specs.Prelude.{IfSome}
 use Rattle.nofs_ptrs.specs.Paths.{slot_limit}
@@ -17,11 +17,11 @@ use Rattle.nofs_agree.specs.Chains.{AreTrue}
 use Rattle.nofs_agree.proofs.Climbs.{KnowsInode-on}
 use Rattle.nofs_crashlaw.specs.CellNumbers.{table_tag}
 use Rattle.nofs_state.specs.Standing.{IsOpen, Past}
-use Rattle.nofs_state.specs.Steps.{Goes, entry}
+use Rattle.nofs_state.specs.Steps.{Goes, WritesAlone, entry}
 use Rattle.nofs_state.specs.Opening.{is_current}
 use Rattle.nofs_state.specs.Owning.{BlocksFreed, IsBlockAmong}
 use Rattle.nofs_state.specs.declared.books.Books.{Books}
-use Rattle.nofs_state.specs.Writing.{IsApart, Stores, Stored, NotStored}
+use Rattle.nofs_state.specs.Writing.{HasOneEach, IsApart, Stores, Stored, NotStored}
 use Rattle.nofs_state.specs.Owing.{RecordIn}
 use Rattle.nofs_files.specs.Putting.{IsRecordCell}
 use Rattle.nofs_state.proofs.Done.{goes-done}
@@ -31,19 +31,28 @@ use Rattle.nofs_state.proofs.Keeping.{goes-after, open-back, reads-keep, safe-ke
 use Rattle.nofs_state.proofs.Replies.{goes-read}
 use Rattle.nofs_state.proofs.Machine.{agreed-live, are-agreed}
 use Rattle.nofs_state.proofs.Tables.{table_block}
-use Rattle.nofs_state.proofs.TwoWrites.{safe-writes}
+use Rattle.nofs_state.proofs.TwoWrites.{safe-writes, writes-cells}
 use Rattle.nofs_files.proofs.FileRows.{current-agreed}
 use Rattle.nofs_files.specs.Resizing.{CellInData, IsCutMap, IsEdge, IsTail, MayCut, cut_record, cut_writes, first_cut, kept_slots, maybe}
 use Rattle.nofs_files.specs.Resizing.{resize_answer}
 use Rattle.nofs_files.specs.declared.cutting.cuts.NewCell.{NewCell}
 use Rattle.nofs_files.specs.declared.cutting.cuts.Edge.{Edge}
 use Rattle.nofs_files.proofs.CutWrites.{Cuts}
+use Rattle.nofs_files.proofs.CutImage.{cut-each}
 use Rattle.nofs_files.proofs.CutMaps.{safe-freed}
 use Rattle.nofs_files.proofs.CutDone.{claim, resize-done, resize-numbered, resize-proper}
 
 maybe-apart : (at : SuperBlock) (w : Option NewCell) (ws : List (ℕ × Cell)) → IfSome w (CellInData at) → IsApart ws 0 → IsApart (maybe w ws) 0
 maybe-apart at None ws inside rest = rest
 maybe-apart at (Some it) ws inside rest = ((λ e. let z = inside.0 in omega (arith, e, z)), rest)
+
+maybe-length : (w : Option NewCell) (ws : List (ℕ × Cell)) (n : ℕ) → (1 ≤ length ws) × (length ws ≤ n)
+    → (1 ≤ length (maybe w ws)) × (length (maybe w ws) ≤ n + 1)
+maybe-length None ws n h = (h.0, (let q = h.1 in omega (arith, q)))
+maybe-length (Some it) ws n h = ((omega arith), (let q = h.1 in omega (arith, q)))
+
+cut-count : (tail : Option NewCell) (edge : Edge) (t : ℕ) (c2 : Cell) → (1 ≤ length (cut_writes tail edge t c2)) × (length (cut_writes tail edge t c2) ≤ 4)
+cut-count tail edge t c2 = maybe-length tail _ 3 (maybe-length edge.below _ 2 (maybe-length edge.above ((t, c2) ∷ []) 1 (omega arith, omega arith)))
 
 module _ (d new : DiskState) (k : Books) (i g size : ℕ) (r : Record) (tail : Option NewCell) (edge : Edge) (freed : List Bool) (c2 : Cell) (is_d : IsDisk d)
     (is_new : IsDisk new) (ready : MayCut d k i g size r tail edge freed)
@@ -71,6 +80,9 @@ module _ (d new : DiskState) (k : Books) (i g size : ℕ) (r : Record) (tail : O
       agrees : agreed (files_in d.now) i ≡ true
       agrees = current-agreed d.now i g (ready.current tells (are-agreed d k H p ready.safe o))
 
+  each : IsTrue d.tells → (H : List Entry1) (p : Past) → IsOpen d k H p → HasOneEach (cut_writes tail edge (table_block i) c2)
+  each tells H p o = cut-each d k H p i g size r tail edge c2 is_d tells o (cuts H p tells o)
+
   pub resized-goes : (l m : Books) (result : Result (Unit {0}) Refusal) → Stores d k new m (cut_writes tail edge (table_block i) c2) result
       → (result ≡ Ok tt → BlocksFreed m l freed) → ((why : Refusal) → result ≡ Err why → l ≡ m)
       → Goes d k new l (step.Resize i g size) no_claims (resize_answer result)
@@ -82,13 +94,15 @@ module _ (d new : DiskState) (k : Books) (i g size : ℕ) (r : Record) (tail : O
       (goes-done d new k l (step.Resize i g size) no_claims reply.Resized (cut_writes tail edge (table_block i) c2) is_d is_new ready.going
       (ap (λ (b : Books). b.at) a.same) (ap (λ (b : Books). b.history) a.same) going
       (safe-freed new k l freed (safe-writes d new k (cut_writes tail edge (table_block i) c2) (Ok tt) k.stopped writes apart ready.safe) a ready.map.size
-      ready.map.in_area) refl writes.adds.disk writes.adds.past writes.later ready.safe
+      ready.map.in_area) refl writes.adds.disk writes.adds.past writes.later (WritesAlone refl (writes-cells k (step.Resize i g size) no_claims writes
+      (cut-count tail edge (table_block i) c2) each)) ready.safe
       (λ tells H p o. resize-done d k H p i g size r tail edge c2 is_d tells o (cuts H p tells o) new l freed ready.map a writes (ready.rows tells H p o)))
   resized-goes l m result (NotStored f writes same e) ok err = subst₂
       (λ (z : Books) (w : Result (Unit {0}) Refusal). Goes d k new z (step.Resize i g size) no_claims (resize_answer w))
       (sym (err refusal.WriteFault e ∙ same)) (sym e)
       (goes-fault d new k (stopped_books k) (step.Resize i g size) no_claims is_d ready.going refl refl refl writes.adds.disk writes.adds.past writes.cause
-      writes.later ready.safe
+      writes.later (WritesAlone refl (writes-cells k (step.Resize i g size) no_claims writes
+      (cut-count tail edge (table_block i) c2) each)) ready.safe
       (safe-writes d new k (cut_writes tail edge (table_block i) c2) (Err f) true writes apart ready.safe)
       (λ tells H p o. resize-numbered d k H p i g size r tail edge c2 is_d tells o (cuts H p tells o) new writes.adds)
       (λ tells caller H p o. (

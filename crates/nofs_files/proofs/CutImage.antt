@@ -31,7 +31,7 @@ use Rattle.nofs_crashlaw.specs.Resizes.{is_cut, cut_at, ResizeLies}
 use Rattle.nofs_crashlaw.specs.CellNumbers.{OldNumbers}
 use Rattle.nofs_state.specs.Standing.{IsOpen, Past}
 use Rattle.nofs_state.specs.declared.books.Books.{Books}
-use Rattle.nofs_state.specs.Writing.{image_after}
+use Rattle.nofs_state.specs.Writing.{HasOneEach, image_after}
 use Rattle.nofs_crashlaw.proofs.PutFile.{file-in}
 use Rattle.nofs_state.proofs.Replies.{open-files}
 use Rattle.nofs_state.proofs.Machine.{agreed-live}
@@ -39,6 +39,7 @@ use Rattle.nofs_state.proofs.Tables.{table_block, record-here, record-other}
 use Rattle.nofs_files.specs.Resizing.{kept_slots, cut_record, cut_writes, IsCutBlock, IsCutCell, last_child}
 use Rattle.nofs_files.specs.declared.cutting.cuts.NewCell.{NewCell}
 use Rattle.nofs_files.specs.declared.cutting.cuts.Edge.{Edge}
+use Rattle.nofs_state.proofs.TwoWrites.{one-each}
 use Rattle.nofs_files.proofs.Ways.{written-apart, written-here}
 use Rattle.nofs_files.proofs.CutPaths.{Inside, above-cases, below_path, near-path, far-path, leaf-inside, top-inside, child-inside, only-child}
 use Rattle.nofs_files.proofs.CutPaths.{leb-lt, lt-leb, or-one, or-parts}
@@ -200,6 +201,13 @@ module _ (old : DiskState) (k : Books) (H : List Entry1) (p : Past) (i g size : 
         | inl e ↦ e.1
         | inr (a, it, at, eb, ec) ↦ absurd (off-table it.block (area-of a it at) (sym eb))
       ]) (inl (table-one r.size m tail edge (table_block i) c2))
+
+  -- each block gets one cell
+  pub cut-each : HasOneEach (cut_writes tail edge (table_block i) c2)
+  cut-each = one-each (cut_writes tail edge (table_block i) c2) Y (λ b q one. elim (one-is r.size m tail edge (table_block i) c2 b q one) [
+    | inl e ↦ e.1 ∙ sym table-here ∙ ap (cell_at Y) (sym e.0)
+    | inr (a, it, at, eb, ec) ↦ ec ∙ sym (cell-here a it at) ∙ ap (cell_at Y) (sym eb)
+  ])
 
   pub super-stays : cell_at Y 0 ≡ cell_at X 0
   super-stays = low-stays 0 (omega arith) (λ e. omega (arith, e))

@@ -15,7 +15,6 @@ use Rattle.nofs_history.specs.Machine.{gives, generation_of, is_folder_at, is_re
 use Rattle.nofs_history.specs.Claims.{no_claims}
 use Rattle.nofs_history.specs.Refusals.{rows, stale, is_directory}
 use Rattle.nofs_history.specs.Answers.{got_reply}
-use Rattle.nofs_history.specs.History.{is_flushed}
 use Rattle.nofs_history.specs.declared.machine.history.Entry1.{Entry1}
 use Rattle.nofs_history.specs.declared.machine.steps.Step.TheVariants as step
 use Rattle.nofs_history.specs.declared.machine.replies.Reply.{Reply}
@@ -27,7 +26,7 @@ use Rattle.nofs_agree.specs.declared.reads.LastRead.{LastRead}
 use Rattle.nofs_agree.proofs.Climbs.{told-on, record-of}
 use Rattle.nofs_state.specs.Books.{IsSafe}
 use Rattle.nofs_state.specs.Standing.{IsOpen, Past}
-use Rattle.nofs_state.specs.Steps.{Goes, IsReading}
+use Rattle.nofs_state.specs.Steps.{Goes, IsReading, makes_calls}
 use Rattle.nofs_state.specs.declared.books.Books.{Books}
 use Rattle.nofs_state.proofs.Replies.{goes-row, goes-read, goes-answer, open-files}
 use Rattle.nofs_state.proofs.Rows.{IsLate, first-late, late-row}
@@ -65,7 +64,7 @@ module _ {old : DiskState} {k : Books} (i g slot : ℕ) (is : IsDisk old) (safe 
     get-unread {e} finds = goes-read old new k (step.Get i g slot) is safe (StaysButFaults-trans old mid new opens.stays finds.stays) going
         (Rose-within old.faults mid.faults new.faults new.faults opens.stays.disk.faults finds.cause (le_refl new.faults)) (λ tells H p o. get-late low H p o)
 
-    pub get-found : {a : PathAnswer} (reply : Reply) → is_refused reply ≡ false → is_flushed reply ≡ false
+    pub get-found : {a : PathAnswer} (reply : Reply) → is_refused reply ≡ false → makes_calls reply ≡ false
         → FindsSlot mid new k.at (λ X. find X i (path_of slot)) next (Ok a) → (IsTrue old.tells → reply ≡ got_reply (value_in old.now a))
         → Goes old k new k (step.Get i g slot) no_claims reply
     get-found {a} reply accepted plain finds gives-it = goes-answer old new k (step.Get i g slot) is safe

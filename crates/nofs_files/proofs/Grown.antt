@@ -220,7 +220,7 @@ module _ {old mid new : DiskState} {k l' l : Books} {p : Put} {r : Record} {c : 
       → Stores mid l' new l ((c.cell.block, c1) ∷ (c.leaf.block, cl) ∷ (t, c2) ∷ []) result → Goes old k new l (step_of_put p) c (put_answer result)
   leaf-ends {n} {c1} {cl} a room taking path hole content leaf table stores =
       let names = taking.1 in
-      asked-ends (Under (InRecord 8) n) (two_at c.cell c.leaf) (two_of c1 cl) a room taking.0 is_mid is_new stays
+      asked-ends (Under (InRecord 8) n) (two_at c.cell c.leaf) (two_of c1 cl) a room taking.0 is_mid is_new stays path.path
       ((λ e. claimed-not-zero c.cell names.cell (sym e)), ((λ e. claimed-not-zero c.leaf names.leaf (sym e)), ((λ e. omega (arith, e)), tt)))
       (λ t agrees. leaf-climbs old.now p.inode p.generation p.slot p.at p.bytes.now r n c c1 cl c2 (content-facts a path.path content read table t agrees)
       (hole t) leaf names) at-table stores
@@ -233,7 +233,7 @@ module _ {old mid new : DiskState} {k l' l : Books} {p : Put} {r : Record} {c : 
       → Goes old k new l (step_of_put p) c (put_answer result)
   child-ends {j} {n} {z} {c1} {cc1} {ct0} {ct} a room taking path held hole content child top-read top table stores =
       let names = taking.1 in
-      asked-ends (Under (Under (InRecord 9) j) n) (three_at c.cell c.leaf z) (three_of c1 cc1 ct) a room taking.0 is_mid is_new stays (
+      asked-ends (Under (Under (InRecord 9) j) n) (three_at c.cell c.leaf z) (three_of c1 cc1 ct) a room taking.0 is_mid is_new stays path.path (
         (λ e. claimed-not-zero c.cell names.cell (sym e)),
         (
           (λ e. claimed-not-zero c.leaf names.leaf (sym e)),
@@ -252,7 +252,7 @@ module _ {old mid new : DiskState} {k l' l : Books} {p : Put} {r : Record} {c : 
       → Goes old k new l (step_of_put p) c (put_answer result)
   top-ends {j} {n} {c1} {cc1} {ct} a room taking path hole content child top table stores =
       let names = taking.1 in
-      asked-ends (Under (Under (InRecord 9) j) n) (three_at c.cell c.leaf c.top) (three_of c1 cc1 ct) a room taking.0 is_mid is_new stays (
+      asked-ends (Under (Under (InRecord 9) j) n) (three_at c.cell c.leaf c.top) (three_of c1 cc1 ct) a room taking.0 is_mid is_new stays path.path (
         (λ e. claimed-not-zero c.cell names.cell (sym e)),
         (
           (λ e. claimed-not-zero c.leaf names.leaf (sym e)),

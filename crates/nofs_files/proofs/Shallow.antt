@@ -161,7 +161,7 @@ place-ends {old} {mid} {new} {k} {l} {p} {r} {last} {writes} {t} {x} {before} {c
     ways-end old mid new k k l p.inode p.generation p.slot p.at p.bytes.now r (sized r (size_after p r.size)) 0 (path_of p.slot)
     (place_at old.now p.inode (path_of p.slot) x) (λ q. c1) no_claims c2 result is_mid is_new stays may.safe (λ s. s) may.going
     (subst (λ (ws : List (ℕ × Cell)). IsApart ws 0) (sym same-writes) ((λ e. let q = held.positive in omega (arith, e, q)), ((λ e. omega (arith, e)), tt)))
-    (take-none k)
+    (take-none k) refl refl
     (λ t H q o.
     let agrees = current-agreed old.now p.inode p.generation (may.current t (are-agreed old k H q may.safe o)) in
     let v : is_bytes (value_of q.world.files p.inode p.slot) ≡ true = ap is_bytes
@@ -190,7 +190,7 @@ pub direct-ends : {old mid new : DiskState} {k l' l : Books} {p : Put} {r : Reco
     → Stores mid l' new l ((c.cell.block, c1) ∷ (t, c2) ∷ []) result → Goes old k new l (step_of_put p) c (put_answer result)
 direct-ends {old} {mid} {new} {k} {l'} {l} {p} {r} {c} {t} {c1} {c20} {c2} a room taking is_mid is_new stays low eight content read table at-table stores =
     let names = taking.1 in
-    asked-ends (InRecord p.slot) (λ q. c.cell) (λ q. c1) a room taking.0 is_mid is_new stays
+    asked-ends (InRecord p.slot) (λ q. c.cell) (λ q. c1) a room taking.0 is_mid is_new stays (path-direct p.slot low)
     ((λ e. claimed-not-zero c.cell names.cell (sym e)), ((λ e. omega (arith, e)), tt))
     (λ t agrees. direct-climbs old.now p.inode p.generation p.slot p.at p.bytes.now r p.slot c c1 c2 low eight
     (content-facts a (path-direct p.slot low) content read table t agrees) names) at-table stores

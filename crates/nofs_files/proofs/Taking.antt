@@ -6,7 +6,7 @@ use Rattle.nofs_bits.specs.Bits.{is_set}
 use Rattle.nofs_disk.specs.Disk.{DiskState}
 use Rattle.nofs_model.specs.Cells.{Pointer, null}
 use Rattle.nofs_history.specs.World.{blocks_for}
-use Rattle.nofs_history.specs.Claims.{IsClaim, is_claimed, next_stamp}
+use Rattle.nofs_history.specs.Claims.{IsClaim, claimed_blocks, is_claimed, next_stamp}
 use Rattle.nofs_history.specs.declared.machine.history.Claims.{Claims}
 use Rattle.nofs_history.specs.declared.machine.history.Entry1.{Entry1}
 use Rattle.nofs_state.specs.Books.{IsSafe, claimed_books, claimed_pointer}
@@ -23,6 +23,7 @@ use Rattle.nofs_files.proofs.Parts.{Takes}
 -- so many blocks are claimed: the books follow, a later disk stays safe, and the claim is one of the machine
 pub record IsTaking (d e : DiskState) (k l : Books) (p : Put) (c : Claims) (m : ℕ) : Type 0 where
   pub takes : Takes k l c m
+  pub number : length (claimed_blocks c) ≡ m
   pub safe : IsSafe e k → IsSafe e l
   pub claim : (H : List Entry1) (q : Past) → IsOpen d k H q → blocks_for q.world.files p.inode p.slot ≡ m → IsClaim q.world (step_of_put p) c
 
@@ -149,6 +150,7 @@ module _ {d mid : DiskState} {k l : Books} {p : Put} {c : Claims} (safe : IsSafe
   takes-one {b} free room claims books = subst₂ (λ (c : Claims) (l : Books). IsTaking d mid k l p c 1 × NamesOne c) (sym claims) (sym books) (
     record {
       takes = take-one k b free.range cell;
+      number = rw cell refl;
       safe = λ s. claimed-safe mid k b within (let t = room.stamps in omega (arith, t)) s;
       claim = λ H q o needs. claim-one q.world p.inode p.generation p.slot p.at p.bytes.now (claimed_pointer k b) (taken d k H q b safe o within free.first)
           needs;
@@ -166,6 +168,7 @@ module _ {d mid : DiskState} {k l : Books} {p : Put} {c : Claims} (safe : IsSafe
   takes-two {b} {e} free room claims books = subst₂ (λ (c : Claims) (l : Books). IsTaking d mid k l p c 2 × NamesTwo c) (sym claims) (sym books) (
     record {
       takes = take-two k b e low free.range apart cell leaf;
+      number = rw (cell, leaf) refl;
       safe = λ s. let t = room.stamps in
           claimed-safe mid (claimed_books k b) e within-e (omega (arith, t)) (claimed-safe mid k b within (omega (arith, t)) s);
       claim = λ H q o needs. claim-two q.world p.inode p.generation p.slot p.at p.bytes.now (claimed_pointer k b) (claimed_pointer (claimed_books k b) e)
@@ -197,6 +200,7 @@ module _ {d mid : DiskState} {k l : Books} {p : Put} {c : Claims} (safe : IsSafe
   takes-three {b} {e} {h} free room claims books = subst₂ (λ (c : Claims) (l : Books). IsTaking d mid k l p c 3 × NamesThree c) (sym claims) (sym books) (
     record {
       takes = take-three k b e h (omega (arith, be, low-e)) low-e free.range ne-be ne-bh ne-eh cell leaf top;
+      number = rw (cell, leaf, top) refl;
       safe = λ s. let t = room.stamps in
           claimed-safe mid (two_books k b e) h (within h free.range) (omega (arith, t))
           (claimed-safe mid (claimed_books k b) e (within e low-e) (omega (arith, t))

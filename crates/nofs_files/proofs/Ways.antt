@@ -1,5 +1,5 @@
 -- The way to a slot: which of its blocks are claimed, which had their place, and which are written.
-use Rattle.std.proofs.Common.{◌≡◌, ◌≢◌, ℕ, zero, suc, ◌<◌, ◌≤◌, ◌⊎◌, inl, inr, List, [], ◌∷◌, length, refl, sym, ap, ◌∙◌, subst, subst₂, arith}
+use Rattle.std.proofs.Common.{◌≡◌, ◌≢◌, ℕ, zero, suc, ◌+◌, ◌<◌, ◌≤◌, ◌⊎◌, inl, inr, List, [], ◌∷◌, length, refl, sym, ap, ◌∙◌, subst, subst₂, arith}
 use Rattle.std.specs.Prelude.{slice_set}
 use Rattle.std.proofs.lemmas.Bool.{cases_eq}
 use Rattle.std.proofs.lemmas.List.{get_or-set_same, get_or-set_other, length-set}
@@ -7,6 +7,7 @@ use Rattle.nofs_disk.specs.Disk.{cell_at, no_cell}
 use Rattle.nofs_model.specs.Cells.{Cell, Pointer}
 use Rattle.nofs_model.specs.Image.{Image, Path, InRecord, Under, IsAbove}
 use Rattle.nofs_model.proofs.Paths.{above-refl, above-up}
+use Rattle.nofs_state.specs.Steps.{pointers_written}
 use Rattle.nofs_state.specs.Writing.{OneOf, IsApart, image_after}
 
 -- so many slots of a way, counted from below, get a block
@@ -142,6 +143,12 @@ module _ (at : Path → Pointer) (cells : Path → Cell) (t : ℕ × Cell) where
   changed-one (suc m) (InRecord n) a e = inl (ap (λ (q : Path). (at q).block) e, ap cells e)
   changed-one (suc m) (Under d n) a (inl e) = inl (ap (λ (q : Path). (at q).block) e, ap cells e)
   changed-one (suc m) (Under d n) a (inr r) = inr (changed-one m d a r)
+
+  -- two cells, and one for each block of pointers that is written
+  pub way-count : (m : ℕ) (way : Path) → length (way_writes at cells t m way) ≡ 2 + pointers_written m way
+  way-count zero way = refl
+  way-count (suc m) (InRecord n) = refl
+  way-count (suc m) (Under d n) = let e = way-count m d in omega (arith, e)
 
   pub table-one : (m : ℕ) (way : Path) → OneOf (way_writes at cells t m way) t.0 t.1
   table-one zero way = inr (inl (refl, refl))

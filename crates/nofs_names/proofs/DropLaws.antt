@@ -233,6 +233,11 @@ module _ (old : DiskState) (k : Books) (H : List Entry1) (p : Past) (d g : ℕ) 
         ]))
     numbers b cell (inr (inr none)) = absurd none
 
+    last : (b : ℕ) (cell : Cell) → OneOf ((x.block, c1) ∷ (table_block q.inode, c2) ∷ []) b cell → cell ≡ cell_at Y b
+    last b cell (inl one) = one.1 ∙ sym (ap (cell_at Y) one.0 ∙ in-slot)
+    last b cell (inr (inl one)) = one.1 ∙ sym (ap (cell_at Y) one.0 ∙ in-table)
+    last b cell (inr (inr none)) = absurd none
+
     nothing-else : (j : ℕ) → j ≢ d → j ≢ it.inode → GivesNothing (drop_given W.files d g q.entry) j
     nothing-else j nd ni = subst (λ (z : Given). GivesNothing z j) (sym cell-is)
         (cell-elsewhere d g (q.entry / 16) (with_entry (value_of W.files d (q.entry / 16)) q.entry (zeros 64))
@@ -258,6 +263,7 @@ module _ (old : DiskState) (k : Books) (H : List Entry1) (p : Past) (d g : ℕ) 
         files = w.files;
         move = w.move;
         writes = in-place-writes (next_stamp W) d it.inode (q.entry / 16) X Y x drops.held in-place;
+        last = last;
       };
     }
 

@@ -65,7 +65,7 @@ pub dropped-goes : (b new : DiskState) (k l : Books) (d g : ℕ) (name : List �
     → Goes b k new l (step.Drop d g name) no_claims (done_answer (reply.Dropped false) result)
 dropped-goes b new k l d g name r x c1 c2 q result is_b is_new safe going it keeps table table-tag pass stores =
     stores-goes b new k k l (step.Drop d g name) no_claims (reply.Dropped false) ((x.block, c1) ∷ (table_block q.inode, c2) ∷ []) result is_b is_new safe going
-    safe (record { at = refl; history = refl; stopped = refl }) (drop-apart b k d g name r x c1 q it c2) refl refl refl comes pass stores
+    safe (record { at = refl; history = refl; stopped = refl }) (drop-apart b k d g name r x c1 q it c2) refl refl refl refl refl comes pass stores
   where
     comes : (tells : IsTrue b.tells) (H : List Entry1) (p : Past) → IsOpen b k H p
         → NameComes b H p k (step.Drop d g name) no_claims (reply.Dropped false) ((x.block, c1) ∷ (table_block q.inode, c2) ∷ [])

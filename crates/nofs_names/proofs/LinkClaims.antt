@@ -1,5 +1,5 @@
 -- How many blocks a new entry asks for, and what a Link claims.
-use Rattle.std.proofs.Common.{◌≡◌, ◌≢◌, ℕ, zero, suc, ◌+◌, ◌*◌, ◌^◌, ◌<◌, ◌≤◌, inl, inr, Bool, true, false, cond, ne_eqb, ltb, not, List, [], ◌∷◌, ◌++◌, length}
+use Rattle.std.proofs.Common.{◌≡◌, ◌≢◌, ℕ, zero, suc, ◌+◌, ◌*◌, ◌^◌, ◌<◌, ◌≤◌, inl, inr, Bool, true, false, cond, eqb, ne_eqb, ltb, not, List, [], ◌∷◌, ◌++◌, length}
 use Rattle.std.proofs.Common.{refl, sym, ap, ◌∙◌, subst, arith, Contains}
 use Rattle.std.specs.Prelude.{slice_set}
 use Rattle.std.proofs.lemmas.Bool.{cases_eq}
@@ -69,6 +69,16 @@ module _ (F : Files) (X : Image) (d k : ℕ) (match : FilesMatch F X) (agrees : 
 
 abbrev pub claims_of : Pointer → Pointer → Claims
 claims_of x y = record no_claims { cell = x; leaf = y }
+
+-- two cells, and one more for each block that is claimed
+pub count-one : (c : Claims) → 0 < c.cell.block → is_claimed c.leaf ≡ false → is_claimed c.top ≡ false → 3 ≡ 2 + length (claimed_blocks c)
+count-one c low b d = let a : eqb c.cell.block 0 ≡ false = ne_eqb c.cell.block 0 (λ e. omega (arith, low, e)) in rw (a, b, d) refl
+
+pub count-two : (c : Claims) → 0 < c.cell.block → 0 < c.leaf.block → is_claimed c.top ≡ false → 4 ≡ 2 + length (claimed_blocks c)
+count-two c low low2 d =
+    let a : eqb c.cell.block 0 ≡ false = ne_eqb c.cell.block 0 (λ e. omega (arith, low, e)) in
+    let b : eqb c.leaf.block 0 ≡ false = ne_eqb c.leaf.block 0 (λ e. omega (arith, low2, e)) in
+    rw (a, b, d) refl
 
 pub claimed-first : (x y : Pointer) → is_claimed x ≡ true → Contains (claimed_blocks (claims_of x y)) x
 claimed-first x y t = rw t (0, omega arith, refl)

@@ -13,7 +13,7 @@ use Rattle.nofs_model.proofs.Find.{find-held}
 use Rattle.nofs_model.proofs.Sound.{mountable-law}
 use Rattle.nofs_history.specs.Machine.{link_to, with_entry, link_given}
 use Rattle.nofs_history.specs.World.{blocks_needed}
-use Rattle.nofs_history.specs.Claims.{IsClaim, is_claimed, next_stamp, no_claims}
+use Rattle.nofs_history.specs.Claims.{IsClaim, claimed_blocks, is_claimed, next_stamp, no_claims}
 use Rattle.nofs_history.specs.declared.machine.history.Claims.{Claims}
 use Rattle.nofs_history.specs.declared.machine.history.Entry1.{Entry1}
 use Rattle.nofs_history.specs.declared.machine.steps.Step.{Step}
@@ -52,7 +52,7 @@ use Rattle.nofs_names.specs.declared.new_names.Both.{Both}
 use Rattle.nofs_names.proofs.Entered.{content-held, eight-direct}
 use Rattle.nofs_names.proofs.EnteredHole.{IsReady, IsNewBlock, direct-inode, direct-enters, direct-each, under-inode, under-enters, under-each}
 use Rattle.nofs_names.proofs.EnteredHole.{with-inode, with-enters, with-each}
-use Rattle.nofs_names.proofs.LinkClaims.{slot-needs, claims_of, claimed-first, claimed-second, claim-none, claim-cell, claim-both, new-block}
+use Rattle.nofs_names.proofs.LinkClaims.{slot-needs, claims_of, count-one, count-two, claimed-first, claimed-second, claim-none, claim-cell, claim-both, new-block}
 use Rattle.nofs_names.proofs.LinkClaims.{taken-none, taken-cell, taken-both}
 use Rattle.nofs_names.proofs.Linking.{Links, in-place-ends, in-hole-ends, link-follows, link-given}
 
@@ -67,10 +67,11 @@ pub record Comes (b : DiskState) (H : List Entry1) (p : Past) (d g : ℕ) (name 
 pub linked-goes : (b new : DiskState) (k k' l : Books) (d g : ℕ) (name : List ℕ) (i of e spot : ℕ) (c : Claims) (m : ℕ) (ws : List (ℕ × Cell))
     (result : Result (Unit {0}) Refusal) → IsDisk b → IsDisk new → IsSafe b k → k.stopped ≡ false → IsSafe b k' → IsApart ws 0
     → Takes k k' c m → ((tells : IsTrue b.tells) (H : List Entry1) (p : Past) → IsOpen b k H p → Comes b H p d g name i of e spot c m ws)
-    → RowsPass b k (step.Link d g name i of) → Stores b k' new l ws result → Goes b k new l (step.Link d g name i of) c (done_answer reply.Linked result)
-linked-goes b new k k' l d g name i of e spot c m ws result is_b is_new safe going safe' apart takes comes pass stores =
+    → RowsPass b k (step.Link d g name i of) → Stores b k' new l ws result → length ws ≡ 2 + length (claimed_blocks c)
+    → Goes b k new l (step.Link d g name i of) c (done_answer reply.Linked result)
+linked-goes b new k k' l d g name i of e spot c m ws result is_b is_new safe going safe' apart takes comes pass stores count =
     stores-goes b new k k' l (step.Link d g name i of) c reply.Linked ws result is_b is_new safe going safe'
-    (taken-same k k' c m (taken-by k k' c m takes)) apart refl refl refl
+    (taken-same k k' c m (taken-by k k' c m takes)) apart refl count refl refl refl
     (λ tells H p o. let f = comes tells H p o in record {
       step = record {
         given = link_given p.world.files d g name i of e spot;
@@ -396,7 +397,7 @@ module _ (first b new : DiskState) (k l : Books) (d g : ℕ) (both : Both) (p : 
       go (HeldSlot x) eq w = as-claims no_claims w.claims
           (linked-goes b new k k l d g it.name it.inode it.generation p.entry spot no_claims 0 _ ended.result is_b is_new safe going safe
           ((λ e. let a = (subst (λ (z : EntrySlot). FitsSlot k.at (p.entry / 16) z) eq enters.fits).0 in omega (arith, a, e)), ((λ e. omega (arith, e)), tt))
-          (taken-none k) (λ tells H q o. held-comes tells H q o x eq w) may.rows w.stores)
+          (taken-none k) (λ tells H q o. held-comes tells H q o x eq w) may.rows w.stores refl)
       go DirectHole eq w =
           let c = enters.free.cell (subst (λ (z : EntrySlot). 1 ≤ slot_blocks z) (sym eq) (omega arith)) in
           let a = c.1 in let n = safe.free_blocks in let m = ap slot_blocks eq in let q = enters.stamps in
@@ -405,7 +406,8 @@ module _ (first b new : DiskState) (k l : Books) (d g : ℕ) (both : Both) (p : 
           (claims_of (claimed_pointer k p.blocks.cell) null) 1 _ ended.result is_b is_new safe going
           (claimed-safe b k p.blocks.cell (omega (arith, a, n)) (omega (arith, q, m)) safe)
           (apart-far p.blocks.cell (far p.blocks.cell c.0), ((λ e. omega (arith, e)), ((λ e. omega (arith, e)), tt)))
-          (taken-cell k p.blocks.cell (far p.blocks.cell c.0) a) (λ tells H q o. direct-comes tells H q o eq w) may.rows w.stores)
+          (taken-cell k p.blocks.cell (far p.blocks.cell c.0) a) (λ tells H q o. direct-comes tells H q o eq w) may.rows w.stores
+          (count-one (claims_of (claimed_pointer k p.blocks.cell) null) (far p.blocks.cell c.0) refl refl))
       go (HoleUnder y) eq w =
           let c = enters.free.cell (subst (λ (z : EntrySlot). 1 ≤ slot_blocks z) (sym eq) (omega arith)) in
           let a = c.1 in let n = safe.free_blocks in let m = ap slot_blocks eq in let q = enters.stamps in
@@ -419,7 +421,8 @@ module _ (first b new : DiskState) (k l : Books) (d g : ℕ) (both : Both) (p : 
               ((λ e. omega (arith, e)), tt),
             ),
           )
-          (taken-cell k p.blocks.cell (far p.blocks.cell c.0) a) (λ tells H q o. under-comes tells H q o y eq w) may.rows w.stores)
+          (taken-cell k p.blocks.cell (far p.blocks.cell c.0) a) (λ tells H q o. under-comes tells H q o y eq w) may.rows w.stores
+          (count-one (claims_of (claimed_pointer k p.blocks.cell) null) (far p.blocks.cell c.0) refl refl))
       go HoleWith eq w =
           let c = enters.free.cell (subst (λ (z : EntrySlot). 1 ≤ slot_blocks z) (sym eq) (omega arith)) in
           let f = enters.free.leaf (subst (λ (z : EntrySlot). 2 ≤ slot_blocks z) (sym eq) (omega arith)) in
@@ -434,4 +437,6 @@ module _ (first b new : DiskState) (k l : Books) (d g : ℕ) (both : Both) (p : 
             (apart-far p.blocks.leaf (far p.blocks.leaf f.0), ((λ e. omega (arith, e)), ((λ e. omega (arith, e)), tt))),
           )
           (taken-both k p.blocks.cell p.blocks.leaf (far p.blocks.cell c.0) (far p.blocks.leaf f.0) a a2) (λ tells H q o. with-comes tells H q o eq w)
-          may.rows w.stores)
+          may.rows w.stores
+          (count-two (claims_of (claimed_pointer k p.blocks.cell) (claimed_pointer (claimed_books k p.blocks.cell) p.blocks.leaf)) (far p.blocks.cell c.0)
+          (far p.blocks.leaf f.0) refl))

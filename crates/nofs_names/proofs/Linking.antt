@@ -241,6 +241,7 @@ module _ (old : DiskState) (k : Books) (H : List Entry1) (p : Past) (d g : ℕ) 
     files = law.2;
     move = law-link-in-place-homes W X Y d g e i of spot (next_stamp W) name own.file his.file x c lies h.entry it.place it.claim;
     writes = in-place-writes (next_stamp W) d i (e / 16) X Y x h.entry.held h.entry.writes;
+    last = λ b cell one. (h.each b cell one).0;
   }
     where
       law : ((m : Mark) → is_data_block m.image x.block ≡ true → Proper (during m (link_given W.files d g name i of e spot)) X x.block (cell_at Y x.block))
@@ -279,6 +280,7 @@ module _ (old : DiskState) (k : Books) (H : List Entry1) (p : Past) (d g : ℕ) 
     files = law.2;
     move = law-link-in-hole-homes W X Y d g e i of spot (next_stamp W) name own.file his.file x y c lies h.entry h.claims it.claim;
     writes = writes;
+    last = λ b cell one. (h.each b cell one).0;
   }
     where
       writes : NameWrites (next_stamp W) d i X Y

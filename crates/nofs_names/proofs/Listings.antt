@@ -14,7 +14,7 @@ use Rattle.nofs_history.specs.World.{World}
 use Rattle.nofs_history.specs.Claims.{no_claims}
 use Rattle.nofs_history.specs.Refusals.{rows}
 use Rattle.nofs_history.specs.Answers.{listed_reply, lines_in_slot}
-use Rattle.nofs_history.specs.History.{FilesMatch, is_flushed}
+use Rattle.nofs_history.specs.History.{FilesMatch}
 use Rattle.nofs_history.specs.declared.machine.replies.NameLine.{NameLine}
 use Rattle.nofs_history.specs.declared.machine.steps.Step.TheVariants as step
 use Rattle.nofs_history.specs.declared.machine.replies.Reply.{Reply}
@@ -24,7 +24,7 @@ use Rattle.nofs_history.specs.declared.machine.replies.Refusal.TheVariants as re
 use Rattle.nofs_agree.specs.declared.reads.LastRead.{LastRead}
 use Rattle.nofs_agree.proofs.Climbs.{told-on, record-of}
 use Rattle.nofs_state.specs.Books.{IsSafe}
-use Rattle.nofs_state.specs.Steps.{Goes, IsReading}
+use Rattle.nofs_state.specs.Steps.{Goes, IsReading, makes_calls}
 use Rattle.nofs_state.specs.declared.books.Books.{Books}
 use Rattle.nofs_state.specs.Owning.{MarkFails}
 use Rattle.nofs_state.proofs.Keeping.{goes-memory, reads-keep}
@@ -77,7 +77,7 @@ module _ (old : DiskState) (k : Books) (d g slot : ℕ) (is : IsDisk old) (safe 
         (Rose-within old.faults mid.faults new.faults new.faults opens.stays.disk.faults finds.cause (le_refl new.faults)) (λ t H p o. list-late p.world)
 
     -- an answer, where the machine's is the same over any files that match
-    answers : (new : DiskState) (it : Reply) → is_refused it ≡ false → is_flushed it ≡ false → StaysButFaults mid new
+    answers : (new : DiskState) (it : Reply) → is_refused it ≡ false → makes_calls it ≡ false → StaysButFaults mid new
         → (IsTrue old.tells → IsThere d old.now → (F : Files) → FilesMatch F old.now
         → it ≡ listed_reply F d (least_from (λ l. not (is_hole (value_of F d l))) slot (72 - slot))) → Goes old k new k (step.List d g slot) no_claims it
     answers new it accepted plain stays comes = goes-answer old new k (step.List d g slot) is safe (StaysButFaults-trans old mid new opens.stays stays)

@@ -1,8 +1,9 @@
 -- The contract of Make, from what it writes.
-use Rattle.std.proofs.Common.{◌≡◌, ℕ, ◌+◌, false, List, Result, Ok, Err, IsTrue, refl, subst}
+use Rattle.std.proofs.Common.{◌≡◌, ℕ, ◌+◌, false, List, length, Result, Ok, Err, IsTrue, refl, subst}
 use Rattle.nofs_disk.specs.Disk.{DiskState, IsDisk}
 use Rattle.nofs_model.specs.Cells.{Cell, FileKind}
 use Rattle.nofs_history.specs.World.{blocks_needed}
+use Rattle.nofs_history.specs.Claims.{claimed_blocks}
 use Rattle.nofs_history.specs.declared.machine.history.Claims.{Claims}
 use Rattle.nofs_history.specs.declared.machine.history.Entry1.{Entry1}
 use Rattle.nofs_history.specs.declared.machine.steps.Step.TheVariants as step
@@ -37,11 +38,12 @@ answer-is c (Err why) = refl
 pub made-goes : (b new : DiskState) (k q l : Books) (d g : ℕ) (name : List ℕ) (kind : FileKind) (e : ℕ) (c : Claims) (ws : List (ℕ × Cell)) (m : ℕ)
     (result : Result (Unit {0}) Refusal) → IsDisk b → IsDisk new → IsSafe b k → IsSafe b q → k.stopped ≡ false → IsApart ws 0 → TakenBoth k q c m
     → ((tells : IsTrue b.tells) (H : List Entry1) (p : Past) → IsOpen b k H p → IsMade b H p d g name kind e c ws m)
-    → RowsPass b k (step.Make d g name kind) → Stores b q new l ws result → Goes b k new l (step.Make d g name kind) c (made_answer c result)
-made-goes b new k q l d g name kind e c ws m result is_b is_new safe claimed going apart taken made pass stores =
+    → RowsPass b k (step.Make d g name kind) → Stores b q new l ws result → length ws ≡ 2 + length (claimed_blocks c)
+    → Goes b k new l (step.Make d g name kind) c (made_answer c result)
+made-goes b new k q l d g name kind e c ws m result is_b is_new safe claimed going apart taken made pass stores count =
     subst (Goes b k new l (step.Make d g name kind) c) (answer-is c result)
     (stores-goes b new k q l (step.Make d g name kind) c (reply.Made c.inode c.generation) ws result is_b is_new safe going claimed
-    (taken-same k q c (1 + m) taken.all) apart refl refl refl
+    (taken-same k q c (1 + m) taken.all) apart refl count refl refl refl
     (λ tells H p o. let f = made tells H p o in record {
       step = record {
         given = make_given p.world.files d g name kind c e;

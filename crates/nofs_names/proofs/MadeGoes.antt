@@ -1,5 +1,5 @@
 -- The contract of Make, by how its entry was written.
-use Rattle.std.proofs.Common.{◌≡◌, ℕ, ◌/◌, ◌^◌, ◌<◌, ◌≤◌, true, false, eqb, ne_eqb, not, List, length, IsTrue, sym, ap, subst, arith}
+use Rattle.std.proofs.Common.{◌≡◌, ℕ, ◌/◌, ◌^◌, ◌<◌, ◌≤◌, true, false, eqb, ne_eqb, not, List, length, IsTrue, refl, sym, ap, subst, arith}
 use Rattle.nofs_bits.specs.Bits.{is_set}
 use Rattle.nofs_disk.specs.Disk.{DiskState, IsDisk, cell_at}
 use Rattle.nofs_model.specs.Cells.{FileKind, Record}
@@ -21,7 +21,9 @@ use Rattle.nofs_names.specs.declared.finding.placing.EntrySlot.{EntrySlot}
 use Rattle.nofs_names.specs.declared.finding.placing.EntrySlot.TheVariants.{Held as HeldSlot, Direct as DirectHole, UnderLeaf as HoleUnder}
 use Rattle.nofs_names.specs.declared.finding.placing.EntrySlot.TheVariants.{WithLeaf as HoleWith}
 use Rattle.nofs_names.specs.Makes.{MayMake, made_answer, made_record}
-use Rattle.nofs_names.proofs.Asking.{taken-none, taken-one, taken-two}
+use Rattle.nofs_model.specs.Cells.{null}
+use Rattle.nofs_names.proofs.Asking.{make_claims, taken-none, taken-one, taken-two}
+use Rattle.nofs_names.proofs.LinkClaims.{count-one, count-two}
 use Rattle.nofs_names.proofs.Made.{made-goes}
 use Rattle.nofs_names.proofs.MadeEntry.{next_of, held-made}
 use Rattle.nofs_names.proofs.MadeHole.{direct-made, under-made, with-made}
@@ -65,6 +67,9 @@ module _ (b new : DiskState) (k l : Books) (d g : ℕ) (name : List ℕ) (kind :
     cell-safe : IsSafe b (claimed_books (made_books k i) place.blocks.cell)
     cell-safe = claimed-safe b (made_books k i) place.blocks.cell cell-within (let s = may.stamps in let e = blocks-are in omega (arith, s, e, one)) first-safe
 
+  positive : (n : ℕ) → is_set k.free_blocks n ≡ true → 0 < n
+  positive n free = let a = safe.in_area n free in omega (arith, a)
+
   pub entered-goes : (s : EntrySlot) → place.slot ≡ s → Enters b (made_books k i) new l d dr place (record { inode = i; generation = next_of k; name = name })
       (made_record kind (next_of k) (link_to d place.entry g)) t s ended
       → Goes b k new l (step.Make d g name kind) (record ended.claims { inode = i; generation = next_of k })
@@ -74,7 +79,7 @@ module _ (b new : DiskState) (k l : Books) (d g : ℕ) (name : List ℕ) (kind :
       (in-data k.at x (subst (λ (q : EntrySlot). FitsSlot k.at (place.entry / 16) q) is may.fits), (no-table i, tt)) (taken-none k i (next_of k) may.above high)
       (λ tells H p o. held-made b k H p d g name kind dr place i tells safe o may is_b x is w.whole w.cell w.table t.inode w.payload w.tag (was_i tells)
       w.written)
-      pass w.stores)
+      pass w.stores refl)
   entered-goes DirectHole is w = subst IsEnd (sym w.claims)
       (made-goes b new k (claimed_books (made_books k i) place.blocks.cell) l d g name kind place.entry _ _ 1 ended.result is_b is_new safe
       (cell-safe 1 (ap slot_blocks is) (omega arith)) going
@@ -82,7 +87,8 @@ module _ (b new : DiskState) (k l : Books) (d g : ℕ) (name : List ℕ) (kind :
       (taken-one k i (next_of k) may.above high (claimed_pointer (made_books k i) place.blocks.cell) (cell-range 1 (ap slot_blocks is) (omega arith))
       (cell-named 1 (ap slot_blocks is) (omega arith)))
       (λ tells H p o. direct-made b k H p d g name kind dr place i tells safe o may is_b w.cell w.filled is t w.after w.tables (was_d tells) (was_i tells))
-      pass w.stores)
+      pass w.stores (count-one (make_claims i (next_of k) (claimed_pointer (made_books k i) place.blocks.cell) null)
+      (positive place.blocks.cell (cell-free 1 (ap slot_blocks is) (omega arith))) refl refl))
   entered-goes (HoleUnder y) is w = subst IsEnd (sym w.claims)
       (made-goes b new k (claimed_books (made_books k i) place.blocks.cell) l d g name kind place.entry _ _ 1 ended.result is_b is_new safe
       (cell-safe 1 (ap slot_blocks is) (omega arith)) going (
@@ -92,7 +98,8 @@ module _ (b new : DiskState) (k l : Books) (d g : ℕ) (name : List ℕ) (kind :
       (taken-one k i (next_of k) may.above high (claimed_pointer (made_books k i) place.blocks.cell) (cell-range 1 (ap slot_blocks is) (omega arith))
       (cell-named 1 (ap slot_blocks is) (omega arith)))
       (λ tells H p o. under-made b k H p d g name kind dr place i tells safe o may is_b w.cell w.filled y is w.leaf w.table t.inode w.above w.written
-      (was_i tells)) pass w.stores)
+      (was_i tells)) pass w.stores (count-one (make_claims i (next_of k) (claimed_pointer (made_books k i) place.blocks.cell) null)
+      (positive place.blocks.cell (cell-free 1 (ap slot_blocks is) (omega arith))) refl refl))
   entered-goes HoleWith is w =
       let f = may.blocks.leaf (let e = ap slot_blocks is in omega (arith, e)) in
       let n : place.blocks.leaf < k.at.blocks = (let r = f.1 in let m = safe.free_blocks in omega (arith, r, m)) in
@@ -109,7 +116,9 @@ module _ (b new : DiskState) (k l : Books) (d g : ℕ) (name : List ℕ) (kind :
       (claimed_pointer (claimed_books (made_books k i) place.blocks.cell) place.blocks.leaf)
       (cell-range 2 (ap slot_blocks is) (omega arith)) f.1 (cell-named 2 (ap slot_blocks is) (omega arith)) (ap not z))
       (λ tells H p o. with-made b k H p d g name kind dr place i tells safe o may is_b w.cell w.filled is w.leaf t w.after w.above w.tables (was_d tells)
-      (was_i tells)) pass w.stores)
+      (was_i tells)) pass w.stores (count-two (make_claims i (next_of k) (claimed_pointer (made_books k i) place.blocks.cell)
+      (claimed_pointer (claimed_books (made_books k i) place.blocks.cell) place.blocks.leaf))
+      (positive place.blocks.cell (cell-free 2 (ap slot_blocks is) (omega arith))) (positive place.blocks.leaf f.0) refl))
 
 -- the entry that was written, by the claim's numbers
 pub enters-as : (b new : DiskState) (k m l : Books) (d g : ℕ) (name : List ℕ) (kind : FileKind) (dr : Record) (place : EntryPlace) (i gen : ℕ) (r : Record)

@@ -105,12 +105,15 @@ module _ (b : DiskState) (k : Books) (H : List Entry1) (p : Past) (d g : ℕ) (n
 
   -- a cell that was written is one of the entry, the leaf or the table
   sort : (Y : Image) (c : Claims) (y : Pointer) (n : ℕ) (z : Cell) → cell_at Y 0 ≡ cell_at b.now 0 → IsWritten b.now Y place.entry c.cell y n z
-      → IsHoleWrite b.now Y place.entry c y n z
-  sort Y c y n z super (is, inl h) = OfEntry h (is ∙ ap (cell_at Y) h)
-  sort Y c y n z super (is, inr (inl h)) = OfLeaf h.0 h.1 (is ∙ ap (cell_at Y) h.1)
-  sort Y c y n z super (is, inr (inr h)) = OfTable h.0 h.1 h.2 (λ j range same.
-      inr (ap (λ (q : Cell). record_at q.payload ((j - 1) % 4)) (is ∙ ap (cell_at Y) (sym same))
-      ∙ record-in Y j (ap (λ (q : SuperBlock). leb 1 j && leb j q.inodes) (supers b.now Y super) ∙ range)))
+      → (z ≡ cell_at Y n) × IsHoleWrite b.now Y place.entry c y n z
+  sort Y c y n z super (is, inl h) = (is, OfEntry h (is ∙ ap (cell_at Y) h))
+  sort Y c y n z super (is, inr (inl h)) = (is, OfLeaf h.0 h.1 (is ∙ ap (cell_at Y) h.1))
+  sort Y c y n z super (is, inr (inr h)) = (
+    is,
+    OfTable h.0 h.1 h.2 (λ j range same.
+        inr (ap (λ (q : Cell). record_at q.payload ((j - 1) % 4)) (is ∙ ap (cell_at Y) (sym same))
+        ∙ record-in Y j (ap (λ (q : SuperBlock). leb 1 j && leb j q.inodes) (supers b.now Y super) ∙ range))),
+  )
 
   empty-slot : (s : EntrySlot) → place.slot ≡ s → IsEntrySlot b.now d (place.entry / 16) s
   empty-slot s e = subst (λ (q : EntrySlot). IsEntrySlot b.now d (place.entry / 16) q) e (may.slot tells)

@@ -131,7 +131,7 @@ pub record WritesInHole (s : ℕ) (X Y : Image) (F : Files) (d e : ℕ) (c : Cla
   pub claims : EntryClaims F c d e name c.cell y
   pub newer : stamps ≤ c.cell.stamp
   pub leaf_newer : stamps ≤ y.stamp ⊎ ((z : Pointer) × (find X d leaf ≡ answer.Holds z))
-  pub each : (b : ℕ) (cell : Cell) → OneOf ws b cell → IsHoleWrite X Y e c y b cell
+  pub each : (b : ℕ) (cell : Cell) → OneOf ws b cell → (cell ≡ cell_at Y b) × IsHoleWrite X Y e c y b cell
 
 module _ (old : DiskState) (k : Books) (H : List Entry1) (p : Past) (d g : ℕ) (name : List ℕ) (kind : FileKind) (e : ℕ) (c : Claims) (ws : List (ℕ × Cell))
     (is_old : IsDisk old) (tells : IsTrue old.tells) (o : IsOpen old k H p)
@@ -292,6 +292,7 @@ module _ (old : DiskState) (k : Books) (H : List Entry1) (p : Past) (d g : ℕ) 
     files = law.2;
     move = law-make-in-place-homes W X Y d g e (next_stamp W) name kind c own.file x lies h.entry it.place it.claim;
     writes = in-place-writes (next_stamp W) d c.inode (e / 16) X Y x h.entry.held h.entry.writes;
+    last = λ b cell one. (h.each b cell one).0;
   }
     where
       law : ((m : Mark) → is_data_block m.image x.block ≡ true → Proper (during m (make_given W.files d g name kind c e)) X x.block (cell_at Y x.block))
@@ -324,8 +325,9 @@ module _ (old : DiskState) (k : Books) (H : List Entry1) (p : Past) (d g : ℕ) 
   pub in-hole-ends : (y : Pointer) → WritesInHole (next_stamp W) X Y W.files d e c name y p.stamps ws
       → WritesName old H p (step.Make d g name kind) c (make_given W.files d g name kind c e) d c.inode ws
   in-hole-ends y h = record {
-    proper = λ b cell one. proper-at b cell (h.each b cell one);
-    numbers = λ b cell one. numbers-at b cell (h.each b cell one);
+    proper = λ b cell one. proper-at b cell (h.each b cell one).1;
+    numbers = λ b cell one. numbers-at b cell (h.each b cell one).1;
+    last = λ b cell one. (h.each b cell one).0;
     files = law.2;
     move = law-make-in-hole-homes W X Y d g e (next_stamp W) name kind c own.file y lies h.entry h.claims it.claim;
     writes = writes;

@@ -42,18 +42,19 @@ use Rattle.nofs_crashlaw.specs.CellNumbers.{OldNumbers, RecordWritten, table_tag
 use Rattle.nofs_crashlaw.specs.Stage.{AddsProper}
 use Rattle.nofs_state.specs.Books.{IsSafe, Says}
 use Rattle.nofs_state.specs.Standing.{IsOpen, Past}
-use Rattle.nofs_state.specs.Steps.{Goes, entry}
+use Rattle.nofs_state.specs.Steps.{Goes, MeetsOpen, WritesAlone, WritesCells, WritesSoMany, entry, makes_calls}
 use Rattle.nofs_state.specs.declared.books.Books.{Books}
 use Rattle.nofs_state.specs.Owing.{RowsPass}
-use Rattle.nofs_state.specs.Writing.{IsApart, OneOf, Stores, Stored, NotStored, WritesAll, image_after}
+use Rattle.nofs_state.specs.Writing.{HasOneEach, IsApart, OneOf, Stores, Stored, NotStored, WritesAll, image_after}
 use Rattle.nofs_crashlaw.proofs.WrittenTables.{law-table-numbers}
 use Rattle.nofs_state.proofs.Done.{IsDone, Adds-map, after_world, goes-done}
 use Rattle.nofs_crashlaw.proofs.Histories.{now-picks}
 use Rattle.nofs_crashlaw.proofs.Resting.{law-rest}
 use Rattle.nofs_state.proofs.Faults.{goes-fault, stopped_books, stopped_world}
 use Rattle.nofs_state.proofs.Replies.{open-files}
+use Rattle.nofs_state.proofs.SafeSteps.{accepted-fault}
 use Rattle.nofs_state.proofs.Sounded.{AddsNumbered}
-use Rattle.nofs_state.proofs.TwoWrites.{safe-writes}
+use Rattle.nofs_state.proofs.TwoWrites.{one-each, safe-writes, writes-cells}
 use Rattle.nofs_names.specs.Renames.{done_answer}
 
 -- The mount
@@ -115,6 +116,8 @@ pub record WritesName (old : DiskState) (H : List Entry1) (p : Past) (s : Step) 
   pub files : FilesMatch (files_after p.world.files given) (image_after ws old.now)
   pub move : HomesMove p.world.files s c old.now (image_after ws old.now)
   pub writes : NameWrites (next_stamp p.world) d i old.now (image_after ws old.now)
+  -- each cell is what a read gives when all are written
+  pub last : (b : ℕ) (cell : Cell) → OneOf ws b cell → cell ≡ cell_at (image_after ws old.now) b
 
 pub record NameStep (old : DiskState) (H : List Entry1) (p : Past) (s : Step) (c : Claims) (ws : List (ℕ × Cell)) : Type 0 where
   pub given : Given
@@ -244,13 +247,19 @@ module _ (s : ℕ) (X Y : Image) (d i k : ℕ) (x y : Pointer) where
 
 -- The step, from its writes
 
+each-last : (old : DiskState) (k : Books) (s : Step) (c : Claims) (ws : List (ℕ × Cell))
+    → (IsTrue old.tells → (H : List Entry1) (p : Past) → IsOpen old k H p → NameStep old H p s c ws)
+    → IsTrue old.tells → (H : List Entry1) (p : Past) → IsOpen old k H p → HasOneEach ws
+each-last old k s c ws it tells H p o = one-each ws (image_after ws old.now) (it tells H p o).ends.last
+
 -- a write failed
 pub fault-goes : (old new : DiskState) (k q : Books) (s : Step) (c : Claims) (ws : List (ℕ × Cell)) (x : Failed) → IsDisk old → IsSafe old k → k.stopped ≡ false
-    → IsSafe old q → SameMount k q → IsApart ws 0 → may_write s ≡ true
+    → IsSafe old q → SameMount k q → IsApart ws 0 → may_write s ≡ true → WritesSoMany s c (length ws)
     → ((tells : IsTrue old.tells) (H : List Entry1) (p : Past) → IsOpen old k H p → NameStep old H p s c ws) → RowsPass old k s
     → WritesAll old new ws (Err x) → Goes old k new (stopped_books q) s c (reply.Refused refusal.WriteFault)
-fault-goes old new k q s c ws x is safe going claimed same apart may it pass writes =
-    goes-fault old new k (stopped_books q) s c is going same.at same.history refl writes.adds.disk writes.adds.past writes.cause writes.later safe
+fault-goes old new k q s c ws x is safe going claimed same apart may count it pass writes =
+    goes-fault old new k (stopped_books q) s c is going same.at same.history refl writes.adds.disk writes.adds.past writes.cause writes.later
+    (WritesAlone refl (writes-cells k s c writes count (each-last old k s c ws it))) safe
     (safe-writes old new q ws (Err x) true writes apart claimed)
     (λ tells H p o. name-numbered old new k H p s c ws is tells o (it tells H p o) writes.adds)
     (λ tells caller H p o. (
@@ -268,25 +277,27 @@ pub record NameComes (old : DiskState) (H : List Entry1) (p : Past) (q : Books) 
 
 -- all is written: the books after it are l
 pub done-goes : (old new : DiskState) (k l : Books) (s : Step) (c : Claims) (r : Reply) (ws : List (ℕ × Cell)) → IsDisk old → IsDisk new → IsSafe old k
-    → k.stopped ≡ false → IsSafe new l → SameMount k l → is_refused r ≡ false → is_flushed r ≡ false
+    → k.stopped ≡ false → IsSafe new l → SameMount k l → WritesSoMany s c (length ws) → is_refused r ≡ false → is_flushed r ≡ false
+    → makes_calls r ≡ true
     → ((tells : IsTrue old.tells) (H : List Entry1) (p : Past) → IsOpen old k H p → NameComes old H p l s c r ws) → RowsPass old k s
     → WritesAll old new ws (Ok tt) → Goes old k new l s c r
-done-goes old new k l s c r ws is is_new safe going after same accepted no_flush comes pass writes =
+done-goes old new k l s c r ws is is_new safe going after same count accepted no_flush made comes pass writes =
     goes-done old new k l s c r ws is is_new going same.at same.history (same.stopped ∙ going) after accepted writes.adds.disk writes.adds.past writes.later
-    safe
+    (WritesAlone made (subst (WritesCells old new (MeetsOpen old k) s c) (sym (accepted-fault r accepted))
+    (writes-cells k s c writes count (each-last old k s c ws (λ tells H p o. (comes tells H p o).step))))) safe
     (λ tells H p o. let f = comes tells H p o in
     name-done old new k H p s c ws is tells o f.step l r same f.follows f.answer accepted no_flush writes (pass tells H p o))
 
 -- all is written, or a write failed: the books after the claims are q
 pub stores-goes : (old new : DiskState) (k q l : Books) (s : Step) (c : Claims) (r : Reply) (ws : List (ℕ × Cell)) (result : Result (Unit {0}) Refusal)
-    → IsDisk old → IsDisk new → IsSafe old k → k.stopped ≡ false → IsSafe old q → SameMount k q → IsApart ws 0 → may_write s ≡ true
-    → is_refused r ≡ false → is_flushed r ≡ false
+    → IsDisk old → IsDisk new → IsSafe old k → k.stopped ≡ false → IsSafe old q → SameMount k q → IsApart ws 0 → may_write s ≡ true → WritesSoMany s c (length ws)
+    → is_refused r ≡ false → is_flushed r ≡ false → makes_calls r ≡ true
     → ((tells : IsTrue old.tells) (H : List Entry1) (p : Past) → IsOpen old k H p → NameComes old H p q s c r ws) → RowsPass old k s
     → Stores old q new l ws result → Goes old k new l s c (done_answer r result)
-stores-goes old new k q l s c r ws result is is_new safe going claimed same apart may accepted no_flush comes pass (Stored writes el er) =
+stores-goes old new k q l s c r ws result is is_new safe going claimed same apart may count accepted no_flush made comes pass (Stored writes el er) =
     subst₂ (λ (b : Books) (z : Result (Unit {0}) Refusal). Goes old k new b s c (done_answer r z)) (sym el) (sym er)
-    (done-goes old new k q s c r ws is is_new safe going (safe-writes old new q ws (Ok tt) q.stopped writes apart claimed) same accepted no_flush comes pass
+    (done-goes old new k q s c r ws is is_new safe going (safe-writes old new q ws (Ok tt) q.stopped writes apart claimed) same count accepted no_flush made comes pass
     writes)
-stores-goes old new k q l s c r ws result is is_new safe going claimed same apart may accepted no_flush comes pass (NotStored x writes el er) =
+stores-goes old new k q l s c r ws result is is_new safe going claimed same apart may count accepted no_flush made comes pass (NotStored x writes el er) =
     subst₂ (λ (b : Books) (z : Result (Unit {0}) Refusal). Goes old k new b s c (done_answer r z)) (sym el) (sym er)
-    (fault-goes old new k q s c ws x is safe going claimed same apart may (λ tells H p o. (comes tells H p o).step) pass writes)
+    (fault-goes old new k q s c ws x is safe going claimed same apart may count (λ tells H p o. (comes tells H p o).step) pass writes)

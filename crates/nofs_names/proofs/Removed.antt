@@ -110,13 +110,13 @@ removed-goes b new k l d g name r x c1 c2 q freed is_b is_new safe going it q-ki
         subst (λ (z : Result (Unit {0}) Refusal). Goes b k new l (step.Drop d g name) no_claims (done_answer (reply.Dropped true) z)) (sym e)
         (done-goes b new k l (step.Drop d g name) no_claims (reply.Dropped true) ((x.block, c1) ∷ (table_block q.inode, c2) ∷ []) is_b is_new safe going
         (safe-freed new k l q.inode freed (safe-writes b new k ((x.block, c1) ∷ (table_block q.inode, c2) ∷ []) (Ok tt) k.stopped writes apart safe)
-        a blocks.size blocks.in_area) (record { at = a.at; history = a.history; stopped = a.stopped }) refl refl
+        a blocks.size blocks.in_area) (record { at = a.at; history = a.history; stopped = a.stopped }) refl refl refl refl
         (λ tells H p o. gone-comes b k H p d g name r x c1 c2 q free_record is_b tells o (facts tells H p o) (it.known.same tells) (gone tells H p o) refl l
         (freed-now tells H p o a)) pass writes)
     go (NotStored f writes same e) = subst₂ (λ (z : Books) (w : Result (Unit {0}) Refusal). Goes b k new z (step.Drop d g name) no_claims
         (done_answer (reply.Dropped true) w)) (sym (err refusal.WriteFault e ∙ same)) (sym e)
         (fault-goes b new k k (step.Drop d g name) no_claims ((x.block, c1) ∷ (table_block q.inode, c2) ∷ []) f is_b safe going safe
-        (record { at = refl; history = refl; stopped = refl }) apart refl
+        (record { at = refl; history = refl; stopped = refl }) apart refl refl
         (λ tells H p o. gone-step b k H p d g name r x c1 c2 q free_record is_b tells o (facts tells H p o) (it.known.same tells) (gone tells H p o) refl)
         pass writes)
 

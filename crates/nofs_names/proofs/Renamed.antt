@@ -48,7 +48,7 @@ pub renamed-goes : (b new : DiskState) (k l : Books) (d g : ℕ) (name other : L
     → Goes b k new l (step.Rename d g name other) no_claims (done_answer reply.Renamed result)
 renamed-goes b new k l d g name other r x c q result is_b is_new safe going directory gen there found-in positive held whole spells payload tag pass stores =
     stores-goes b new k k l (step.Rename d g name other) no_claims reply.Renamed ((x.block, c) ∷ []) result is_b is_new safe going safe
-    (record { at = refl; history = refl; stopped = refl }) apart refl refl refl
+    (record { at = refl; history = refl; stopped = refl }) apart refl refl refl refl refl
     (λ tells H p o. record {
       step = rename-step b k H p d g name other r x c q is_b tells o (directory.known.same tells) directory.kind gen (agrees H p tells o) (pair H p tells o)
           (held tells) (whole tells) spells (payload tells) (tag tells);

@@ -162,6 +162,10 @@ module _ (old : DiskState) (k : Books) (H : List Entry1) (p : Past) (d g : ℕ) 
       (law-rename-numbers W X Y d g q.entry (next_stamp W) other own.file x it no_claims on.numbers lies))
   numbers b cell (inr none) = absurd none
 
+  last : (b : ℕ) (cell : Cell) → OneOf ((x.block, c) ∷ []) b cell → cell ≡ cell_at Y b
+  last b cell (inl one) = one.1 ∙ sym (ap (cell_at Y) one.0 ∙ write-here X x c on.geometry.fits on.geometry.multiple area)
+  last b cell (inr none) = absurd none
+
   -- What it gives
 
   nothing : (j : ℕ) → j ≢ d → GivesNothing (rename_given W.files d g other q.entry) j
@@ -189,6 +193,7 @@ module _ (old : DiskState) (k : Books) (H : List Entry1) (p : Past) (d g : ℕ) 
       files = law.1;
       move = law-rename-homes W X Y d g q.entry (next_stamp W) name other own.file x it no_claims lies claim;
       writes = in-place-writes (next_stamp W) d 0 (q.entry / 16) X Y x held in-place;
+      last = last;
     };
   }
 

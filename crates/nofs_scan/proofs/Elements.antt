@@ -16,7 +16,7 @@ use Rattle.nofs_history.specs.declared.machine.replies.Reply.TheVariants as repl
 use Rattle.nofs_history.specs.declared.machine.replies.Refusal.TheVariants as refusal
 use Rattle.nofs_state.specs.Books.{IsSafe}
 use Rattle.nofs_state.specs.Standing.{IsOpen, Past}
-use Rattle.nofs_state.specs.Steps.{Follows, Goes, entry}
+use Rattle.nofs_state.specs.Steps.{Follows, Goes, LeavesDisk, entry}
 use Rattle.nofs_state.specs.Verdicts.{InData, Judges, Verifies, Stood, Learned, Unread, learned_block, learned_inode, verdict_of_block}
 use Rattle.nofs_state.specs.Verdicts.{verdict_of_inode}
 use Rattle.nofs_state.specs.declared.books.Books.{Books}
@@ -101,6 +101,7 @@ goes-seen old new k l s used stays going still safe at history follows = record 
   past = stays.past;
   later = (let m = stays.cells.moment in omega (arith, m));
   cause = seen-causes old new k l used stays.cells going still;
+  order = LeavesDisk refl stays.cells;
   safe = safe;
   at = at;
   history = history;

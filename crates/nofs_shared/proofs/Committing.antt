@@ -2,7 +2,7 @@
 use Rattle.std.proofs.Common.{◌≡◌, ℕ, ◌^◌, ◌<◌, ◌≤◌, arith, Bool, true, false, [], ◌∷◌, ◌++◌, set, IsTrue, ◌⊎◌, inl, inr, refl, sym, ap, ◌∙◌, subst, le_refl}
 use mathlib.Core.List.{IsPrefix}
 use Rattle.nofs_disk.specs.Disk.{DiskState}
-use Rattle.nofs_disk.specs.Chains.{IsSameDisk-refl, KeepsPast-refl}
+use Rattle.nofs_disk.specs.Chains.{IsSameDisk-refl, KeepsCells-refl, KeepsPast-refl}
 use Rattle.nofs_super.specs.Format.{super_cell}
 use Rattle.nofs_model.specs.Cells.{SuperBlock}
 use Rattle.nofs_history.specs.Claims.{no_claims}
@@ -17,7 +17,7 @@ use Rattle.nofs_history.specs.declared.machine.replies.Refusal.TheVariants as re
 use Rattle.nofs_history.specs.Steps.{Fits}
 use Rattle.nofs_state.specs.Books.{with_history}
 use Rattle.nofs_state.specs.Standing.{IsOpen, IsStopped, Past}
-use Rattle.nofs_state.specs.Steps.{IsSafeStep, entry}
+use Rattle.nofs_state.specs.Steps.{IsSafeStep, LeavesDisk, entry}
 use Rattle.nofs_state.specs.declared.books.Books.{Books}
 use Rattle.nofs_state.specs.Verdicts.{LearnsIt, Settles, StaysSo}
 use Rattle.nofs_scan.specs.Elements.{HasElement, is_used, learned, see_step, verdict_of}
@@ -72,7 +72,8 @@ module _ (found early d : DiskState) (first : ℕ) (before k l : Books) (then : 
 
     pub mount-commits : (h : HistoryState) → h.start ≡ l.history.start → h.entries ≡ l.history.entries ++ e ∷ []
         → IsMount found d first (record l { history = h })
-    mount-commits = mount-more found d d first k l m (see_step kind item) no_claims (reply.Seen result) caller safely refl
+    mount-commits = mount-more found d d first k l m (see_step kind item) no_claims (reply.Seen result) caller safely
+        (LeavesDisk refl (KeepsCells-refl d)) refl
         (λ q st. (go q st.past st.base st.serial st.now, st.sound))
       where
         go : IsSoundDisk found → (p : Past) → p.base ≡ d.was k.history.start → p.first ≡ first

@@ -16,6 +16,7 @@ use Rattle.nofs_crashlaw.proofs.ClaimParts.{claim-free}
 use Rattle.nofs_state.specs.Standing.{IsOpen, IsStopped, Past}
 use Rattle.nofs_state.specs.declared.books.Books.{Books}
 use Rattle.nofs_shared.specs.Mounts.{IsFound, IsMount}
+use Rattle.nofs_shared.proofs.Mounting.{only-calls}
 use Rattle.nofs_shared.specs.Ends.{EntryClaimsFree, Ends}
 
 inode-free : (W : World) (n : ℕ) (c : Claims) (b : Bool) → IsInodeClaim W n c b → c.inode ≢ 0 → is_free_inode W c.inode ≡ true
@@ -57,6 +58,7 @@ mount-ends found d first k m = record {
   began = m.mounted.begun;
   stopped = k.stopped;
   forms = m.forms;
+  calls = only-calls k.history.entries k.history.start false d.moment k.stopped m.forms;
   faults = m.counted;
   contents = λ q.
       let s = m.stands q in

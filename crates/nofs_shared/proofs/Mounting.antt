@@ -1,5 +1,5 @@
 -- A mount stands after each step.
-use Rattle.std.proofs.Common.{◌≡◌, ℕ, ◌+◌, ◌-◌, ◌^◌, ◌<◌, ◌≤◌, min, Bool, true, false, ◌||◌, cond, List, [], ◌∷◌, ◌++◌, IsTrue, ◌⊎◌, inl, inr, refl, sym, ap}
+use Rattle.std.proofs.Common.{◌≡◌, ℕ, ◌+◌, ◌-◌, ◌*◌, ◌^◌, ◌<◌, ◌≤◌, min, Bool, true, false, ◌||◌, cond, List, [], ◌∷◌, ◌++◌, length, IsTrue, ◌⊎◌, inl, inr, refl, sym, ap}
 use Rattle.std.proofs.Common.{◌∙◌, subst, subst₂, arith, le_refl}
 use Rattle.std.proofs.lemmas.Bool.{cases_lt}
 use Rattle.nofs_disk.specs.Disk.{DiskState, IsSameDisk, KeepsCells, Picks, Rose}
@@ -15,21 +15,24 @@ use Rattle.nofs_history.specs.HistoryState.{HistoryState}
 use Rattle.nofs_history.specs.declared.machine.history.Claims.{Claims}
 use Rattle.nofs_history.specs.declared.machine.history.Entry1.{Entry1}
 use Rattle.nofs_history.specs.declared.machine.steps.Step.{Step}
+use Rattle.nofs_history.specs.declared.machine.steps.Step.TheVariants as step
 use Rattle.nofs_history.specs.declared.machine.replies.Reply.{Reply}
 use Rattle.nofs_history.specs.declared.machine.replies.Reply.TheVariants as reply
 use Rattle.nofs_history.specs.declared.machine.replies.Refusal.TheVariants as refusal
 use Rattle.nofs_crashlaw.specs.Stage.{AllBy}
 use Rattle.nofs_state.specs.Books.{IsSafe, with_history}
 use Rattle.nofs_state.specs.Standing.{IsOpen, IsStopped, Past, Sounds}
-use Rattle.nofs_state.specs.Steps.{Follows, Goes, IsSafeStep, Moves, entry, goes-safely}
+use Rattle.nofs_state.specs.Steps.{FlushesAlone, Follows, Goes, IsSafeStep, LeavesDisk, MeetsOpen, Moves, NoOrder, WritesAlone, WritesSoMany, entry, goes-safely}
+use Rattle.nofs_state.specs.Steps.{is_flush, makes_calls}
 use Rattle.nofs_state.specs.declared.books.Books.{Books}
 use Rattle.nofs_crashlaw.proofs.Later.{law-later}
 use Rattle.nofs_state.proofs.Keeping.{Keeping, open-keeps, stopped-keeps}
 use Rattle.nofs_state.proofs.SafeBooks.{safe-over}
 use Rattle.nofs_state.proofs.Sessions.{open-with, stopped-with}
 use Rattle.nofs_state.proofs.Sounding.{sounds-keep}
+use Rattle.nofs_turn.proofs.Words.{prefix_length}
 use Rattle.nofs_shared.proofs.RestingImages.{rests-later}
-use Rattle.nofs_shared.specs.Forms.{Forms, IsNextEntry, is_fault, faults_in}
+use Rattle.nofs_shared.specs.Forms.{Cells, Forms, IsNextEntry, NoCell, OnlyCalls, Wrote, flushes_in, flushes_of, is_fault, faults_in}
 use Rattle.nofs_shared.specs.Mounts.{IsMount, IsMounted, IsSoundDisk, MountStands}
 
 -- The same books with another history
@@ -103,6 +106,61 @@ faulty : (r : Reply) → is_fault r ≡ true → (r ≡ reply.Refused refusal.Re
 faulty (reply.Refused refusal.ReadFault) e = inl refl
 faulty (reply.Refused refusal.WriteFault) e = inr refl
 faulty _ e = cc
+
+-- what it wrote, and how long it took, by what it did to the device
+pub record Calls (e : Entry1) : Type 0 where
+  pub cells : ℕ
+  pub wrote : Wrote e cells
+  pub took : e.to ≡ e.from + 2 * cells + 2 * flushes_of e
+
+quick : (r : Reply) → makes_calls r ≡ false → takes_time r ≡ false
+quick reply.Flushed e = cc e
+quick (reply.Refused refusal.WriteFault) e = cc e
+quick _ e = refl
+
+no-flush : (s : Step) (c : Claims) (n : ℕ) → WritesSoMany s c n → is_flush s ≡ false
+no-flush (step.Flush i g) c n none = absurd none
+no-flush _ c n count = refl
+
+abbrev one_flush : Bool → Bool → ℕ
+one_flush a b = cond a (cond b 1 0) 0
+
+no-flushes : (a b : Bool) → b ≡ false → one_flush a b ≡ 0
+no-flushes true b e = rw e refl
+no-flushes false b e = refl
+
+pub calls-by : (old new : DiskState) (k : Books) (caller : ℕ) (s : Step) (c : Claims) (r : Reply) → NoOrder old new (MeetsOpen old k) s c r
+    → Calls (entry caller old new s c r)
+calls-by old new k caller s c r (LeavesDisk none cells) = record {
+  cells = 0;
+  wrote = NoCell (inl none) refl;
+  took = (let m = cells.moment in let f : flushes_of (entry caller old new s c r) ≡ 0 = let t = quick r none in rw t refl in omega (arith, m, f));
+}
+calls-by old new k caller s c r (FlushesAlone is late f) = record {
+  cells = 0;
+  wrote = NoCell (inr is) refl;
+  took = (let m = f.moment in let n : flushes_of (entry caller old new s c r) ≡ 1 = rw (late, is) refl in omega (arith, m, n));
+}
+calls-by old new k caller s c r (WritesAlone made w) = record {
+  cells = length w.calls;
+  wrote = Cells made (length w.row) w.count (prefix_length w.calls w.row w.first) (λ e. ap length (w.whole e));
+  took = (
+      let m = w.only.moment in
+      let f : flushes_of (entry caller old new s c r) ≡ 0 = no-flushes (takes_time r) (is_flush s) (no-flush s c (length w.row) w.count) in
+      omega (arith, m, f)
+      );
+}
+
+-- of the whole history
+pub only-calls : (H : List Entry1) (m : ℕ) (b : Bool) (n : ℕ) (c : Bool) → Forms m b H n c → OnlyCalls m n H
+only-calls [] m b n c f = record { cells = 0; wrote = refl; moment = (let e = f.0 in omega (arith, e)) }
+only-calls (e ∷ H) m b n c f =
+    let rest = only-calls H e.to (b || is_write_fault e.reply) n c f.1 in
+    record {
+      cells = f.0.cells + rest.cells;
+      wrote = (f.0.cells, rest.cells, f.0.wrote, rest.wrote, refl);
+      moment = (let from = f.0.from in let took = f.0.took in let more = rest.moment in omega (arith, from, took, more));
+    }
 
 -- what the machine says of a step that is made where this past stands
 abbrev pub Leads : DiskState → Books → Entry1 → List Entry1 → Past → Type 0
@@ -236,7 +294,8 @@ module _ (found old new : DiskState) (first : ℕ) (k l : Books) (m : IsMount fo
         go false eb = let t = f.done mem eb in (t.0, t.1, inl t.2)
 
   -- one entry more
-  module _ (s : Step) (c : Claims) (r : Reply) (caller : ℕ) (g : IsSafeStep old k new l r) (mem : is_out_of_memory r ≡ false) where
+  module _ (s : Step) (c : Claims) (r : Reply) (caller : ℕ) (g : IsSafeStep old k new l r) (order : NoOrder old new (MeetsOpen old k) s c r)
+      (mem : is_out_of_memory r ≡ false) where
     abbrev e : Entry1
     e = entry caller old new s c r
 
@@ -252,6 +311,9 @@ module _ (found old new : DiskState) (first : ℕ) (k l : Books) (m : IsMount fo
             from = refl;
             later = g.later;
             takes = took old new k l r g;
+            cells = (calls-by old new k caller s c r order).cells;
+            wrote = (calls-by old new k caller s c r order).wrote;
+            took = (calls-by old new k caller s c r order).took;
             stops = λ t. g.cause.stopped t mem;
             stopped_only = g.cause.not_stopped;
             memory = mem;
@@ -289,5 +351,5 @@ module _ (found old new : DiskState) (first : ℕ) (k l : Books) (m : IsMount fo
   pub mount-goes : (s : Step) (c : Claims) (r : Reply) (caller : ℕ) (g : Goes old k new l s c r) (mem : is_out_of_memory r ≡ false)
       → (h : HistoryState) → h.start ≡ l.history.start → h.entries ≡ l.history.entries ++ entry caller old new s c r ∷ []
       → IsMount found new first (record l { history = h })
-  mount-goes s c r caller g mem = mount-more s c r caller (goes-safely g) mem
+  mount-goes s c r caller g mem = mount-more s c r caller (goes-safely g) g.order mem
       (λ q st. (goes-leads s c r caller g mem q st.past st.now, g.sound (told q) k.history.entries st.past st.now found.moment st.sound))

@@ -1,6 +1,8 @@
 -- What comes before the mount number is raised, and why a disk is not mounted.
-use Rattle.std.specs.Prelude.{◌≡◌, ◌≢◌, ◌<◌, ◌≤◌, IsTrue, Some, Result, Err, IfOk, IfErr}
-use Rattle.nofs_disk.specs.Disk.{DiskState, IsSameDisk, KeepsCells, KeepsPast, Rose, cell_at}
+use Rattle.std.specs.Prelude.{◌≡◌, ◌≢◌, ◌+◌, ◌<◌, ◌≤◌, IsTrue, Some, Result, Err, IfOk, IfErr, slice_set}
+use Rattle.nofs_disk.specs.Disk.{DiskState, IsSameDisk, IsSettled, KeepsCells, KeepsPast, Rose, cell_at}
+use Rattle.nofs_super.specs.Format.{super_cell}
+use Rattle.nofs_model.specs.Cells.{SuperBlock}
 use Rattle.nofs_super.specs.Super.{CanMount, check_super, super_of}
 use Rattle.nofs_super.specs.declared.superblock.MountFault.{MountFault}
 use Rattle.nofs_super.specs.declared.superblock.MountFault.TheVariants as fault
@@ -28,6 +30,12 @@ pub record Prepares (old new : DiskState) (result : Result Prepared MountFault) 
   pub cells : KeepsCells old new
   pub ok : IfOk result (IsPrepared new)
   pub err : IfErr result (IsMountRefused old new)
+
+-- One write, of block 0 with the raised superblock, and one flush; nothing else that takes time
+pub record BeginsMount (old new : DiskState) (at : SuperBlock) : Type 0 where
+  pub moment : new.moment ≡ old.moment + 4
+  pub now : new.now ≡ slice_set old.now 0 (super_cell at)
+  pub settled : IsSettled new
 
 -- why a mount did not begin. Where a write or a flush failed, the next mount finds the disk as sound as this one
 pub record BeginFails (old new : DiskState) (why : MountFault) : Type 0 where

@@ -16,7 +16,7 @@ use Rattle.nofs_history.specs.declared.machine.history.Entry1.{Entry1}
 use Rattle.nofs_history.specs.declared.machine.steps.Step.{Step}
 use Rattle.nofs_history.specs.declared.machine.steps.Step.TheVariants as step
 use Rattle.nofs_history.specs.declared.machine.replies.Reply.{Reply}
-use Rattle.nofs_shared.specs.Forms.{Forms, faults_in}
+use Rattle.nofs_shared.specs.Forms.{Forms, OnlyCalls, faults_in}
 use Rattle.nofs_shared.specs.Mounts.{IsFound, IsSoundDisk}
 use Rattle.nofs_shared.specs.Owned.{steps_by}
 use Rattle.nofs_shared.specs.Added.{AddsStep}
@@ -55,6 +55,8 @@ pub record Ends (found last : DiskState) (first : ℕ) (h : HistoryState) : Type
   pub began : h.start ≡ found.moment + 4
   pub stopped : Bool
   pub forms : Forms h.start false h.entries last.moment stopped
+  -- no step orders its writes: the only flushes since the mount's are those of the Flush steps
+  pub calls : OnlyCalls h.start last.moment h.entries
   pub faults : min (found.faults + faults_in h.entries) (2 ^ 64 - 1) ≤ last.faults
   pub contents : IsSoundDisk found → Contents found last first h
 

@@ -6,7 +6,11 @@ use Rattle.nofs_history.specs.Steps.{is_out_of_memory}
 use Rattle.nofs_history.specs.declared.machine.replies.Refusal.TheVariants as refusal
 use Rattle.nofs_history.specs.declared.machine.replies.Reply.{Reply}
 use Rattle.nofs_history.specs.declared.machine.replies.Reply.TheVariants as reply
+use Rattle.nofs_history.specs.declared.machine.history.Claims.{Claims}
+use Rattle.nofs_history.specs.declared.machine.steps.Step.{Step}
+use Rattle.nofs_state.specs.Steps.{NoOrder}
 use Rattle.nofs_state.specs.declared.books.Books.{Books}
+use Rattle.nofs_shared.specs.Mounts.{IsSoundDisk}
 
 -- from the disk and the books before the step to those after it and its entry
 pub record StepCauses (old new : DiskState) (k l : Books) (r : Reply) : Type 0 where
@@ -22,3 +26,12 @@ pub record StepCauses (old new : DiskState) (k l : Books) (r : Reply) : Type 0 w
   -- every other refusal leaves the cells, and want of memory leaves all but the room for entries
   pub refused : is_refused r ≡ true → is_write_fault r ≡ false → KeepsCells old new
   pub memory : is_out_of_memory r ≡ true → l ≡ record k { history = l.history }
+
+-- the mount is open, over a disk that tells and was found sound
+abbrev pub MeetsSound : DiskState → Books → Type 0
+MeetsSound found k = IsSoundDisk found × (k.stopped ≡ false)
+
+-- what a step did to the device, by what it claims: it orders no write
+pub record StepOrder (old new : DiskState) (Told : Type 0) (s : Step) (r : Reply) : Type 0 where
+  pub claims : Claims
+  pub order : NoOrder old new Told s claims r

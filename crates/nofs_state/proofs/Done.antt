@@ -33,7 +33,7 @@ use Rattle.nofs_crashlaw.specs.Stage.{AddsProper, Stage}
 use Rattle.nofs_crashlaw.proofs.Staging.{law-stage}
 use Rattle.nofs_state.specs.Books.{IsSafe, Says, knows_inode, knows_block}
 use Rattle.nofs_state.specs.Standing.{IsOpen, IsStopped, Past, Sounds}
-use Rattle.nofs_state.specs.Steps.{Goes, entry}
+use Rattle.nofs_state.specs.Steps.{Goes, MeetsOpen, NoOrder, entry}
 use Rattle.nofs_state.specs.Writing.{OneOf}
 use Rattle.nofs_state.specs.declared.books.Books.{Books}
 use Rattle.nofs_state.proofs.Idle.{run-more, takes-none}
@@ -210,10 +210,10 @@ module _ (old new : DiskState) (k l : Books) (H : List Entry1) (p : Past) (calle
 -- the contract of a step that is done
 pub goes-done : (old new : DiskState) (k l : Books) (s : Step) (c : Claims) (r : Reply) (ws : List (ℕ × Cell)) → IsDisk old → IsDisk new → k.stopped ≡ false
     → l.at ≡ k.at → l.history ≡ k.history → l.stopped ≡ false → IsSafe new l → is_refused r ≡ false
-    → IsSameDisk old new → KeepsPast old new → old.moment < new.moment → IsSafe old k
+    → IsSameDisk old new → KeepsPast old new → old.moment < new.moment → NoOrder old new (MeetsOpen old k) s c r → IsSafe old k
     → (IsTrue old.tells → (H : List Entry1) (p : Past) → IsOpen old k H p → IsDone old new k l H p s c r ws) → Goes old k new l s c r
-goes-done old new k l s c r ws is_old is_new going at history runs safe accepted disk past later safe_old done =
-    safely-goes old new k l s c r (safely-done old new k l r going at history runs safe accepted disk past later) sounds
+goes-done old new k l s c r ws is_old is_new going at history runs safe accepted disk past later order safe_old done =
+    safely-goes old new k l s c r (safely-done old new k l r going at history runs safe accepted disk past later) order sounds
     (λ tells caller H p o. record {
       none = λ t. absurd (let z = accepted-memory r accepted in cc (t, z));
       done = λ n f. (

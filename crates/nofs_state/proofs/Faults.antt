@@ -15,7 +15,7 @@ use Rattle.nofs_crashlaw.specs.Stage.{AddsProper, Lasts}
 use Rattle.nofs_crashlaw.proofs.Staging.{law-lasts}
 use Rattle.nofs_state.specs.Books.{IsSafe}
 use Rattle.nofs_state.specs.Standing.{IsOpen, IsStopped, Past, Sounds}
-use Rattle.nofs_state.specs.Steps.{Goes, entry}
+use Rattle.nofs_state.specs.Steps.{Goes, MeetsOpen, NoOrder, entry}
 use Rattle.nofs_state.specs.declared.books.Books.{Books}
 use Rattle.nofs_state.proofs.Idle.{run-more}
 use Rattle.nofs_state.proofs.Replies.{nothing-learned}
@@ -57,14 +57,15 @@ module _ (old new : DiskState) (k l : Books) (at : l.at ≡ k.at) (history : l.h
 
 -- the contract of a step whose write failed
 pub goes-fault : (old new : DiskState) (k l : Books) (s : Step) (c : Claims) → IsDisk old → k.stopped ≡ false → l.at ≡ k.at → l.history ≡ k.history
-    → l.stopped ≡ true → IsSameDisk old new → KeepsPast old new → Rose old.faults new.faults → old.moment < new.moment → IsSafe old k → IsSafe new l
+    → l.stopped ≡ true → IsSameDisk old new → KeepsPast old new → Rose old.faults new.faults → old.moment < new.moment
+    → NoOrder old new (MeetsOpen old k) s c (reply.Refused refusal.WriteFault) → IsSafe old k → IsSafe new l
     → (IsTrue old.tells → (H : List Entry1) (p : Past) → IsOpen old k H p → AddsNumbered p.world c old new)
     → (IsTrue old.tells → (caller : ℕ) (H : List Entry1) (p : Past) → IsOpen old k H p
     → AddsProper p.base H (entry caller old new s c (reply.Refused refusal.WriteFault)) p.mark p.stamps old new ×
     (first_of (rows p.world (stopped_world p.world) s) ≡ None) × (may_write s ≡ true) × IsClaim p.world s c)
     → Goes old k new l s c (reply.Refused refusal.WriteFault)
-goes-fault old new k l s c is going at history stopped disk past rose later safe_old safe numbered proper =
-    safely-goes old new k l s c (reply.Refused refusal.WriteFault) (safely-fault old new k l going at history stopped safe disk past rose later) sounds
+goes-fault old new k l s c is going at history stopped disk past rose later order safe_old safe numbered proper =
+    safely-goes old new k l s c (reply.Refused refusal.WriteFault) (safely-fault old new k l going at history stopped safe disk past rose later) order sounds
     (λ tells caller H p o.
     let q = proper tells caller H p o in
     record {

@@ -24,7 +24,8 @@ use Rattle.nofs_crashlaw.specs.Stage.{flush_entry}
 use Rattle.nofs_crashlaw.proofs.FlushStage.{law-flush-stage, files-stay}
 use Rattle.nofs_state.specs.Books.{IsSafe}
 use Rattle.nofs_state.specs.Standing.{IsOpen, IsRun, Past}
-use Rattle.nofs_state.specs.Steps.{Goes, IsReading, entry}
+use Rattle.nofs_state.specs.Steps.{FlushesAlone, Goes, IsReading, entry}
+use Rattle.nofs_state.specs.Writing.{OnlyFlushes, has_failed}
 use Rattle.nofs_state.specs.declared.books.Books.{Books}
 use Rattle.nofs_state.proofs.SafeBooks.{safe-over}
 use Rattle.nofs_state.proofs.SafeSteps.{safely-done, safely-goes}
@@ -49,6 +50,11 @@ flush-given F caller i g old new = refl
 safe-flushed : (old new : DiskState) (k : Books) {result : Result (Unit {0}) Failed} (stop : Bool) → Flushes old new result → IsSafe old k
     → IsSafe new (record k { stopped = stop })
 safe-flushed old new k stop f = safe-over old new k stop k.history f.disk (ap super_at f.now)
+
+-- one call of flush
+only-flushes : (old new : DiskState) (r : Result (Unit {0}) Failed) → Flushes old new r → OnlyFlushes old new (has_failed r)
+only-flushes old new (Ok u) f = record { moment = f.moment; now = f.now; done = λ e. f.settled; kept = λ e. absurd (cc e) }
+only-flushes old new (Err x) f = record { moment = f.moment; now = f.now; done = λ e. absurd (cc e); kept = λ e. f.err }
 
 module _ (old new : DiskState) (k : Books) (i g : ℕ) (is_old : IsDisk old) (is_new : IsDisk new) (safe : IsSafe old k) (going : k.stopped ≡ false)
     (comes : IsTrue old.tells → (H : List Entry1) (p : Past) → IsOpen old k H p → (V : World) → first_of (rows p.world V (step.Flush i g)) ≡ None) where
@@ -90,6 +96,7 @@ module _ (old new : DiskState) (k : Books) (i g : ℕ) (is_old : IsDisk old) (is
       let later : old.moment < new.moment = (let m = f.moment in omega (arith, m)) in
       safely-goes old new k k (step.Flush i g) no_claims reply.Flushed
       (safely-done old new k k reply.Flushed going refl refl going (safe-flushed old new k k.stopped f safe) refl f.disk f.past later)
+      (FlushesAlone refl refl (only-flushes old new (Ok tt) f))
       (λ tells H p o from q. sounds-flush from old new is_new f q)
       (λ tells caller H p o. record {
         none = λ t. absurd (cc);
@@ -109,7 +116,7 @@ module _ (old new : DiskState) (k : Books) (i g : ℕ) (is_old : IsDisk old) (is
 
   pub goes-unflushed : (x : Failed) → Flushes old new (Err x) → Goes old k new (stopped_books k) (step.Flush i g) no_claims (reply.Refused refusal.WriteFault)
   goes-unflushed x f = goes-fault old new k (stopped_books k) (step.Flush i g) no_claims is_old going refl refl refl f.disk f.past f.cause (let m =
-      f.moment in omega (arith, m)) safe (safe-flushed old new k true f safe)
+      f.moment in omega (arith, m)) (FlushesAlone refl refl (only-flushes old new (Err x) f)) safe (safe-flushed old new k true f safe)
       (λ tells H p o. Adds-flushes (λ b cell. CellNumbers (Numbered p.world no_claims) old.now b cell) old new is_new f)
       (λ tells caller H p o. (
         Adds-flushes (Proper (during (mark_at p.base H (old.moment + 1) p.mark p.stamps)

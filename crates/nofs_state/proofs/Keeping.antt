@@ -1,7 +1,8 @@
 -- What stands goes on where cells and moment stay: over reads, and over `ready`.
-use Rattle.std.proofs.Common.{◌≡◌, ℕ, ◌+◌, ◌<◌, ◌⊎◌, inl, inr, Bool, true, List, IsTrue, sym, ap, ◌∙◌, subst, arith, Contains}
+use Rattle.std.proofs.Common.{◌≡◌, ℕ, ◌+◌, ◌<◌, ◌⊎◌, inl, inr, Bool, true, List, IsTrue, refl, sym, ap, ◌∙◌, subst, arith, Contains}
 use Rattle.nofs_disk.specs.Disk.{DiskState, KeepsCells, KeepsPast}
 use Rattle.nofs_disk.specs.Moments.{AtEach-stays}
+use Rattle.nofs_disk.specs.Chains.{KeepsCells-trans}
 use Rattle.nofs_model.specs.Cells.{Cell}
 use Rattle.nofs_model.specs.Image.{Image, super_at, is_mountable, owner, CellBelow}
 use Rattle.nofs_crashlaw.specs.Moments.{AllExplained}
@@ -17,7 +18,8 @@ use Rattle.nofs_history.specs.declared.machine.replies.Refusal.TheVariants as re
 use Rattle.nofs_crashlaw.specs.Stage.{AllBy, Lasts, Stage, CellsSurvive}
 use Rattle.nofs_state.specs.Books.{IsSafe}
 use Rattle.nofs_state.specs.Standing.{IsOpen, IsRun, IsStopped, Past}
-use Rattle.nofs_state.specs.Steps.{Follows, Goes, StaysStopped, entry, goes-safely}
+use Rattle.nofs_state.specs.Steps.{FlushesAlone, Follows, Goes, LeavesDisk, MeetsOpen, NoOrder, StaysStopped, WritesAlone, entry, goes-safely}
+use Rattle.nofs_state.specs.Writing.{IsTried, OneOf, image_after}
 use Rattle.nofs_state.specs.declared.books.Books.{Books}
 pub use Rattle.nofs_state.proofs.SafeBooks.{Keeping, reads-keep, ready-keeps, safe-keeps}
 use Rattle.nofs_state.proofs.SafeSteps.{safely-after, safely-goes, safely-memory}
@@ -117,9 +119,36 @@ module _ (old new : DiskState) (keep : Keeping old new) where
   pub stopped-keeps : (k : Books) (H : List Entry1) (p : Past) → IsStopped old k H p → IsStopped new k H p
   stopped-keeps = stopped-level old new (level old new keep)
 
+  -- what was written alone after the reads was written alone
+  pub order-after : (end : DiskState) (k : Books) (s : Step) (c : Claims) (r : Reply) → NoOrder new end (MeetsOpen new k) s c r
+      → NoOrder old end (MeetsOpen old k) s c r
+  order-after end k s c r (LeavesDisk quick cells) = LeavesDisk quick (KeepsCells-trans old new end keep.cells cells)
+  order-after end k s c r (FlushesAlone is quick f) = FlushesAlone is quick (record {
+    moment = f.moment ∙ ap (λ (n : ℕ). n + 2) moment';
+    now = f.now ∙ keep.cells.now;
+    done = f.done;
+    kept = λ e. f.kept e ∙ keep.cells.may;
+  })
+  order-after end k s c r (WritesAlone made w) = WritesAlone made (record {
+    row = w.row;
+    count = w.count;
+    calls = w.calls;
+    first = w.first;
+    whole = w.whole;
+    only = record {
+      moment = (let e = moment' in let m = w.only.moment in omega (arith, e, m));
+      others = λ b apart. w.only.others b apart ∙ (λ j. keep.cells.may j b);
+      cells = λ b c has. subst (λ (may : ℕ → List Cell). Contains (may b) c ⊎ OneOf w.calls b c) keep.cells.may (w.only.cells b c has);
+      done = λ e. w.only.done e ∙ ap (λ (X : Image). image_after w.calls X) keep.cells.now;
+      tried = λ e. subst (λ (X : Image). IsTried w.calls X end.now) keep.cells.now (w.only.tried e);
+    };
+    one_each = λ m. w.one_each (m.0, m.1, subst (λ (b : Bool). IsTrue b) (sym keep.disk.tells) m.2, open-keeps k m.0 m.1 m.3);
+  })
+
   -- a step from there on is one from here on
   pub goes-after : (end : DiskState) (k l : Books) (s : Step) (c : Claims) (r : Reply) → Goes new k end l s c r → Goes old k end l s c r
   goes-after end k l s c r g = safely-goes old end k l s c r (safely-after old new keep end k l r (goes-safely g))
+      (order-after end k s c r g.order)
       (λ tells H p o from q. g.sound (told tells) H p (either H p o) from (sounds-keep from old new keep.disk keep.past keep.cells q))
       (λ tells caller H p o. subst (λ (n : ℕ). Follows old end l H p
       (record { caller = caller; from = n; to = end.moment; step = s; reply = r; claims = c })) moment'
@@ -146,6 +175,7 @@ module _ (old new : DiskState) (keep : Keeping old new) where
   -- no memory
   pub goes-memory : (k : Books) (s : Step) (c : Claims) → IsSafe old k → Goes old k new k s c (reply.Refused refusal.OutOfMemory)
   goes-memory k s c safe = safely-goes old new k k s c (reply.Refused refusal.OutOfMemory) (safely-memory old new keep k safe)
+      (LeavesDisk refl keep.cells)
       (λ tells H p o from q. sounds-keep from old new keep.disk keep.past keep.cells q)
       (λ tells caller H p o. record { none = λ t. open-keeps k H p o; done = λ n f. absurd (cc); fault = λ t. absurd (cc) })
       (λ tells caller H p o. record { none = λ t. stopped-keeps k H p o; done = λ n. absurd (cc); next = λ n. absurd (cc) })

@@ -28,7 +28,7 @@ use Rattle.nofs_crashlaw.proofs.MapHomes.{holds-has}
 use Rattle.nofs_crashlaw.proofs.FlushStage.{files-stay}
 use Rattle.nofs_state.specs.Books.{IsSafe}
 use Rattle.nofs_state.specs.Standing.{IsOpen, IsStopped, Past, Sounds}
-use Rattle.nofs_state.specs.Steps.{Goes, IsReading, IsSafeStep, entry, is_plain}
+use Rattle.nofs_state.specs.Steps.{Goes, IsReading, IsSafeStep, LeavesDisk, entry, is_plain, makes_calls}
 use Rattle.nofs_state.specs.declared.books.Books.{Books}
 use Rattle.nofs_state.proofs.Idle.{IsIdle, follows-idle, stopped-idle}
 use Rattle.nofs_state.proofs.SafeBooks.{reads-keep, safe-keeps}
@@ -144,6 +144,15 @@ by-answer W X e going match homes past reads none is claims = Done going none is
     learned = learns-known W e.step true W.stopped (λ t i q. absurd (let z = reads.sees_no_inode i in cc (q, z)))
         (λ t p q. absurd (let z = reads.sees_no_block p in cc (q, z)))
 
+-- no other refusal asked the device to write
+calls-refused : (why : Refusal) → is_write_fault (reply.Refused why) ≡ false → makes_calls (reply.Refused why) ≡ false
+calls-refused refusal.WriteFault e = cc e
+calls-refused _ e = refl
+
+no-flush : (r : Reply) → makes_calls r ≡ false → is_flushed r ≡ false
+no-flush reply.Flushed e = cc e
+no-flush _ e = refl
+
 -- The contracts, exit by exit
 
 pub safe-on : (old new : DiskState) (k : Books) → StaysButFaults old new → IsSafe old k → IsSafe new k
@@ -156,7 +165,8 @@ module _ (old new : DiskState) (k : Books) (s : Step) (is : IsDisk old) (safe : 
 
   -- the mount is stopped
   pub goes-stopped : k.stopped ≡ true → Goes old k new k s no_claims (reply.Refused refusal.Stopped)
-  goes-stopped stopped = safely-goes old new k k s no_claims (reply.Refused refusal.Stopped) (safely-stopped old new k safe stays stopped) sound
+  goes-stopped stopped = safely-goes old new k k s no_claims (reply.Refused refusal.Stopped) (safely-stopped old new k safe stays stopped)
+      (LeavesDisk refl stays.cells) sound
       (λ tells caller H p o. absurd (let g = o.going in cc (g, stopped)))
       (λ tells caller H p o. record {
         none = λ t. absurd (cc);
@@ -166,11 +176,11 @@ module _ (old new : DiskState) (k : Books) (s : Step) (is : IsDisk old) (safe : 
       })
 
   -- the mount goes on, with an entry that changes nothing
-  goes-idle : (r : Reply) → is_out_of_memory r ≡ false → k.stopped ≡ false → IsSafeStep old k new k r
+  goes-idle : (r : Reply) → is_out_of_memory r ≡ false → makes_calls r ≡ false → k.stopped ≡ false → IsSafeStep old k new k r
       → (IsTrue old.tells → (H : List Entry1) (p : Past) → IsOpen old k H p → p.world.stopped ≡ false → (caller : ℕ)
       → IsIdle p.world.files (entry caller old new s no_claims r) × Next p.world (entry caller old new s no_claims r) p.world)
       → Goes old k new k s no_claims r
-  goes-idle r memory going safely idle = safely-goes old new k k s no_claims r safely sound
+  goes-idle r memory quick going safely idle = safely-goes old new k k s no_claims r safely (LeavesDisk quick stays.cells) sound
       (λ tells caller H p o.
       let e : Entry1 = entry caller old new s no_claims r in
       let i = idle tells H p o (o.says.stopped ∙ going) caller in
@@ -181,7 +191,8 @@ module _ (old new : DiskState) (k : Books) (s : Step) (is : IsDisk old) (safe : 
   pub goes-row : (why : Refusal) → is_plain why ≡ true → InRange why → k.stopped ≡ false
       → (IsTrue old.tells → (H : List Entry1) (p : Past) → IsOpen old k H p → first_of (rows p.world p.world s) ≡ Some why)
       → Goes old k new k s no_claims (reply.Refused why)
-  goes-row why plain range going comes = goes-idle (reply.Refused why) (plain-memory why plain) going (safely-row old new k safe stays why plain range going)
+  goes-row why plain range going comes = goes-idle (reply.Refused why) (plain-memory why plain)
+      (calls-refused why (plain-fault why plain)) going (safely-row old new k safe stays why plain range going)
       (λ tells H p o runs caller. (
         refused-idle p.world.files (entry caller old new s no_claims (reply.Refused why)) why refl (plain-fault why plain),
         ByRow why runs (comes tells H p o) (inl refl) refl (keeps-all p.world) runs (nothing-learned p.world s p.world.stopped),
@@ -192,23 +203,24 @@ module _ (old new : DiskState) (k : Books) (s : Step) (is : IsDisk old) (safe : 
       → (IsTrue old.tells → (H : List Entry1) (p : Past) → IsOpen old k H p → (why : Refusal) → first_of (rows p.world p.world s) ≡ Some why
       → reads_nothing why ≡ false)
       → Goes old k new k s no_claims (reply.Refused refusal.ReadFault)
-  goes-read going rose late = goes-idle (reply.Refused refusal.ReadFault) refl going (safely-read old new k safe stays going rose)
+  goes-read going rose late = goes-idle (reply.Refused refusal.ReadFault) refl refl going (safely-read old new k safe stays going rose)
       (λ tells H p o runs caller.
       let e : Entry1 = entry caller old new s no_claims (reply.Refused refusal.ReadFault) in
       (refused-idle p.world.files e refusal.ReadFault refl refl, by-read p.world e runs (late tells H p o) refl refl))
 
   -- an answer
-  pub goes-answer : (r : Reply) → is_refused r ≡ false → is_flushed r ≡ false → IsReading s → k.stopped ≡ false
+  pub goes-answer : (r : Reply) → is_refused r ≡ false → makes_calls r ≡ false → IsReading s → k.stopped ≡ false
       → (IsTrue old.tells → (H : List Entry1) (p : Past) → IsOpen old k H p → (first_of (rows p.world p.world s) ≡ None) × (r ≡ reply_of p.world s no_claims))
       → Goes old k new k s no_claims r
-  goes-answer r accepted plain reads going comes = goes-idle r (accepted-memory r accepted) going (safely-answer old new k safe stays r accepted plain going)
+  goes-answer r accepted none reads going comes = goes-idle r (accepted-memory r accepted) none going
+      (safely-answer old new k safe stays r accepted (no-flush r none) going)
       (λ tells H p o runs caller.
       let e : Entry1 = entry caller old new s no_claims r in
       let c = comes tells H p o in (
         record {
           given = rw accepted (reads.gives p.world.files);
           files = rw accepted (ap (λ g. files_after p.world.files g) (reads.gives p.world.files) ∙ files-stay p.world.files);
-          no_flush = plain;
+          no_flush = no-flush r none;
           no_fault = accepted-fault r accepted;
         },
         by-answer p.world old.now e runs (open-files old k H p o) o.homes o.homes_past reads c.0 c.1 refl,

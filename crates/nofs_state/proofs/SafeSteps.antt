@@ -14,7 +14,7 @@ use Rattle.nofs_history.specs.declared.machine.replies.Refusal.{Refusal}
 use Rattle.nofs_history.specs.declared.machine.replies.Refusal.TheVariants as refusal
 use Rattle.nofs_state.specs.Books.{IsSafe}
 use Rattle.nofs_state.specs.Standing.{IsOpen, IsStopped, Past, Sounds}
-use Rattle.nofs_state.specs.Steps.{Causes, Follows, Goes, IsSafeStep, HasRange, StaysStopped, entry, is_plain}
+use Rattle.nofs_state.specs.Steps.{Causes, Follows, Goes, IsSafeStep, HasRange, MeetsOpen, NoOrder, StaysStopped, entry, is_plain}
 use Rattle.nofs_state.specs.declared.books.Books.{Books}
 use Rattle.nofs_state.proofs.SafeBooks.{Keeping, reads-keep, safe-keeps}
 
@@ -210,15 +210,17 @@ safely-fault old new k l going at history stopped safe disk past rose later = re
 
 -- a safe step goes as the machine's, where it leads from what stands over a disk that tells to what stands
 pub safely-goes : (old new : DiskState) (k l : Books) (s : Step) (c : Claims) (r : Reply) → IsSafeStep old k new l r
+    → NoOrder old new (MeetsOpen old k) s c r
     → (IsTrue old.tells → (H : List Entry1) (p : Past) → IsOpen old k H p ⊎ IsStopped old k H p → (from : ℕ) → Sounds from old → Sounds from new)
     → (IsTrue old.tells → (caller : ℕ) (H : List Entry1) (p : Past) → IsOpen old k H p → Follows old new l H p (entry caller old new s c r))
     → (IsTrue old.tells → (caller : ℕ) (H : List Entry1) (p : Past) → IsStopped old k H p → StaysStopped old new l H p (entry caller old new s c r))
     → Goes old k new l s c r
-safely-goes old new k l s c r safely sound from_open from_stopped = record {
+safely-goes old new k l s c r safely order sound from_open from_stopped = record {
   disk = safely.disk;
   past = safely.past;
   later = safely.later;
   cause = safely.cause;
+  order = order;
   sound = λ tells H p o from q. sound tells H p o from q;
   safe = safely.safe;
   at = safely.at;

@@ -1,6 +1,6 @@
 //! Several elements of a mount are looked at together, and their verdicts committed one by one.
 ghost use Rattle.std.specs.Prelude.{◌≡◌, ◌≤◌, ℕ, true, false, All, IfOk, IfErr, length};
-ghost use Rattle.nofs_disk.specs.Disk.{StaysButFaults};
+ghost use Rattle.nofs_disk.specs.Disk.{KeepsCells, StaysButFaults};
 ghost use Rattle.nofs_history.specs.Steps.{is_out_of_memory};
 ghost use Rattle.nofs_state.specs.Knowing.{with_agreement};
 ghost use Rattle.nofs_scan.specs.Elements.{HasElement, items_of, see_step, verdict_at};
@@ -71,6 +71,7 @@ fn commit_in<D: Disk + Drop>(
         core.old.books.history.entries core.new.books.history.entries result }
     ensures goes_on { BooksGoOn (D.state core.new.disk) core.old.books core.new.books }
     ensures sees { is_out_of_memory result ≡ false }
+    ensures leaves { KeepsCells (D.state core.old.disk) (D.state core.new.disk) }
 {
     let item = evidence.verdicts.item(at);
     let step = step_of(evidence.kind, item);
@@ -134,6 +135,7 @@ impl<D: Disk + Drop> Mount<D> {
             × (self.new.core.books.history.start ≡ self.old.core.books.history.start)
             × (self.new.core.books.at ≡ self.old.core.books.at) }
         ensures kept { TakesKept caller (see_step evidence.now.kind (verdict_at evidence.now.verdicts at).item) result self.old.kept self.new.kept }
+        ensures leaves { KeepsCells (D.state self.old.core.disk) (D.state self.new.core.disk) }
         ensures own { IsEarlier (D.state self.new.found.value) (D.state evidence.now.core.value.disk) evidence.now.core.value.books
             self.new.first self.new.core.books.history.start self.new.core.books.at self.new.core.books.history.entries }
     {

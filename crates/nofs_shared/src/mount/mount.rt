@@ -29,7 +29,7 @@ ghost use Rattle.nofs_shared.specs.Mounts.{IsMount, IsSoundDisk};
 ghost use Rattle.nofs_shared.specs.Owned.{TellsStep};
 ghost use Rattle.nofs_shared.specs.Sees.{TakesKept};
 ghost use Rattle.nofs_shared.specs.Settling.{Settles};
-ghost use Rattle.nofs_shared.specs.StepCauses.{StepCauses};
+ghost use Rattle.nofs_shared.specs.StepCauses.{MeetsSound, StepCauses, StepOrder};
 
 use crate::acts::room::take_room;
 use crate::mount::begin::{Prepared, prepare};
@@ -68,6 +68,7 @@ impl<D: Disk + Drop> Mount<D> {
         requires { first ≤ 2 ^ 40 }
         ensures mount { IfOk result (λ m. (m.found.value ≡ disk) × (m.first ≡ first)
             × (m.core.books.history.entries ≡ []) × (m.kept ≡ m.core.books.at.inodes + m.core.books.at.blocks)) }
+        ensures begins { IfOk result (λ m. begins.BeginsMount (D.state disk) (D.state m.core.disk) m.core.books.at) }
         ensures fault { IfErr result (λ e. begins.BeginFails (D.state disk) (D.state e.disk) e.cause) }
     {
         let found = Snapshot::of(&disk);
@@ -90,7 +91,8 @@ impl<D: Disk + Drop> Mount<D> {
     /// Makes one step of a caller. Each See step of the sweeps, callers 9 and 10, has its memory while
     /// some is kept for them. Over any disk, a read fault comes only where its count of faults rose, a
     /// write fault only where it rose and a write or a flush was made, `Stopped` exactly where one of
-    /// them failed before, and every other refusal leaves the cells.
+    /// them failed before, and every other refusal leaves the cells. No step orders its writes: one that is no
+    /// Flush makes writes alone, one call a cell, and after a call that failed no other.
     pub fn step(&mut self, alloc: Global, caller: u32, step: Step) -> Reply
         ensures tells { TellsStep caller step self.old.core.books.history.entries self.new.core.books.history.entries result }
         ensures claims { IsSoundDisk (D.state self.old.found.value)
@@ -101,6 +103,8 @@ impl<D: Disk + Drop> Mount<D> {
         ensures kept { TakesKept caller step result self.old.kept self.new.kept }
         ensures settled { Settles step result (D.state self.new.core.disk) }
         ensures causes { StepCauses (D.state self.old.core.disk) (D.state self.new.core.disk) self.old.core.books self.new.core.books result }
+        ensures order { StepOrder (D.state self.old.core.disk) (D.state self.new.core.disk)
+            (MeetsSound (D.state self.old.found.value) self.old.core.books) step result }
     {
         let history = &mut self.core.books.history;
         match take_room(history, self.kept, caller, &step) {

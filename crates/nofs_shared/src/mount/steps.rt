@@ -1,13 +1,14 @@
 //! One step of a caller, and its entry.
 ghost use Rattle.std.specs.Prelude.{◌≡◌, ℕ, true, false};
 ghost use Rattle.nofs_history.specs.Steps.{is_out_of_memory};
+ghost use Rattle.nofs_state.specs.Steps.{MeetsOpen};
 ghost use Rattle.nofs_shared.specs.Added.{Unowned};
 ghost use Rattle.nofs_shared.specs.GoingOn.{BooksGoOn, CanStep};
 ghost use Rattle.nofs_shared.specs.Mounts.{IsMount, IsSoundDisk};
 ghost use Rattle.nofs_shared.specs.Owned.{TellsStep};
 ghost use Rattle.nofs_shared.specs.Sees.{is_see};
 ghost use Rattle.nofs_shared.specs.Settling.{Settles};
-ghost use Rattle.nofs_shared.specs.StepCauses.{StepCauses};
+ghost use Rattle.nofs_shared.specs.StepCauses.{StepCauses, StepOrder};
 
 use crate::acts::acts::{Acted, act};
 use nofs_disk::Disk;
@@ -41,6 +42,7 @@ pub(crate) fn step_in<D: Disk + Drop>(
     ensures sees { is_see step ≡ true → is_out_of_memory result ≡ false }
     ensures settled { Settles step result (D.state core.new.disk) }
     ensures causes { StepCauses (D.state core.old.disk) (D.state core.new.disk) core.old.books core.new.books result }
+    ensures order { StepOrder (D.state core.old.disk) (D.state core.new.disk) (MeetsOpen (D.state core.old.disk) core.old.books) step result }
 {
     let from = core.disk.moment();
     let Acted {

@@ -1,9 +1,11 @@
 use Rattle.std.proofs.Common.{◌-◌, sym, ap, ◌∙◌, subst, subst₂, rules}
-use Rattle.nofs_disk.specs.Disk.{DiskState}
+use Rattle.nofs_disk.specs.Disk.{DiskState, KeepsCells}
+use Rattle.nofs_disk.specs.Chains.{KeepsCells-refl}
 use Rattle.nofs_state.specs.Books.{IsSafe}
 use Rattle.nofs_state.specs.declared.books.Books.{Books}
 use Rattle.nofs_scan.specs.Elements.{see_step, verdict_at}
 use Rattle.nofs_shared.specs.Mounts.{IsMount}
+use Rattle.nofs_shared.proofs.Causing.{see-leaves}
 use Rattle.nofs_shared.proofs.Mounting.{safe-history}
 use Rattle.nofs_history.specs.declared.machine.replies.Reply.TheVariants as reply
 use Rattle.nofs_shared.specs.Commits.{IsCommit}
@@ -56,3 +58,14 @@ returns-clause-tells g c = record {
   adds = search rules;
   fits = fits-seen c.args.evidence.now.kind (verdict_at c.args.evidence.now.verdicts c.args.at).item c.commit-stands.result;
 }
+
+pub returns-clause-leaves : goal.returns-clause-leaves
+returns-clause-leaves g c = subst (λ (d : DiskState). KeepsCells (g.D.Disk.state c.args.core.now.disk) d)
+    (ap g.D.Disk.state (sym (c.keep_step.ensures.disk ∙ c.commit-stands.ensures.disk))) (KeepsCells-refl (g.D.Disk.state c.args.core.now.disk))
+
+pub returns-then-core-clause-leaves : goal.returns-then-core-clause-leaves
+returns-then-core-clause-leaves g c = see-leaves (g.D.Disk.state c.args.core.now.disk) (g.D.Disk.state c.step_in.new.core.disk) _
+    c.step_of-step.result c.step_in.result
+    (ap is_see (c.step_of-step.ensures ∙ ap (see_step c.args.evidence.now.kind) c.item-item.ensures)
+    ∙ see-is c.args.evidence.now.kind (verdict_at c.args.evidence.now.verdicts c.args.at).item)
+    c.step_in.ensures.order

@@ -39,3 +39,9 @@ pub returns-clause-causes : goal.returns-clause-causes
 returns-clause-causes g c = causes-kept (g.D.Disk.state c.args.core.now.disk) (g.D.Disk.state c.act-reply.new.core.disk)
     c.args.core.now.books c.act-reply.new.core.books
     c.act-reply.result.reply c.push.new.self (goes-safely c.act-reply.ensures.goes)
+
+pub returns-then-wants_memory-clause-order : goal.returns-then-wants_memory-clause-order
+returns-then-wants_memory-clause-order g c = record { claims = c.act-reply.result.claims; order = c.act-reply.ensures.goes.order }
+
+pub returns-clause-order : goal.returns-clause-order
+returns-clause-order g c = record { claims = c.act-reply.result.claims; order = c.act-reply.ensures.goes.order }

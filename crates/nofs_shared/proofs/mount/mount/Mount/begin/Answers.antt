@@ -1,6 +1,10 @@
-use Rattle.std.proofs.Common.{ℕ, sym, ap, subst, arith, length}
+use Rattle.std.proofs.Common.{ℕ, ◌+◌, List, sym, ap, ◌∙◌, subst, arith, length}
+use Rattle.std.specs.Prelude.{slice_set}
+use Rattle.nofs_super.specs.Format.{super_cell}
+use Rattle.nofs_super.specs.Raise.{raised}
+use Rattle.nofs_shared.specs.Begins.{BeginsMount}
 use Rattle.nofs_disk.specs.Chains.{IsSameDisk-trans, KeepsPast-trans}
-use Rattle.nofs_model.specs.Cells.{SuperBlock}
+use Rattle.nofs_model.specs.Cells.{Cell, SuperBlock}
 use Rattle.nofs_agree.specs.Reading.{IsAt}
 use Rattle.nofs_state.specs.Standing.{Sounds}
 use Rattle.nofs_state.specs.Books.{IsSafe}
@@ -67,3 +71,16 @@ returns-in-Err-raise_mount-clause-fault g c =
           (sounds-raised (g.D.Disk.state c.prepare.new.disk) (g.D.Disk.state c.raise_mount.new.disk) c.in-Ok.it.old (g.met.D.Disk.is_disk c.prepare.new.disk)
           p.can a o (p.spelled o.tells));
     }
+
+pub returns-in-Ok-raise_mount-clause-begins : goal.returns-in-Ok-raise_mount-clause-begins
+returns-in-Ok-raise_mount-clause-begins g c =
+    let S = g.D.Disk.state in
+    let e = c.prepare.ensures in
+    let r = c.in-Ok-raise_mount.ensures.ends in
+    let F : g.row.D.Denot → Type 0 = λ d. BeginsMount (S c.args.disk) (S d) c.over.result.books.at in
+    subst F (sym c.over.ensures.disk) (record {
+      moment = r.moment ∙ ap (λ (n : ℕ). n + 4) e.cells.moment;
+      now = r.now ∙ ap (λ (X : List Cell). slice_set X 0 (super_cell (raised c.in-Ok.it.old))) e.cells.now
+          ∙ ap (λ (q : SuperBlock). slice_set (S c.args.disk).now 0 (super_cell q)) (sym (c.over.ensures.begun.at ∙ c.in-Ok-raise_mount.ensures.value));
+      settled = r.settled;
+    })

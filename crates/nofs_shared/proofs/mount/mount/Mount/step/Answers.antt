@@ -3,7 +3,7 @@ use Rattle.std.proofs.Math.Logic.{∥∥₁_elim, ∥∥₁_prop}
 use Rattle.nofs_history.specs.declared.machine.history.Entry1.{Entry1}
 use Rattle.nofs_shared.specs.Added.{Unowned}
 use Rattle.nofs_shared.specs.Owned.{TellsStep}
-use Rattle.nofs_shared.proofs.Causing.{causes-roomed, causes-unroomed}
+use Rattle.nofs_shared.proofs.Causing.{causes-roomed, causes-unroomed, order-sound, order-unroomed}
 use Rattle.nofs_shared.proofs.Claiming.{unowned-none}
 use Rattle.nofs_shared.proofs.Mounting.{mount-history}
 use Rattle.nofs_shared.proofs.Roomed.{roomed}
@@ -70,3 +70,11 @@ pub returns-in-Some-clause-causes : goal.returns-in-Some-clause-causes
 returns-in-Some-clause-causes g c = causes-roomed (g.D.Disk.state c.args.self.now.core.disk) (g.D.Disk.state c.step_in.new.core.disk)
     c.args.self.now.core.books c.step_in.new.core.books
     c.step_in.result c.take_room.new.history c.step_in.ensures.causes
+
+pub returns-in-None-clause-order : goal.returns-in-None-clause-order
+returns-in-None-clause-order g c = order-unroomed (g.D.Disk.state c.args.self.now.core.disk) _ c.args.step
+
+pub returns-in-Some-clause-order : goal.returns-in-Some-clause-order
+returns-in-Some-clause-order g c = order-sound (g.D.Disk.state c.args.self.now.found.value) (g.D.Disk.state c.args.self.now.core.disk)
+    (g.D.Disk.state c.step_in.new.core.disk) c.args.self.now.first
+    c.args.self.now.core.books c.args.step c.step_in.result c.take_room.new.history c.take_room.ensures.stays.1 c.args.self.now.stands c.step_in.ensures.order
