@@ -379,7 +379,7 @@ fn drill_outcome<R: Threads + Wait + Sync, K: Sink, D: Disk + Drop + Send>(
 /// | 0 | where none of these came |
 ///
 /// At status 1, and at 2, 6 and 8 but of `wire`, no call of the device was made; at 4 no write was made but a format's, and a device that
-/// tells was refused by the table of the numbers or of the superblock's faults (`KeepsDevice` in specs/Statuses.antt of `nofs_headline`).
+/// tells was refused by the table of the numbers or of the superblock's faults (`KeepsDevice` in specs/Statuses.antt here).
 /// At 0, 3, 4 and 5 of `new` and `run` the text is a session. Each cause is a field of `IsExplained` there, by its name.
 ///
 /// What the sink was told at each status is in `Said` (specs/Said.antt there): the line of that status, or the session's text, or a part of it.
@@ -388,8 +388,8 @@ fn drill_outcome<R: Threads + Wait + Sync, K: Sink, D: Disk + Drop + Send>(
 /// session asks for; and where the premises are met, it is a run of the machine, and at every moment a crash leaves only
 /// what it allows.
 ///
-/// A salvage tells what is lost in the world that the mount found (`IsSalvaged` in specs/Salvaging.antt of `nofs_walks`). Frames are served
-/// until they end (`WireEnds` in specs/Wiring.antt of `nofs_headline`); of its statuses 6, 8, 2 and 7 come before 3, and 5 after it.
+/// A salvage tells what is lost in the world that the mount found (`IsSalvaged` in specs/Salvaging.antt here). Frames are served
+/// until they end (`WireEnds` in specs/Wiring.antt here); of its statuses 6, 8, 2 and 7 come before 3, and 5 after it.
 ///
 /// An upgrade begins no mount: at each moment of it a crash leaves an image that it could leave before, or that one with version 2.
 ///
