@@ -6,9 +6,9 @@ use Rattle.nofs_model.specs.Cells.{null}
 use Rattle.nofs_model.specs.Image.{cell_at, super_at, is_inode, record_pointer, TagBelow, RecordBelow, CellBelow}
 use Rattle.nofs_model.proofs.Find.{and-both}
 use Rattle.nofs_cases.specs.Images.{blank, super_block, image_of, first_table}
-use Rattle.nofs_cases.specs.Worlds.{no_links}
 use Rattle.nofs_cases.proofs.Images.{HasRecords, numbers-are, blank-tag, super-tag, table-tag}
 use Rattle.nofs_cases.proofs.Slots.{IsPlain, others-stamp}
+use Rattle.nofs_crashlaw.specs.Worlds.{no_links}
 
 -- a tag that is no directory's and no block of pointers'
 pub tag-low : (s : ℕ) (c : Cell) (t : Tag) → tag_of c.tag ≡ Some t → t.generation < s → t.stamp < s → t.kind ≢ Directory → t.kind ≢ Leaf → TagBelow s c

@@ -33,8 +33,9 @@ use Rattle.nofs_disk.specs.Chains.{StaysButFaults-refl}
 use Rattle.nofs_crashlaw.proofs.FlushStage.{files-stay}
 use Rattle.nofs_crashlaw.proofs.Staging.{law-tracked}
 use Rattle.nofs_crashlaw.proofs.Unflushed.{self-match, law-unflushed}
+use Rattle.nofs_crashlaw.specs.Worlds.{no_links}
 use Rattle.nofs_cases.specs.Images.{z, blank, super_block, image_of, first_table, first_image, put_table, put_image, put_block}
-use Rattle.nofs_cases.specs.Worlds.{no_links, block_two, put_files}
+use Rattle.nofs_cases.specs.Worlds.{block_two, put_files}
 use Rattle.nofs_cases.specs.FileCases.{put_places}
 use Rattle.nofs_cases.specs.StateCases.{put_entry, alone, put_may}
 use Rattle.nofs_cases.proofs.Images.{root_record, label_record, mountable, first-records, put-records, data-two, data-three, not-data-one, put-tag}

@@ -7,6 +7,7 @@ use Rattle.nofs_model.specs.Image.{cell_at, inode, Under, leaf, path_of, slot_of
 use Rattle.nofs_model.specs.declared.image.value.Value.TheVariants.{Hole, Bytes}
 use Rattle.nofs_history.specs.Machine.{with_entry}
 use Rattle.nofs_crashlaw.specs.Holes.{HoleWithLeaf, WithLeaf, first_links}
+use Rattle.nofs_crashlaw.specs.Examples.{a}
 use Rattle.nofs_cases.specs.Images.{z, blank, first_table, first_image}
 use Rattle.nofs_cases.specs.Worlds.{first_files, block_two}
 use Rattle.nofs_cases.proofs.Images.{nth, root_record, label_record, HasRecords, inode-is, data-two, data-three}
@@ -14,7 +15,6 @@ use Rattle.nofs_cases.proofs.Steps.{each-block, tag-is, but-one-and-three, but-l
 use Rattle.nofs_cases.proofs.Leaves.{other-pointer}
 use Rattle.nofs_cases.proofs.FileCases.{first-inode, first-empty, first-free}
 use Rattle.nofs_cases.specs.Names.{short_entry_bytes}
-use Rattle.nofs_cases.specs.NameCases.{a}
 use Rattle.nofs_cases.proofs.Roots.{file_record}
 use Rattle.nofs_cases.proofs.RootSteps.{make-lies}
 use Rattle.nofs_cases.proofs.NameCases.{spells-a, first-ready}

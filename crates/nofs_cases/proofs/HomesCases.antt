@@ -9,6 +9,7 @@ use Rattle.nofs_history.specs.Machine.{first_dead, place_for}
 use Rattle.nofs_history.specs.Claims.{IsClaim, ClaimedInode, NoInode, Claimed, Unclaimed, no_claims}
 use Rattle.nofs_history.specs.declared.machine.steps.Step.TheVariants as step
 use Rattle.nofs_crashlaw.specs.CellNumbers.{OldNumbers}
+use Rattle.nofs_crashlaw.specs.Examples.{a, b}
 use Rattle.nofs_cases.specs.Images.{z, blank, image_of, first_table, first_image}
 use Rattle.nofs_cases.specs.Worlds.{first_files, first_world, block_two}
 use Rattle.nofs_cases.proofs.Numbers.{each-number, all_below, none-of}
@@ -17,7 +18,7 @@ use Rattle.nofs_cases.proofs.Below.{record-low, no-links-low, RecordsLow, table-
 use Rattle.nofs_cases.proofs.FileCases.{put-lies, put-placed}
 use Rattle.nofs_cases.proofs.StateCases.{first-is-below}
 use Rattle.nofs_cases.specs.Names.{short_entry_bytes, root_block, name_table, name_image, one_link, name_files, name_world}
-use Rattle.nofs_cases.specs.NameCases.{a, b, make_claims}
+use Rattle.nofs_cases.specs.NameCases.{make_claims}
 use Rattle.nofs_cases.proofs.Roots.{file_record, name-records, root-tag}
 use Rattle.nofs_cases.proofs.Entries.{is_low, entries-low}
 use Rattle.nofs_cases.proofs.NameCases.{make-case, rename-case, link-case, drop-name-case, drop-file-case}

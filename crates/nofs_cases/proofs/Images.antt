@@ -5,9 +5,10 @@ use Rattle.nofs_model.specs.Kinds as file
 use Rattle.nofs_model.specs.Cells.{Cell, Content, Nothing, Table, Super, Pointer, FileKind, BackLink, Record, SuperBlock, free_record, null}
 use Rattle.nofs_model.specs.Cells.{number_at, tag_of, record_of, record_at, fields_in, link_in, pointer_in}
 use Rattle.nofs_model.specs.Image.{is_mountable, super_in, is_super, is_geometry, super_at, is_data_block, inode}
-use Rattle.nofs_cases.specs.Worlds.{no_links, block_two}
+use Rattle.nofs_cases.specs.Worlds.{block_two}
 use Rattle.nofs_cases.proofs.Numbers.{one_of}
 use Rattle.nofs_cases.specs.Images.{blank, super_block, image_of, first_table, put_table, put_block, resize_table}
+use Rattle.nofs_crashlaw.specs.Worlds.{no_links}
 
 -- Numbers
 

@@ -27,8 +27,9 @@ use Rattle.nofs_crashlaw.proofs.OnlySuper.{law-only-super}
 use Rattle.nofs_crashlaw.specs.Stage.{AddsProper, Lasts}
 use Rattle.nofs_crashlaw.proofs.FlushStage.{files-stay}
 use Rattle.nofs_crashlaw.proofs.Staging.{law-lasts, law-idle-stage}
+use Rattle.nofs_crashlaw.specs.Worlds.{first_slot}
 use Rattle.nofs_cases.specs.Images.{z, blank, first_table, first_image, put_table, put_block, put_image}
-use Rattle.nofs_cases.specs.Worlds.{first_slot, first_files, block_two}
+use Rattle.nofs_cases.specs.Worlds.{first_files, block_two}
 use Rattle.nofs_cases.specs.StateCases.{put_entry, put_may}
 use Rattle.nofs_cases.proofs.Images.{numbers-are}
 use Rattle.nofs_cases.proofs.Slots.{others-null, unowned}

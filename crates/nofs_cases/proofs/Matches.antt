@@ -14,7 +14,8 @@ use Rattle.nofs_model.proofs.NameMeanings.{fact-agreed}
 use Rattle.nofs_model.proofs.Paths.{path_of-slot, slot_of-path_of}
 use Rattle.nofs_history.specs.History.{SameFile, FilesMatch, agreed_files}
 use Rattle.nofs_crashlaw.proofs.Matching.{agreed-files-is}
-use Rattle.nofs_cases.specs.Worlds.{first_slot, three_files}
+use Rattle.nofs_crashlaw.specs.Worlds.{first_slot}
+use Rattle.nofs_cases.specs.Worlds.{three_files}
 use Rattle.nofs_cases.proofs.Slots.{IsPlain, slot-is, not-under, empty-value}
 
 -- Agreement of the root and of the label file

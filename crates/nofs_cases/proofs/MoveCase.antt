@@ -32,13 +32,14 @@ use Rattle.nofs_crashlaw.proofs.FlushStage.{files-stay}
 use Rattle.nofs_crashlaw.specs.Bases.{IsBase, IsHistory}
 use Rattle.nofs_crashlaw.specs.PathMoves.{IsAlone}
 use Rattle.nofs_crashlaw.proofs.Alone.{law-alone}
+use Rattle.nofs_crashlaw.specs.Worlds.{first_slot}
+use Rattle.nofs_crashlaw.specs.Examples.{a, b}
 use Rattle.nofs_cases.specs.Images.{z, blank}
-use Rattle.nofs_cases.specs.Worlds.{first_slot, three_files, world_known, block_two, entry_of_step}
+use Rattle.nofs_cases.specs.Worlds.{three_files, world_known, block_two, entry_of_step}
 use Rattle.nofs_cases.proofs.Images.{root_record, label_record, numbers-are, mountable}
 use Rattle.nofs_cases.proofs.Slots.{IsPlain, pick, ArePlain, others-null, slot-is, empty-value}
 use Rattle.nofs_cases.proofs.Matches.{agreed-file, none-is, first-value}
 use Rattle.nofs_cases.specs.Names.{short_entry_bytes, root_block, name_table, name_image, one_link}
-use Rattle.nofs_cases.specs.NameCases.{a, b}
 use Rattle.nofs_cases.proofs.Roots.{file_record, name-records, root-plain, root-holds, one-agreed, two-agreed, three-agreed, first-entry}
 use Rattle.nofs_cases.proofs.NameCases.{name-inode}
 use Rattle.nofs_cases.specs.MoveCase.{look_entry, first_flush, link_entry, second_flush, drop_entry, move_entries, move_history, DirectoryCase}

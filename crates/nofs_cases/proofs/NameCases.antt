@@ -14,11 +14,12 @@ use Rattle.nofs_crashlaw.specs.Fresh.{Numbered, Generation}
 use Rattle.nofs_crashlaw.specs.Names.{NameWrites}
 use Rattle.nofs_crashlaw.proofs.NameLaws.{law-rename}
 use Rattle.nofs_crashlaw.specs.Holes.{HoleInRecord, Direct}
+use Rattle.nofs_crashlaw.specs.Examples.{a, b}
 use Rattle.nofs_cases.specs.Images.{z, blank, first_table, first_image}
 use Rattle.nofs_cases.specs.Worlds.{root_file, first_files, first_world, block_two}
 use Rattle.nofs_cases.specs.Names.{short_entry_bytes, root_block, name_table, name_image, rename_image, link_table, link_image, drop_table}
 use Rattle.nofs_cases.specs.Names.{drop_image, one_link, two_links, name_files, link_files}
-use Rattle.nofs_cases.specs.NameCases.{entry_named, a, b, make_claims, MakeCase, BareCase, RenameCase, EntriesCase, NameHomesCase, LinkCase}
+use Rattle.nofs_cases.specs.NameCases.{entry_named, make_claims, MakeCase, BareCase, RenameCase, EntriesCase, NameHomesCase, LinkCase}
 use Rattle.nofs_cases.specs.NameCases.{DropNameCase, DropFileCase}
 use Rattle.nofs_cases.proofs.Images.{nth, root_record, label_record, first-records, data-two}
 use Rattle.nofs_cases.proofs.Slots.{empty, held-is}

@@ -13,10 +13,11 @@ use Rattle.nofs_crashlaw.proofs.Fresh.{sole-is}
 use Rattle.nofs_crashlaw.proofs.Matching.{gen-of}
 use Rattle.nofs_crashlaw.proofs.Unflushed.{law-unflushed}
 use Rattle.nofs_crashlaw.specs.Finds.{SureChain, SureName, SureRoot, SureEntry}
+use Rattle.nofs_crashlaw.specs.Worlds.{no_links}
+use Rattle.nofs_crashlaw.specs.Examples.{a}
 use Rattle.nofs_cases.specs.Images.{z, first_image}
-use Rattle.nofs_cases.specs.Worlds.{no_links, block_two}
+use Rattle.nofs_cases.specs.Worlds.{block_two}
 use Rattle.nofs_cases.specs.Names.{short_entry_bytes, name_table, name_image, one_link}
-use Rattle.nofs_cases.specs.NameCases.{a}
 use Rattle.nofs_cases.proofs.Matches.{agreed-file, first-value}
 use Rattle.nofs_cases.proofs.Images.{nth, root_record, label_record}
 use Rattle.nofs_cases.proofs.Roots.{file_record, name-records, root-inode, root-plain, root-holds, one-agreed, three-agreed, first-entry}

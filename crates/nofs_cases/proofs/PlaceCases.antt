@@ -15,6 +15,7 @@ use Rattle.nofs_history.specs.Claims.{IsClaim, ClaimedInode, NoInode, Claimed, U
 use Rattle.nofs_history.specs.declared.machine.steps.Step.TheVariants as step
 use Rattle.nofs_crashlaw.specs.Holes.{HoleInRecord, Direct}
 use Rattle.nofs_crashlaw.specs.CellNumbers.{OldNumbers}
+use Rattle.nofs_crashlaw.specs.Examples.{a, b}
 use Rattle.nofs_cases.specs.Images.{z, blank}
 use Rattle.nofs_cases.specs.Worlds.{root_file, label_file, block_two}
 use Rattle.nofs_cases.proofs.Images.{plain, nth, root_record, label_record, HasRecords, inode-is, mountable, data-three}
@@ -24,7 +25,7 @@ use Rattle.nofs_cases.proofs.Steps.{each-block, tag-is}
 use Rattle.nofs_cases.proofs.Matches.{same-empty, same-first, same-none, files-match}
 use Rattle.nofs_cases.proofs.Below.{record-low, no-links-low, free-low}
 use Rattle.nofs_cases.specs.Names.{short_entry_bytes, root_block, name_table, drop_table, drop_image, one_link}
-use Rattle.nofs_cases.specs.NameCases.{entry_named, a, b}
+use Rattle.nofs_cases.specs.NameCases.{entry_named}
 use Rattle.nofs_cases.proofs.Roots.{file_record, name-records, drop-records, root-inode, root-plain, root-holds, one-agreed, two-agreed, root-old}
 use Rattle.nofs_cases.proofs.Roots.{root-match}
 use Rattle.nofs_cases.proofs.Entries.{is_low, entries-low, no-entries}

@@ -11,13 +11,14 @@ use Rattle.nofs_crashlaw.specs.Frames.{OldPointers}
 use Rattle.nofs_crashlaw.specs.Grows.{ClaimedCell}
 use Rattle.nofs_crashlaw.specs.Names.{InPlace, Relinked, DropLies}
 use Rattle.nofs_crashlaw.specs.Holes.{IsNewRecord, first_links, HoleInRecord, MakeLies, LinkLies, EntryInPlace}
+use Rattle.nofs_crashlaw.specs.Examples.{a, b}
 use Rattle.nofs_cases.specs.Images.{blank, image_of}
 use Rattle.nofs_cases.specs.Worlds.{root_file, block_two}
 use Rattle.nofs_cases.proofs.Images.{plain, nth, root_record, label_record, HasRecords, inode-is}
 use Rattle.nofs_cases.proofs.Slots.{IsPlain, no-pointers}
 use Rattle.nofs_cases.proofs.Steps.{each-block, but-three, but-one-and-three, same-meta}
 use Rattle.nofs_cases.specs.Names.{root_block, third_file, one_link}
-use Rattle.nofs_cases.specs.NameCases.{entry_named, a, b}
+use Rattle.nofs_cases.specs.NameCases.{entry_named}
 use Rattle.nofs_cases.proofs.Roots.{file_record, root-holds}
 
 -- Records

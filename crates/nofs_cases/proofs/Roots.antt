@@ -12,10 +12,11 @@ use Rattle.nofs_model.proofs.NameMeanings.{fact-agreed}
 use Rattle.nofs_history.specs.Machine.{link_to}
 use Rattle.nofs_history.specs.History.{FilesMatch}
 use Rattle.nofs_crashlaw.specs.Frames.{OldPointers}
+use Rattle.nofs_crashlaw.specs.Examples.{a}
 use Rattle.nofs_cases.specs.Images.{z, blank, image_of}
 use Rattle.nofs_cases.specs.Worlds.{root_file, label_file, block_two}
 use Rattle.nofs_cases.specs.Names.{short_entry_bytes, root_block, name_table, link_table, drop_table, third_file, one_link, two_links, files_with}
-use Rattle.nofs_cases.specs.NameCases.{entry_named, a}
+use Rattle.nofs_cases.specs.NameCases.{entry_named}
 use Rattle.nofs_cases.proofs.Numbers.{each-number}
 use Rattle.nofs_cases.proofs.Images.{plain, nth, root_record, label_record, HasRecords, inode-is, data-two}
 use Rattle.nofs_cases.proofs.Slots.{IsPlain, ArePlain, pick, plain-image, old-pointers}

@@ -20,8 +20,9 @@ use Rattle.nofs_crashlaw.specs.Moves.{ClaimsStand, HeldMove}
 use Rattle.nofs_crashlaw.specs.Pieces.{Claimed}
 use Rattle.nofs_crashlaw.proofs.MapHomes.{law-good}
 use Rattle.nofs_crashlaw.proofs.PutLies.{law-put-files, law-put-homes}
+use Rattle.nofs_crashlaw.specs.Worlds.{no_links}
 use Rattle.nofs_cases.specs.Images.{z, blank, first_table, first_image, put_table, put_image}
-use Rattle.nofs_cases.specs.Worlds.{no_links, label_file, first_files, first_world, block_two}
+use Rattle.nofs_cases.specs.Worlds.{label_file, first_files, first_world, block_two}
 use Rattle.nofs_cases.specs.FileCases.{put_step, put_claims, put_places}
 use Rattle.nofs_cases.specs.StateCases.{alone, put_may, HomesCase, GoodCase, MovesCase, GrowCase, ShrinkCase, FreshCase, PiecesCase}
 use Rattle.nofs_cases.proofs.Images.{root_record, label_record, numbers-are, mountable, first-records, put-records, data-two, put-tag, table-tag}

@@ -6,10 +6,7 @@ use Rattle.nofs_history.specs.World.{World, world_of}
 use Rattle.nofs_history.specs.declared.machine.history.Entry1.{Entry1}
 use Rattle.nofs_history.specs.declared.machine.steps.Step.{Step}
 use Rattle.nofs_crashlaw.specs.Lives.{IsNew, Upgraded, Raised, Lives}
-
--- this many zeros
-abbrev pub z : ℕ → List ℕ
-z n = replicate n 0
+use Rattle.nofs_cases.specs.Images.{z, blank}
 
 -- the superblock of 16 blocks and 4 inodes, version 1, mount number 1
 abbrev pub super_bytes : List ℕ
@@ -18,9 +15,6 @@ super_bytes = 78 ∷ 111 ∷ 70 ∷ 83 ∷ 118 ∷ 48 ∷ 48 ∷ 49 ∷ 1 ∷ z 
 -- the root, of generation 1, and the label file, of generation 2, and two free records
 abbrev pub table_bytes : List ℕ
 table_bytes = 1 ∷ z 7 ++ 2 ∷ z 3 ++ z 244 ++ 2 ∷ z 7 ++ 1 ∷ z 3 ++ z 244 ++ z 512
-
-abbrev pub blank : Cell
-blank = record { payload = z 1024; tag = z 32 }
 
 -- a formatted disk whose mount number was raised to 1
 abbrev pub disk : Image

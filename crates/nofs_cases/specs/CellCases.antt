@@ -5,11 +5,12 @@ use Rattle.nofs_model.specs.Image.{InRecord, is_inode, inode, kind_in}
 use Rattle.nofs_model.specs.declared.image.value.Value.TheVariants.{Hole, Bytes}
 use Rattle.nofs_history.specs.Claims.{no_claims}
 use Rattle.nofs_crashlaw.specs.CellNumbers.{OldNumbers, CellFor, EntryWritten, RecordWritten, table_tag}
+use Rattle.nofs_crashlaw.specs.Examples.{a, b}
 use Rattle.nofs_cases.specs.Images.{z, first_image, put_table, put_block}
 use Rattle.nofs_cases.specs.Worlds.{first_world, block_two}
 use Rattle.nofs_cases.specs.FileCases.{put_claims}
 use Rattle.nofs_cases.specs.Names.{short_entry_bytes, root_block, name_table, name_image, name_world, drop_table}
-use Rattle.nofs_cases.specs.NameCases.{a, b, make_claims}
+use Rattle.nofs_cases.specs.NameCases.{make_claims}
 
 -- The content cell of a Put, in a claimed block.
 abbrev pub ContentCellCase : Type 0

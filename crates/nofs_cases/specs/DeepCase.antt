@@ -6,11 +6,11 @@ use Rattle.nofs_model.specs.Image.{Image}
 use Rattle.nofs_model.specs.declared.image.value.Value.TheVariants.{Hole}
 use Rattle.nofs_history.specs.declared.machine.history.Claims.{Claims}
 use Rattle.nofs_crashlaw.specs.Holes.{MakeLies, EntryInHole}
+use Rattle.nofs_crashlaw.specs.Examples.{a}
 use Rattle.nofs_cases.specs.Images.{z, image_of, first_image, label_bytes, pointer_bytes, stamp_bytes, table_of}
 use Rattle.nofs_cases.specs.Worlds.{root_file, first_files, block_two}
 use Rattle.nofs_cases.specs.LeafCase.{block_three}
 use Rattle.nofs_cases.specs.Names.{short_entry_bytes, file_bytes, link_bytes}
-use Rattle.nofs_cases.specs.NameCases.{a}
 
 -- the leaf of the root is block 3, and inode 3 has its name in entry 128
 abbrev pub deep_table : Cell

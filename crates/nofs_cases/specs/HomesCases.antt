@@ -9,11 +9,12 @@ use Rattle.nofs_history.specs.declared.machine.steps.Step.TheVariants as step
 use Rattle.nofs_crashlaw.specs.Puts.{PutLies, ClaimsPlaced}
 use Rattle.nofs_crashlaw.specs.EntryHomes.{EntryClaims}
 use Rattle.nofs_crashlaw.specs.CellNumbers.{OldNumbers}
+use Rattle.nofs_crashlaw.specs.Examples.{a, b}
 use Rattle.nofs_cases.specs.Images.{first_image, put_image}
 use Rattle.nofs_cases.specs.Worlds.{label_file, first_files, world, first_world, block_two}
 use Rattle.nofs_cases.specs.FileCases.{put_places, put_claims}
 use Rattle.nofs_cases.specs.Names.{name_image, name_files, link_files, name_world}
-use Rattle.nofs_cases.specs.NameCases.{a, b, make_claims, MakeCase, RenameCase, LinkCase, DropNameCase, DropFileCase}
+use Rattle.nofs_cases.specs.NameCases.{make_claims, MakeCase, RenameCase, LinkCase, DropNameCase, DropFileCase}
 
 -- Homes
 

@@ -5,8 +5,8 @@ use Rattle.nofs_model.specs.declared.image.value.Value.TheVariants.{Bytes}
 use Rattle.nofs_history.specs.History.{is_generation}
 use Rattle.nofs_history.specs.World.{World, world_of}
 use Rattle.nofs_crashlaw.specs.Lives.{Lives}
+use Rattle.nofs_crashlaw.specs.Worlds.{world_after}
 use Rattle.nofs_cases.specs.Images.{z, blank, first_image, put_table, put_block}
-use Rattle.nofs_cases.specs.Worlds.{world_after}
 use Rattle.nofs_cases.specs.FileCases.{put_step, put_claims}
 use Rattle.nofs_cases.specs.StateCases.{put_entry}
 use Rattle.nofs_cases.specs.BeginCases.{super_with}

@@ -12,9 +12,9 @@ use Rattle.nofs_crashlaw.specs.Bases.{IsHistory}
 use Rattle.nofs_crashlaw.specs.Pairs.{is_drop, IsDirectory, Filled}
 use Rattle.nofs_crashlaw.specs.Runs.{files_before, HasPair}
 use Rattle.nofs_crashlaw.specs.PathMoves.{IsMove, HasDrop, IsAlone}
+use Rattle.nofs_crashlaw.specs.Examples.{a, b}
 use Rattle.nofs_cases.specs.Worlds.{entry_of_step}
 use Rattle.nofs_cases.specs.Names.{name_image}
-use Rattle.nofs_cases.specs.NameCases.{a, b}
 
 -- The entries
 

@@ -1,5 +1,5 @@
 -- Instances of the laws of steps on names.
-use Rattle.std.specs.Prelude.{◌≡◌, ℕ, ◌+◌, ◌^◌, ◌<◌, List, [], ◌∷◌, ◌++◌, length, None, IfSome}
+use Rattle.std.specs.Prelude.{◌≡◌, ℕ, ◌+◌, ◌^◌, ◌<◌, List, ◌++◌, length, None, IfSome}
 use Rattle.nofs_model.specs.Kinds.{File}
 use Rattle.nofs_model.specs.Cells.{Entry, null, spelled_entry, entry_of, entry_in}
 use Rattle.nofs_model.specs.Image.{inode, Path, IsSlot, find}
@@ -10,6 +10,7 @@ use Rattle.nofs_history.specs.Machine.{drop_meta, link_to, without_link, rename_
 use Rattle.nofs_history.specs.Claims.{no_claims}
 use Rattle.nofs_history.specs.declared.machine.history.Claims.{Claims}
 use Rattle.nofs_history.specs.declared.machine.steps.Step.TheVariants as step
+use Rattle.nofs_crashlaw.specs.Examples.{a, b}
 use Rattle.nofs_crashlaw.specs.Fresh.{Numbered}
 use Rattle.nofs_crashlaw.specs.Names.{RenameLies, DropLies, Relinked}
 use Rattle.nofs_crashlaw.specs.Holes.{LinkLies, MakeLies, EntryInPlace, EntryInHole}
@@ -22,13 +23,6 @@ use Rattle.nofs_cases.specs.Names.{link_files, name_world}
 -- the entry of inode 3 with this name
 abbrev pub entry_named : List ℕ → Entry
 entry_named name = record { inode = 3; generation = 2 ^ 40; name = name }
-
--- the names a and b
-abbrev pub a : List ℕ
-a = 97 ∷ []
-
-abbrev pub b : List ℕ
-b = 98 ∷ []
 
 -- inode 3 and block 2 are claimed
 abbrev pub make_claims : Claims

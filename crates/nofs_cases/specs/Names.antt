@@ -7,7 +7,8 @@ use Rattle.nofs_model.specs.declared.image.value.Value.TheVariants.{Hole, Bytes}
 use Rattle.nofs_history.specs.Machine.{link_to}
 use Rattle.nofs_history.specs.World.{World}
 use Rattle.nofs_cases.specs.Images.{z, blank, image_of, table_of, root_bytes, label_bytes, pointer_bytes, stamp_bytes}
-use Rattle.nofs_cases.specs.Worlds.{first_slot, root_file, label_file, three_files, world}
+use Rattle.nofs_cases.specs.Worlds.{root_file, label_file, three_files, world}
+use Rattle.nofs_crashlaw.specs.Worlds.{first_slot}
 
 -- a back link to entry e of the root
 abbrev pub link_bytes : ℕ → List ℕ

@@ -3,9 +3,9 @@ use Rattle.std.specs.Prelude.{◌^◌, []}
 use Rattle.nofs_history.specs.Allowed.{IsAllowed}
 use Rattle.nofs_history.specs.Machine.{link_to}
 use Rattle.nofs_crashlaw.specs.Finds.{SureChain, SureName}
+use Rattle.nofs_crashlaw.specs.Examples.{a}
 use Rattle.nofs_cases.specs.Images.{first_image}
 use Rattle.nofs_cases.specs.Names.{name_image}
-use Rattle.nofs_cases.specs.NameCases.{a}
 
 -- The root leads to itself.
 abbrev pub RootCase : Type 0

@@ -13,11 +13,11 @@ use Rattle.nofs_history.specs.declared.machine.steps.Step.TheVariants as step
 use Rattle.nofs_crashlaw.specs.Holes.{LinkLies, MakeLies, EntryInPlace, EntryInHole}
 use Rattle.nofs_crashlaw.specs.EntryHomes.{EntryClaims}
 use Rattle.nofs_crashlaw.specs.CellNumbers.{OldNumbers}
+use Rattle.nofs_crashlaw.specs.Examples.{a, b}
 use Rattle.nofs_cases.specs.Images.{z, blank, image_of, label_bytes, pointer_bytes, stamp_bytes, table_of}
 use Rattle.nofs_cases.specs.Worlds.{root_file, label_file, three_files, world, block_two, cell_claim}
 use Rattle.nofs_cases.specs.Names.{short_entry_bytes, link_bytes, file_bytes, root_table, root_block, name_table, drop_image, third_file, one_link}
 use Rattle.nofs_cases.specs.Names.{files_with}
-use Rattle.nofs_cases.specs.NameCases.{a, b}
 
 -- Make in place
 

@@ -18,8 +18,9 @@ use Rattle.nofs_crashlaw.specs.Fresh.{OnlyNumbered}
 use Rattle.nofs_crashlaw.specs.Moves.{ClaimsStand, HeldMove, IsClaimed}
 use Rattle.nofs_crashlaw.specs.Pieces.{PointerFrom}
 use Rattle.nofs_crashlaw.specs.Resizes.{is_cut}
+use Rattle.nofs_crashlaw.specs.Worlds.{world_after}
 use Rattle.nofs_cases.specs.Images.{first_image, put_image}
-use Rattle.nofs_cases.specs.Worlds.{first_world, world_after, entry_of_step, block_two}
+use Rattle.nofs_cases.specs.Worlds.{first_world, entry_of_step, block_two}
 use Rattle.nofs_cases.specs.FileCases.{put_step, put_claims, put_places}
 
 -- the entry of the Put, two writes long

@@ -1,25 +1,17 @@
 -- The machine's files and worlds on these images.
-use Rattle.std.specs.Prelude.{ℕ, Bool, true, false, List, [], ◌∷◌, ◌+◌, ◌^◌, Option, Some, None, if◌then◌else◌, ◌==◌}
+use Rattle.std.specs.Prelude.{ℕ, Bool, true, false, ◌∷◌, ◌+◌, ◌^◌, Option, Some, None, if◌then◌else◌, ◌==◌}
 use Rattle.nofs_model.specs.Kinds.{File, Directory}
-use Rattle.nofs_model.specs.Cells.{BackLink, Pointer, no_link, null}
+use Rattle.nofs_model.specs.Cells.{Pointer, null}
 use Rattle.nofs_model.specs.Image.{Absent, FileState, Files, Home}
 use Rattle.nofs_model.specs.declared.image.value.Value.{Value}
 use Rattle.nofs_model.specs.declared.image.value.Value.TheVariants.{Hole, Bytes}
-use Rattle.nofs_history.specs.Machine.{gives, files_after}
-use Rattle.nofs_history.specs.World.{World, inodes_needed, blocks_needed}
-use Rattle.nofs_history.specs.Claims.{homes_after}
+use Rattle.nofs_history.specs.World.{World}
 use Rattle.nofs_history.specs.declared.machine.history.Claims.{Claims}
 use Rattle.nofs_history.specs.declared.machine.history.Entry1.{Entry1}
 use Rattle.nofs_history.specs.declared.machine.steps.Step.{Step}
 use Rattle.nofs_history.specs.declared.machine.replies.Reply.{Reply}
+use Rattle.nofs_crashlaw.specs.Worlds.{no_links, first_slot}
 use Rattle.nofs_cases.specs.Images.{z}
-
-abbrev pub no_links : List BackLink
-no_links = no_link ∷ no_link ∷ no_link ∷ no_link ∷ []
-
--- this value in slot 0, and holes behind it
-abbrev pub first_slot : Value → ℕ → Value
-first_slot v k = if k == 0 then v else Hole
 
 abbrev pub root_file : Value → FileState
 root_file v = record { generation = 1; kind = Directory; size = 0; links = no_links; values = first_slot v; nodes = λ path. Absent }
@@ -60,11 +52,6 @@ world F homes serial = world_known F homes serial (λ i. true) (λ p. true)
 
 abbrev pub first_world : World
 first_world = world first_files (λ p. None) 0
-
--- the world after a step that is done
-abbrev pub world_after : World → Step → Claims → World
-world_after W s c = world (files_after W.files (gives W.files s c)) (homes_after W s c (files_after W.files (gives W.files s c)))
-    (W.serial + inodes_needed s + blocks_needed W.files s)
 
 -- its entry, from one moment to another
 abbrev pub entry_of_step : Step → Reply → Claims → ℕ → ℕ → Entry1

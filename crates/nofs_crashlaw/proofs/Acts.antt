@@ -3,7 +3,7 @@ use Rattle.std.proofs.Common.{◌≡◌, ℕ, Bool, true, false, cond, not, ◌|
 use Rattle.nofs_model.specs.Cells.{Entry}
 use Rattle.nofs_model.specs.Image.{Files, entry_at}
 use Rattle.nofs_history.specs.Search.{first_of}
-use Rattle.nofs_history.specs.Machine.{Given, nothing, gives, at_place, found, drop_given, link_to, generation_of, files_after, is_refused}
+use Rattle.nofs_history.specs.Machine.{Given, nothing, gives, at_place, found, drop_given, link_to, generation_of, files_after, is_refused, is_fault}
 use Rattle.nofs_history.specs.Machine.{is_write_fault, may_give, given_by, files_by}
 use Rattle.nofs_history.specs.World.{World}
 use Rattle.nofs_history.specs.Refusals.{rows}
@@ -19,8 +19,7 @@ use Rattle.nofs_history.specs.declared.machine.replies.Reply.TheVariants as repl
 use Rattle.nofs_history.specs.declared.machine.replies.Refusal.{Refusal}
 use Rattle.nofs_history.specs.declared.machine.replies.Refusal.TheVariants as refusal
 use Rattle.nofs_crashlaw.proofs.FlushStage.{files-stay}
-use Rattle.nofs_crashlaw.specs.MachineLaws.{is_fault}
-use Rattle.nofs_crashlaw.proofs.Faultless.{FaultFree, first-free, rows-free}
+use Rattle.nofs_history.proofs.Faultless.{FaultFree, first-free, rows-free}
 
 pub data Acts (W : World) (e : Entry1) : Type 0 where
   Idle : given_by W.files e ≡ nothing → Acts W e

@@ -27,7 +27,7 @@ use Rattle.nofs_history.specs.declared.machine.replies.Reply.TheVariants as repl
 use Rattle.nofs_history.specs.declared.machine.replies.Refusal.{Refusal}
 use Rattle.nofs_history.specs.declared.machine.replies.Refusal.TheVariants as refusal
 use Rattle.nofs_crashlaw.specs.MachineLaws.{IsSizedWorld, LawFits}
-use Rattle.nofs_crashlaw.proofs.Rows.{Such, IsNamed, first-such, rows-named}
+use Rattle.nofs_history.proofs.Rows.{Such, IsNamed, first-such, rows-named}
 
 -- Numbers below a bound
 

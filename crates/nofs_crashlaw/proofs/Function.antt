@@ -1,7 +1,7 @@
 -- The world and the step decide all but claims, faults and what becomes known.
 use Rattle.std.proofs.Common.{◌≡◌, ◌+◌, Bool, true, false, Option, Some, None, refl, sym, ap, ◌∙◌, ◌⊎◌, inl, inr}
 use Rattle.nofs_history.specs.Search.{first_of}
-use Rattle.nofs_history.specs.Machine.{gives, files_after}
+use Rattle.nofs_history.specs.Machine.{gives, files_after, is_fault}
 use Rattle.nofs_history.specs.World.{World, inodes_needed, blocks_needed}
 use Rattle.nofs_history.specs.Refusals.{rows, reads_nothing}
 use Rattle.nofs_history.specs.Answers.{reply_of}
@@ -13,7 +13,7 @@ use Rattle.nofs_history.specs.declared.machine.replies.Reply.{Reply}
 use Rattle.nofs_history.specs.declared.machine.replies.Reply.TheVariants as reply
 use Rattle.nofs_history.specs.declared.machine.replies.Refusal.{Refusal}
 use Rattle.nofs_history.specs.declared.machine.replies.Refusal.TheVariants as refusal
-use Rattle.nofs_crashlaw.specs.MachineLaws.{is_fault, LawFunction}
+use Rattle.nofs_crashlaw.specs.MachineLaws.{LawFunction}
 use Rattle.nofs_crashlaw.proofs.Total.{none-later}
 
 -- worlds of the same parts

@@ -22,8 +22,6 @@ pub mod Moves
 pub mod Pieces
 pub mod ClaimParts
 mod Choosing
-pub mod Rows
-pub mod Faultless
 pub mod Total
 mod Function
 mod Shown

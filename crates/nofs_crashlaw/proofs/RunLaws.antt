@@ -19,7 +19,7 @@ use Rattle.nofs_history.specs.declared.machine.replies.Refusal.TheVariants as re
 use Rattle.nofs_crashlaw.proofs.Era.{current-accepted}
 use Rattle.nofs_crashlaw.proofs.ImageLives.{along-append, begun-take}
 use Rattle.nofs_model.proofs.Find.{and-both}
-use Rattle.nofs_crashlaw.proofs.Faultless.{answer-free}
+use Rattle.nofs_history.proofs.Faultless.{answer-free}
 use Rattle.nofs_crashlaw.specs.Runs.{files_before}
 use Rattle.nofs_crashlaw.proofs.Places.{take-more, part-get}
 use Rattle.nofs_crashlaw.proofs.Acts.{faultless, row-faultless, files-next}

@@ -5,7 +5,7 @@ use Rattle.std.proofs.lemmas.Bool.{eqb-false}
 use Rattle.nofs_model.specs.Cells.{Pointer, null}
 use Rattle.nofs_model.specs.Image.{Files}
 use Rattle.nofs_history.specs.Search.{first_of}
-use Rattle.nofs_history.specs.Machine.{gives, files_after}
+use Rattle.nofs_history.specs.Machine.{gives, files_after, is_fault}
 use Rattle.nofs_history.specs.World.{World, uses_inode, uses_block, is_free_inode, is_free_block, free_inodes, free_blocks, inodes_needed}
 use Rattle.nofs_history.specs.World.{blocks_needed}
 use Rattle.nofs_history.specs.Refusals.{row, full, rows}
@@ -22,8 +22,8 @@ use Rattle.nofs_history.specs.declared.machine.replies.Reply.TheVariants as repl
 use Rattle.nofs_history.specs.declared.machine.replies.Refusal.{Refusal}
 use Rattle.nofs_history.specs.declared.machine.replies.Refusal.TheVariants as refusal
 use Rattle.nofs_crashlaw.proofs.ClaimParts.{few, used-zero}
-use Rattle.nofs_crashlaw.specs.MachineLaws.{is_fault, LawTotal}
-use Rattle.nofs_crashlaw.proofs.Faultless.{FaultFree, first-free, rows-free, answer-free}
+use Rattle.nofs_crashlaw.specs.MachineLaws.{LawTotal}
+use Rattle.nofs_history.proofs.Faultless.{FaultFree, first-free, rows-free, answer-free}
 use Rattle.nofs_crashlaw.proofs.Choosing.{pick, Falls, pick-falls, pick-length}
 
 -- As many blocks as are needed can be claimed

@@ -1,7 +1,7 @@
 -- Laws of the machine's step: it is total, and but for what is left to choice a function.
-use Rattle.std.specs.Prelude.{◌≡◌, ℕ, ◌≤◌, Bool, true, false, List, [], ◌∷◌, length, Some}
+use Rattle.std.specs.Prelude.{◌≡◌, ℕ, ◌≤◌, false, List, [], ◌∷◌, length, Some}
 use Rattle.nofs_model.specs.declared.image.value.Value.TheVariants.{Bytes}
-use Rattle.nofs_history.specs.Machine.{value_of}
+use Rattle.nofs_history.specs.Machine.{value_of, is_fault}
 use Rattle.nofs_history.specs.Steps.{Fits}
 use Rattle.nofs_model.specs.Image.{Image, FileState}
 use Rattle.nofs_history.specs.Meta.{Is}
@@ -10,15 +10,6 @@ use Rattle.nofs_history.specs.World.{World}
 use Rattle.nofs_history.specs.Next.{Next}
 use Rattle.nofs_history.specs.declared.machine.history.Entry1.{Entry1}
 use Rattle.nofs_history.specs.declared.machine.steps.Step.{Step}
-use Rattle.nofs_history.specs.declared.machine.replies.Reply.{Reply}
-use Rattle.nofs_history.specs.declared.machine.replies.Reply.TheVariants as reply
-use Rattle.nofs_history.specs.declared.machine.replies.Refusal.TheVariants as refusal
-
--- a call of the device failed
-abbrev pub is_fault : Reply → Bool
-is_fault (reply.Refused refusal.ReadFault) = true
-is_fault (reply.Refused refusal.WriteFault) = true
-is_fault _ = false
 
 -- in every world each step can be answered, also where no call of the device fails
 abbrev pub LawTotal : Type 0

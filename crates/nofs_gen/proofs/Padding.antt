@@ -7,7 +7,7 @@ use Rattle.nofs_model.specs.declared.image.value.Value.TheVariants as value
 use Rattle.nofs_history.specs.Machine.{slots_in}
 use Rattle.nofs_gen.specs.declared.file.KeptValue.{KeptValue}
 use Rattle.nofs_gen.specs.declared.file.KeptValue.TheVariants as kept
-use Rattle.nofs_gen.specs.Replay.{FileNow, padded, ended, kept_value, resized_file}
+use Rattle.nofs_gen.specs.Replay.{FileContent, padded, ended, kept_value, resized_content}
 
 one-hole : (l : List Value) → length l < 72 → padded (l ++ value.Hole ∷ []) ≡ padded l
 one-hole l low =
@@ -31,9 +31,9 @@ padded-whole xs start high e =
     sym (append-nil (map kept_value xs)) ∙ (ap (λ m. map kept_value xs ++ replicate m value.Hole) (sym none) ∙ e)
 
 -- cut, and then padded again
-pub resized-is : (f : FileNow) (size n : ℕ) (whole cut rest : List KeptValue) → map kept_value whole ≡ ended f size → cut ≡ take n whole
+pub resized-is : (f : FileContent) (size n : ℕ) (whole cut rest : List KeptValue) → map kept_value whole ≡ ended f size → cut ≡ take n whole
     → n ≡ min (slots_in f.size) (slots_in size) → map kept_value rest ≡ padded (map kept_value cut)
-    → ◌≡◌ {A = FileNow} (record { size = size; values = map kept_value rest }) (resized_file f size)
+    → ◌≡◌ {A = FileContent} (record { size = size; values = map kept_value rest }) (resized_content f size)
 resized-is f size n whole cut rest whole_is cut_is n_is rest_is =
     let values = rest_is ∙ (ap (λ t. padded (map kept_value t)) cut_is ∙ (ap padded (sym (take-map kept_value n whole))
     ∙ (ap (λ t. padded (take n t)) whole_is ∙ ap (λ m. padded (take m (ended f size))) n_is))) in

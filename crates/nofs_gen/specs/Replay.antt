@@ -3,7 +3,7 @@ use Rattle.std.specs.Prelude.{ℕ, ◌+◌, ◌-◌, ◌*◌, ◌/◌, ◌%◌, 
 use Rattle.std.specs.Prelude.{slice_get, slice_set, unwrap_or, map, if◌then◌else◌}
 use Rattle.nofs_model.specs.declared.image.value.Value.{Value}
 use Rattle.nofs_model.specs.declared.image.value.Value.TheVariants as value
-use Rattle.nofs_history.specs.Machine.{slots_in, trimmed, put_content, is_at, is_refused}
+use Rattle.nofs_history.specs.Machine.{slots_in, put_content, is_at, is_refused, trimmed_value}
 use Rattle.nofs_history.specs.declared.machine.history.Entry1.{Entry1}
 use Rattle.nofs_history.specs.declared.machine.steps.Step.{Step}
 use Rattle.nofs_history.specs.declared.machine.steps.Step.TheVariants as step
@@ -12,7 +12,7 @@ use Rattle.nofs_gen.specs.declared.file.KeptValue.TheVariants as kept
 use Rattle.nofs_gen.specs.declared.file.Replayed.{Replayed}
 
 -- the size of a file, and the values of its slots
-pub record FileNow : Type 0 where
+pub record FileContent : Type 0 where
   pub size : ℕ
   pub values : List Value
 
@@ -25,29 +25,23 @@ abbrev pub kept_value : KeptValue → Value
 kept_value kept.Hole = value.Hole
 kept_value (kept.Bytes bytes) = value.Bytes bytes.value
 
-abbrev pub replayed_file : Replayed → FileNow
+abbrev pub replayed_file : Replayed → FileContent
 replayed_file f = record { size = f.size; values = map kept_value f.values.items }
 
 -- a file on which no step was made
-abbrev pub empty_file : FileNow
+abbrev pub empty_file : FileContent
 empty_file = record { size = 0; values = padded [] }
 
 -- the value of a slot
 abbrev pub slot_value : List Value → ℕ → Value
 slot_value values k = unwrap_or (slice_get values k) value.Hole
 
--- a value with zeros from a place on
-abbrev pub trimmed_value : ℕ → Value → Value
-trimmed_value cut (value.Bytes content) = value.Bytes (trimmed cut content)
-trimmed_value cut value.Hole = value.Hole
-trimmed_value cut value.Lost = value.Lost
-
 -- bytes that lie in one of the 72 slots
 abbrev pub is_put : ℕ → ℕ → List ℕ → Bool
 is_put k at bytes = nat_lt k 72 && (nat_lt 0 (length bytes) && nat_le (at + length bytes) 1024)
 
 -- a file with these bytes in slot k
-abbrev pub put_file : FileNow → ℕ → ℕ → List ℕ → FileNow
+abbrev pub put_file : FileContent → ℕ → ℕ → List ℕ → FileContent
 put_file f k at bytes =
     if is_put k at bytes then record {
       size = max f.size (1024 * k + at + length bytes);
@@ -55,23 +49,23 @@ put_file f k at bytes =
     } else f
 
 -- where a file does not shrink, its bytes past the old end become zeros
-abbrev pub ended : FileNow → ℕ → List Value
+abbrev pub ended : FileContent → ℕ → List Value
 ended f size =
     if nat_le f.size size && not (f.size % 1024 == 0)
     then slice_set f.values (f.size / 1024) (trimmed_value (f.size % 1024) (slot_value f.values (f.size / 1024))) else f.values
 
 -- a file with another size: what lies behind the lesser of both sizes becomes holes
-abbrev pub resized_file : FileNow → ℕ → FileNow
-resized_file f size = record { size = size; values = padded (take (min (slots_in f.size) (slots_in size)) (ended f size)) }
+abbrev pub resized_content : FileContent → ℕ → FileContent
+resized_content f size = record { size = size; values = padded (take (min (slots_in f.size) (slots_in size)) (ended f size)) }
 
 -- the file (i, g) after an accepted step
-abbrev pub file_with_step : ℕ → ℕ → FileNow → Step → FileNow
+abbrev pub file_with_step : ℕ → ℕ → FileContent → Step → FileContent
 file_with_step i g f (step.Put j h k at bytes) = if is_at i g j h then put_file f k at bytes else f
-file_with_step i g f (step.Resize j h size) = if is_at i g j h then resized_file f size else f
+file_with_step i g f (step.Resize j h size) = if is_at i g j h then resized_content f size else f
 file_with_step i g f _ = f
 
 -- the file after an entry
-abbrev pub after_entry : ℕ → ℕ → FileNow → Entry1 → FileNow
+abbrev pub after_entry : ℕ → ℕ → FileContent → Entry1 → FileContent
 after_entry i g f e = if is_refused e.reply then f else file_with_step i g f e.step
 
 -- the values of the file after these entries

@@ -4,7 +4,7 @@
 ghost use Rattle.std.specs.Prelude.{◌≡◌, ◌<◌, ◌≤◌, ◌+◌, ◌/◌, IfOk, OnOk, length, map, slice_set};
 ghost use Rattle.nofs_history.specs.Machine as machine;
 ghost use Rattle.nofs_model.specs.declared.image.value.Value.TheVariants as value;
-ghost use Rattle.nofs_gen.specs.Replay.{ended, empty_file, is_put as is_put_in, replayed_file, kept_value, padded, put_file, resized_file, trimmed_value, slot_value};
+ghost use Rattle.nofs_gen.specs.Replay.{ended, empty_file, is_put as is_put_in, replayed_file, kept_value, padded, put_file, resized_content, slot_value};
 
 use nofs_dirent::Content;
 use nofs_disk::{clear, write_bytes_at};
@@ -85,7 +85,7 @@ fn trim(cell: &mut [u8; 1024], cut: usize)
 
 fn trimmed(kept: KeptValue, cut: usize) -> KeptValue
     requires { cut ≤ 1024 }
-    ensures { kept_value result ≡ trimmed_value cut (kept_value kept) }
+    ensures { kept_value result ≡ machine.trimmed_value cut (kept_value kept) }
 {
     match kept {
         KeptValue::Hole => KeptValue::Hole,
@@ -199,7 +199,7 @@ impl Replayed {
 
     /// The file with another size.
     pub fn resized(self, alloc: Global, size: u64) -> Result<Self, AllocError>
-        ensures { IfOk result (λ file. replayed_file file ≡ resized_file (replayed_file self) size) }
+        ensures { IfOk result (λ file. replayed_file file ≡ resized_content (replayed_file self) size) }
     {
         let mut file = self;
         file.trim_end(alloc, size)?;

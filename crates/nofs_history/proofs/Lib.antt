@@ -1,3 +1,6 @@
 pub mod EntryPut
 pub mod Links
 pub mod Names
+pub mod Rows
+pub mod Faultless
+pub mod OnAccepted

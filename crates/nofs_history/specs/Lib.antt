@@ -15,3 +15,5 @@ pub mod Claims
 pub mod Next
 pub mod Good
 pub mod Gives
+pub mod Callers
+pub mod Accepted

@@ -124,6 +124,12 @@ cut_of size k = min 1024 (size - 1024 * k)
 unfoldable pub trimmed : ℕ → List ℕ → List ℕ
 trimmed cut content = take cut content ++ replicate (1024 - cut) 0
 
+-- a value with zeros from a place on
+abbrev pub trimmed_value : ℕ → Value → Value
+trimmed_value cut (Bytes content) = Bytes (trimmed cut content)
+trimmed_value cut Hole = Hole
+trimmed_value cut Lost = Lost
+
 -- the content of slot k with these bytes in it: zeros past the size
 unfoldable pub put_content : Value → ℕ → ℕ → ℕ → List ℕ → List ℕ
 put_content old size k at bytes = put_bytes at bytes (trimmed (cut_of size k) (bytes_in old))
@@ -328,6 +334,12 @@ is_refused _ = false
 abbrev pub is_write_fault : Reply → Bool
 is_write_fault (reply.Refused refusal.WriteFault) = true
 is_write_fault _ = false
+
+-- whether a call of the device failed
+abbrev pub is_fault : Reply → Bool
+is_fault (reply.Refused refusal.ReadFault) = true
+is_fault (reply.Refused refusal.WriteFault) = true
+is_fault _ = false
 
 -- whether a step was done, or may have been
 abbrev pub may_give : Reply → Bool

@@ -1,4 +1,4 @@
-//! The machine that the file system is: its steps, what they are answered, and its history.
+//! The steps, what each is answered, and the history of a mount.
 pub(crate) mod history;
 pub(crate) mod replies;
 pub(crate) mod steps;

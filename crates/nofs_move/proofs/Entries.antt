@@ -7,9 +7,10 @@ use Rattle.std.proofs.lemmas.Option.{slice_get_within}
 use Rattle.nofs_model.specs.Image.{Image}
 use Rattle.nofs_history.specs.Steps.{Made}
 use Rattle.nofs_history.specs.declared.machine.history.Entry1.{Entry1}
+use Rattle.nofs_history.specs.Callers.{done_of, steps_by}
 use Rattle.nofs_client.specs.declared.task.commands.Command.{Command}
 use Rattle.nofs_crashlaw.proofs.Along.{SaneRun, moment-at}
-use Rattle.nofs_move.specs.Own.{done_of, steps_by, own_place, RunBy, place_in, end_of}
+use Rattle.nofs_move.specs.Own.{own_place, RunBy, place_in, end_in}
 use Rattle.nofs_move.proofs.Own.{OwnEntry, own-entry, OwnStep, own-step, own-rises}
 use Rattle.nofs_move.proofs.Stages.{Told, AllTold}
 use Rattle.nofs_move.proofs.Replies.{told-entry}
@@ -49,11 +50,11 @@ module _ (c : ℕ) (moves : Command) (made : List Made) (H : List Entry1) (run :
       get (x ∷ xs) zero lt = (x, refl)
       get (x ∷ xs) (suc n) lt = get xs n (omega (arith, lt))
 
-  pub by-end : (k : ℕ) (m : Made) → slice_get made k ≡ Some m → place_in c moves made H run k ≤ end_of c moves made H run
+  pub by-end : (k : ℕ) (m : Made) → slice_get made k ≡ Some m → place_in c moves made H run k ≤ end_in c moves made H run
   by-end k m h = go (eqb k (length made - 1)) refl
     where
-      go : (b : Bool) → eqb k (length made - 1) ≡ b → place_in c moves made H run k ≤ end_of c moves made H run
-      go true q = let e : place_in c moves made H run k ≡ end_of c moves made H run =
+      go : (b : Bool) → eqb k (length made - 1) ≡ b → place_in c moves made H run k ≤ end_in c moves made H run
+      go true q = let e : place_in c moves made H run k ≡ end_in c moves made H run =
           ap (place_in c moves made H run) (eqb-true k (length made - 1) q) in omega (arith, e)
       go false q =
           let apart : k ≢ length made - 1 = λ e. let z = eq-eqb k (length made - 1) e in cc (q, z) in
@@ -69,7 +70,7 @@ module _ (c : ℕ) (moves : Command) (made : List Made) (H : List Entry1) (run :
     pub place : place_in c moves made H run number ≡ p
     pub there : slice_get made number ≡ Some (done_of e)
 
-  pub between : (low p : ℕ) (m : Made) (e : Entry1) → slice_get made low ≡ Some m → place_in c moves made H run low < p → p ≤ end_of c moves made H run
+  pub between : (low p : ℕ) (m : Made) (e : Entry1) → slice_get made low ≡ Some m → place_in c moves made H run low < p → p ≤ end_in c moves made H run
       → slice_get H p ≡ Some e → e.caller ≡ c → Between low p e
   between low p m e at above by there mine = go (own-step c H p e there mine)
     where

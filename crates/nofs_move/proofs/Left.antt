@@ -15,6 +15,7 @@ use Rattle.nofs_history.specs.declared.machine.history.Entry1.{Entry1}
 use Rattle.nofs_history.specs.declared.machine.steps.Step.{Step}
 use Rattle.nofs_history.specs.declared.machine.steps.Step.TheVariants as step
 use Rattle.nofs_history.specs.declared.machine.replies.Reply.TheVariants as reply
+use Rattle.nofs_history.specs.Callers.{done_of}
 use Rattle.nofs_client.specs.declared.task.commands.Command.TheVariants as command
 use Rattle.nofs_client.specs.declared.task.commands.Path.{Path}
 use Rattle.nofs_client.specs.Places.{last_name}
@@ -26,9 +27,9 @@ use Rattle.nofs_crashlaw.proofs.Along.{Guard, SaneRun, moment-at, linked-along}
 use Rattle.nofs_crashlaw.proofs.Base.{sane-run}
 use Rattle.nofs_crashlaw.proofs.Alone.{Places, look-places, link-place-is}
 use Rattle.nofs_crashlaw.proofs.Moving.{Only, plain-guard, keeping-guard, found-name, name-finds, look-linked, link-linked}
-use Rattle.nofs_move.specs.Own.{done_of, RunBy, place_in, end_of}
+use Rattle.nofs_move.specs.Own.{RunBy, place_in, end_in}
 use Rattle.nofs_move.specs.Linked.{is_idle, DropMade, LinkedSteps}
-use Rattle.nofs_move.specs.Laws.{NamesStay, LeavesName, NamesLeft, LawNamesLeft}
+use Rattle.nofs_move.specs.Laws.{OthersKeepNames, LeavesName, NamesLeft, LawNamesLeft}
 use Rattle.nofs_move.proofs.Own.{OwnEntry}
 use Rattle.nofs_move.proofs.Replies.{idle-keeps}
 use Rattle.nofs_move.proofs.Entries.{own, rises, by-end, Between, between}
@@ -102,7 +103,7 @@ same-entry H p q e h pq at there = let z : slice_get H p ≡ Some h = ap (slice_
 
 module _ (B : Image) (H : List Entry1) (r : SaneRun B H) (c : ℕ) (from to : Path) (made : List Made) (run : RunBy c (command.Move from to) made H)
     (s : LinkedSteps from to made) (last : ℕ)
-    (by : end_of c (command.Move from to) made H run ≤ last) (left : NamesLeft H c from to made run s last) where
+    (by : end_in c (command.Move from to) made H run ≤ last) (left : NamesLeft H c from to made run s last) where
   abbrev spot : ℕ → ℕ
   spot k = place_in c (command.Move from to) made H run k
 
@@ -144,12 +145,12 @@ module _ (B : Image) (H : List Entry1) (r : SaneRun B H) (c : ℕ) (from to : Pa
     each-old : (p : ℕ) → p ≤ suc last → (Done → p ≤ spot s.drop) → (q : ℕ) (x : Entry1) → spot s.look ≤ q → q < p → slice_get H q ≡ Some x
         → LeavesName x.step s.d (last_name from) ⊎ KeepsEntry (given_by (files_before B H q) x) s.d s.dg place (named_entry s.i s.g (last_name from))
     each-old p high undropped q x low lt there = go (eqb q (spot s.look)) refl (eqb q (spot s.link)) refl (eqb x.caller c) refl
-        (cases_lt (end_of c (command.Move from to) made H run) q)
+        (cases_lt (end_in c (command.Move from to) made H run) q)
       where
-        past : q ≢ spot s.look → (x.caller ≢ c) ⊎ (end_of c (command.Move from to) made H run < q) → LeavesName x.step s.d (last_name from)
+        past : q ≢ spot s.look → (x.caller ≢ c) ⊎ (end_in c (command.Move from to) made H run < q) → LeavesName x.step s.d (last_name from)
         past apart who = left.old q x (omega (arith, low, apart)) (omega (arith, lt, high)) (λ done. let u = undropped done in omega (arith, u, lt)) there who
 
-        idle : q ≢ spot s.look → q ≢ spot s.link → x.caller ≡ c → q ≤ end_of c (command.Move from to) made H run → is_idle (done_of x) ≡ true
+        idle : q ≢ spot s.look → q ≢ spot s.link → x.caller ≡ c → q ≤ end_in c (command.Move from to) made H run → is_idle (done_of x) ≡ true
         idle apart unlinked mine within = at (between c (command.Move from to) made H run s.look q _ x s.looked (omega (arith, low, apart)) within there mine)
           where
             unlike : (k : ℕ) → slice_get made k ≡ Some (done_of x) → spot k ≡ q → s.drop ≡ length made ⊎ Done → k ≢ s.drop
@@ -160,7 +161,7 @@ module _ (B : Image) (H : List Entry1) (r : SaneRun B H) (c : ℕ) (from to : Pa
             at b = s.others b.number (done_of x) b.above b.there (λ h. unlinked (sym b.place ∙ ap spot h)) (unlike b.number b.there b.place s.ends)
 
         go : (a : Bool) → eqb q (spot s.look) ≡ a → (b : Bool) → eqb q (spot s.link) ≡ b → (d : Bool) → eqb x.caller c ≡ d
-            → (end_of c (command.Move from to) made H run < q) ⊎ (q ≤ end_of c (command.Move from to) made H run)
+            → (end_in c (command.Move from to) made H run < q) ⊎ (q ≤ end_in c (command.Move from to) made H run)
             → LeavesName x.step s.d (last_name from) ⊎ KeepsEntry (given_by (files_before B H q) x) s.d s.dg place (named_entry s.i s.g (last_name from))
         go true qa b qb d qd w = inl (look-leaves x q s.d (last_name from) (eqb-true q (spot s.look) qa) there)
         go false qa true qb d qd w = inl (link-leaves x q s.d (last_name from) (eqb-true q (spot s.link) qb) there)
@@ -195,7 +196,7 @@ module _ (B : Image) (H : List Entry1) (r : SaneRun B H) (c : ℕ) (from to : Pa
   old-stays : (place : ℕ) (entry : Entry) → found (files_before B H (spot s.look)) s.d (last_name from) ≡ Some place
       → entry_at (files_before B H (spot s.look)) s.d place ≡ Some entry
       → (p : ℕ) (e : Entry1) → spot s.look < p → p ≤ last → (Done → p < spot s.drop) → slice_get H p ≡ Some e
-      → (e.caller ≢ c) ⊎ (end_of c (command.Move from to) made H run < p)
+      → (e.caller ≢ c) ⊎ (end_in c (command.Move from to) made H run < p)
       → KeepsEntry (given_by (files_before B H p) e) s.d s.dg place entry
   old-stays place entry ef ex p e low high undropped there who =
       let o = old-at place entry ef ex in
@@ -235,9 +236,9 @@ module _ (B : Image) (H : List Entry1) (r : SaneRun B H) (c : ℕ) (from to : Pa
 
   each-new : (place p : ℕ) → p ≤ last → (q : ℕ) (x : Entry1) → suc (spot s.link) ≤ q → q < p → slice_get H q ≡ Some x
       → LeavesName x.step s.d2 (last_name to) ⊎ KeepsEntry (given_by (files_before B H q) x) s.d2 s.dg2 place (named_entry s.i s.g (last_name to))
-  each-new place p high q x low lt there = go (eqb x.caller c) refl (cases_lt (end_of c (command.Move from to) made H run) q)
+  each-new place p high q x low lt there = go (eqb x.caller c) refl (cases_lt (end_in c (command.Move from to) made H run) q)
     where
-      past : (x.caller ≢ c) ⊎ (end_of c (command.Move from to) made H run < q) → LeavesName x.step s.d2 (last_name to)
+      past : (x.caller ≢ c) ⊎ (end_in c (command.Move from to) made H run < q) → LeavesName x.step s.d2 (last_name to)
       past who = left.new q x (omega (arith, low)) (omega (arith, lt, high)) there who
 
       drops : (k : ℕ) → slice_get made k ≡ Some (done_of x) → k ≡ s.drop → s.drop ≡ length made ⊎ Done → LeavesName x.step s.d2 (last_name to)
@@ -257,7 +258,7 @@ module _ (B : Image) (H : List Entry1) (r : SaneRun B H) (c : ℕ) (from to : Pa
           ap spot (sym same) ∙ at in omega (arith, z, low)) (λ same. let z = eq-eqb k s.drop same in cc (e, z)))
           s.d2 s.dg2 place (named_entry s.i s.g (last_name to)))
 
-      go : (d : Bool) → eqb x.caller c ≡ d → (end_of c (command.Move from to) made H run < q) ⊎ (q ≤ end_of c (command.Move from to) made H run)
+      go : (d : Bool) → eqb x.caller c ≡ d → (end_in c (command.Move from to) made H run < q) ⊎ (q ≤ end_in c (command.Move from to) made H run)
           → LeavesName x.step s.d2 (last_name to) ⊎ KeepsEntry (given_by (files_before B H q) x) s.d2 s.dg2 place (named_entry s.i s.g (last_name to))
       go false qd w = inl (past (inl (λ h. let z = eq-eqb x.caller c h in cc (qd, z))))
       go true qd (inl beyond) = inl (past (inr beyond))
@@ -267,7 +268,7 @@ module _ (B : Image) (H : List Entry1) (r : SaneRun B H) (c : ℕ) (from to : Pa
           own-one b (eqb b.number s.drop) b.number refl b.place b.above b.there
 
   new-stays : (place : ℕ) → place_for (files_before B H (spot s.link)) s.d2 (last_name to) ≡ Some place
-      → (p : ℕ) (e : Entry1) → spot s.link < p → p ≤ last → slice_get H p ≡ Some e → (e.caller ≢ c) ⊎ (end_of c (command.Move from to) made H run < p)
+      → (p : ℕ) (e : Entry1) → spot s.link < p → p ≤ last → slice_get H p ≡ Some e → (e.caller ≢ c) ⊎ (end_in c (command.Move from to) made H run < p)
       → KeepsEntry (given_by (files_before B H p) e) s.d2 s.dg2 place (named_entry s.i s.g (last_name to))
   new-stays place ep p e low high there who =
       let m = moment-at B H r (spot s.link) the-link.entry the-link.there in
@@ -278,7 +279,7 @@ module _ (B : Image) (H : List Entry1) (r : SaneRun B H) (c : ℕ) (from to : Pa
       (files-after (λ W. IsSane W) r.keeps (agreed_files B) H (spot s.link) the-link.entry the-link.there m) k.1 in
       keeps-it B H r (suc (spot s.link)) p e there low s.d2 s.dg2 s.i s.g k.0 place (last_name to) l (each-new place p high) (left.new p e low high there who)
 
-  pub names-stay : NamesStay B H c from to made run s last
+  pub names-stay : OthersKeepNames B H c from to made run s last
   names-stay = record { old = old-stays; new = new-stays }
 
 pub law-names-left : LawNamesLeft

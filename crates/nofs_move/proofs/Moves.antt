@@ -10,6 +10,7 @@ use Rattle.nofs_history.specs.Steps.{Made}
 use Rattle.nofs_history.specs.declared.machine.history.Entry1.{Entry1}
 use Rattle.nofs_history.specs.declared.machine.steps.Step.TheVariants as step
 use Rattle.nofs_history.specs.declared.machine.replies.Reply.TheVariants as reply
+use Rattle.nofs_history.specs.Callers.{done_of}
 use Rattle.nofs_client.specs.declared.task.commands.Command.TheVariants as command
 use Rattle.nofs_client.specs.declared.task.commands.Path.{Path}
 use Rattle.nofs_client.specs.Places.{last_name}
@@ -19,9 +20,9 @@ use Rattle.nofs_crashlaw.proofs.Along.{SaneRun, moment-at}
 use Rattle.nofs_crashlaw.proofs.Base.{sane-run}
 use Rattle.nofs_crashlaw.proofs.Alone.{Places, look-places, link-place-is}
 use Rattle.nofs_crashlaw.proofs.PathMoves.{law-move, law-moved}
-use Rattle.nofs_move.specs.Own.{done_of, RunBy, place_in, end_of}
+use Rattle.nofs_move.specs.Own.{RunBy, place_in, end_in}
 use Rattle.nofs_move.specs.Linked.{is_idle, DropMade, LinkedSteps}
-use Rattle.nofs_move.specs.Laws.{NamesStay, MoveAt, LawIsMove, LawOneName, LawNewName}
+use Rattle.nofs_move.specs.Laws.{OthersKeepNames, MoveAt, LawIsMove, LawOneName, LawNewName}
 use Rattle.nofs_move.proofs.Own.{OwnEntry}
 use Rattle.nofs_move.proofs.Replies.{idle-keeps}
 use Rattle.nofs_move.proofs.Entries.{own, rises, by-end, between}
@@ -61,19 +62,19 @@ module _ (B : Image) (H : List Entry1) (r : SaneRun B H) (c : ℕ) (from to : Pa
 
   -- each other entry of the run gives nothing. `drop` is the place of Drop, or past the run's end
   own-idle : (drop : ℕ) → ((k : ℕ) (m : Made) → slice_get made k ≡ Some m → k ≡ s.drop → spot k ≡ drop) → (p : ℕ) (e : Entry1) → spot s.look < p
-      → p ≤ end_of c (command.Move from to) made H run → p ≢ spot s.link → p ≢ drop → slice_get H p ≡ Some e → e.caller ≡ c → is_idle (done_of e) ≡ true
+      → p ≤ end_in c (command.Move from to) made H run → p ≢ spot s.link → p ≢ drop → slice_get H p ≡ Some e → e.caller ≡ c → is_idle (done_of e) ≡ true
   own-idle drop is_drop p e low high nl nd there mine =
       let b = between c (command.Move from to) made H run s.look p _ e s.looked low high there mine in
       s.others b.number (done_of e) b.above b.there (λ h. nl (sym b.place ∙ ap spot h)) (λ h. nd (sym b.place ∙ is_drop b.number (done_of e) b.there h))
 
-  module _ (last : ℕ) (by : end_of c (command.Move from to) made H run ≤ last) (stay : NamesStay B H c from to made run s last) where
+  module _ (last : ℕ) (by : end_in c (command.Move from to) made H run ≤ last) (stay : OthersKeepNames B H c from to made run s last) where
     old-stays : (drop : ℕ) → ((k : ℕ) (m : Made) → slice_get made k ≡ Some m → k ≡ s.drop → spot k ≡ drop)
         → (DropMade made s.link s.second s.drop s.d s.dg (last_name from) s.i s.g → drop ≤ spot s.drop)
         → (p : ℕ) (e : Entry1) → spot s.look < p → p ≤ last → p ≢ spot s.link → p < drop → slice_get H p ≡ Some e
         → KeepsEntry (given_by (files_before B H p) e) s.d s.dg old.place old.entry
-    old-stays drop is_drop late p e low high nl before there = go (eqb e.caller c) refl (cases_lt (end_of c (command.Move from to) made H run) p)
+    old-stays drop is_drop late p e low high nl before there = go (eqb e.caller c) refl (cases_lt (end_in c (command.Move from to) made H run) p)
       where
-        go : (b : Bool) → eqb e.caller c ≡ b → (end_of c (command.Move from to) made H run < p) ⊎ (p ≤ end_of c (command.Move from to) made H run)
+        go : (b : Bool) → eqb e.caller c ≡ b → (end_in c (command.Move from to) made H run < p) ⊎ (p ≤ end_in c (command.Move from to) made H run)
             → KeepsEntry (given_by (files_before B H p) e) s.d s.dg old.place old.entry
         go false q w = stay.old old.place old.entry old.finds old.there p e low high (λ done. let l = late done in omega (arith, l, before)) there
             (inl (λ h. let z = eq-eqb e.caller c h in cc (q, z)))
@@ -88,9 +89,9 @@ module _ (B : Image) (H : List Entry1) (r : SaneRun B H) (c : ℕ) (from to : Pa
     new-stays : (drop : ℕ) → ((k : ℕ) (m : Made) → slice_get made k ≡ Some m → k ≡ s.drop → spot k ≡ drop) → (p : ℕ) (e : Entry1) → spot s.link < p
         → p ≤ last → p ≢ drop → slice_get H p ≡ Some e
         → KeepsEntry (given_by (files_before B H p) e) s.d2 s.dg2 fresh.0 (named_entry s.i s.g (last_name to))
-    new-stays drop is_drop p e low high nd there = go (eqb e.caller c) refl (cases_lt (end_of c (command.Move from to) made H run) p)
+    new-stays drop is_drop p e low high nd there = go (eqb e.caller c) refl (cases_lt (end_in c (command.Move from to) made H run) p)
       where
-        go : (b : Bool) → eqb e.caller c ≡ b → (end_of c (command.Move from to) made H run < p) ⊎ (p ≤ end_of c (command.Move from to) made H run)
+        go : (b : Bool) → eqb e.caller c ≡ b → (end_in c (command.Move from to) made H run < p) ⊎ (p ≤ end_in c (command.Move from to) made H run)
             → KeepsEntry (given_by (files_before B H p) e) s.d2 s.dg2 fresh.0 (named_entry s.i s.g (last_name to))
         go false q w = stay.new fresh.0 fresh.1 p e low high there (inl (λ h. let z = eq-eqb e.caller c h in cc (q, z)))
         go true q (inl past) = stay.new fresh.0 fresh.1 p e low high there (inr past)

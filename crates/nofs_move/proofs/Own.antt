@@ -3,7 +3,8 @@ use Rattle.std.proofs.Common.{◌≡◌, ℕ, zero, suc, ◌<◌, Bool, true, fa
 use Rattle.std.specs.Prelude.{slice_get}
 use Rattle.nofs_history.specs.Steps.{Made}
 use Rattle.nofs_history.specs.declared.machine.history.Entry1.{Entry1}
-use Rattle.nofs_move.specs.Own.{done_of, is_by, steps_by, own_place}
+use Rattle.nofs_history.specs.Callers.{done_of, is_by, steps_by}
+use Rattle.nofs_move.specs.Own.{own_place}
 
 -- the caller's step number k, and its entry in the history
 pub record OwnEntry (c : ℕ) (H : List Entry1) (k : ℕ) (m : Made) : Type 0 where

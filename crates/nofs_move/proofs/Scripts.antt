@@ -2,12 +2,12 @@
 use Rattle.std.proofs.Common.{◌≡◌, ℕ, zero, suc, List, [], ◌∷◌, ◌++◌, length, Some, refl, sym, ap, ◌∙◌, subst, append_assoc, append-nil}
 use Rattle.std.specs.Prelude.{slice_get}
 use Rattle.nofs_history.specs.Steps.{Made}
+use Rattle.nofs_history.specs.Callers.{steps_by}
 use Rattle.nofs_client.specs.declared.task.commands.Command.{Command}
 use Rattle.nofs_client.specs.declared.task.next.Next.TheVariants.{Say}
 use Rattle.nofs_client.specs.declared.task.lines.Line.{Line}
 use Rattle.nofs_client.specs.Drive.{start_of}
 use Rattle.nofs_client.specs.Runs.{Asked, IsCommandRun, IsDriven, IsBegun}
-use Rattle.nofs_move.specs.Own.{steps_by}
 use Rattle.nofs_move.specs.Steps.{LawCommandRun, LawCommandBegun}
 
 -- the steps of command number k, among those of all

@@ -1,22 +1,11 @@
--- One caller's own entries in a history. (`nofs_shared` has the first three words, with the same meaning.)
-use Rattle.std.specs.Prelude.{◌≡◌, ℕ, zero, suc, ◌+◌, ◌-◌, ◌==◌, Bool, if◌then◌else◌, List, [], ◌∷◌, ◌++◌, length, map, filter}
+-- Where a caller's own entries stand in a history, and one run of a command.
+use Rattle.std.specs.Prelude.{◌≡◌, ℕ, zero, suc, ◌+◌, ◌-◌, if◌then◌else◌, List, [], ◌∷◌, ◌++◌, length}
+use Rattle.nofs_history.specs.Callers.{is_by, steps_by}
 use Rattle.nofs_history.specs.Steps.{Made}
 use Rattle.nofs_history.specs.declared.machine.history.Entry1.{Entry1}
 use Rattle.nofs_client.specs.declared.task.commands.Command.{Command}
 use Rattle.nofs_client.specs.Drive.{start_of}
 use Rattle.nofs_client.specs.Runs.{Asked}
-
--- the step of an entry, with its reply
-abbrev pub done_of : Entry1 → Made
-done_of e = (e.step, e.reply)
-
--- whether an entry is this caller's
-abbrev pub is_by : ℕ → Entry1 → Bool
-is_by c e = e.caller == c
-
--- the steps of one caller in a history, with their replies
-abbrev pub steps_by : ℕ → List Entry1 → List Made
-steps_by c es = map done_of (filter (is_by c) es)
 
 -- the place in a history of the caller's step number k, both counted from 0
 abbrev pub own_place : ℕ → List Entry1 → ℕ → ℕ
@@ -37,5 +26,5 @@ abbrev pub place_in : (c : ℕ) (moves : Command) (made : List Made) (H : List E
 place_in c moves made H run k = own_place c H (length run.front + k)
 
 -- and its last step
-abbrev pub end_of : (c : ℕ) (moves : Command) (made : List Made) (H : List Entry1) → RunBy c moves made H → ℕ
-end_of c moves made H run = place_in c moves made H run (length made - 1)
+abbrev pub end_in : (c : ℕ) (moves : Command) (made : List Made) (H : List Entry1) → RunBy c moves made H → ℕ
+end_in c moves made H run = place_in c moves made H run (length made - 1)

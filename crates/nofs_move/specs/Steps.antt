@@ -6,6 +6,7 @@ use Rattle.nofs_history.specs.Steps.{Made}
 use Rattle.nofs_history.specs.declared.machine.history.Entry1.{Entry1}
 use Rattle.nofs_history.specs.declared.machine.steps.Step.{Step}
 use Rattle.nofs_history.specs.declared.machine.replies.Reply.TheVariants as reply
+use Rattle.nofs_history.specs.Callers.{steps_by}
 use Rattle.nofs_client.specs.declared.task.commands.Command.{Command}
 use Rattle.nofs_client.specs.declared.task.commands.Command.TheVariants as command
 use Rattle.nofs_client.specs.declared.task.commands.Path.{Path}
@@ -17,7 +18,7 @@ use Rattle.nofs_client.specs.Places.{last_name}
 use Rattle.nofs_client.specs.Drive.{drive_of}
 use Rattle.nofs_client.specs.Runs.{made_reply, IsCommandRun, IsPartlyDriven}
 use Rattle.nofs_crashlaw.specs.Bases.{IsHistory}
-use Rattle.nofs_move.specs.Own.{steps_by, RunBy}
+use Rattle.nofs_move.specs.Own.{RunBy}
 use Rattle.nofs_move.specs.Linked.{DropMade, LinkedSteps}
 
 -- The steps of a run of the command in which one was answered Linked are those of a move: which is which is settled.

@@ -5,7 +5,8 @@ use Rattle.nofs_turn.specs.declared.turn_rule.view.View.{View}
 use Rattle.nofs_turn.specs.Lists.{chosen}
 use Rattle.nofs_turn.proofs.Callers.{joined_own, joined_other}
 use Rattle.nofs_history.specs.declared.machine.history.Entry1.{Entry1}
-use Rattle.nofs_shared.specs.Owned.{is_by, all_by, own_steps}
+use Rattle.nofs_history.specs.Callers.{is_by}
+use Rattle.nofs_shared.specs.Owned.{all_by, own_steps}
 use Rattle.nofs_shared.specs.Seats.{SameSeat}
 use Rattle.nofs_shared.proofs.Collecting.{chosen_by, chosen_not}
 use Rattle.nofs_serve.specs.Joins.{JoinsOwn, Gathers, made_by}

@@ -7,8 +7,9 @@ use Rattle.nofs_turn.proofs.Words.{prefix_trans}
 use Rattle.nofs_history.specs.Steps.{Made}
 use Rattle.nofs_history.specs.declared.machine.history.Entry1.{Entry1}
 use Rattle.nofs_history.specs.declared.machine.steps.ElementKind.TheVariants.{Inode, Block}
+use Rattle.nofs_history.specs.Callers.{is_by, steps_by}
 use Rattle.nofs_client.specs.declared.task.lines.Line.{Line}
-use Rattle.nofs_shared.specs.Owned.{is_by, own_steps, steps_by}
+use Rattle.nofs_shared.specs.Owned.{own_steps}
 use Rattle.nofs_shared.specs.Seats.{SameSeat}
 use Rattle.nofs_shared.proofs.Collecting.{steps_of}
 use Rattle.nofs_workers.specs.Sweeps.{Sweeps}

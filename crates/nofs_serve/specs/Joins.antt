@@ -6,7 +6,8 @@ use Rattle.nofs_turn.specs.Lists.{rises, chosen}
 use Rattle.nofs_turn.specs.Views.{joined}
 use Rattle.nofs_history.specs.Steps.{Made}
 use Rattle.nofs_history.specs.declared.machine.history.Entry1.{Entry1}
-use Rattle.nofs_shared.specs.Owned.{all_by, is_by, own_steps}
+use Rattle.nofs_history.specs.Callers.{is_by}
+use Rattle.nofs_shared.specs.Owned.{all_by, own_steps}
 
 module _ {F : Type 0} where
   -- the pass w, whose entries are all its caller's, was joined to v

@@ -5,7 +5,7 @@ use Rattle.nofs_turn.specs.declared.turn_rule.view.View.{View}
 use Rattle.nofs_history.specs.Steps.{Made}
 use Rattle.nofs_history.specs.declared.machine.history.Entry1.{Entry1}
 use Rattle.nofs_history.specs.declared.machine.steps.ElementKind.TheVariants.{Inode, Block}
-use Rattle.nofs_shared.specs.Owned.{steps_by}
+use Rattle.nofs_history.specs.Callers.{steps_by}
 use Rattle.nofs_workers.specs.Sweeps.{Sweeps}
 use Rattle.nofs_serve.specs.Joins.{Gathers, made_by}
 

@@ -8,9 +8,10 @@ use Rattle.nofs_turn.specs.Lists.{rises, merge, numbered, chosen}
 use Rattle.nofs_turn.specs.Views.{joined}
 use Rattle.nofs_turn.proofs.Callers.{entries_of-numbered, filter-entries_of, joined_own, joined_other}
 use Rattle.nofs_history.specs.declared.machine.history.Entry1.{Entry1}
-use Rattle.nofs_shared.specs.Owned.{done_of, is_by, all_by, own_steps, steps_by}
-use Rattle.nofs_shared.specs.Ends.{FollowEach, IdleIn, Task, WholeEach, step_of}
-use Rattle.nofs_shared.specs.Passes.{Seat, AllOut, Apart, Did, DidAll, Others, Sorts, TellsAll, Without}
+use Rattle.nofs_history.specs.Callers.{done_of, is_by, steps_by, made_step}
+use Rattle.nofs_shared.specs.Owned.{all_by, own_steps}
+use Rattle.nofs_shared.specs.Ends.{FollowEach, IdleIn, Task, WholeEach}
+use Rattle.nofs_shared.specs.Passes.{Seat, AllOut, CallersApart, Did, DidAll, Others, Sorts, TellsAll, Without}
 
 pub chosen_by : (c : ℕ) (m : List (ℕ × Entry1)) → all_by c m ≡ true → chosen (is_by c) m ≡ m
 chosen_by c [] e = refl
@@ -48,7 +49,7 @@ module _ {F : Type 0} (n start : ℕ) where
     pub seats : v.seats ≡ n
     pub same_start : v.start ≡ start
 
-  apart_tail : (xs ys : List (Seat F)) → Apart (xs ++ ys) → Apart ys
+  apart_tail : (xs ys : List (Seat F)) → CallersApart (xs ++ ys) → CallersApart ys
   apart_tail [] ys a = a
   apart_tail (x ∷ xs) ys a = apart_tail xs ys a.1
 
@@ -79,13 +80,13 @@ module _ {F : Type 0} (n start : ℕ) where
   )
 
   -- one pass more
-  pub more_joined : (all old rest : List (Seat F)) (e : Seat F) (v w : View Entry1 F) → old ≡ rest ++ e ∷ [] → AllOut n start all → Apart all
+  pub more_joined : (all old rest : List (Seat F)) (e : Seat F) (v w : View Entry1 F) → old ≡ rest ++ e ∷ [] → AllOut n start all → CallersApart all
       → rises 0 v.mine ≡ true → rises 0 e.1.mine ≡ true → w ≡ joined v e.1 → Joined all old v → Joined all rest w
   more_joined all old rest e v w is out apart up up' after j =
       let js = j.ones in
       let whole : all ≡ rest ++ e ∷ js = j.whole ∙ (ap (λ l. l ++ js) is ∙ append_assoc rest (e ∷ []) js) in
       let mine : w.mine ≡ merge v.mine e.1.mine = ap (λ (u : View Entry1 F). u.mine) after in
-      let a = apart_tail rest (e ∷ js) (subst (λ l. Apart l) whole apart) in
+      let a = apart_tail rest (e ∷ js) (subst (λ l. CallersApart l) whole apart) in
       let o = (out_tail rest (e ∷ js) (subst (λ l. AllOut n start l) whole out)).0 in
       let here : chosen (is_by e.0) (merge v.mine e.1.mine) ≡ e.1.mine =
       joined_own (is_by e.0) v.mine e.1.mine up up' (j.others e.0 a.0) ∙ chosen_by e.0 e.1.mine o.own in
@@ -120,7 +121,7 @@ module _ {F : Type 0} (n start : ℕ) where
   pub follow-each : (tasks : List Task) (all : List (Seat F)) (log : List Entry1) → Did tasks all → TellsAll log all → FollowEach tasks log
   follow-each [] [] log did tells = tt
   follow-each (t ∷ ts) (e ∷ es) log did tells = (
-    subst (λ (c : ℕ). IsPrefix (map step_of (steps_by c log)) t.steps) did.0 (subst (λ l. IsPrefix (map step_of l) t.steps) (sym tells.0) did.1),
+    subst (λ (c : ℕ). IsPrefix (map made_step (steps_by c log)) t.steps) did.0 (subst (λ l. IsPrefix (map made_step l) t.steps) (sym tells.0) did.1),
     follow-each ts es log did.2 tells.1,
   )
   follow-each [] (e ∷ es) log did tells = absurd did
@@ -129,7 +130,7 @@ module _ {F : Type 0} (n start : ℕ) where
   pub whole-each : (tasks : List Task) (all : List (Seat F)) (log : List Entry1) → DidAll tasks all → TellsAll log all → WholeEach tasks log
   whole-each [] [] log did tells = tt
   whole-each (t ∷ ts) (e ∷ es) log did tells =
-      (subst (λ (c : ℕ). map step_of (steps_by c log) ≡ t.steps) did.0 (ap (map step_of) tells.0 ∙ did.1), whole-each ts es log did.2 tells.1)
+      (subst (λ (c : ℕ). map made_step (steps_by c log) ≡ t.steps) did.0 (ap (map made_step) tells.0 ∙ did.1), whole-each ts es log did.2 tells.1)
   whole-each [] (e ∷ es) log did tells = absurd did
   whole-each (t ∷ ts) [] log did tells = absurd did
 

@@ -8,7 +8,7 @@ use Rattle.nofs_model.specs.Cells.{Cell, SuperBlock}
 use Rattle.nofs_model.specs.Image.{Image}
 use Rattle.nofs_history.specs.Allowed.{IsAllowed}
 use Rattle.nofs_history.specs.History.{is_flushed}
-use Rattle.nofs_history.specs.Machine.{is_write_fault, is_refused}
+use Rattle.nofs_history.specs.Machine.{is_write_fault, is_refused, is_fault}
 use Rattle.nofs_history.specs.Next.{takes_time}
 use Rattle.nofs_history.specs.Steps.{is_out_of_memory}
 use Rattle.nofs_history.specs.HistoryState.{HistoryState}
@@ -32,7 +32,7 @@ use Rattle.nofs_state.proofs.Sessions.{open-with, stopped-with}
 use Rattle.nofs_state.proofs.Sounding.{sounds-keep}
 use Rattle.nofs_turn.proofs.Words.{prefix_length}
 use Rattle.nofs_shared.proofs.RestingImages.{rests-later}
-use Rattle.nofs_shared.specs.Forms.{Cells, Forms, IsNextEntry, NoCell, OnlyCalls, Wrote, flushes_in, flushes_of, is_fault, faults_in}
+use Rattle.nofs_shared.specs.Forms.{Cells, Forms, IsNextEntry, NoCell, OnlyCalls, Wrote, flushes_in, flushes_of, faults_in}
 use Rattle.nofs_shared.specs.Mounts.{IsMount, IsMounted, IsSoundDisk, MountStands}
 
 -- The same books with another history

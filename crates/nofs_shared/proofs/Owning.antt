@@ -12,9 +12,10 @@ use Rattle.nofs_history.specs.Steps.{Made, is_out_of_memory, with_made}
 use Rattle.nofs_history.specs.declared.machine.history.Entry1.{Entry1}
 use Rattle.nofs_history.specs.declared.machine.steps.Step.{Step}
 use Rattle.nofs_history.specs.declared.machine.replies.Reply.{Reply}
+use Rattle.nofs_history.specs.Callers.{done_of, is_by}
 use Rattle.nofs_shared.specs.Added.{AddsStep}
 use Rattle.nofs_shared.specs.Seats.{SameSeat}
-use Rattle.nofs_shared.specs.Owned.{TellsStep, done_of, is_by, all_by, own_steps}
+use Rattle.nofs_shared.specs.Owned.{TellsStep, all_by, own_steps}
 
 -- the entries that a step added
 record News (c : ℕ) (s : Step) (r : Reply) (H K : List Entry1) : Type 0 where

@@ -14,9 +14,10 @@ use Rattle.nofs_history.specs.declared.machine.history.Entry1.{Entry1}
 use Rattle.nofs_history.specs.declared.machine.steps.Step.{Step}
 use Rattle.nofs_history.specs.declared.machine.steps.Step.TheVariants as step
 use Rattle.nofs_history.specs.declared.machine.replies.Reply.{Reply}
+use Rattle.nofs_history.specs.Callers.{is_by, steps_by, made_step}
 use Rattle.nofs_shared.specs.Added.{AddsStep}
-use Rattle.nofs_shared.specs.Ends.{AllFollow, FollowEach, Task, WholeEach, step_of}
-use Rattle.nofs_shared.specs.Owned.{is_by, own_steps, steps_by}
+use Rattle.nofs_shared.specs.Ends.{AllFollow, FollowEach, Task, WholeEach}
+use Rattle.nofs_shared.specs.Owned.{own_steps}
 use Rattle.nofs_shared.specs.Served.{AllServed, Served, two_users}
 use Rattle.nofs_shared.proofs.Collecting.{chosen_by, chosen_not, steps_of}
 
@@ -55,10 +56,10 @@ module _ {F : Type 0} (fx : F) (H : List Entry1) (one two : List Step) (short sh
   two-served K up up' begins all = record {
     grown = prefix_trans H u.seen K seen begins;
     each = (
-      subst (λ (l : List Made). IsPrefix (map step_of l) one) (sym of_one) first.steps,
-      (subst (λ (l : List Made). IsPrefix (map step_of l) two) (sym of_two) second.steps, tt),
+      subst (λ (l : List Made). IsPrefix (map made_step l) one) (sym of_one) first.steps,
+      (subst (λ (l : List Made). IsPrefix (map made_step l) two) (sym of_two) second.steps, tt),
     );
-    all = λ e. let p = neither short short' e in (ap (map step_of) of_one ∙ first.all p.0, (ap (map step_of) of_two ∙ second.all p.1, tt));
+    all = λ e. let p = neither short short' e in (ap (map made_step) of_one ∙ first.all p.0, (ap (map made_step) of_two ∙ second.all p.1, tt));
     others = λ c idle. by c ∙ ap own_steps (joined_other (is_by c) v.mine w.mine up up' (chosen_not c 2 w.mine second.own idle.1.0)
         ∙ chosen_not c 1 v.mine first.own idle.0);
   }

@@ -3,15 +3,15 @@ use Rattle.std.proofs.Common.{◌≡◌, true, false, List, [], ◌∷◌, ◌++
 use Rattle.nofs_history.specs.Steps.{Made, is_out_of_memory, with_made}
 use Rattle.nofs_history.specs.declared.machine.steps.Step.{Step}
 use Rattle.nofs_history.specs.declared.machine.replies.Reply.{Reply}
-use Rattle.nofs_shared.specs.Ends.{step_of}
+use Rattle.nofs_history.specs.Callers.{made_step}
 use Rattle.nofs_shared.specs.Served.{Walked, Walks}
 
 pub walks-begin : (made : List Made) (script : List Step) → Walks made made script script
 walks-begin made script = record { more = []; whole = sym (append-nil made); steps = refl }
 
-map-append : (xs ys : List Made) → map step_of (xs ++ ys) ≡ map step_of xs ++ map step_of ys
+map-append : (xs ys : List Made) → map made_step (xs ++ ys) ≡ map made_step xs ++ map made_step ys
 map-append [] ys = refl
-map-append (x ∷ xs) ys = λ i. step_of x ∷ map-append xs ys i
+map-append (x ∷ xs) ys = λ i. made_step x ∷ map-append xs ys i
 
 -- one step more
 pub walks-more : (before mid after : List Made) (script rest tail : List Step) (s : Step) (r : Reply) → rest ≡ s ∷ tail → after ≡ with_made mid s r
@@ -19,8 +19,8 @@ pub walks-more : (before mid after : List Made) (script rest tail : List Step) (
 walks-more before mid after script rest tail s r is made some w = record {
   more = w.more ++ (s, r) ∷ [];
   whole = made ∙ (rw some refl) ∙ ap (λ l. l ++ (s, r) ∷ []) w.whole ∙ append_assoc before w.more ((s, r) ∷ []);
-  steps = ap (λ l. l ++ tail) (map-append w.more ((s, r) ∷ [])) ∙ append_assoc (map step_of w.more) (s ∷ []) tail
-      ∙ ap (λ l. map step_of w.more ++ l) (sym is) ∙ w.steps;
+  steps = ap (λ l. l ++ tail) (map-append w.more ((s, r) ∷ [])) ∙ append_assoc (map made_step w.more) (s ∷ []) tail
+      ∙ ap (λ l. map made_step w.more ++ l) (sym is) ∙ w.steps;
 }
 
 -- memory was wanting
@@ -43,5 +43,5 @@ walks-end before after script rest none w = record {
   whole = w.whole;
   steps = (rest, w.steps);
   all =
-      λ e. sym (append-nil (map step_of w.more)) ∙ ap (λ l. map step_of w.more ++ l) (sym none) ∙ w.steps;
+      λ e. sym (append-nil (map made_step w.more)) ∙ ap (λ l. map made_step w.more ++ l) (sym none) ∙ w.steps;
 }

@@ -16,9 +16,9 @@ use Rattle.nofs_history.specs.declared.machine.history.Entry1.{Entry1}
 use Rattle.nofs_history.specs.declared.machine.steps.Step.{Step}
 use Rattle.nofs_history.specs.declared.machine.steps.Step.TheVariants as step
 use Rattle.nofs_history.specs.declared.machine.replies.Reply.{Reply}
+use Rattle.nofs_history.specs.Callers.{made_step, steps_by}
 use Rattle.nofs_shared.specs.Forms.{Forms, OnlyCalls, faults_in}
 use Rattle.nofs_shared.specs.Mounts.{IsFound, IsSoundDisk}
-use Rattle.nofs_shared.specs.Owned.{steps_by}
 use Rattle.nofs_shared.specs.Added.{AddsStep}
 
 -- what an entry claims was known and free in the machine's world before it
@@ -62,12 +62,9 @@ pub record Ends (found last : DiskState) (first : ℕ) (h : HistoryState) : Type
 
 -- Sessions
 
-abbrev pub step_of : Made → Step
-step_of m = m.0
-
 -- the steps of a caller in the history are those of its script, in order; or the first ones of them, where memory ended it early
 abbrev pub FollowsSteps : ℕ → List Step → List Entry1 → Type 0
-FollowsSteps c script H = IsPrefix (map step_of (steps_by c H)) script
+FollowsSteps c script H = IsPrefix (map made_step (steps_by c H)) script
 
 -- what a caller was to do, in order
 pub record Task : Type 0 where
@@ -82,7 +79,7 @@ FollowEach (t ∷ ts) H = FollowsSteps t.caller t.steps H × FollowEach ts H
 -- each made all of them
 abbrev pub WholeEach : List Task → List Entry1 → Type 0
 WholeEach [] H = Unit {0}
-WholeEach (t ∷ ts) H = (map step_of (steps_by t.caller H) ≡ t.steps) × WholeEach ts H
+WholeEach (t ∷ ts) H = (map made_step (steps_by t.caller H) ≡ t.steps) × WholeEach ts H
 
 -- no task is this caller's
 abbrev pub IdleIn : ℕ → List Task → Type 0

@@ -1,17 +1,12 @@
 -- Entries of one caller, and what a section at the mount tells.
-use Rattle.std.specs.Prelude.{ℕ, ◌==◌, Bool, true, ◌&&◌, List, [], ◌∷◌, map, filter}
+use Rattle.std.specs.Prelude.{ℕ, Bool, true, ◌&&◌, List, [], ◌∷◌, map}
 use Rattle.nofs_turn.specs.Lists.{entries_of}
+use Rattle.nofs_history.specs.Callers.{done_of, is_by}
 use Rattle.nofs_history.specs.Steps.{Fits, Made}
 use Rattle.nofs_history.specs.declared.machine.history.Entry1.{Entry1}
 use Rattle.nofs_history.specs.declared.machine.steps.Step.{Step}
 use Rattle.nofs_history.specs.declared.machine.replies.Reply.{Reply}
 use Rattle.nofs_shared.specs.Added.{AddsStep}
-
-abbrev pub done_of : Entry1 → Made
-done_of e = (e.step, e.reply)
-
-abbrev pub is_by : ℕ → Entry1 → Bool
-is_by c e = e.caller == c
 
 -- all entries are the caller's
 abbrev pub all_by : ℕ → List (ℕ × Entry1) → Bool
@@ -21,10 +16,6 @@ all_by c (x ∷ xs) = is_by c x.1 && all_by c xs
 -- the steps of a list of own entries
 abbrev pub own_steps : List (ℕ × Entry1) → List Made
 own_steps xs = map done_of (entries_of xs)
-
--- the steps of one caller in a history, with their replies
-abbrev pub steps_by : ℕ → List Entry1 → List Made
-steps_by c es = map done_of (filter (is_by c) es)
 
 -- what a section tells: one step of the caller, whose reply fits
 pub record TellsStep (caller : ℕ) (s : Step) (H K : List Entry1) (r : Reply) : Type 0 where

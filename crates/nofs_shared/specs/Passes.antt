@@ -4,8 +4,9 @@ use mathlib.Core.List.{IsPrefix}
 use Rattle.nofs_turn.specs.declared.turn_rule.view.View.{View}
 use Rattle.nofs_turn.specs.Lists.{chosen}
 use Rattle.nofs_history.specs.declared.machine.history.Entry1.{Entry1}
-use Rattle.nofs_shared.specs.Ends.{Task, step_of}
-use Rattle.nofs_shared.specs.Owned.{all_by, is_by, own_steps, steps_by}
+use Rattle.nofs_history.specs.Callers.{is_by, steps_by, made_step}
+use Rattle.nofs_shared.specs.Ends.{Task}
+use Rattle.nofs_shared.specs.Owned.{all_by, own_steps}
 
 -- a caller, and what its pass knows
 abbrev pub Seat : Type 0 → Type 0
@@ -29,9 +30,9 @@ module _ {F : Type 0} where
   Without c (e ∷ es) = (c ≢ e.0) × Without c es
 
   -- each has a caller of its own
-  abbrev pub Apart : List (Seat F) → Type 0
-  Apart [] = Unit {0}
-  Apart (e ∷ es) = Without e.0 es × Apart es
+  abbrev pub CallersApart : List (Seat F) → Type 0
+  CallersApart [] = Unit {0}
+  CallersApart (e ∷ es) = Without e.0 es × CallersApart es
 
   -- the list has of each caller just its own entries
   abbrev pub Sorts : List (ℕ × Entry1) → List (Seat F) → Type 0
@@ -50,11 +51,11 @@ module _ {F : Type 0} where
   -- each of these passes made the steps of its task, or the first ones of them
   abbrev pub Did : List Task → List (Seat F) → Type 0
   Did [] [] = Unit {0}
-  Did (t ∷ ts) (e ∷ es) = (e.0 ≡ t.caller) × IsPrefix (map step_of (own_steps e.1.mine)) t.steps × Did ts es
+  Did (t ∷ ts) (e ∷ es) = (e.0 ≡ t.caller) × IsPrefix (map made_step (own_steps e.1.mine)) t.steps × Did ts es
   Did _ _ = ⊥
 
   -- each made all of them
   abbrev pub DidAll : List Task → List (Seat F) → Type 0
   DidAll [] [] = Unit {0}
-  DidAll (t ∷ ts) (e ∷ es) = (e.0 ≡ t.caller) × (map step_of (own_steps e.1.mine) ≡ t.steps) × DidAll ts es
+  DidAll (t ∷ ts) (e ∷ es) = (e.0 ≡ t.caller) × (map made_step (own_steps e.1.mine) ≡ t.steps) × DidAll ts es
   DidAll _ _ = ⊥

@@ -12,7 +12,6 @@ use Rattle.nofs_client.specs.declared.task.commands.Command.{Command}
 use Rattle.nofs_client.specs.declared.task.lines.Line.{Line}
 use Rattle.nofs_client.specs.Runs.{LinesFollow}
 use Rattle.nofs_shared.specs.Added.{AddsStep}
-use Rattle.nofs_shared.specs.Owned.{steps_by}
 use Rattle.nofs_serve.specs.Served.{TeamMade, TeamServed}
 use Rattle.nofs_tool.specs.Entries.{has_fault}
 use Rattle.nofs_tool.specs.Whole.{IsWholeScan, ShowsDisk}
@@ -32,6 +31,7 @@ use Rattle.nofs_model.specs.Image.{Image}
 use Rattle.nofs_history.specs.Next.{Run}
 use Rattle.nofs_history.specs.World.{World, world_of}
 use Rattle.nofs_history.specs.declared.machine.steps.ElementKind.TheVariants.{Inode, Block}
+use Rattle.nofs_history.specs.Callers.{steps_by}
 use Rattle.nofs_workers.specs.Sweeps.{Sweeps}
 
 twice : (b : Bool) → not (not b) ≡ false → b ≡ false

@@ -6,7 +6,8 @@ use native.Mathlib.Bridge.{le_prop}
 use Rattle.nofs_disk.specs.Disk.{DiskState, Rose}
 use Rattle.nofs_history.specs.HistoryState.{HistoryState}
 use Rattle.nofs_history.specs.declared.machine.history.Entry1.{Entry1}
-use Rattle.nofs_shared.specs.Forms.{is_fault, faults_in}
+use Rattle.nofs_history.specs.Machine.{is_fault}
+use Rattle.nofs_shared.specs.Forms.{faults_in}
 use Rattle.nofs_tool.specs.Entries.{has_fault}
 use Rattle.nofs_tool.specs.Whole.{Finished}
 

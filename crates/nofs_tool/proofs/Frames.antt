@@ -8,8 +8,8 @@ use Rattle.nofs_io.specs.Calls.{SourceState, SinkState}
 use Rattle.nofs_io.specs.Texts.{TakesJust}
 use Rattle.nofs_history.specs.HistoryState.{HistoryState}
 use Rattle.nofs_history.specs.Steps.{Made}
+use Rattle.nofs_history.specs.Callers.{steps_by}
 use Rattle.nofs_shared.specs.Mounts.{IsMount}
-use Rattle.nofs_shared.specs.Owned.{steps_by}
 use Rattle.nofs_state.specs.declared.books.Books.{Books}
 use Rattle.nofs_tool.specs.Entries.{has_fault}
 use Rattle.nofs_tool.specs.Serving.{IsClosed}

@@ -17,10 +17,10 @@ use Rattle.nofs_history.specs.declared.machine.replies.Reply.{Reply}
 use Rattle.nofs_history.specs.declared.machine.replies.Reply.TheVariants as reply
 use Rattle.nofs_history.specs.declared.machine.replies.Refusal.{Refusal}
 use Rattle.nofs_history.specs.declared.machine.replies.Refusal.TheVariants as refusal
+use Rattle.nofs_history.specs.Callers.{done_of, is_by, steps_by, made_step}
+use Rattle.nofs_history.specs.Machine.{is_fault}
 use Rattle.nofs_shared.specs.Added.{AddsStep}
-use Rattle.nofs_shared.specs.Forms.{is_fault}
-use Rattle.nofs_shared.specs.Owned.{done_of, is_by, steps_by}
-use Rattle.nofs_workers.specs.Sweeps.{Sweeps, see_of, step_of}
+use Rattle.nofs_workers.specs.Sweeps.{Sweeps, see_of}
 use Rattle.nofs_tool.specs.Entries.{has_fault}
 
 -- from W to V the mount was not stopped, nothing known was forgotten, and what these steps examine is known
@@ -129,13 +129,13 @@ flushed-last (x ∷ es) start W V e r going ok is =
     flushed-last es x.to r.0 V e r.5 (next-goes W x r.0 r.4 going none.0).going none.1 is
 
 -- the steps of one caller are steps of the history
-by-caller : (c : ℕ) (es : List Entry1) (k : ℕ) (d : Step) → k < length (map step_of (steps_by c es)) → HasStep es (get_or (map step_of (steps_by c es)) k d)
+by-caller : (c : ℕ) (es : List Entry1) (k : ℕ) (d : Step) → k < length (map made_step (steps_by c es)) → HasStep es (get_or (map made_step (steps_by c es)) k d)
 by-caller c [] k d low = absurd (omega (arith, low))
 by-caller c (e ∷ es) k d low = go (λ n here. by-caller c es n d here) (is_by c e) k low
   where
-    go : ((n : ℕ) → n < length (map step_of (steps_by c es)) → HasStep es (get_or (map step_of (steps_by c es)) n d)) → (b : Bool) (n : ℕ)
-        → n < length (map step_of (map done_of (cond b (e ∷ filter (is_by c) es) (filter (is_by c) es))))
-        → HasStep (e ∷ es) (get_or (map step_of (map done_of (cond b (e ∷ filter (is_by c) es) (filter (is_by c) es)))) n d)
+    go : ((n : ℕ) → n < length (map made_step (steps_by c es)) → HasStep es (get_or (map made_step (steps_by c es)) n d)) → (b : Bool) (n : ℕ)
+        → n < length (map made_step (map done_of (cond b (e ∷ filter (is_by c) es) (filter (is_by c) es))))
+        → HasStep (e ∷ es) (get_or (map made_step (map done_of (cond b (e ∷ filter (is_by c) es) (filter (is_by c) es)))) n d)
     go more true zero low = inl refl
     go more true (suc n) low = inr (more n (omega (arith, low)))
     go more false n low = inr (more n low)
@@ -152,11 +152,11 @@ get-map f (x ∷ xs) (suc k) d low = get-map f xs k d (omega (arith, low))
 
 module _ (served : List Entry1) where
   -- these elements were examined by one caller, in order
-  in-order : (c : ℕ) (see : ℕ → Step) (elements : List ℕ) (k : ℕ) → map step_of (steps_by c served) ≡ map see elements → k < length elements
+  in-order : (c : ℕ) (see : ℕ → Step) (elements : List ℕ) (k : ℕ) → map made_step (steps_by c served) ≡ map see elements → k < length elements
       → HasStep served (see (get_or elements k 0))
   in-order c see elements k is low =
       let d : Step = step.SeeInode 0 in
-      let here : k < length (map step_of (steps_by c served)) = subst (λ (l : List Step). k < length l) (sym is) (low-map see elements k low) in
+      let here : k < length (map made_step (steps_by c served)) = subst (λ (l : List Step). k < length l) (sym is) (low-map see elements k low) in
       subst (HasStep served) (ap (λ (l : List Step). get_or l k d) is ∙ get-map see elements k d low) (by-caller c served k d here)
 
   pub inodes-seen : (inodes i : ℕ) → Sweeps (λ place item. item ≡ place) Inode 0 inodes false [] (steps_by 9 served) → 1 ≤ i → i ≤ inodes
@@ -167,7 +167,7 @@ module _ (served : List Entry1) where
       let (item, place, is) = s.ordered (i - 1) here in
       let same : get_or s.elements (i - 1) 0 ≡ i = omega (arith, place, is, low) in
       subst (λ (n : ℕ). HasStep served (step.SeeInode n)) same
-      (in-order 9 (see_of Inode) s.elements (i - 1) (ap (map step_of) s.makes.more ∙ s.makes.steps) here)
+      (in-order 9 (see_of Inode) s.elements (i - 1) (ap (map made_step) s.makes.more ∙ s.makes.steps) here)
 
   pub blocks-seen : (blocks p : ℕ) → Sweeps (λ place item. item ≡ blocks - 1 - place) Block 0 blocks false [] (steps_by 10 served) → p < blocks
       → HasStep served (step.SeeBlock p)
@@ -177,7 +177,7 @@ module _ (served : List Entry1) where
       let (item, place, is) = s.ordered (blocks - 1 - p) here in
       let same : get_or s.elements (blocks - 1 - p) 0 ≡ p = omega (arith, place, is, low) in
       subst (λ (n : ℕ). HasStep served (step.SeeBlock n)) same
-      (in-order 10 (see_of Block) s.elements (blocks - 1 - p) (ap (map step_of) s.makes.more ∙ s.makes.steps) here)
+      (in-order 10 (see_of Block) s.elements (blocks - 1 - p) (ap (map made_step) s.makes.more ∙ s.makes.steps) here)
 
 -- one more entry
 pub has-more : (es fs : List Entry1) (s : Step) → HasStep es s → HasStep (es ++ fs) s

@@ -16,7 +16,7 @@ use Rattle.nofs_io.specs.Calls.{SinkState}
 use Rattle.nofs_io.specs.Texts.{AppendsAll}
 use Rattle.nofs_history.specs.History.{SameFile, agreed_files}
 use Rattle.nofs_history.specs.HistoryState.{HistoryState}
-use Rattle.nofs_history.specs.Machine.{file_after, files_after, gives, is_write_fault, nothing}
+use Rattle.nofs_history.specs.Machine.{file_after, files_after, gives, is_write_fault, nothing, is_fault}
 use Rattle.nofs_history.specs.Next.{Next, AfterFault, ByRow, Done, ByRead, ByWrite, Run}
 use Rattle.nofs_history.specs.Search.{first_of}
 use Rattle.nofs_history.specs.Steps.{Made, is_out_of_memory}
@@ -31,16 +31,16 @@ use Rattle.nofs_history.specs.declared.machine.replies.Reply.{Reply}
 use Rattle.nofs_history.specs.declared.machine.replies.Reply.TheVariants as reply
 use Rattle.nofs_history.specs.declared.machine.replies.Refusal.{Refusal}
 use Rattle.nofs_history.specs.declared.machine.replies.Refusal.TheVariants as refusal
+use Rattle.nofs_history.specs.Callers.{done_of, is_by, steps_by, made_step}
 use Rattle.nofs_client.specs.declared.task.lines.Line.TheVariants as line
 use Rattle.nofs_script.specs.Text.{text_of}
 use Rattle.nofs_shared.specs.Added.{AddsStep}
-use Rattle.nofs_shared.specs.Forms.{Forms, is_fault}
-use Rattle.nofs_shared.specs.Owned.{done_of, is_by, steps_by}
+use Rattle.nofs_shared.specs.Forms.{Forms}
 use Rattle.nofs_tool.specs.Entries.{has_fault}
 use Rattle.nofs_tool.specs.Says.{Says}
 use Rattle.nofs_tool.specs.Whole.{Finished}
 use Rattle.nofs_tool.specs.Words.{picks_in}
-use Rattle.nofs_workers.specs.Sweeps.{Sweeps, see_of, step_of}
+use Rattle.nofs_workers.specs.Sweeps.{Sweeps, see_of}
 use Rattle.nofs_salvage.specs.Answered.{AreAnswered, IsAnswered}
 use Rattle.nofs_salvage.specs.Picks.{begins_with}
 use Rattle.nofs_salvage.specs.Reads.{IsRead, first_refusal, is_get, is_too_large, refusal_of}
@@ -156,16 +156,16 @@ all-callers P (e ∷ es) own = (first (is_by e.caller e) (eq-eqb e.caller e.call
 cons-parts : {A : Type 0} (x y : A) (xs ys : List A) → x ∷ xs ≡ y ∷ ys → (x ≡ y) × (xs ≡ ys)
 cons-parts x y xs ys e = (cc e, cc e)
 
-quiet-sees : (kind : ElementKind) (made : List Made) (elements : List ℕ) → map step_of made ≡ map (see_of kind) elements → AreQuiet made
+quiet-sees : (kind : ElementKind) (made : List Made) (elements : List ℕ) → map made_step made ≡ map (see_of kind) elements → AreQuiet made
 quiet-sees kind [] elements e = none-quiet
 quiet-sees kind (m ∷ made) [] e = absurd (cc e)
 quiet-sees kind (m ∷ made) (x ∷ xs) e =
-    let parts = cons-parts (step_of m) (see_of kind x) (map step_of made) (map (see_of kind) xs) e in
+    let parts = cons-parts (made_step m) (see_of kind x) (map made_step made) (map (see_of kind) xs) e in
     All-cons (λ (n : Made). IsQuiet n.0) m made (subst IsQuiet (sym parts.0) (quiet-see kind x)) (quiet-sees kind made xs parts.1)
 
 quiet-sweep : (Item : ℕ → ℕ → Type 0) (kind : ElementKind) (count : ℕ) (short : Bool) (made : List Made) → Sweeps Item kind 0 count short [] made
     → AreQuiet made
-quiet-sweep Item kind count short made s = quiet-sees kind made s.elements (ap (map step_of) s.makes.more ∙ s.makes.steps)
+quiet-sweep Item kind count short made s = quiet-sees kind made s.elements (ap (map made_step) s.makes.more ∙ s.makes.steps)
 
 quiet-reads : (made : List Made) → AreReads made → AreQuiet made
 quiet-reads [] a = none-quiet

@@ -8,11 +8,11 @@ use Rattle.nofs_model.specs.declared.image.value.Value.{Value}
 use Rattle.nofs_history.specs.Machine.{cut_of}
 use Rattle.nofs_history.specs.declared.machine.history.Entry1.{Entry1}
 use Rattle.nofs_history.specs.declared.machine.replies.Reply.{Reply}
+use Rattle.nofs_history.specs.Callers.{steps_by}
 use Rattle.nofs_client.specs.declared.task.commands.Command.{Command}
 use Rattle.nofs_client.specs.declared.task.lines.Line.{Line}
 use Rattle.nofs_client.specs.Runs.{LinesFollow, lines_of, made_reply}
 use Rattle.nofs_gen.specs.Replay.{slot_value}
-use Rattle.nofs_shared.specs.Owned.{steps_by}
 use Rattle.nofs_serve.specs.Teams.{UsersServed}
 use Rattle.nofs_tool.specs.Entries.{session_lines}
 use Rattle.nofs_tool.specs.Drill.{is_refused_line, is_value_read, slot_sum, slots_sum, slots_wrong}

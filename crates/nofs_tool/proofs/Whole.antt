@@ -7,7 +7,7 @@ use Rattle.nofs_model.specs.Cells.{SuperBlock}
 use Rattle.nofs_model.specs.Image.{Image, Files, is_special, super_at}
 use Rattle.nofs_history.specs.Good.{IsGood}
 use Rattle.nofs_history.specs.History.{FilesMatch}
-use Rattle.nofs_history.specs.Machine.{is_write_fault}
+use Rattle.nofs_history.specs.Machine.{is_write_fault, is_fault}
 use Rattle.nofs_history.specs.Next.{Run}
 use Rattle.nofs_history.specs.World.{World, world_of}
 use Rattle.nofs_history.specs.declared.machine.history.Entry1.{Entry1}
@@ -21,15 +21,15 @@ use Rattle.nofs_racelaw.proofs.OneRun.{law-one-run}
 use Rattle.nofs_state.specs.Standing.{IsOpen, IsStopped, Past}
 use Rattle.nofs_state.specs.declared.books.Books.{Books}
 use Rattle.nofs_shared.specs.Ends.{Contents}
-use Rattle.nofs_shared.specs.Forms.{Forms, is_fault}
+use Rattle.nofs_shared.specs.Forms.{Forms}
 use Rattle.nofs_shared.specs.Mounts.{IsMount, IsSoundDisk}
 use Rattle.nofs_shared.specs.Added.{AddsStep}
-use Rattle.nofs_shared.specs.Owned.{steps_by}
 use Rattle.nofs_shared.proofs.Ending.{mount-ends}
 use Rattle.nofs_client.specs.declared.task.commands.Command.{Command}
 use Rattle.nofs_client.specs.declared.task.lines.Line.{Line}
 use Rattle.nofs_tool.specs.Entries.{has_fault}
 use Rattle.nofs_history.specs.declared.machine.steps.ElementKind.TheVariants.{Inode, Block}
+use Rattle.nofs_history.specs.Callers.{steps_by}
 use Rattle.nofs_workers.specs.Sweeps.{Sweeps}
 use Rattle.nofs_tool.specs.Serving.{IsClosed, IsSessionRun}
 use Rattle.nofs_tool.specs.Whole.{Finished, IsWholeScan, ShowsDisk}

@@ -16,6 +16,7 @@ use Rattle.nofs_history.specs.declared.machine.replies.Found.{Found}
 use Rattle.nofs_history.specs.declared.machine.replies.Stat.{Stat}
 use Rattle.nofs_history.specs.declared.machine.replies.Reply.{Reply}
 use Rattle.nofs_history.specs.declared.machine.replies.Reply.TheVariants as reply
+use Rattle.nofs_history.specs.Callers.{steps_by}
 use Rattle.nofs_client.specs.declared.task.commands.Command.{Command}
 use Rattle.nofs_client.specs.declared.task.lines.Line.{Line}
 use Rattle.nofs_client.specs.declared.task.lines.Line.TheVariants as line
@@ -24,7 +25,6 @@ use Rattle.nofs_gen.specs.Replay.{replay_of, slot_value}
 use Rattle.nofs_io.specs.Calls.{SinkState}
 use Rattle.nofs_io.specs.Texts.{AppendsAll}
 use Rattle.nofs_shared.specs.Added.{AddsStep}
-use Rattle.nofs_shared.specs.Owned.{steps_by}
 use Rattle.nofs_serve.specs.Served.{TeamMade}
 use Rattle.nofs_tool.specs.Entries.{has_fault, session_lines}
 use Rattle.nofs_tool.specs.declared.reads.FileRead.{FileRead}

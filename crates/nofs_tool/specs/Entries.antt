@@ -1,12 +1,12 @@
 -- What the entries of a history say, and the text of a session by them.
 use Rattle.std.specs.Prelude.{ℕ, ◌+◌, List, [], ◌∷◌, Bool, true, false, if◌then◌else◌, map, ◌++◌, flat_map}
 use Rattle.nofs_history.specs.declared.machine.history.Entry1.{Entry1}
+use Rattle.nofs_history.specs.Callers.{steps_by}
+use Rattle.nofs_history.specs.Machine.{is_fault}
 use Rattle.nofs_client.specs.declared.task.commands.Command.{Command}
 use Rattle.nofs_client.specs.declared.task.lines.Line.{Line}
 use Rattle.nofs_client.specs.Runs.{lines_of, made_reply}
 use Rattle.nofs_script.specs.Text.{text_of}
-use Rattle.nofs_shared.specs.Forms.{is_fault}
-use Rattle.nofs_shared.specs.Owned.{steps_by}
 
 -- the device failed in some step
 abbrev pub has_fault : List Entry1 → Bool

@@ -15,9 +15,9 @@ use Rattle.nofs_history.specs.HistoryState.{HistoryState}
 use Rattle.nofs_history.specs.Steps.{Made}
 use Rattle.nofs_history.specs.World.{World, world_of}
 use Rattle.nofs_history.specs.declared.machine.replies.Refusal.TheVariants as refusal
+use Rattle.nofs_history.specs.Callers.{steps_by}
 use Rattle.nofs_client.specs.declared.task.lines.Line.TheVariants as line
 use Rattle.nofs_script.specs.Text.{text_of}
-use Rattle.nofs_shared.specs.Owned.{steps_by}
 use Rattle.nofs_tool.specs.Entries.{has_fault}
 use Rattle.nofs_tool.specs.Whole.{IsMet}
 use Rattle.nofs_tool.specs.Says.{Says}

@@ -7,8 +7,8 @@ use Rattle.nofs_history.specs.Steps.{Made, is_out_of_memory}
 use Rattle.nofs_history.specs.declared.machine.history.Entry1.{Entry1}
 use Rattle.nofs_history.specs.declared.machine.steps.Step.TheVariants as step
 use Rattle.nofs_history.specs.declared.machine.replies.Reply.{Reply}
+use Rattle.nofs_history.specs.Callers.{steps_by}
 use Rattle.nofs_shared.specs.Added.{AddsStep}
-use Rattle.nofs_shared.specs.Owned.{steps_by}
 use Rattle.nofs_serve.specs.Visiting.{VisitMade}
 
 -- Caller 1 made the steps of its visit, each element was examined once, and then caller 0 made all durable. Where memory was wanting,

@@ -6,7 +6,6 @@
 ghost use Rattle.std.specs.Prelude.{◌≡◌, ◌≢◌, ◌⊎◌, ◌+◌, ◌≤◌, [], None, Some, true, false, IfSome, IfErr};
 ghost use Rattle.nofs_disk.specs.Disk.{Rose};
 ghost use Rattle.nofs_wire.specs.Serves.{Serves};
-ghost use Rattle.nofs_shared.specs.Owned.{steps_by};
 ghost use Rattle.nofs_tool.specs.Visits.{FollowsVisit, IsVisitRun};
 ghost use Rattle.nofs_tool.specs.Entries.{has_fault};
 ghost use Rattle.nofs_tool.specs.Serving.{IsClosed};
@@ -14,6 +13,7 @@ ghost use Rattle.nofs_tool.specs.Whole.{Finished};
 ghost use Rattle.nofs_tool.specs.Wiring.{IsWired, WireEnds, end_status, wire_status};
 ghost use Rattle.nofs_tool.specs.Headline.{IsHeadlineOf};
 ghost use Rattle.nofs_tool.specs.Said.{SaysCause};
+ghost use Rattle.nofs_history.specs.Callers.{steps_by};
 
 use crate::beginning::begin::mount;
 use crate::running::{Outcome, refused};

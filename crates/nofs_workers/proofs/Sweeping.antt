@@ -7,7 +7,8 @@ use mathlib.Core.Logic.{dite}
 use Rattle.std.proofs.Math.Decide.{dec_lt}
 use Rattle.nofs_history.specs.Steps.{Made}
 use Rattle.nofs_history.specs.declared.machine.steps.ElementKind.{ElementKind}
-use Rattle.nofs_workers.specs.Sweeps.{Makes, MakesFirst, Sweeps, IsOrdered, AreOrdered, see_of, step_of}
+use Rattle.nofs_history.specs.Callers.{made_step}
+use Rattle.nofs_workers.specs.Sweeps.{Makes, MakesFirst, Sweeps, IsOrdered, AreOrdered, see_of}
 
 pub makes-none : (kind : ElementKind) (old : List Made) → Makes kind [] old old
 makes-none kind old = record { made = []; more = sym (append-nil old); steps = refl }
@@ -56,7 +57,7 @@ module _ (Item : ℕ → ℕ → Type 0) (kind : ElementKind) where
         makes = record {
           made = a.makes.made ++ b.makes.made;
           more = b.makes.more ∙ ap (λ l. l ++ b.makes.made) a.makes.more ∙ append_assoc old a.makes.made b.makes.made;
-          steps = map-append step_of a.makes.made b.makes.made ∙ ap (λ l. l ++ map step_of b.makes.made) a.makes.steps
+          steps = map-append made_step a.makes.made b.makes.made ∙ ap (λ l. l ++ map made_step b.makes.made) a.makes.steps
               ∙ ap (λ l. map (see_of kind) a.elements ++ l) b.makes.steps ∙ sym (map-append (see_of kind) a.elements b.elements);
         };
       }

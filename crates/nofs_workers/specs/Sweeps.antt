@@ -1,5 +1,6 @@
 -- The steps of a sweep over the items of an order.
 use Rattle.std.specs.Prelude.{ℕ, ◌≡◌, ◌+◌, ◌^◌, ◌<◌, ◌≤◌, ◌++◌, List, length, get_or, take, map, All, Bool, false}
+use Rattle.nofs_history.specs.Callers.{made_step}
 use Rattle.nofs_history.specs.Steps.{Made}
 use Rattle.nofs_history.specs.declared.machine.steps.ElementKind.{ElementKind}
 use Rattle.nofs_history.specs.declared.machine.steps.ElementKind.TheVariants as kind
@@ -26,15 +27,11 @@ element_number kind.Block item = item
 abbrev pub AreInRange : ElementKind → List ℕ → Type 0
 AreInRange examined items = examined ≡ kind.Inode → All (λ item. item < 2 ^ 32) items
 
--- the step that was made
-abbrev pub step_of : Made → Step
-step_of m = m.0
-
 -- from old to new just the steps that examine these elements were made, in order
 pub record Makes (kind : ElementKind) (elements : List ℕ) (old new : List Made) : Type 0 where
   pub made : List Made
   pub more : new ≡ old ++ made
-  pub steps : map step_of made ≡ map (see_of kind) elements
+  pub steps : map made_step made ≡ map (see_of kind) elements
 
 -- just the steps that examine the first of these elements were made, and all where none found no memory
 pub record MakesFirst (kind : ElementKind) (elements : List ℕ) (out_of_memory : Bool) (old new : List Made) : Type 0 where

@@ -1,10 +1,9 @@
 //! The lists of two worked histories.
 use nofs_dirent::{Content, Name};
 use nofs_disk::{Cell, Pointer, write_pointer_at, write_u32_at, write_u64_at};
-use nofs_history::{Claims, Entry1, History, NO_CLAIMS, Reply, Step};
+use nofs_history::{Claims, Entry1, History, NO_CLAIMS, Reply, Step, accepted_of};
 use nofs_inode::inode::FileKind;
 use nofs_model::Value;
-use nofs_replay::accepted_of;
 use nofs_super::{SuperBlock, write_super};
 use std::alloc::{AllocError, Global};
 use std::test::Fail;

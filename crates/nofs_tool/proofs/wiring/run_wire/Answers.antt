@@ -4,7 +4,7 @@ use Rattle.nofs_disk.specs.Disk.{Rose}
 use Rattle.nofs_history.specs.HistoryState.{HistoryState}
 use Rattle.nofs_history.specs.Steps.{Made}
 use Rattle.nofs_history.specs.declared.machine.history.Entry1.{Entry1}
-use Rattle.nofs_shared.specs.Owned.{steps_by}
+use Rattle.nofs_history.specs.Callers.{steps_by}
 use Rattle.nofs_tool.specs.Visits.{IsVisitRun}
 use Rattle.nofs_tool.specs.Whole.{Finished}
 use Rattle.nofs_wire.specs.Serves.{Serves}

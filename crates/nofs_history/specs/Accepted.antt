@@ -1,0 +1,5 @@
+pub mod Files
+pub mod Fit
+pub mod Given
+pub mod Taken
+pub mod BaseFiles

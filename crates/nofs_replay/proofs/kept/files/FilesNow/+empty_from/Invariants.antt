@@ -1,5 +1,0 @@
-use Rattle.nofs_replay.proofs.kept.files.FilesNow.+empty_from.Given as goal
-
--- proposed from what the function passes where it calls itself
-abbrev pub decreases-empty_from : goal.decreases-empty_from
-decreases-empty_from l = l.count

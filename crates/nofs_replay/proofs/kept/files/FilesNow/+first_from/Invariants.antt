@@ -1,5 +1,0 @@
-use Rattle.nofs_replay.proofs.kept.files.FilesNow.+first_from.Given as goal
-
--- proposed from what the function passes where it calls itself
-abbrev pub decreases-first_from : goal.decreases-first_from
-decreases-first_from l = l.count
