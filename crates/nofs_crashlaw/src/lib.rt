@@ -36,7 +36,7 @@ pub use numbers::{
     law_put_numbers, law_resize_numbers, law_table_numbers,
 };
 pub use old_names::{law_drop, law_rename};
-pub use paths::{law_move, law_path};
+pub use paths::law_path;
 pub use runs::{law_base, law_run};
 pub use untouched::law_frames;
 

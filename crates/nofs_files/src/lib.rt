@@ -8,6 +8,7 @@ mod putting;
 mod reading;
 
 pub use cutting::resizes::resize;
+pub use nofs_history::Stat;
 pub use putting::storing::put;
 pub use reading::flushes::flush;
 pub use reading::gets::{Got, get};

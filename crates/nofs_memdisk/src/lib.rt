@@ -4,10 +4,13 @@
 //! `ready` and write-outs touch neither the counts nor what was named, and a crash may leave every
 //! image that takes for each block one of the cells that it may hold, and no other. A disk over another
 //! that finds memory only so often is that other one but in this.
+//!
+//! What names its faults, its calls and what a crash picks is that of `nofs_versions`, which other disks share.
 #![tactic(auto)]
 
 mod memory;
 mod unready;
 
 pub use memory::MemDisk;
+pub use nofs_versions::{CallCounts, CallKind, FaultAt, Pick};
 pub use unready::Unready;

@@ -2,7 +2,18 @@
 //!
 //! Promise: the replies to the steps of the command, and what other callers did to its two names, are all
 //! that has to be known of a history for this.
+ghost use Rattle.nofs_crashlaw.specs.PathMoves.{LawAlone, LawMove, LawMoved};
 ghost use Rattle.nofs_move.specs.Laws.{LawIsMove, LawNamesLeft, LawNewName, LawOneName};
+
+/// A file that is looked up, flushed, linked under a new name, flushed again and dropped under its old
+/// name, while other entries leave these two names: from the end of the first flush each image has one
+/// of the names, and from the end of the second the new one. Where no other entry comes between, it is
+/// enough that its steps were accepted. A base is what a mount leaves (`nofs_crashlaw::law_base`).
+pub fn law_move()
+    ensures either { LawMove }
+    ensures moved { LawMoved }
+    ensures alone { LawAlone }
+{}
 
 /// Over a base that a mount leaves, whatever else the history holds: where no other entry changes the entry
 /// that Look found, until Drop, or from Link on the new one, the entries of the run are a durable move. So

@@ -11,6 +11,6 @@ mod mover;
 mod paths;
 mod steps;
 
-pub use laws::law_move_run;
+pub use laws::{law_move, law_move_run};
 pub use mover::move_file;
 pub use steps::law_move_steps;

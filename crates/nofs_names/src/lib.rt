@@ -18,4 +18,5 @@ pub use finding::looks::look;
 pub use links::link;
 pub use lists::{Listed, list};
 pub use makes::make;
+pub use nofs_history::{Found, NameLine};
 pub use renames::rename;

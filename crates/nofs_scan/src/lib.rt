@@ -15,5 +15,6 @@ pub use commits::commit;
 pub use entries::{commit_step, step_of};
 pub use laws::law_scanned;
 pub use looks::look_batch;
+pub use nofs_history::ElementKind;
 pub use sees::{see_block, see_inode};
 pub use sights::evidence::{Evidence, judge};

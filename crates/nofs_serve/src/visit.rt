@@ -14,7 +14,7 @@ use crate::teams::team::{Sweeps, WriteOuts, seat};
 use crate::teams::works::Visits;
 use nofs_shared::{Serves, ShareFault, SharedMount};
 use nofs_turn::Pass;
-use nofs_workers::{Downwards, Flusher, Gate, Sweeper, Upwards};
+use nofs_workers::{BlockSweeper, Downwards, Flusher, Gate, InodeSweeper, Upwards};
 use std::alloc::Global;
 use std::sync::Wait;
 use std::thread::Threads;
@@ -64,9 +64,9 @@ where
         gates: (gate, next_gate),
     } = sweeps;
     let way = seat(rt, alloc, shared, 9, &mut passes);
-    let mut inodes = Sweeper::of_inodes(way, Upwards { count: inodes }, gate);
+    let mut inodes = InodeSweeper::new(way, Upwards { count: inodes }, gate);
     let way = seat(rt, alloc, shared, 10, &mut passes);
-    let mut blocks = Sweeper::of_blocks(way, Downwards { count: blocks }, next_gate);
+    let mut blocks = BlockSweeper::new(way, Downwards { count: blocks }, next_gate);
     let way = seat(rt, alloc, shared, 11, &mut passes);
     let mut flusher = Flusher::new(way, outs.gate, outs.turns);
     work_beside(

@@ -13,8 +13,6 @@ mod orders;
 mod sweep;
 mod sweepers;
 mod tasks;
-#[cfg(test)]
-mod tests;
 mod user;
 
 pub use batches::Batches;
@@ -22,6 +20,6 @@ pub use course::Course;
 pub use flusher::{Flusher, WritesOut};
 pub use gate::{Gate, Gated, OpenGate};
 pub use orders::{Downwards, Upwards};
-pub use sweepers::Sweeper;
-pub use tasks::{Elements, Script};
+pub use sweepers::{BlockSweeper, InodeSweeper};
+pub use tasks::{Inodes, Script};
 pub use user::{UserEnd, UserWorker};

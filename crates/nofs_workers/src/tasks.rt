@@ -1,11 +1,9 @@
 //! What workers are given to do, with the facts that their work rests on.
 ghost use Rattle.std.specs.Prelude.{◌≡◌, ◌^◌, ◌<◌, All};
-ghost use Rattle.nofs_history.specs.declared.machine.steps.ElementKind.TheVariants.{Inode};
 ghost use Rattle.nofs_client.specs.Commands.{IsWellFormed, AreWellFormed};
 
 use crate::course::Course;
 use nofs_client::CommandList;
-use nofs_history::ElementKind;
 
 /// The commands of one user, each well formed.
 #[derive(Drop)]
@@ -25,22 +23,20 @@ impl Script {
     }
 }
 
-/// All inodes or all blocks, in an order: item `n` is inode `n + 1`, so that there are fewer than 2^32 of them, or block `n`.
+/// Inodes in an order: item `n` is inode `n + 1`, so that there are fewer than 2^32 of them.
 #[derive(Drop)]
-pub struct Elements<O: Course> {
-    /// What they are.
-    pub kind: ElementKind,
+pub struct Inodes<O: Course> {
     /// The order of the items.
     pub order: O,
-    ghost small: { kind ≡ Inode → O.count_of order < 2 ^ 32 },
+    ghost small: { O.count_of order < 2 ^ 32 },
 }
 
-impl<O: Course> Elements<O> {
-    /// The elements of an order.
-    pub fn new(kind: ElementKind, order: O) -> Self
-        requires { kind ≡ Inode → O.count_of order < 2 ^ 32 }
-        ensures { (result.kind ≡ kind) × (result.order ≡ order) }
+impl<O: Course> Inodes<O> {
+    /// The inodes of an order.
+    pub fn new(order: O) -> Self
+        requires { O.count_of order < 2 ^ 32 }
+        ensures { result.order ≡ order }
     {
-        Elements { kind, order }
+        Inodes { order }
     }
 }

@@ -16,7 +16,7 @@ use crate::teams::way::Way;
 use nofs_client::{CommandList, LineList};
 use nofs_shared::{Serves, SharedMount};
 use nofs_turn::Pass;
-use nofs_workers::{Downwards, Flusher, Gate, Sweeper, Upwards, UserWorker};
+use nofs_workers::{BlockSweeper, Downwards, Flusher, Gate, InodeSweeper, Upwards, UserWorker};
 use std::alloc::Global;
 use std::sync::Wait;
 use std::thread::Threads;
@@ -139,9 +139,9 @@ where
         gates: (gate, next_gate),
     } = sweeps;
     let way = seat(rt, alloc, shared, 9, &mut passes);
-    let mut inodes = Sweeper::of_inodes(way, Upwards { count: inodes }, gate);
+    let mut inodes = InodeSweeper::new(way, Upwards { count: inodes }, gate);
     let way = seat(rt, alloc, shared, 10, &mut passes);
-    let mut blocks = Sweeper::of_blocks(way, Downwards { count: blocks }, next_gate);
+    let mut blocks = BlockSweeper::new(way, Downwards { count: blocks }, next_gate);
     let way = seat(rt, alloc, shared, 11, &mut passes);
     let mut flusher = Flusher::new(way, outs.gate, outs.turns);
     work_team(rt, &mut users, &mut inodes, &mut blocks, &mut flusher);

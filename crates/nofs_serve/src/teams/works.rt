@@ -3,7 +3,9 @@ ghost use Rattle.std.specs.Prelude.{◌≡◌, List};
 ghost use Rattle.nofs_history.specs.Steps.{Made};
 
 use nofs_history::Steps;
-use nofs_workers::{Batches, Course, Flusher, Gate, Sweeper, UserWorker, WritesOut};
+use nofs_workers::{
+    Batches, BlockSweeper, Course, Flusher, Gate, InodeSweeper, UserWorker, WritesOut,
+};
 
 /// Something that does its work when it is called.
 pub trait Works {
@@ -53,15 +55,30 @@ impl<S: WritesOut, T: Gate> Works for Flusher<S, T> {
     }
 }
 
-impl<S: Batches, O: Course, T: Gate> Works for Sweeper<S, O, T> {
+impl<S: Batches, O: Course, T: Gate> Works for InodeSweeper<S, O, T> {
     ghost use Rattle.std.specs.Prelude.{◌≡◌};
+    ghost use Rattle.nofs_history.specs.declared.machine.steps.ElementKind.TheVariants.{Inode};
     ghost use Rattle.nofs_workers.specs.Sweeps.{Sweeps};
 
-    ghost worked = { λ old new. (new.elements ≡ old.elements)
-        × Sweeps (O.has_item old.elements.order) old.elements.kind 0 (O.count_of old.elements.order) new.out_of_memory (S.made old.steps) (S.made new.steps)
+    ghost worked = { λ old new. (new.inodes ≡ old.inodes)
+        × Sweeps (O.has_item old.inodes.order) Inode 0 (O.count_of old.inodes.order) new.out_of_memory (S.made old.steps) (S.made new.steps)
         × S.goes old.steps new.steps };
 
     fn work(&mut self) {
-        Sweeper::work(self);
+        InodeSweeper::work(self);
+    }
+}
+
+impl<S: Batches, O: Course, T: Gate> Works for BlockSweeper<S, O, T> {
+    ghost use Rattle.std.specs.Prelude.{◌≡◌};
+    ghost use Rattle.nofs_history.specs.declared.machine.steps.ElementKind.TheVariants.{Block};
+    ghost use Rattle.nofs_workers.specs.Sweeps.{Sweeps};
+
+    ghost worked = { λ old new. (new.order ≡ old.order)
+        × Sweeps (O.has_item old.order) Block 0 (O.count_of old.order) new.out_of_memory (S.made old.steps) (S.made new.steps)
+        × S.goes old.steps new.steps };
+
+    fn work(&mut self) {
+        BlockSweeper::work(self);
     }
 }

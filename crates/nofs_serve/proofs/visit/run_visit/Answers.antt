@@ -3,7 +3,7 @@ use Rattle.nofs_turn.specs.declared.turn_rule.view.View.{View}
 use Rattle.nofs_turn.specs.Turns.{view_of}
 use Rattle.nofs_history.specs.Steps.{Made}
 use Rattle.nofs_history.specs.declared.machine.history.Entry1.{Entry1}
-use Rattle.nofs_history.specs.declared.machine.steps.ElementKind.{ElementKind}
+use Rattle.nofs_history.specs.declared.machine.steps.ElementKind.TheVariants.{Inode, Block}
 use Rattle.nofs_shared.specs.Owned.{all_by, own_steps}
 use Rattle.nofs_shared.specs.Seats.{SameSeat}
 use Rattle.nofs_workers.specs.Sweeps.{Sweeps}
@@ -27,13 +27,13 @@ returns-clause-gathered g c v one none all =
     let w : View Entry1 g.row.V-Fixed.Denot = view_of c.work_beside.new.blocks.steps.pass.pass in
     let f : View Entry1 g.row.V-Fixed.Denot = view_of c.work_beside.new.flusher.steps.pass.pass in
     let o : View Entry1 g.row.V-Fixed.Denot = view_of c.work_beside.new.steps.pass.pass in
-    let view9 : view_of c.of_inodes-inodes.result.steps.pass.pass ≡ v = ap (λ s. view_of s.pass.pass) c.of_inodes-inodes.ensures.0 ∙ s9.0 in
-    let view10 : view_of c.of_blocks-blocks.result.steps.pass.pass ≡ v = ap (λ s. view_of s.pass.pass) c.of_blocks-blocks.ensures.0 ∙ s10.0 in
+    let view9 : view_of c.new-inodes.result.steps.pass.pass ≡ v = ap (λ s. view_of s.pass.pass) c.new-inodes.ensures.0 ∙ s9.0 in
+    let view10 : view_of c.new-blocks.result.steps.pass.pass ≡ v = ap (λ s. view_of s.pass.pass) c.new-blocks.ensures.0 ∙ s10.0 in
     let view11 : view_of c.new-flusher.result.steps.pass.pass ≡ v = ap (λ s. view_of s.pass.pass) c.new-flusher.ensures.0 ∙ s11.0 in
     let caller9 : c.into_inner.result.pass.caller ≡ 9 = ap (λ s. s.pass.caller) c.into_inner.ensures
-    ∙ (went.1 ∙ (ap (λ s. s.pass.caller) c.of_inodes-inodes.ensures.0 ∙ c.seat-way.ensures.way.1)) in
+    ∙ (went.1 ∙ (ap (λ s. s.pass.caller) c.new-inodes.ensures.0 ∙ c.seat-way.ensures.way.1)) in
     let caller10 : c.into_inner-2.result.pass.caller ≡ 10 =
-    ap (λ s. s.pass.caller) c.into_inner-2.ensures ∙ (went2.1 ∙ (ap (λ s. s.pass.caller) c.of_blocks-blocks.ensures.0 ∙ c.seat-way-2.ensures.way.1)) in
+    ap (λ s. s.pass.caller) c.into_inner-2.ensures ∙ (went2.1 ∙ (ap (λ s. s.pass.caller) c.new-blocks.ensures.0 ∙ c.seat-way-2.ensures.way.1)) in
     let caller11 : c.into_inner-3.result.pass.caller ≡ 11 =
     ap (λ s. s.pass.caller) c.into_inner-3.ensures ∙ (flushed.goes_on.1 ∙ (ap (λ s. s.pass.caller) c.new-flusher.ensures.0 ∙ c.seat-way-3.ensures.way.1)) in
     let caller1 : c.work_beside.new.steps.pass.caller ≡ 1 = seat.1 ∙ c.seat-visit.ensures.way.1 in
@@ -48,14 +48,14 @@ returns-clause-gathered g c v one none all =
     one
     (subst (λ z. SameSeat z p) view9 went.2)
     (subst (λ (x : ℕ × View Entry1 g.row.V-Fixed.Denot). all_by x.0 x.1.mine ≡ true) (λ i. (caller9 i, p_is i)) c.back-pass.ensures.own)
-    (subst (λ (x : ElementKind × ℕ × List Made). Sweeps (λ place item. item ≡ place) x.0 0 x.1 c.work_beside.new.inodes.out_of_memory x.2 (own_steps p.mine))
-    (λ i. (c.of_inodes-inodes.ensures.2 i, ap (λ o. o.count) c.of_inodes-inodes.ensures.1 i, (ap (λ z. own_steps z.mine) view9 ∙ ap own_steps none) i)) swept)
+    (subst (λ (x : ℕ × List Made). Sweeps (λ place item. item ≡ place) Inode 0 x.0 c.work_beside.new.inodes.out_of_memory x.1 (own_steps p.mine))
+    (λ i. (ap (λ o. o.count) c.new-inodes.ensures.1 i, (ap (λ z. own_steps z.mine) view9 ∙ ap own_steps none) i)) swept)
     (subst (λ z. SameSeat z w) view10 went2.2)
     (subst (λ (x : ℕ × View Entry1 g.row.V-Fixed.Denot × View Entry1 g.row.V-Fixed.Denot). JoinsOwn x.0 x.1 x.2 (view_of c.join_way.new.into))
     (λ i. (caller10 i, p_is i, w_is i)) c.join_way.ensures.joined)
-    (subst (λ (x : ElementKind × ℕ × List Made). Sweeps (λ place item. item ≡ x.1 - 1 - place) x.0 0 x.1 c.work_beside.new.blocks.out_of_memory x.2
+    (subst (λ (x : ℕ × List Made). Sweeps (λ place item. item ≡ x.0 - 1 - place) Block 0 x.0 c.work_beside.new.blocks.out_of_memory x.1
     (own_steps w.mine))
-    (λ i. (c.of_blocks-blocks.ensures.2 i, ap (λ o. o.count) c.of_blocks-blocks.ensures.1 i, (ap (λ z. own_steps z.mine) view10 ∙ ap own_steps none) i)) swept2)
+    (λ i. (ap (λ o. o.count) c.new-blocks.ensures.1 i, (ap (λ z. own_steps z.mine) view10 ∙ ap own_steps none) i)) swept2)
     (subst (λ z. SameSeat z f) view11 flushed.goes_on.2)
     (subst (λ (x : ℕ × View Entry1 g.row.V-Fixed.Denot). JoinsOwn x.0 (view_of c.join_way.new.into) x.1 z) (λ i. (caller11 i, f_is i))
     c.join_way-2.ensures.joined)

@@ -1,6 +1,0 @@
-use Rattle.nofs_crashlaw.proofs.PathMoves.{law-move, law-moved}
-use Rattle.nofs_crashlaw.proofs.Alone.{law-alone}
-use Rattle.nofs_crashlaw.proofs.paths.law_move.Goals as goal
-
-pub returns : goal.returns
-returns c = record { either = law-move; moved = law-moved; alone = law-alone }

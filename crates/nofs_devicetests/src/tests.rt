@@ -1,4 +1,0 @@
-//! The tests of each device.
-mod disk;
-mod filedisk;
-mod memdisk;

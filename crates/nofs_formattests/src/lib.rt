@@ -1,7 +1,0 @@
-//! Tests of the formats, and of small lists, maps of bits, orders and turns, by calls from outside.
-//!
-//! Promise: worked cases come out as derived by hand; nothing is promised of all cases.
-#![tactic(auto)]
-
-#[cfg(test)]
-mod tests;

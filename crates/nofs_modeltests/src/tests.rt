@@ -1,5 +1,0 @@
-//! The tests of each subject.
-mod examples;
-mod history;
-mod machine;
-mod testdisks;

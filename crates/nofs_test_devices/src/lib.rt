@@ -1,0 +1,21 @@
+//! Tests of devices, by calls from outside.
+//!
+//! - `tags`: worked bytes of tags, pointers and stamps
+//! - `memdisk`, `filedisk`: the disk in memory, and the disk in a real file
+//! - `cache`, `mirror`: the devices over others, of which calls fail; `disks` has what both begin with
+//!
+//! Promise: worked cases come out as derived by hand; nothing is promised of all cases.
+#![tactic(auto)]
+
+#[cfg(test)]
+mod cache;
+#[cfg(test)]
+mod disks;
+#[cfg(test)]
+mod filedisk;
+#[cfg(test)]
+mod memdisk;
+#[cfg(test)]
+mod mirror;
+#[cfg(test)]
+mod tags;

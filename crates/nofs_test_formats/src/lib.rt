@@ -1,0 +1,23 @@
+//! Tests of the formats, and of the small parts that stand on no disk, by calls from outside.
+//!
+//! - `inode`, `ptrs`, `dirent`: worked bytes of records, pointers and entries
+//! - `lists`, `bits`, `sweep`: lists of items, maps of bits, and orders of a sweep
+//! - `turn`: turns and passes, on one thread and on several
+//!
+//! Promise: worked cases come out as derived by hand; nothing is promised of all cases.
+#![tactic(auto)]
+
+#[cfg(test)]
+mod bits;
+#[cfg(test)]
+mod dirent;
+#[cfg(test)]
+mod inode;
+#[cfg(test)]
+mod lists;
+#[cfg(test)]
+mod ptrs;
+#[cfg(test)]
+mod sweep;
+#[cfg(test)]
+mod turn;

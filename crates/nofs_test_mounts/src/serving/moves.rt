@@ -1,0 +1,129 @@
+//! A file that is moved by a client of a pass.
+ghost use Rattle.std.specs.Prelude.{◌↔◌, IsTrue};
+ghost use Rattle.nofs_client.specs.Commands.{IsWellFormed};
+
+use crate::mounts::mounted;
+use nofs_client::{Client, Command, Line, Path};
+use nofs_dirent::{Content, Name, PathNames};
+use nofs_history::{Stat, Steps};
+use nofs_move::move_file;
+use nofs_shared::SharedMount;
+use nofs_test_disks::formatted;
+use std::alloc::{AllocError, Global};
+use std::sync::Wait;
+use std::test::Fail;
+
+fn path(alloc: Global, names: &[&str]) -> Result<Path, AllocError> {
+    let mut path = PathNames::new(alloc);
+    for name in names {
+        path.push(Name::from_slice(alloc, name.as_bytes())?)?;
+    }
+    Ok(Path::Names(path))
+}
+
+/// What a line says of a file that is made, filled, moved and read.
+#[derive(Clone, Copy, Debug, PartialEq, Eq)]
+enum Said {
+    Made,
+    Put(u64),
+    Moved,
+    /// A file with these many bytes and names.
+    File(u64, u32),
+    Other,
+}
+
+fn told(line: &Line) -> Said {
+    match line {
+        Line::Made => Said::Made,
+        Line::Put(count) => Said::Put(*count),
+        Line::Moved => Said::Moved,
+        Line::Stat(Stat { size, links, .. }) => Said::File(*size, *links),
+        _ => Said::Other,
+    }
+}
+
+fn run<S: Steps>(
+    alloc: Global,
+    client: &mut Client<S>,
+    command: &Command,
+) -> Result<Said, AllocError> {
+    if !command.is_well_formed() {
+        return Ok(Said::Other);
+    }
+    Ok(told(&client.run(alloc, command)?))
+}
+
+// A file `a` with two bytes, beside a directory `d`: what is said of each command that makes them.
+fn made<S: Steps>(alloc: Global, client: &mut Client<S>) -> Result<[Said; 3], AllocError> {
+    let directory = Command::MakeDirectory {
+        path: path(alloc, &["d"])?,
+    };
+    let file = Command::Make {
+        path: path(alloc, &["a"])?,
+    };
+    let put = Command::Put {
+        path: path(alloc, &["a"])?,
+        offset: 0,
+        bytes: Content::from_slice(alloc, b"ab")?,
+    };
+    Ok([
+        run(alloc, client, &directory)?,
+        run(alloc, client, &file)?,
+        run(alloc, client, &put)?,
+    ])
+}
+
+// What is said of a move.
+fn move_line<S: Steps>(
+    alloc: Global,
+    client: &mut Client<S>,
+    from: &Path,
+    to: &Path,
+) -> Result<Said, AllocError> {
+    if !(from.has_name() && to.has_name()) {
+        return Ok(Said::Other);
+    }
+    Ok(told(&move_file(alloc, client, from, to)?))
+}
+
+// What is said of a path.
+fn stat_line<S: Steps>(
+    alloc: Global,
+    client: &mut Client<S>,
+    names: &[&str],
+) -> Result<Said, AllocError> {
+    let path = path(alloc, names)?;
+    run(alloc, client, &Command::Stat { path })
+}
+
+// The file is moved into the directory: what is said of that, and of the new and of the old path then.
+fn moved<S: Steps>(alloc: Global, client: &mut Client<S>) -> Result<[Said; 3], AllocError> {
+    let (from, to) = (path(alloc, &["a"])?, path(alloc, &["d", "b"])?);
+    Ok([
+        move_line(alloc, client, &from, &to)?,
+        stat_line(alloc, client, &["d", "b"])?,
+        stat_line(alloc, client, &["a"])?,
+    ])
+}
+
+// Both by a client of a pass.
+fn made_and_moved<R: Wait>(rt: &R, alloc: Global) -> Result<([Said; 3], [Said; 3]), Fail> {
+    let mount = mounted(alloc, formatted(alloc, 64, 16)?, 0)?;
+    let Ok((shared, mut passes)) = SharedMount::new(alloc, mount, 1) else {
+        return Err("no passes".into());
+    };
+    let Some(pass) = passes.pop() else {
+        return Err("no pass".into());
+    };
+    let mut client = Client::new(shared.pass(rt, alloc, 1, pass));
+    let first = made(alloc, &mut client)?;
+    Ok((first, moved(alloc, &mut client)?))
+}
+
+#[test]
+fn a_file_is_moved_through_a_pass(rt: HostRuntime) -> Result<(), Fail> {
+    let (first, then) = made_and_moved(&rt, rt.alloc())?;
+    assert_eq!(rt; first, [Said::Made, Said::Made, Said::Put(2)]);
+    assert_eq!(rt; then, [Said::Moved, Said::File(2, 1), Said::Other]);
+    Ok(())
+}

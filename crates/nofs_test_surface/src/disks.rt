@@ -1,0 +1,158 @@
+//! The disks in memory and in a file, the cache, and the mirror.
+ghost use Rattle.nofs_disk.specs.Disk.{IsSettled};
+ghost use Rattle.nofs_filedisk.specs.Bytes.{IsSynced};
+ghost use Rattle.nofs_memdisk.specs.Parts.{memory_state};
+ghost use Rattle.nofs_versions.specs.Memory.{PicksVersions};
+ghost use Rattle.std.specs.Prelude.{All, ◌<◌};
+
+use nofs_cache::{CacheFault, Cached};
+use nofs_disk::{Cell, Disk};
+use nofs_filedisk::{FileDisk, Positioned};
+use nofs_memdisk::{CallCounts, CallKind, FaultAt, MemDisk, Pick};
+use nofs_mirror::{Mirror, MirrorCause, MirrorFault, Sides};
+use std::alloc::{AllocError, Global};
+
+/// `nofs_memdisk::MemDisk`
+pub fn mem_disk_itself(it: MemDisk) -> MemDisk {
+    it
+}
+
+/// `nofs_memdisk::FaultAt`
+pub fn fault_at_fields(it: FaultAt) -> (CallKind, u64, bool) {
+    let FaultAt {
+        call,
+        number,
+        taken,
+    } = it;
+    (call, number, taken)
+}
+
+/// `nofs_memdisk::CallKind`
+pub fn call_kind_variant(it: &CallKind) -> u8 {
+    match it {
+        CallKind::Read => 0,
+        CallKind::Write => 1,
+        CallKind::Flush => 2,
+    }
+}
+
+/// `nofs_memdisk::Pick`
+pub fn pick_fields(it: Pick) -> (u64, u64) {
+    let Pick { block, version } = it;
+    (block, version)
+}
+
+/// `nofs_memdisk::CallCounts`
+pub fn call_counts_fields(it: CallCounts) -> (u64, u64, u64) {
+    let CallCounts {
+        reads,
+        writes,
+        flushes,
+    } = it;
+    (reads, writes, flushes)
+}
+
+/// `nofs_memdisk::MemDisk::new`
+pub fn mem_disk_new(alloc: Global, blocks: u64) -> Result<MemDisk, AllocError> {
+    MemDisk::new(alloc, blocks)
+}
+
+/// `nofs_memdisk::MemDisk::fail_at`
+pub fn mem_disk_fail_at(this: &mut MemDisk, faults: &[FaultAt]) -> Result<(), AllocError> {
+    this.fail_at(faults)
+}
+
+/// `nofs_memdisk::MemDisk::put_cell`
+pub fn mem_disk_put_cell(this: &mut MemDisk, block: u64, cell: &Cell)
+    requires block { block < (memory_state this.old).blocks }
+    requires settled { IsSettled (memory_state this.old) }
+{
+    this.put_cell(block, cell);
+}
+
+/// `nofs_memdisk::MemDisk::choices`
+pub fn mem_disk_choices(this: &MemDisk, block: u64) -> u64
+    requires { block < (memory_state this.now).blocks }
+{
+    this.choices(block)
+}
+
+/// `nofs_memdisk::MemDisk::image`
+pub fn mem_disk_image(this: &MemDisk, alloc: Global, picks: &[Pick]) -> Result<MemDisk, AllocError>
+    requires { All (PicksVersions (memory_state this.now)) picks.now }
+{
+    this.image(alloc, picks)
+}
+
+/// `nofs_filedisk::FileDisk`
+pub fn file_disk_itself<B: Positioned + Drop>(it: FileDisk<B>) -> FileDisk<B> {
+    it
+}
+
+/// `nofs_filedisk::FileDisk::over`
+pub fn file_disk_over<B: Positioned + Drop>(
+    alloc: Global,
+    file: B,
+) -> Result<FileDisk<B>, AllocError>
+    requires { IsSynced (B.state file) }
+{
+    FileDisk::over(alloc, file)
+}
+
+/// `nofs_filedisk::FileDisk::file`
+pub fn file_disk_file<B: Positioned + Drop>(this: FileDisk<B>) -> B {
+    this.file()
+}
+
+/// `nofs_cache::Cached`
+pub fn cached_itself<D: Disk + Drop>(it: Cached<D>) -> Cached<D> {
+    it
+}
+
+/// `nofs_cache::CacheFault`
+pub fn cache_fault_fields<D: Disk + Drop>(it: CacheFault<D>) -> D {
+    let CacheFault { under } = it;
+    under
+}
+
+/// `nofs_cache::Cached::new`
+pub fn cached_new<D: Disk + Drop>(alloc: Global, under: D) -> Result<Cached<D>, CacheFault<D>> {
+    Cached::new(alloc, under)
+}
+
+/// `nofs_cache::Cached::below`
+pub fn cached_below<D: Disk + Drop>(this: Cached<D>) -> D {
+    this.below()
+}
+
+/// `nofs_mirror::Mirror`
+pub fn mirror_itself<A: Disk + Drop, B: Disk + Drop>(it: Mirror<A, B>) -> Mirror<A, B> {
+    it
+}
+
+/// `nofs_mirror::MirrorFault`
+pub fn mirror_fault_fields<A: Disk + Drop, B: Disk + Drop>(
+    it: MirrorFault<A, B>,
+) -> (A, B, MirrorCause) {
+    let MirrorFault { lead, other, cause } = it;
+    (lead, other, cause)
+}
+
+/// `nofs_mirror::Mirror::open`
+pub fn mirror_open<A: Disk + Drop, B: Disk + Drop>(
+    lead: A,
+    other: B,
+    blocks: u64,
+) -> Result<Mirror<A, B>, MirrorFault<A, B>> {
+    Mirror::open(lead, other, blocks)
+}
+
+/// `nofs_mirror::Mirror::sides`
+pub fn mirror_sides<A: Disk + Drop, B: Disk + Drop>(this: &Mirror<A, B>) -> Sides {
+    this.sides()
+}
+
+/// `nofs_mirror::Mirror::apart`
+pub fn mirror_apart<A: Disk + Drop, B: Disk + Drop>(this: Mirror<A, B>) -> (A, B) {
+    this.apart()
+}

@@ -1,0 +1,42 @@
+//! Cites every public item that programs and other crates build on, under its crate and with its signature: each
+//! function is called with what it asks, each field and each variant is named with its type. What no longer reads so
+//! does not compile, and what asks for more is not proved.
+//!
+//! In layers, the lowest first: `base`, `texts`, `disks`, `formats`, `meaning`, `cores`, `steps`, `clients`, `callers`,
+//! `mounts`. `traits` calls each method of a trait through its bound, and `laws` calls the laws.
+//!
+//! Where a signature says more than its plain form, docs/DECISIONS.md says why:
+//! - what takes memory takes an allocator, `alloc`; what waits takes `rt`
+//! - `Turn` and `Pass` name the value behind the turn: `Turn<V: Kept>`, `Pass<V>`, `SharedMount<V: Serves>`
+//! - `SweepOrder` keeps two function pointers, and sweepers go along any `Course`: no type parameters `F`, `G`
+//! - `put`, `make` and `link` answer `Ended`: the claims stand beside the refusal
+//! - claims of blocks and inodes, `free_block` and `counts` stand at `Books`, the part of a `Core` that is in memory
+//! - `check_chain` takes `Known`: what is known of each inode, both ways
+//! - `Record` has a `top`, `SlotPath` a `Child`, and `SlotCells` a `top`: those of version 2
+//! - `tool` and `Outcome` stand in `nofs_tool`, since no crate can cite a program
+#![tactic(auto)]
+
+#[cfg(test)]
+mod base;
+#[cfg(test)]
+mod callers;
+#[cfg(test)]
+mod clients;
+#[cfg(test)]
+mod cores;
+#[cfg(test)]
+mod disks;
+#[cfg(test)]
+mod formats;
+#[cfg(test)]
+mod laws;
+#[cfg(test)]
+mod meaning;
+#[cfg(test)]
+mod mounts;
+#[cfg(test)]
+mod steps;
+#[cfg(test)]
+mod texts;
+#[cfg(test)]
+mod traits;
