@@ -12,8 +12,8 @@ mod tests;
 use crate::cached::{tool_cached, tool_mirrored};
 use crate::image::{Image, image_of};
 use nofs_cache::Cached;
-use nofs_disk::{Disk, Failed};
-use nofs_filedisk::{FileDisk, HostFile, Positioned};
+use nofs_disk::Disk;
+use nofs_filedisk::{FileDisk, HostFile};
 use nofs_io::{ReadSource, Sink, Source, WriteSink, write_all};
 use nofs_memdisk::MemDisk;
 use nofs_mirror::{Mirror, MirrorCause, MirrorFault};
@@ -108,16 +108,6 @@ fn no_device<K: Sink>(sink: &mut K) -> u8 {
     3
 }
 
-// A file that was opened, all of which is durable. What a program that was killed wrote and did not sync would else be taken for
-// durable.
-fn synced(file: io::Result<HostFile>) -> Result<HostFile, Failed> {
-    let Ok(mut file) = file else {
-        return Err(Failed);
-    };
-    file.sync()?;
-    Ok(file)
-}
-
 // A run on a disk in a file, where it could be opened.
 fn run_in_file<R: Threads + Wait + Sync, S: Source, K: Sink>(
     rt: &R,
@@ -127,7 +117,7 @@ fn run_in_file<R: Threads + Wait + Sync, S: Source, K: Sink>(
     sink: &mut K,
     file: io::Result<HostFile>,
 ) -> u8 {
-    let Ok(file) = synced(file) else {
+    let Ok(file) = file else {
         return no_device(sink);
     };
     match FileDisk::over(alloc, file) {
@@ -154,7 +144,7 @@ fn run_in_mirror<R: Threads + Wait + Sync, S: Source, K: Sink>(
     blocks: u64,
     files: (io::Result<HostFile>, io::Result<HostFile>),
 ) -> u8 {
-    let (Ok(lead), Ok(other)) = (synced(files.0), synced(files.1)) else {
+    let (Ok(lead), Ok(other)) = files else {
         return no_device(sink);
     };
     let Ok(lead) = FileDisk::over(alloc, lead) else {

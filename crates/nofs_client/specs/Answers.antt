@@ -51,13 +51,15 @@ task_after_stat at offset len stat kind.File = getting at offset (min (min (offs
 -- after the one step of a command
 abbrev pub acted : Command → Handle → Reply → Task
 acted c at (reply.Refused r) = refused c 0 r
+acted (command.Make path) at (reply.Made inode generation) = task.Ended line.Made
+acted (command.MakeDirectory path) at (reply.Made inode generation) = task.Ended line.Made
 acted (command.Get path offset len) at (reply.Stat stat) = task_after_stat at offset len stat stat.kind
-acted c at (reply.Stat stat) = task.Ended (line.Stat stat)
 acted (command.Size path size) at reply.Resized = task.Ended (line.Sized size)
-acted c at (reply.Made inode generation) = task.Ended line.Made
-acted c at (reply.Dropped removed) = task.Ended line.Dropped
-acted c at reply.Renamed = task.Ended line.Renamed
-acted c at reply.Flushed = task.Ended line.Synced
+acted (command.Stat path) at (reply.Stat stat) = task.Ended (line.Stat stat)
+acted (command.Drop path) at (reply.Dropped removed) = task.Ended line.Dropped
+acted (command.Rename path name) at reply.Renamed = task.Ended line.Renamed
+acted (command.Fsync path) at reply.Flushed = task.Ended line.Synced
+-- no other reply fits: each task falls by one that does
 acted c at _ = task.Acting at
 
 -- the next stage of a move; a link ends with its only one
@@ -71,14 +73,40 @@ next_stage c place to stage.Drop = task.Ended line.Moved
 -- after a step of a link or a move
 abbrev pub linked : Command → Location → Handle → Stage → Reply → Task
 linked c place to s (reply.Refused r) = refused c 0 r
-linked c place to s _ = next_stage c place to s
+linked c place to s (reply.Found found) = next_stage c place to s
+linked c place to s (reply.Made inode generation) = next_stage c place to s
+linked c place to s reply.Linked = next_stage c place to s
+linked c place to s (reply.Dropped removed) = next_stage c place to s
+linked c place to s reply.Renamed = next_stage c place to s
+linked c place to s (reply.Names slot names) = next_stage c place to s
+linked c place to s (reply.LostNames slot) = next_stage c place to s
+linked c place to s reply.NoMore = next_stage c place to s
+linked c place to s (reply.Bytes bytes) = next_stage c place to s
+linked c place to s reply.Hole = next_stage c place to s
+linked c place to s reply.Lost = next_stage c place to s
+linked c place to s reply.Stored = next_stage c place to s
+linked c place to s reply.Resized = next_stage c place to s
+linked c place to s (reply.Stat stat) = next_stage c place to s
+linked c place to s reply.Flushed = next_stage c place to s
+linked c place to s (reply.Seen used) = next_stage c place to s
 
 -- so many bytes are stored
 abbrev pub stored : Command → Handle → ℕ → Task
 stored (command.Put path offset bytes) at done =
     let next = done + within_slot (put_at offset done) (length bytes - done) in
     if nat_lt next (length bytes) then task.Putting at next else task.Ended (line.Put (length bytes))
-stored c at done = task.Ended (line.Put done)
+-- no other command puts
+stored (command.Make path) at done = task.Ended (line.Put done)
+stored (command.MakeDirectory path) at done = task.Ended (line.Put done)
+stored (command.Get path offset len) at done = task.Ended (line.Put done)
+stored (command.Size path size) at done = task.Ended (line.Put done)
+stored (command.Stat path) at done = task.Ended (line.Put done)
+stored (command.List path) at done = task.Ended (line.Put done)
+stored (command.Link path new_path) at done = task.Ended (line.Put done)
+stored (command.Drop path) at done = task.Ended (line.Put done)
+stored (command.Rename path name) at done = task.Ended (line.Put done)
+stored (command.Fsync path) at done = task.Ended (line.Put done)
+stored (command.Move from to) at done = task.Ended (line.Put done)
 
 -- after a Put
 abbrev pub after_put : Command → Handle → ℕ → Reply → Task

@@ -33,7 +33,12 @@ act_of (command.Size path size) at = step.Resize at.inode at.generation size
 act_of (command.Stat path) at = step.Stat at.inode at.generation
 act_of (command.Drop path) at = step.Drop at.inode at.generation (last_name path)
 act_of (command.Rename path name) at = step.Rename at.inode at.generation (last_name path) name
-act_of _ at = step.Flush at.inode at.generation
+act_of (command.Fsync path) at = step.Flush at.inode at.generation
+-- the others have steps of their own: they never stand here
+act_of (command.Put path offset bytes) at = step.Flush at.inode at.generation
+act_of (command.List path) at = step.Flush at.inode at.generation
+act_of (command.Link path new_path) at = step.Flush at.inode at.generation
+act_of (command.Move from to) at = step.Flush at.inode at.generation
 
 -- the steps of a link and of a move
 abbrev pub link_step : Command → Location → Handle → Stage → Step
@@ -58,7 +63,18 @@ within_slot at rest = min (1024 - at) rest
 abbrev pub put_slot_step : Command → Handle → ℕ → Step
 put_slot_step (command.Put path offset bytes) at done = step.Put at.inode at.generation (put_slot offset done) (put_at offset done)
     (take (within_slot (put_at offset done) (length bytes - done)) (drop done bytes))
-put_slot_step _ at done = step.Flush at.inode at.generation
+-- no other command puts
+put_slot_step (command.Make path) at done = step.Flush at.inode at.generation
+put_slot_step (command.MakeDirectory path) at done = step.Flush at.inode at.generation
+put_slot_step (command.Get path offset len) at done = step.Flush at.inode at.generation
+put_slot_step (command.Size path size) at done = step.Flush at.inode at.generation
+put_slot_step (command.Stat path) at done = step.Flush at.inode at.generation
+put_slot_step (command.List path) at done = step.Flush at.inode at.generation
+put_slot_step (command.Link path new_path) at done = step.Flush at.inode at.generation
+put_slot_step (command.Drop path) at done = step.Flush at.inode at.generation
+put_slot_step (command.Rename path name) at done = step.Flush at.inode at.generation
+put_slot_step (command.Fsync path) at done = step.Flush at.inode at.generation
+put_slot_step (command.Move from to) at done = step.Flush at.inode at.generation
 
 -- the next step of a task, or its line
 abbrev pub task_asks : Command → Task → Next

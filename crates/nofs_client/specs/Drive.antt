@@ -64,6 +64,7 @@ after_refused c p (refusal.Full needed free unverified next) =
     if goes_on unverified p.full then examines_block p unverified next else step_answered c p (reply.Refused (refusal.Full needed free unverified next))
 after_refused c p (refusal.InodesFull unverified next) =
     if goes_on unverified p.inodes then examines_inode p unverified next else step_answered c p (reply.Refused (refusal.InodesFull unverified next))
+-- any other refusal is no want of room
 after_refused c p r = step_answered c p (reply.Refused r)
 
 -- after a step of the task
@@ -74,11 +75,18 @@ after_step c p r = step_answered c p r
 -- how many bytes a put has stored
 abbrev pub stored_by : Task → ℕ
 stored_by (task.Putting at done) = done
-stored_by _ = 0
+stored_by (task.Looking place depth) = 0
+stored_by (task.LookingNew place to depth) = 0
+stored_by (task.Acting at) = 0
+stored_by (task.Linking place to s) = 0
+stored_by (task.Getting at from end parts) = 0
+stored_by (task.Listing at slot parts) = 0
+stored_by (task.Ended line) = 0
 
 -- after an examination: the step is repeated
 abbrev pub after_see : Command → Progress → Reply → Progress
 after_see c p (reply.Refused r) = fresh_progress (refused c (stored_by p.task) r)
+-- any other reply ends the examination
 after_see c p _ = record { task = p.task; full = p.full; inodes = p.inodes; see = None }
 
 -- the reply is that to an examination, or to the step of the task

@@ -39,7 +39,17 @@ command_path (command.Move from to) = from
 abbrev pub new_path_of : Command → Path
 new_path_of (command.Link path new_path) = new_path
 new_path_of (command.Move from to) = to
-new_path_of c = command_path c
+-- the others have one path
+new_path_of (command.Make path) = path
+new_path_of (command.MakeDirectory path) = path
+new_path_of (command.Put path offset bytes) = path
+new_path_of (command.Get path offset len) = path
+new_path_of (command.Size path size) = path
+new_path_of (command.Stat path) = path
+new_path_of (command.List path) = path
+new_path_of (command.Drop path) = path
+new_path_of (command.Rename path name) = path
+new_path_of (command.Fsync path) = path
 
 -- how many names of its path a command looks up: all, but for a step in the directory all but the last
 abbrev pub looks : Command → ℕ
@@ -47,7 +57,14 @@ looks (command.Make path) = length (names_of path) - 1
 looks (command.MakeDirectory path) = length (names_of path) - 1
 looks (command.Drop path) = length (names_of path) - 1
 looks (command.Rename path name) = length (names_of path) - 1
-looks c = length (names_of (command_path c))
+looks (command.Put path offset bytes) = length (names_of path)
+looks (command.Get path offset len) = length (names_of path)
+looks (command.Size path size) = length (names_of path)
+looks (command.Stat path) = length (names_of path)
+looks (command.List path) = length (names_of path)
+looks (command.Link path new_path) = length (names_of path)
+looks (command.Fsync path) = length (names_of path)
+looks (command.Move from to) = length (names_of from)
 
 -- how many names of its new path a command looks up: all but the last
 abbrev pub new_looks : Command → ℕ

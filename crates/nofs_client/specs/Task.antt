@@ -15,7 +15,18 @@ use Rattle.nofs_client.specs.Places.{first_handle, command_path, looks, new_look
 -- a link only links; a move makes the file durable first
 abbrev pub first_stage : Command → Stage
 first_stage (command.Link path new_path) = stage.Link
-first_stage c = stage.Flush
+-- the others have no stages
+first_stage (command.Make path) = stage.Flush
+first_stage (command.MakeDirectory path) = stage.Flush
+first_stage (command.Put path offset bytes) = stage.Flush
+first_stage (command.Get path offset len) = stage.Flush
+first_stage (command.Size path size) = stage.Flush
+first_stage (command.Stat path) = stage.Flush
+first_stage (command.List path) = stage.Flush
+first_stage (command.Drop path) = stage.Flush
+first_stage (command.Rename path name) = stage.Flush
+first_stage (command.Fsync path) = stage.Flush
+first_stage (command.Move from to) = stage.Flush
 
 -- so many names of the new path are looked up
 abbrev pub arrived_new : Command → Location → Handle → ℕ → Task
@@ -27,7 +38,14 @@ acting (command.Put path offset bytes) place = task.Putting place.found 0
 acting (command.List path) place = task.Listing place.found 0 []
 acting (command.Link path new_path) place = arrived_new (command.Link path new_path) place (first_handle new_path) 0
 acting (command.Move from to) place = arrived_new (command.Move from to) place (first_handle to) 0
-acting c place = task.Acting place.found
+acting (command.Make path) place = task.Acting place.found
+acting (command.MakeDirectory path) place = task.Acting place.found
+acting (command.Get path offset len) place = task.Acting place.found
+acting (command.Size path size) place = task.Acting place.found
+acting (command.Stat path) place = task.Acting place.found
+acting (command.Drop path) place = task.Acting place.found
+acting (command.Rename path name) place = task.Acting place.found
+acting (command.Fsync path) place = task.Acting place.found
 
 -- so many names of the path are looked up
 abbrev pub arrived : Command → Location → ℕ → Task
@@ -40,7 +58,17 @@ first_task c = arrived c (record { directory = first_handle (command_path c); fo
 -- the line of a refused step; that of a put tells how many bytes were stored
 abbrev pub refused : Command → ℕ → Refusal → Task
 refused (command.Put path offset bytes) stored r = task.Ended (line.RefusedPut r stored)
-refused c stored r = task.Ended (line.Refused r)
+refused (command.Make path) stored r = task.Ended (line.Refused r)
+refused (command.MakeDirectory path) stored r = task.Ended (line.Refused r)
+refused (command.Get path offset len) stored r = task.Ended (line.Refused r)
+refused (command.Size path size) stored r = task.Ended (line.Refused r)
+refused (command.Stat path) stored r = task.Ended (line.Refused r)
+refused (command.List path) stored r = task.Ended (line.Refused r)
+refused (command.Link path new_path) stored r = task.Ended (line.Refused r)
+refused (command.Drop path) stored r = task.Ended (line.Refused r)
+refused (command.Rename path name) stored r = task.Ended (line.Refused r)
+refused (command.Fsync path) stored r = task.Ended (line.Refused r)
+refused (command.Move from to) stored r = task.Ended (line.Refused r)
 
 -- one step does what the command asks
 abbrev pub IsActing : Command → Type 0
@@ -48,7 +76,14 @@ IsActing (command.Put path offset bytes) = ⊥
 IsActing (command.List path) = ⊥
 IsActing (command.Link path new_path) = ⊥
 IsActing (command.Move from to) = ⊥
-IsActing _ = Unit {0}
+IsActing (command.Make path) = Unit {0}
+IsActing (command.MakeDirectory path) = Unit {0}
+IsActing (command.Get path offset len) = Unit {0}
+IsActing (command.Size path size) = Unit {0}
+IsActing (command.Stat path) = Unit {0}
+IsActing (command.Drop path) = Unit {0}
+IsActing (command.Rename path name) = Unit {0}
+IsActing (command.Fsync path) = Unit {0}
 
 -- the command has a new path beside its path
 abbrev pub HasTwoPaths : Command → Type 0

@@ -2,8 +2,7 @@
 //!
 //! Promise: a command makes just the steps that it asks for, each after the reply to the one before,
 //! and always comes to its line.
-ghost use Rattle.std.specs.Prelude.{◌≡◌, IfOk, OnOk, not};
-ghost use Rattle.nofs_history.specs.Steps.{is_out_of_memory};
+ghost use Rattle.std.specs.Prelude.{◌≡◌, IfOk, OnOk};
 ghost use Rattle.nofs_client.specs.Commands.{IsWellFormed, AreWellFormed};
 ghost use Rattle.nofs_client.specs.Task.{TaskStands};
 ghost use Rattle.nofs_client.specs.Drive.{asks, progress_after as after_of};
@@ -14,7 +13,7 @@ use crate::driver::line_of;
 use crate::progress::{Progress, after, next_step, start};
 use crate::task::commands::{Command, CommandList};
 use crate::task::lines::{Line, LineList};
-use nofs_history::{Refusal, Reply, Steps};
+use nofs_history::{Reply, Steps};
 use std::alloc::{AllocError, Global};
 
 /// A user of a mount.
@@ -22,12 +21,6 @@ use std::alloc::{AllocError, Global};
 pub struct Client<S: Steps> {
     /// The way to the mount.
     pub steps: S,
-}
-
-fn found_memory(reply: &Reply) -> bool
-    ensures { result ≡ not (is_out_of_memory reply.now) }
-{
-    !matches!(reply, Reply::Refused(Refusal::OutOfMemory))
 }
 
 fn taken(
@@ -75,7 +68,7 @@ impl<S: Steps> Client<S> {
                 return Ok(line_of(command, progress));
             };
             let reply = self.steps.step(step);
-            if !found_memory(&reply) {
+            if reply.is_out_of_memory() {
                 return Err(AllocError);
             }
             progress = taken(alloc, command, progress, reply)?;

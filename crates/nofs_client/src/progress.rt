@@ -151,7 +151,13 @@ fn stored(task: &Task) -> u64
 {
     match task {
         Task::Putting { at: _, done } => *done,
-        _ => 0,
+        Task::Looking { .. }
+        | Task::LookingNew { .. }
+        | Task::Acting { .. }
+        | Task::Linking { .. }
+        | Task::Getting { .. }
+        | Task::Listing { .. }
+        | Task::Ended(_) => 0,
     }
 }
 

@@ -17,6 +17,9 @@ mod accepted;
 mod machine;
 
 pub use accepted::list::accepted_of;
+pub use machine::callers::{
+    BLOCK_SWEEPER, FIRST_USER, FLUSHER, INODE_SWEEPER, MOST_USERS, PROGRAM,
+};
 pub use machine::history::{Claims, Entry1, History, NO_CLAIMS};
 pub use machine::replies::{Found, NameLine, NameList, Refusal, Reply, Stat};
 pub use machine::steps::{ElementKind, Step, Steps};

@@ -1,4 +1,5 @@
-//! The steps, what each is answered, and the history of a mount.
+//! The steps, what each is answered, who makes them, and the history of a mount.
+pub(crate) mod callers;
 pub(crate) mod history;
 pub(crate) mod replies;
 pub(crate) mod steps;

@@ -6,16 +6,17 @@ use Rattle.std.specs.Str.{bytes_eq}
 use Rattle.std.proofs.lemmas.Bool.{ltb-true, eqb-false}
 use Rattle.hex.specs.Hex.{decode_of}
 use Rattle.hex.proofs.HexLemmas.{decode_of-ok}
+use Rattle.nofs_history.specs.declared.machine.callers.TheConstants.{MOST_USERS}
 use Rattle.nofs_client.specs.declared.task.commands.Path.{Path}
 use Rattle.nofs_client.specs.declared.task.commands.Path.TheVariants.{Label, Names}
 use Rattle.nofs_client.specs.declared.task.commands.Command.{Command}
-use Rattle.nofs_client.specs.Commands.{HasName, IsWellFormed}
+use Rattle.nofs_client.specs.Commands.{HasName, IsWellFormed, has_last_name}
 use Rattle.nofs_script.specs.declared.commands.Verb.{Verb}
 use Rattle.nofs_script.specs.declared.commands.Verb.TheVariants as verb
 use Rattle.nofs_script.specs.declared.faults.ScriptKind.{ScriptKind}
 use Rattle.nofs_script.specs.declared.faults.ScriptKind.TheVariants.{BadPath, BadHex, TooManyUsers, TooMuchAsked, TooManyCommands}
 use Rattle.nofs_script.specs.declared.session.Reading.{Reading}
-use Rattle.nofs_script.specs.Grammar.{◌>>=◌, has_last_name, path_word, new_path_word, number_word, hex_word, hex_digits, one_word, two_words, three_words}
+use Rattle.nofs_script.specs.Grammar.{◌>>=◌, path_word, new_path_word, number_word, hex_word, hex_digits, one_word, two_words, three_words}
 use Rattle.nofs_script.specs.Grammar.{command_of, verb_in}
 use Rattle.nofs_script.specs.Sessions.{with_command, asked_by, user_of, read_verb, read_words, read_line, line_to_break, at_line, read_from, empty_reading}
 use Rattle.nofs_script.specs.Sessions.{is_skipped, IsSession}
@@ -113,7 +114,7 @@ more P (y ∷ ys) x all p = (all.0, more P ys x all.1 p)
 record Reads (r : Reading) : Type 0 where
   done : AllByRecursion (AllByRecursion IsWellFormed) r.done
   current : AllByRecursion IsWellFormed r.current
-  few : length r.done < 8
+  few : length r.done < MOST_USERS
 
 with_one : (r : Reading) (c : Command) → Reads r → IsWellFormed c → IfOk (with_command r c) Reads
 with_one r c reads well = go (nat_lt 67108864 (r.asked + asked_by c)) (nat_lt r.count 65536) where
@@ -124,13 +125,13 @@ with_one r c reads well = go (nat_lt 67108864 (r.asked + asked_by c)) (nat_lt r.
   go false false = tt
 
 next_script : (r : Reading) (args : List (List ℕ)) → Reads r → IfOk (user_of r args) Reads
-next_script r [] reads = go (nat_lt (length r.done + 1) 8) refl where
-  go : (b : Bool) → nat_lt (length r.done + 1) 8 ≡ b → IfOk {E = ScriptKind}
+next_script r [] reads = go (nat_lt (length r.done + 1) MOST_USERS) refl where
+  go : (b : Bool) → nat_lt (length r.done + 1) MOST_USERS ≡ b → IfOk {E = ScriptKind}
       (if b then Ok (record { done = r.done ++ r.current ∷ []; current = []; count = r.count; asked = r.asked }) else Err TooManyUsers) Reads
   go true e = record {
     done = more (AllByRecursion IsWellFormed) r.done r.current reads.done reads.current;
     current = tt;
-    few = omega (arith, length-append r.done (r.current ∷ []), ltb-true (length r.done + 1) 8 e);
+    few = omega (arith, length-append r.done (r.current ∷ []), ltb-true (length r.done + 1) MOST_USERS e);
   }
   go false e = tt
 next_script r (a ∷ args) reads = tt

@@ -1,9 +1,10 @@
 -- What the words of a line mean: its command, or what is wrong in it, the first from the left.
-use Rattle.std.specs.Prelude.{◌≡◌, ℕ, List, [], ◌∷◌, length, ◌==◌, ◌&&◌, not, Bool, false, if◌then◌else◌, None, Some, Result, Ok, Err, codes}
+use Rattle.std.specs.Prelude.{◌≡◌, ℕ, List, [], ◌∷◌, length, ◌==◌, ◌&&◌, if◌then◌else◌, None, Some, Result, Ok, Err, codes}
 use Rattle.std.specs.List.{slice_split, list_all}
 use Rattle.std.specs.Str.{bytes_eq}
 use Rattle.std.specs.declared.option.Option.{Option}
 use Rattle.hex.specs.Hex.{decode_of}
+use Rattle.nofs_client.specs.Commands.{has_last_name}
 use Rattle.nofs_client.specs.declared.task.commands.Path.{Path}
 use Rattle.nofs_client.specs.declared.task.commands.Path.TheVariants.{Label, Names}
 use Rattle.nofs_client.specs.declared.task.commands.Command.{Command}
@@ -52,11 +53,6 @@ spelled_path word =
 unfoldable pub path_word : List ℕ → Result Path ScriptKind
 path_word word = or_fault BadPath (spelled_path word)
 
--- the path has a last name
-abbrev pub has_last_name : Path → Bool
-has_last_name Label = false
-has_last_name (Names names) = not (length names == 0)
-
 -- a path with at least one name
 unfoldable pub new_path_word : List ℕ → Result Path ScriptKind
 new_path_word word = do
@@ -94,7 +90,12 @@ one_path verb.Drop a = new_path_word a
 one_path verb.Stat a = path_word a
 one_path verb.List a = path_word a
 one_path verb.Fsync a = path_word a
-one_path _ a = Err WordCount
+one_path verb.Put a = Err WordCount
+one_path verb.Get a = Err WordCount
+one_path verb.Size a = Err WordCount
+one_path verb.Link a = Err WordCount
+one_path verb.Rename a = Err WordCount
+one_path verb.Move a = Err WordCount
 
 -- the command of a verb that takes just a path
 abbrev pub on_path : Verb → Path → Result Command ScriptKind
@@ -104,7 +105,12 @@ on_path verb.Drop path = Ok (command.Drop path)
 on_path verb.Stat path = Ok (command.Stat path)
 on_path verb.List path = Ok (command.List path)
 on_path verb.Fsync path = Ok (command.Fsync path)
-on_path _ path = Err WordCount
+on_path verb.Put path = Err WordCount
+on_path verb.Get path = Err WordCount
+on_path verb.Size path = Err WordCount
+on_path verb.Link path = Err WordCount
+on_path verb.Rename path = Err WordCount
+on_path verb.Move path = Err WordCount
 
 unfoldable pub one_word : Verb → List ℕ → Result Command ScriptKind
 one_word v a = one_path v a >>= on_path v
@@ -115,13 +121,29 @@ two_words verb.Size a b = path_word a >>= λ path. number_word b >>= λ size. Ok
 two_words verb.Link a b = path_word a >>= λ path. new_path_word b >>= λ to. Ok (command.Link path to)
 two_words verb.Rename a b = new_path_word a >>= λ path. Ok (command.Rename path b)
 two_words verb.Move a b = new_path_word a >>= λ from. new_path_word b >>= λ to. Ok (command.Move from to)
-two_words _ a b = Err WordCount
+two_words verb.Make a b = Err WordCount
+two_words verb.MakeDirectory a b = Err WordCount
+two_words verb.Put a b = Err WordCount
+two_words verb.Get a b = Err WordCount
+two_words verb.Stat a b = Err WordCount
+two_words verb.List a b = Err WordCount
+two_words verb.Drop a b = Err WordCount
+two_words verb.Fsync a b = Err WordCount
 
 -- PATH OFFSET HEX, and PATH OFFSET LENGTH
 unfoldable pub three_words : Verb → List ℕ → List ℕ → List ℕ → Result Command ScriptKind
 three_words verb.Put a b c = path_word a >>= λ path. number_word b >>= λ offset. hex_word c >>= λ bytes. Ok (command.Put path offset bytes)
 three_words verb.Get a b c = path_word a >>= λ path. number_word b >>= λ offset. number_word c >>= λ len. Ok (command.Get path offset len)
-three_words _ a b c = Err WordCount
+three_words verb.Make a b c = Err WordCount
+three_words verb.MakeDirectory a b c = Err WordCount
+three_words verb.Size a b c = Err WordCount
+three_words verb.Stat a b c = Err WordCount
+three_words verb.List a b c = Err WordCount
+three_words verb.Link a b c = Err WordCount
+three_words verb.Drop a b c = Err WordCount
+three_words verb.Rename a b c = Err WordCount
+three_words verb.Fsync a b c = Err WordCount
+three_words verb.Move a b c = Err WordCount
 
 -- the command of a verb with the words after it
 abbrev pub command_of : Verb → List (List ℕ) → Result Command ScriptKind

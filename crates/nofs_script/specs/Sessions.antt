@@ -5,6 +5,7 @@ use Rattle.std.specs.List.{AllByRecursion}
 use Rattle.std.specs.Str.{bytes_eq}
 use Rattle.std.specs.Str.Lines.{strip_carriage_return}
 use Rattle.std.specs.declared.option.Option.{Option}
+use Rattle.nofs_history.specs.declared.machine.callers.TheConstants.{MOST_USERS}
 use Rattle.nofs_client.specs.declared.task.commands.Command.{Command}
 use Rattle.nofs_client.specs.declared.task.commands.Command.TheVariants as command
 use Rattle.nofs_client.specs.Commands.{IsWellFormed}
@@ -23,7 +24,17 @@ is_skipped line = slice_index line 0 == 35
 -- how many bytes a command asks for
 abbrev pub asked_by : Command → ℕ
 asked_by (command.Get path offset len) = len
-asked_by _ = 0
+asked_by (command.Make _) = 0
+asked_by (command.MakeDirectory _) = 0
+asked_by (command.Put _ _ _) = 0
+asked_by (command.Size _ _) = 0
+asked_by (command.Stat _) = 0
+asked_by (command.List _) = 0
+asked_by (command.Link _ _) = 0
+asked_by (command.Drop _) = 0
+asked_by (command.Rename _ _) = 0
+asked_by (command.Fsync _) = 0
+asked_by (command.Move _ _) = 0
 
 -- a command is added, within the limits of a session
 abbrev pub with_command : Reading → Command → Result Reading ScriptKind
@@ -35,7 +46,7 @@ with_command r c =
 -- the line that begins the next script
 abbrev pub user_of : Reading → List (List ℕ) → Result Reading ScriptKind
 user_of r [] =
-    if nat_lt (length r.done + 1) 8 then Ok (record { done = r.done ++ r.current ∷ []; current = []; count = r.count; asked = r.asked })
+    if nat_lt (length r.done + 1) MOST_USERS then Ok (record { done = r.done ++ r.current ∷ []; current = []; count = r.count; asked = r.asked })
     else Err TooManyUsers
 user_of r (_ ∷ _) = Err WordCount
 
@@ -77,5 +88,5 @@ session_of text = read_from 1 empty_reading (text_lines text) >>= λ r. Ok (r.do
 -- a session has 1 to 8 scripts of well-formed commands
 pub record IsSession (scripts : List (List Command)) : Type 0 where
   pub some : 1 ≤ length scripts
-  pub few : length scripts ≤ 8
+  pub few : length scripts ≤ MOST_USERS
   pub formed : AllByRecursion (AllByRecursion IsWellFormed) scripts

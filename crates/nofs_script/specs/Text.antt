@@ -62,7 +62,23 @@ refusal_rest (refusal.LostSlot slot) = decimal slot
 refusal_rest (refusal.Full needed free unverified next) = codes ", needed " ++ decimal needed ++ codes ", free "
     ++ decimal free ++ codes ", unchecked " ++ decimal unverified
 refusal_rest (refusal.InodesFull unverified next) = codes ", unchecked " ++ decimal unverified
-refusal_rest _ = []
+refusal_rest refusal.Missing = []
+refusal_rest refusal.Exists = []
+refusal_rest refusal.NotDirectory = []
+refusal_rest refusal.IsDirectory = []
+refusal_rest refusal.NotEmpty = []
+refusal_rest refusal.BadName = []
+refusal_rest refusal.BadRange = []
+refusal_rest refusal.TooManyLinks = []
+refusal_rest refusal.DirectoryFull = []
+refusal_rest refusal.TooLarge = []
+refusal_rest refusal.PastEnd = []
+refusal_rest refusal.Stale = []
+refusal_rest refusal.SerialsSpent = []
+refusal_rest refusal.ReadFault = []
+refusal_rest refusal.WriteFault = []
+refusal_rest refusal.Stopped = []
+refusal_rest refusal.OutOfMemory = []
 
 -- a refused command
 abbrev pub refused_text : Refusal → List ℕ

@@ -3,7 +3,7 @@
 ghost use Rattle.std.specs.Prelude.{◌≡◌, ◌∷◌, ◌==◌, map, IfOk};
 ghost use Rattle.std.specs.List.{list_all, slice_split};
 ghost use Rattle.nofs_script.specs.Words.{piece_of, is_word};
-ghost use Rattle.nofs_script.specs.Grammar.{Gives, path_word, new_path_word, number_word, hex_word, verb_in, one_path as one_path_in, on_path as on_path_in, one_word as one_word_in, two_words as two_words_in, three_words as three_words_in, command_of, spelled_path, path_of_parts, has_last_name as has_name_in};
+ghost use Rattle.nofs_script.specs.Grammar.{Gives, path_word, new_path_word, number_word, hex_word, verb_in, one_path as one_path_in, on_path as on_path_in, one_word as one_word_in, two_words as two_words_in, three_words as three_words_in, command_of, spelled_path, path_of_parts};
 
 use crate::faults::{LineFault, ScriptKind};
 use crate::words::number_of;
@@ -128,21 +128,12 @@ fn path(alloc: Global, word: &[u8]) -> Result<Path, LineFault>
     }
 }
 
-fn has_name(path: &Path) -> bool
-    ensures { result ≡ has_name_in path.now }
-{
-    match path {
-        Path::Label => false,
-        Path::Names(names) => names.len() != 0,
-    }
-}
-
 #[tactic(auto, unfolding(crate::specs::Grammar::new_path_word))]
 fn new_path(alloc: Global, word: &[u8]) -> Result<Path, LineFault>
     ensures { Gives (λ path. path) result (new_path_word word.now) }
 {
     let path = path(alloc, word)?;
-    if has_name(&path) {
+    if path.has_name() {
         Ok(path)
     } else {
         Err(LineFault::Wrong(ScriptKind::BadPath))
@@ -180,7 +171,14 @@ fn one_path(alloc: Global, verb: Verb, a: &[u8]) -> Result<Path, LineFault>
     match verb {
         Verb::Make | Verb::MakeDirectory | Verb::Drop => new_path(alloc, a),
         Verb::Stat | Verb::List | Verb::Fsync => path(alloc, a),
-        _ => Err(LineFault::Wrong(ScriptKind::WordCount)),
+        Verb::Put
+        | Verb::Get
+        | Verb::Size
+        | Verb::Link
+        | Verb::Rename
+        | Verb::Move => {
+            Err(LineFault::Wrong(ScriptKind::WordCount))
+        }
     }
 }
 
@@ -194,7 +192,14 @@ fn on_path(verb: Verb, path: Path) -> Result<Command, LineFault>
         Verb::Stat => Ok(Command::Stat { path }),
         Verb::List => Ok(Command::List { path }),
         Verb::Fsync => Ok(Command::Fsync { path }),
-        _ => Err(LineFault::Wrong(ScriptKind::WordCount)),
+        Verb::Put
+        | Verb::Get
+        | Verb::Size
+        | Verb::Link
+        | Verb::Rename
+        | Verb::Move => {
+            Err(LineFault::Wrong(ScriptKind::WordCount))
+        }
     }
 }
 
@@ -227,7 +232,16 @@ fn two_words(alloc: Global, verb: Verb, a: &[u8], b: &[u8]) -> Result<Command, L
             from: new_path(alloc, a)?,
             to: new_path(alloc, b)?,
         }),
-        _ => Err(LineFault::Wrong(ScriptKind::WordCount)),
+        Verb::Make
+        | Verb::MakeDirectory
+        | Verb::Put
+        | Verb::Get
+        | Verb::Stat
+        | Verb::List
+        | Verb::Drop
+        | Verb::Fsync => {
+            Err(LineFault::Wrong(ScriptKind::WordCount))
+        }
     }
 }
 
@@ -252,7 +266,18 @@ fn three_words(
             offset: number(b)?,
             length: number(c)?,
         }),
-        _ => Err(LineFault::Wrong(ScriptKind::WordCount)),
+        Verb::Make
+        | Verb::MakeDirectory
+        | Verb::Size
+        | Verb::Stat
+        | Verb::List
+        | Verb::Link
+        | Verb::Drop
+        | Verb::Rename
+        | Verb::Fsync
+        | Verb::Move => {
+            Err(LineFault::Wrong(ScriptKind::WordCount))
+        }
     }
 }
 

@@ -11,6 +11,7 @@ use crate::faults::{LineFault, ParseFault, ScriptFault, ScriptKind};
 use crate::words::{place_of, text_after, words};
 use nofs_client::{Command, CommandList};
 use nofs_dirent::ListOf;
+use nofs_history::MOST_USERS;
 use std::alloc::Global;
 
 /// The scripts of a session, one a user, each the list of its commands.
@@ -20,8 +21,6 @@ pub type Session = ListOf<CommandList>;
 const MOST_ASKED: u64 = 67_108_864;
 
 const MOST_COMMANDS: u64 = 65_536;
-
-const MOST_USERS: u64 = 8;
 
 /// What was read so far: the scripts that have ended, the one that is read, and the commands and the bytes asked for in all.
 #[derive(Drop)]
@@ -41,7 +40,17 @@ fn asked_by(command: &Command) -> u64
             offset: _,
             length,
         } => *length,
-        _ => 0,
+        Command::Make { .. }
+        | Command::MakeDirectory { .. }
+        | Command::Put { .. }
+        | Command::Size { .. }
+        | Command::Stat { .. }
+        | Command::List { .. }
+        | Command::Link { .. }
+        | Command::Drop { .. }
+        | Command::Rename { .. }
+        | Command::Fsync { .. }
+        | Command::Move { .. } => 0,
     }
 }
 

@@ -151,7 +151,23 @@ fn push_rest(alloc: Global, text: &mut Vec<u8>, refusal: &Refusal) -> Result<(),
             unverified,
             next: _,
         } => push_number(alloc, text, ", unchecked ", *unverified),
-        _ => Ok(()),
+        Refusal::Missing
+        | Refusal::Exists
+        | Refusal::NotDirectory
+        | Refusal::IsDirectory
+        | Refusal::NotEmpty
+        | Refusal::BadName
+        | Refusal::BadRange
+        | Refusal::TooManyLinks
+        | Refusal::DirectoryFull
+        | Refusal::TooLarge
+        | Refusal::PastEnd
+        | Refusal::Stale
+        | Refusal::SerialsSpent
+        | Refusal::ReadFault
+        | Refusal::WriteFault
+        | Refusal::Stopped
+        | Refusal::OutOfMemory => Ok(()),
     }
 }
 

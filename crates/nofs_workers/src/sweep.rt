@@ -9,16 +9,10 @@ ghost use Rattle.nofs_workers.specs.Sweeps.{Looked, AreInRange, AreOrdered, IsOr
 use crate::batches::Batches;
 use crate::course::Course;
 use crate::gate::Gate;
-use nofs_history::{ElementKind, Refusal, Reply, Step, Steps};
+use nofs_history::{ElementKind, Reply, Step, Steps};
 
 /// The most elements of one batch.
 const BATCH: u64 = 64;
-
-fn found_no_memory(reply: &Reply) -> bool
-    ensures { result ≡ is_out_of_memory reply.now }
-{
-    matches!(reply, Reply::Refused(Refusal::OutOfMemory))
-}
 
 /// The step that examines an element.
 pub fn see_of(kind: ElementKind, item: u64) -> Step
@@ -46,7 +40,7 @@ fn see_each<S: Steps, T: Gate>(
         gate.before();
         let reply = steps.step(see_of(kind, *element));
         gate.after();
-        if found_no_memory(&reply) {
+        if reply.is_out_of_memory() {
             return true;
         }
     }
@@ -94,7 +88,7 @@ fn commit_each<S: Batches, T: Gate>(
         let used = S::judge(evidence, at);
         let reply = steps.commit(evidence, at, used);
         gate.after();
-        if found_no_memory(&reply) {
+        if reply.is_out_of_memory() {
             return true;
         }
     }

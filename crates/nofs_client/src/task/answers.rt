@@ -2,7 +2,6 @@
 ghost use Rattle.std.specs.Prelude.{◌≡◌, ◌+◌, ◌-◌, ◌/◌, ◌%◌, ◌<◌, ◌≤◌, ◌^◌, ◌++◌, [], ◌∷◌, length, IfOk, map, take, drop, ℕ, List};
 ghost use Rattle.nofs_history.specs.Steps.{Fits};
 ghost use Rattle.nofs_history.specs.declared.machine.steps.Step.TheVariants.{Get as get_step, List as list_step};
-ghost use Rattle.nofs_history.specs.declared.machine.replies.Reply.TheVariants.{Stat as stat_reply};
 ghost use Rattle.nofs_client.specs.declared.task.lines.ListPart.TheVariants.{Name as listed_name, Lost as listed_lost};
 ghost use Rattle.nofs_client.specs.Commands.{IsWellFormed};
 ghost use Rattle.nofs_client.specs.Places.{looks, new_looks};
@@ -95,20 +94,6 @@ fn sized(alloc: Global, at: Handle, offset: u64, length: u64, stat: &Stat) -> Ta
     }
 }
 
-fn told(alloc: Global, command: &Command, at: Handle, stat: &Stat) -> Task
-    ensures is { result ≡ acted_by command.now at (stat_reply stat.now) }
-    ensures stands { TaskStands command.now result }
-{
-    match command {
-        Command::Get {
-            path: _,
-            offset,
-            length,
-        } => sized(alloc, at, *offset, *length, stat),
-        _ => Task::Ended(Line::Stat(*stat)),
-    }
-}
-
 fn acted(alloc: Global, command: &Command, at: Handle, reply: &Reply) -> Task
     requires { IsActing command.now }
     ensures is { result ≡ acted_by command.now at reply.now }
@@ -116,15 +101,36 @@ fn acted(alloc: Global, command: &Command, at: Handle, reply: &Reply) -> Task
 {
     match reply {
         Reply::Refused(refusal) => refused(command, 0, *refusal),
-        Reply::Stat(stat) => told(alloc, command, at, stat),
+        Reply::Stat(stat) => match command {
+            Command::Get {
+                path: _,
+                offset,
+                length,
+            } => sized(alloc, at, *offset, *length, stat),
+            Command::Stat { .. } => Task::Ended(Line::Stat(*stat)),
+            _ => Task::Acting { at },
+        },
         Reply::Resized => match command {
             Command::Size { path: _, size } => Task::Ended(Line::Sized(*size)),
             _ => Task::Acting { at },
         },
-        Reply::Made { .. } => Task::Ended(Line::Made),
-        Reply::Dropped { .. } => Task::Ended(Line::Dropped),
-        Reply::Renamed => Task::Ended(Line::Renamed),
-        Reply::Flushed => Task::Ended(Line::Synced),
+        Reply::Made { .. } => match command {
+            Command::Make { .. } | Command::MakeDirectory { .. } => Task::Ended(Line::Made),
+            _ => Task::Acting { at },
+        },
+        Reply::Dropped { .. } => match command {
+            Command::Drop { .. } => Task::Ended(Line::Dropped),
+            _ => Task::Acting { at },
+        },
+        Reply::Renamed => match command {
+            Command::Rename { .. } => Task::Ended(Line::Renamed),
+            _ => Task::Acting { at },
+        },
+        Reply::Flushed => match command {
+            Command::Fsync { .. } => Task::Ended(Line::Synced),
+            _ => Task::Acting { at },
+        },
+        // No other reply fits a step that does what a command asks.
         _ => Task::Acting { at },
     }
 }
@@ -153,7 +159,22 @@ fn linked(command: &Command, place: Location, to: Handle, stage: Stage, reply: &
 {
     match reply {
         Reply::Refused(refusal) => refused(command, 0, *refusal),
-        _ => next_stage(command, place, to, stage),
+        Reply::Found(_)
+        | Reply::Made { .. }
+        | Reply::Linked
+        | Reply::Dropped { .. }
+        | Reply::Renamed
+        | Reply::Names(_, _)
+        | Reply::LostNames(_)
+        | Reply::NoMore
+        | Reply::Bytes(_)
+        | Reply::Hole
+        | Reply::Lost
+        | Reply::Stored
+        | Reply::Resized
+        | Reply::Stat(_)
+        | Reply::Flushed
+        | Reply::Seen { .. } => { next_stage(command, place, to, stage) }
     }
 }
 
@@ -173,7 +194,7 @@ fn stored(command: &Command, at: Handle, done: u64) -> Task
                 Task::Ended(Line::Put(length))
             }
         }
-        _ => Task::Ended(Line::Put(done)),
+        _ => unreachable!(),
     }
 }
 
@@ -225,12 +246,7 @@ fn after_get(
             Ok(getting(at, from + count, end, parts))
         }
         Reply::Refused(refusal) => Ok(Task::Ended(Line::Refused(*refusal))),
-        _ => Ok(Task::Getting {
-            at,
-            from,
-            end,
-            parts,
-        }),
+        _ => unreachable!(),
     }
 }
 
@@ -314,11 +330,7 @@ fn after_list(
         Reply::LostNames(slot) => after_lost(at, asked, parts, *slot),
         Reply::NoMore => Ok(Task::Ended(Line::Names(parts))),
         Reply::Refused(refusal) => Ok(Task::Ended(Line::Refused(*refusal))),
-        _ => Ok(Task::Listing {
-            at,
-            slot: asked,
-            parts,
-        }),
+        _ => unreachable!(),
     }
 }
 

@@ -1,7 +1,7 @@
 //! The commands of a session, each with the path or the two paths that it names.
 
-ghost use Rattle.std.specs.Prelude.{◌↔◌, IsTrue};
-ghost use Rattle.nofs_client.specs.Commands.{HasName, IsWellFormed};
+ghost use Rattle.std.specs.Prelude.{◌≡◌, ◌↔◌, IsTrue};
+ghost use Rattle.nofs_client.specs.Commands.{HasName, IsWellFormed, has_last_name};
 
 use nofs_dirent::{Content, ListOf, Name, PathNames};
 
@@ -17,7 +17,8 @@ pub enum Path {
 impl Path {
     /// Whether the path can name an entry of a directory.
     pub fn has_name(&self) -> bool
-        ensures { IsTrue result ↔ HasName self.now }
+        ensures name { IsTrue result ↔ HasName self.now }
+        ensures value { result ≡ has_last_name self.now }
     {
         match self {
             Path::Label => false,
@@ -100,7 +101,11 @@ impl Command {
             Command::Drop { path } => path.has_name(),
             Command::Rename { path, .. } => path.has_name(),
             Command::Move { from, to } => from.has_name() && to.has_name(),
-            _ => true,
+            Command::Get { .. }
+            | Command::Size { .. }
+            | Command::Stat { .. }
+            | Command::List { .. }
+            | Command::Fsync { .. } => true,
         }
     }
 }

@@ -94,7 +94,16 @@ pub(crate) fn new_path_of(command: &Command) -> &Path
     match command {
         Command::Link { path: _, new_path } => new_path,
         Command::Move { from: _, to } => to,
-        _ => path_of(command),
+        Command::Make { .. }
+        | Command::MakeDirectory { .. }
+        | Command::Put { .. }
+        | Command::Get { .. }
+        | Command::Size { .. }
+        | Command::Stat { .. }
+        | Command::List { .. }
+        | Command::Drop { .. }
+        | Command::Rename { .. }
+        | Command::Fsync { .. } => path_of(command),
     }
 }
 
@@ -108,7 +117,14 @@ pub(crate) fn look_count(command: &Command) -> u64
         Command::MakeDirectory { .. } => names.saturating_sub(1),
         Command::Drop { .. } => names.saturating_sub(1),
         Command::Rename { .. } => names.saturating_sub(1),
-        _ => names,
+        Command::Put { .. }
+        | Command::Get { .. }
+        | Command::Size { .. }
+        | Command::Stat { .. }
+        | Command::List { .. }
+        | Command::Link { .. }
+        | Command::Fsync { .. }
+        | Command::Move { .. } => names,
     }
 }
 

@@ -62,7 +62,9 @@ fn act(alloc: Global, command: &Command, at: Handle) -> Result<Step, AllocError>
             old: last_name(alloc, path)?,
             new: name.copy(alloc)?,
         },
-        _ => Step::Flush { inode, generation },
+        Command::Fsync { .. } => Step::Flush { inode, generation },
+        Command::Put { .. } | Command::List { .. } | Command::Link { .. } | Command::Move { .. } =>
+            unreachable!(),
     })
 }
 
@@ -89,7 +91,7 @@ fn link(
             generation: directory.generation,
             name: last_name(alloc, path_of(command))?,
         },
-        _ => Step::Flush {
+        Stage::Flush | Stage::FlushAgain => Step::Flush {
             inode: found.inode,
             generation: found.generation,
         },
@@ -115,7 +117,7 @@ fn put(alloc: Global, command: &Command, at: Handle, done: u64) -> Result<Step, 
                 bytes: Content::from_slice(alloc, &bytes[done as usize..(done + count) as usize])?,
             })
         }
-        _ => Ok(Step::Flush { inode, generation }),
+        _ => unreachable!(),
     }
 }
 

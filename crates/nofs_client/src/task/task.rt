@@ -77,7 +77,17 @@ fn first_stage(command: &Command) -> Stage
 {
     match command {
         Command::Link { .. } => Stage::Link,
-        _ => Stage::Flush,
+        Command::Make { .. }
+        | Command::MakeDirectory { .. }
+        | Command::Put { .. }
+        | Command::Get { .. }
+        | Command::Size { .. }
+        | Command::Stat { .. }
+        | Command::List { .. }
+        | Command::Drop { .. }
+        | Command::Rename { .. }
+        | Command::Fsync { .. }
+        | Command::Move { .. } => Stage::Flush,
     }
 }
 
@@ -115,7 +125,14 @@ fn acting(alloc: Global, command: &Command, place: Location) -> Task
         },
         Command::Link { .. } => arrived_new(command, place, first_of(new_path_of(command)), 0),
         Command::Move { .. } => arrived_new(command, place, first_of(new_path_of(command)), 0),
-        _ => Task::Acting { at: place.found },
+        Command::Make { .. }
+        | Command::MakeDirectory { .. }
+        | Command::Get { .. }
+        | Command::Size { .. }
+        | Command::Stat { .. }
+        | Command::Drop { .. }
+        | Command::Rename { .. }
+        | Command::Fsync { .. } => Task::Acting { at: place.found },
     }
 }
 
@@ -153,6 +170,16 @@ pub(crate) fn refused(command: &Command, stored: u64, refusal: Refusal) -> Task
 {
     match command {
         Command::Put { .. } => Task::Ended(Line::RefusedPut { refusal, stored }),
-        _ => Task::Ended(Line::Refused(refusal)),
+        Command::Make { .. }
+        | Command::MakeDirectory { .. }
+        | Command::Get { .. }
+        | Command::Size { .. }
+        | Command::Stat { .. }
+        | Command::List { .. }
+        | Command::Link { .. }
+        | Command::Drop { .. }
+        | Command::Rename { .. }
+        | Command::Fsync { .. }
+        | Command::Move { .. } => Task::Ended(Line::Refused(refusal)),
     }
 }

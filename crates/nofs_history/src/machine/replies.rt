@@ -1,5 +1,8 @@
 //! What a step is answered.
 
+ghost use Rattle.std.specs.Prelude.{◌≡◌};
+ghost use Rattle.nofs_history.specs.Steps.{is_out_of_memory};
+
 use nofs_dirent::{Content, ListOf, Name};
 use nofs_inode::inode::FileKind;
 
@@ -68,6 +71,15 @@ pub enum Reply {
     Seen { used: bool },
     /// The step was not accepted.
     Refused(Refusal),
+}
+
+impl Reply {
+    /// Whether memory was wanting.
+    pub fn is_out_of_memory(&self) -> bool
+        ensures { result ≡ is_out_of_memory self.now }
+    {
+        matches!(self, Reply::Refused(Refusal::OutOfMemory))
+    }
 }
 
 /// Why a step was refused. But for `WriteFault`, a refused step changed nothing.

@@ -1,8 +1,8 @@
 //! The steps that a stand-in made, for proofs alone.
-ghost use Rattle.std.specs.Prelude.{◌≡◌, [], not};
-ghost use Rattle.nofs_history.specs.Steps.{is_out_of_memory, with_made};
+ghost use Rattle.std.specs.Prelude.{◌≡◌, []};
+ghost use Rattle.nofs_history.specs.Steps.{with_made};
 
-use nofs_history::{Refusal, Reply, Step};
+use nofs_history::{Reply, Step};
 use std::marker::Model;
 use std::mem;
 use std::snapshot::Snapshot;
@@ -34,12 +34,6 @@ impl Model for MadeSteps {
     ]) made.past };
 }
 
-fn found_memory(reply: &Reply) -> bool
-    ensures { result ≡ not (is_out_of_memory reply.now) }
-{
-    !matches!(reply, Reply::Refused(Refusal::OutOfMemory))
-}
-
 impl MadeSteps {
     /// No step.
     pub fn new() -> Self
@@ -52,7 +46,7 @@ impl MadeSteps {
     pub fn add(&mut self, step: &Step, reply: &Reply)
         ensures { self.new ≡ with_made self.old step.now reply.now }
     {
-        if found_memory(reply) {
+        if !reply.is_out_of_memory() {
             let earlier = mem::replace(&mut self.past, Past::Start);
             self.past = Past::Made(
                 Snapshot::of(step),
