@@ -2,8 +2,9 @@
 
 ghost use Rattle.std.specs.Prelude.{◌<◌};
 
+use crate::runs::{prints, run_on};
 use nofs_memdisk::MemDisk;
-use nofs_test_stories::{cells_of, prints, run_on, scan_line, used};
+use nofs_test_disks::{cells_of, scan_line, used};
 use std::alloc::{AllocError, Global};
 use std::test::Fail;
 

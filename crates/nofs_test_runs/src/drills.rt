@@ -1,8 +1,9 @@
 //! Drills. The numbers of longer ones were computed from the definition by a program of its own, in another language.
 
+use crate::runs::{USAGE, prints, run_on, run_with};
 use nofs_io::{MemSink, MemSource};
 use nofs_memdisk::MemDisk;
-use nofs_test_stories::{USAGE, failing, fault, prints, run_on, run_with};
+use nofs_test_disks::{failing, fault};
 use nofs_versions::CallKind;
 use std::test::Fail;
 

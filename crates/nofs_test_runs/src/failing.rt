@@ -1,8 +1,9 @@
 //! Runs in which one call of a disk fails: what they tell, and what the images of a crash after them show.
 
 use crate::moves::{calls_of, faults_behind, faults_of, images_of, run_failing, shown_by};
+use crate::runs::run_on;
 use nofs_memdisk::MemDisk;
-use nofs_test_stories::{cached, failing, left, run_on};
+use nofs_test_disks::{cached, failing, left};
 use nofs_versions::{CallCounts, CallKind, FaultAt};
 use std::alloc::{AllocError, Global};
 use std::test::Fail;

@@ -1,9 +1,9 @@
 //! Frames over a source and a sink, with the bytes that a client sees.
 
+use crate::runs::{run_on, run_with};
 use nofs_io::{MemSink, MemSource};
 use nofs_memdisk::MemDisk;
-use nofs_test_disks::disk_with;
-use nofs_test_stories::{patched_empty, run_on, run_with};
+use nofs_test_disks::{disk_with, patched_empty};
 use std::alloc::Global;
 use std::test::Fail;
 

@@ -4,9 +4,9 @@ ghost use Rattle.std.specs.Prelude.{IfOk};
 ghost use Rattle.nofs_memdisk.specs.Parts.{memory_state};
 ghost use Rattle.nofs_tool.specs.Whole.{IsMet};
 
+use crate::runs::run_on;
 use nofs_memdisk::MemDisk;
 use nofs_super::format;
-use nofs_test_stories::run_on;
 use std::alloc::{AllocError, Global};
 use std::test::Fail;
 

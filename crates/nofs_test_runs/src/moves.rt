@@ -1,9 +1,10 @@
 //! Moves of files: their lines, what a crash in the midst of one leaves, and two users who move at once.
 
+use crate::runs::{many, prints, run_on};
 use nofs_disk::Disk;
 use nofs_io::MemSink;
 use nofs_memdisk::MemDisk;
-use nofs_test_stories::{failing, fault, left, many, prints, run_on};
+use nofs_test_disks::{failing, fault, left};
 use nofs_versions::{CallCounts, CallKind, FaultAt, Pick};
 use std::alloc::{AllocError, Global};
 use std::process::Abort;

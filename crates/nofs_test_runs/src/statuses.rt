@@ -1,8 +1,9 @@
 //! The statuses that tell what went wrong, and what is written and left on the disk then.
 
+use crate::runs::{LINES, SESSION, many, prints, run_on, run_with};
 use nofs_io::{MemSink, MemSource};
 use nofs_memdisk::{MemDisk, Unready};
-use nofs_test_stories::{LINES, SESSION, failing, fault, many, prints, run_on, run_with};
+use nofs_test_disks::{failing, fault};
 use nofs_versions::{CallCounts, CallKind};
 use std::alloc::AllocError;
 use std::test::Fail;

@@ -1,9 +1,10 @@
 //! Whole runs over a disk in memory, with the texts and statuses that a user sees.
 
+use crate::runs::{LINES, SESSION, USAGE, prints, run_on};
 use byteorder::ByteOrder;
 use nofs_disk::{Cell, Disk};
 use nofs_memdisk::MemDisk;
-use nofs_test_stories::{LINES, SESSION, USAGE, cells_of, failing, fault, prints, run_on};
+use nofs_test_disks::{cells_of, failing, fault};
 use nofs_versions::CallKind;
 use std::alloc::{AllocError, Global};
 use std::test::Fail;

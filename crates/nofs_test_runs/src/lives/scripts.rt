@@ -1,6 +1,7 @@
 //! The sessions of lives: files that are made, sized, filled and dropped, as they are drawn.
 
-use nofs_test_stories::{draw, push_bytes};
+use crate::readings::push_bytes;
+use nofs_test_disks::draw;
 use std::alloc::{AllocError, Global};
 use std::test::Fail;
 

@@ -1,13 +1,11 @@
 //! Salvages of images that lost something, and of some that lost nothing: what they print is what a
 //! slow walk over the cells tells.
 
+use crate::runs::run_on;
+use crate::stories::{Line, Story, day_calls, stopped};
 use crate::walks::told_of;
 use nofs_memdisk::MemDisk;
-use nofs_test_disks::disk_with;
-use nofs_test_stories::{
-    Image, Line, Patch, Story, cells_of, day_calls, drawn_picks, image_cells, left, patched,
-    run_on, stopped,
-};
+use nofs_test_disks::{Image, Patch, cells_of, disk_with, drawn_picks, image_cells, left, patched};
 use std::alloc::{AllocError, Global};
 use std::sync::Wait;
 use std::test::Fail;

@@ -1,14 +1,13 @@
 //! Runs over a cache that keeps writes back, and over the images that a crash in an ordinary day may leave.
 
+use crate::readings::{Seen, count, push_bytes, scanned_and_read, see_line};
 use crate::recorder::Recorder;
+use crate::runs::{LINES, SESSION, prints, run_on};
+use crate::stories::{Line, Story, day_calls, evening, stopped, text_of_lines};
 use nofs_disk::Disk;
 use nofs_filedisk::{FileDisk, MemFile};
 use nofs_memdisk::MemDisk;
-use nofs_test_stories::{
-    LINES, Line, SESSION, Seen, Story, bytes_of, cached, cells_of, count, day_calls, drawn_picks,
-    evening, failing, fault, left, prints, push_bytes, run_on, scanned_and_read, see_line, stopped,
-    text_of_lines,
-};
+use nofs_test_disks::{bytes_of, cached, cells_of, drawn_picks, failing, fault, left};
 use nofs_versions::CallKind;
 use std::alloc::{AllocError, Global};
 use std::process::Abort;

@@ -1,9 +1,9 @@
 //! Runs over images that were laid down cell by cell, some of them as a crash leaves them.
 
+use crate::runs::{USAGE, prints, run_on};
 use nofs_test_disks as images;
-use nofs_test_disks::disk_with;
-use nofs_test_stories::{
-    FAULTS, Image, USAGE, bytes_of, cells_of, image_cells, patched, prints, run_on, scan_line, used,
+use nofs_test_disks::{
+    FAULTS, Image, bytes_of, cells_of, disk_with, image_cells, patched, scan_line, used,
 };
 use std::test::Fail;
 

@@ -7,10 +7,10 @@ mod scripts;
 use crate::lives::chains::{Chain, Found, Wrong, left_image};
 use crate::lives::numbers::{mount_on, numbers_on};
 use crate::lives::scripts::{all_gets, drawn_script};
+use crate::readings::{count, scanned_and_read};
+use crate::runs::run_on;
 use nofs_memdisk::MemDisk;
-use nofs_test_stories::{
-    count, draw, drawn_call, drawn_picks, fault_after, made, run_on, scanned_and_read,
-};
+use nofs_test_disks::{draw, drawn_call, drawn_picks, fault_after, made};
 use nofs_versions::{CallKind, FaultAt};
 use std::alloc::Global;
 use std::process::Abort;

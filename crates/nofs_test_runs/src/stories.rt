@@ -1,8 +1,8 @@
 //! Stories: an evening whose files are durable, and a day in which a call fails or a crash comes.
 
-use crate::draws::{draw, drawn_call, fault_after, made};
 use crate::runs::run_on;
 use nofs_memdisk::MemDisk;
+use nofs_test_disks::{draw, drawn_call, fault_after, made};
 use std::alloc::{AllocError, Global};
 use std::sync::Wait;
 use std::test::Fail;

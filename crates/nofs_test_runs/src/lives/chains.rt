@@ -5,9 +5,10 @@ use crate::lives::numbers::{
     Reading, SERIALS, has_mount, has_number, mount_on, number_at, push_numbers, reading_of,
 };
 use crate::lives::scripts::{FILES, SLOTS};
+use crate::readings::{Seen, count, see_line};
 use nofs_disk::Cell;
 use nofs_memdisk::MemDisk;
-use nofs_test_stories::{Seen, cell_of, choices_of, count, left, see_line};
+use nofs_test_disks::{cell_of, choices_of, left};
 use nofs_versions::Pick;
 use std::alloc::{AllocError, Global};
 use std::test::Fail;

@@ -1,7 +1,14 @@
 //! Images that are laid down cell by cell, some of them as a crash leaves them.
 
+use crate::examples::images::{
+    bytes_ff, empty, inode_made_again, residue_past_the_size, stamp_that_differs, two_owners,
+    two_owners_the_other_way,
+};
+use crate::examples::names::{
+    chain_of_directories, dead_second_link, entry_of_a_free_record, entry_of_another_generation,
+    loop_of_directories, one_name_twice,
+};
 use nofs_disk::{Cell, write_bytes_at};
-use nofs_test_disks as images;
 use std::alloc::Global;
 use std::test::Fail;
 
@@ -44,25 +51,23 @@ pub fn image_cells(alloc: Global, image: Image) -> Result<Vec<Cell>, Fail> {
     match image {
         Image::Empty => patched_empty(alloc, &[]),
         Image::Version2 => patched_empty(alloc, &[VERSION_2]),
-        Image::OnlyTheSuperblock => Ok(first_cell(images::empty(alloc)?)),
-        Image::StampThatDiffers => Ok(images::stamp_that_differs(alloc)?),
-        Image::TwoOwners => Ok(images::two_owners(alloc)?),
-        Image::TwoOwnersTheOtherWay => Ok(images::two_owners_the_other_way(alloc)?),
-        Image::InodeMadeAgain => Ok(images::inode_made_again(alloc)?),
-        Image::DeadSecondLink => Ok(images::dead_second_link(alloc)?),
-        Image::OneNameTwice => Ok(images::one_name_twice(alloc)?),
-        Image::Residue => Ok(images::residue_past_the_size(alloc)?),
-        Image::ResidueInVersion2 => {
-            patched(alloc, images::residue_past_the_size(alloc)?, &[VERSION_2])
-        }
-        Image::EntryOfAFreeRecord => Ok(images::entry_of_a_free_record(alloc)?),
-        Image::EntryOfAnotherGeneration => Ok(images::entry_of_another_generation(alloc)?),
-        Image::LoopOfDirectories => Ok(images::loop_of_directories(alloc)?),
+        Image::OnlyTheSuperblock => Ok(first_cell(empty(alloc)?)),
+        Image::StampThatDiffers => Ok(stamp_that_differs(alloc)?),
+        Image::TwoOwners => Ok(two_owners(alloc)?),
+        Image::TwoOwnersTheOtherWay => Ok(two_owners_the_other_way(alloc)?),
+        Image::InodeMadeAgain => Ok(inode_made_again(alloc)?),
+        Image::DeadSecondLink => Ok(dead_second_link(alloc)?),
+        Image::OneNameTwice => Ok(one_name_twice(alloc)?),
+        Image::Residue => Ok(residue_past_the_size(alloc)?),
+        Image::ResidueInVersion2 => { patched(alloc, residue_past_the_size(alloc)?, &[VERSION_2]) }
+        Image::EntryOfAFreeRecord => Ok(entry_of_a_free_record(alloc)?),
+        Image::EntryOfAnotherGeneration => Ok(entry_of_another_generation(alloc)?),
+        Image::LoopOfDirectories => Ok(loop_of_directories(alloc)?),
         Image::LostNames => patched_empty(alloc, &[(6, 1048, "0900000000010000")]),
         Image::LostChild => patched_empty(alloc, &LOST_CHILD),
         Image::Zeros => Ok(vec![in alloc; Cell::ZERO; 16]?),
-        Image::BytesFf => Ok(images::bytes_ff(alloc)?),
-        Image::ChainOfDirectories => Ok(images::chain_of_directories(alloc)?),
+        Image::BytesFf => Ok(bytes_ff(alloc)?),
+        Image::ChainOfDirectories => Ok(chain_of_directories(alloc)?),
     }
 }
 
@@ -91,7 +96,7 @@ fn first_cell(cells: Vec<Cell>) -> Vec<Cell> {
 
 /// The empty image with other bytes at these places.
 pub fn patched_empty(alloc: Global, patches: &[Patch]) -> Result<Vec<Cell>, Fail> {
-    patched(alloc, images::empty(alloc)?, patches)
+    patched(alloc, empty(alloc)?, patches)
 }
 
 /// Cells with other bytes at these places.

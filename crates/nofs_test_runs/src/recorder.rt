@@ -8,7 +8,7 @@ ghost use Rattle.nofs_filedisk.specs.Bytes.{IsSynced};
 
 use nofs_disk::{Failed, write_bytes_at};
 use nofs_filedisk::{MemFile, Positioned};
-use nofs_test_stories::draw;
+use nofs_test_disks::draw;
 use std::alloc::{AllocError, Global};
 
 /// How many bytes a cell has in a file.

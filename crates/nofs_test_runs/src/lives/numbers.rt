@@ -3,7 +3,7 @@
 use crate::lives::BLOCKS;
 use nofs_disk::{Cell, read_u64_at};
 use nofs_memdisk::MemDisk;
-use nofs_test_stories::cell_of;
+use nofs_test_disks::cell_of;
 use std::alloc::{AllocError, Global};
 
 /// The superblock, and the table of 16 inodes.

@@ -2,12 +2,12 @@
 
 ghost use Rattle.std.specs.Prelude.{◌≤◌};
 
+use crate::runs::{prints, run_with};
 use nofs_disk::Disk;
 use nofs_io::{MemSink, MemSource};
 use nofs_memdisk::{MemDisk, Unready};
-use nofs_test_disks::disk_with;
-use nofs_test_stories::{
-    Patch, VERSION_2, bytes_of, cells_of, fault, left, patched_empty, prints, run_with,
+use nofs_test_disks::{
+    Patch, VERSION_2, bytes_of, cells_of, disk_with, fault, left, patched_empty,
 };
 use nofs_versions::{CallKind, Pick};
 use std::alloc::{AllocError, Global};
