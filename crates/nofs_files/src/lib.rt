@@ -12,5 +12,4 @@ pub use nofs_history::Stat;
 pub use putting::storing::put;
 pub use reading::flushes::flush;
 pub use reading::gets::{Got, get};
-pub use reading::sessions::flush_step;
 pub use reading::stats::stat;

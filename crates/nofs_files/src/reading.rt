@@ -3,5 +3,4 @@ pub(crate) mod content;
 pub(crate) mod files;
 pub(crate) mod flushes;
 pub(crate) mod gets;
-pub(crate) mod sessions;
 pub(crate) mod stats;

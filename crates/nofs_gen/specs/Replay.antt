@@ -62,7 +62,17 @@ resized_content f size = record { size = size; values = padded (take (min (slots
 abbrev pub file_with_step : ℕ → ℕ → FileContent → Step → FileContent
 file_with_step i g f (step.Put j h k at bytes) = if is_at i g j h then put_file f k at bytes else f
 file_with_step i g f (step.Resize j h size) = if is_at i g j h then resized_content f size else f
-file_with_step i g f _ = f
+file_with_step i g f (step.Look _ _ _) = f
+file_with_step i g f (step.Make _ _ _ _) = f
+file_with_step i g f (step.Link _ _ _ _ _) = f
+file_with_step i g f (step.Drop _ _ _) = f
+file_with_step i g f (step.Rename _ _ _ _) = f
+file_with_step i g f (step.List _ _ _) = f
+file_with_step i g f (step.Get _ _ _) = f
+file_with_step i g f (step.Stat _ _) = f
+file_with_step i g f (step.Flush _ _) = f
+file_with_step i g f (step.SeeInode _) = f
+file_with_step i g f (step.SeeBlock _) = f
 
 -- the file after an entry
 abbrev pub after_entry : ℕ → ℕ → FileContent → Entry1 → FileContent

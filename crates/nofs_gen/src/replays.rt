@@ -57,7 +57,17 @@ impl Wanted {
                     Ok(file)
                 }
             }
-            _ => Ok(file),
+            Step::Look { .. }
+            | Step::Make { .. }
+            | Step::Link { .. }
+            | Step::Drop { .. }
+            | Step::Rename { .. }
+            | Step::List { .. }
+            | Step::Get { .. }
+            | Step::Stat { .. }
+            | Step::Flush { .. }
+            | Step::SeeInode { .. }
+            | Step::SeeBlock { .. } => Ok(file),
         }
     }
 

@@ -60,7 +60,16 @@ abbrev pub cell_slot : Files → Step → Option Home
 cell_slot F (step.Put i g k at bytes) = Some (home_at i k)
 cell_slot F (step.Make d g name kind) = option_map (λ e. home_at d (e / 16)) (place_for F d name)
 cell_slot F (step.Link d g name i of) = option_map (λ e. home_at d (e / 16)) (place_for F d name)
-cell_slot F _ = None
+cell_slot F (step.Look _ _ _) = None
+cell_slot F (step.Drop _ _ _) = None
+cell_slot F (step.Rename _ _ _ _) = None
+cell_slot F (step.List _ _ _) = None
+cell_slot F (step.Get _ _ _) = None
+cell_slot F (step.Resize _ _ _) = None
+cell_slot F (step.Stat _ _) = None
+cell_slot F (step.Flush _ _) = None
+cell_slot F (step.SeeInode _) = None
+cell_slot F (step.SeeBlock _) = None
 
 -- the slot of the block of pointers above
 abbrev pub slot_above : Path → Path

@@ -280,7 +280,13 @@ gives F (step.Make d g name kind) claims = at_place (place_for F d name) (λ e. 
 gives F (step.Link d g name i of) claims = at_place (place_for F d name) (λ e. at_place (link_place F i) (λ b. link_given F d g name i of e b))
 gives F (step.Drop d g name) claims = at_place (found F d name) (λ e. drop_given F d g e)
 gives F (step.Rename d g old new) claims = at_place (found F d old) (λ e. rename_given F d g new e)
-gives F _ claims = nothing
+gives F (step.Look _ _ _) claims = nothing
+gives F (step.List _ _ _) claims = nothing
+gives F (step.Get _ _ _) claims = nothing
+gives F (step.Stat _ _) claims = nothing
+gives F (step.Flush _ _) claims = nothing
+gives F (step.SeeInode _) claims = nothing
+gives F (step.SeeBlock _) claims = nothing
 
 -- The files after a step
 

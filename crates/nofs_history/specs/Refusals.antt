@@ -189,7 +189,24 @@ abbrev pub reads_nothing : Refusal → Bool
 reads_nothing refusal.BadName = true
 reads_nothing refusal.BadRange = true
 reads_nothing refusal.TooLarge = true
-reads_nothing _ = false
+reads_nothing refusal.Missing = false
+reads_nothing (refusal.LostEntry _) = false
+reads_nothing (refusal.LostSlot _) = false
+reads_nothing refusal.Exists = false
+reads_nothing refusal.NotDirectory = false
+reads_nothing refusal.IsDirectory = false
+reads_nothing refusal.NotEmpty = false
+reads_nothing refusal.TooManyLinks = false
+reads_nothing refusal.DirectoryFull = false
+reads_nothing refusal.PastEnd = false
+reads_nothing refusal.Stale = false
+reads_nothing (refusal.Full _ _ _ _) = false
+reads_nothing (refusal.InodesFull _ _) = false
+reads_nothing refusal.SerialsSpent = false
+reads_nothing refusal.ReadFault = false
+reads_nothing refusal.WriteFault = false
+reads_nothing refusal.Stopped = false
+reads_nothing refusal.OutOfMemory = false
 
 -- steps that may write or flush
 abbrev pub may_write : Step → Bool
@@ -200,4 +217,9 @@ may_write (step.Rename d g old new) = true
 may_write (step.Put i g k at bytes) = true
 may_write (step.Resize i g size) = true
 may_write (step.Flush i g) = true
-may_write _ = false
+may_write (step.Look _ _ _) = false
+may_write (step.List _ _ _) = false
+may_write (step.Get _ _ _) = false
+may_write (step.Stat _ _) = false
+may_write (step.SeeInode _) = false
+may_write (step.SeeBlock _) = false

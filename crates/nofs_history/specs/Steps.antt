@@ -25,7 +25,25 @@ with_made made step reply = if is_out_of_memory reply then made else made ++ (st
 abbrev pub InRange : Refusal → Type 0
 InRange (refusal.Full needed free unverified next) = unverified < 2 ^ 64
 InRange (refusal.InodesFull unverified next) = (unverified < 2 ^ 64) × (next < 2 ^ 32)
-InRange _ = Unit {0}
+InRange refusal.Missing = Unit {0}
+InRange (refusal.LostEntry _) = Unit {0}
+InRange (refusal.LostSlot _) = Unit {0}
+InRange refusal.Exists = Unit {0}
+InRange refusal.NotDirectory = Unit {0}
+InRange refusal.IsDirectory = Unit {0}
+InRange refusal.NotEmpty = Unit {0}
+InRange refusal.BadName = Unit {0}
+InRange refusal.BadRange = Unit {0}
+InRange refusal.TooManyLinks = Unit {0}
+InRange refusal.DirectoryFull = Unit {0}
+InRange refusal.TooLarge = Unit {0}
+InRange refusal.PastEnd = Unit {0}
+InRange refusal.Stale = Unit {0}
+InRange refusal.SerialsSpent = Unit {0}
+InRange refusal.ReadFault = Unit {0}
+InRange refusal.WriteFault = Unit {0}
+InRange refusal.Stopped = Unit {0}
+InRange refusal.OutOfMemory = Unit {0}
 
 -- what a directory's slot can list
 abbrev pub IsListed : ℕ → List NameLine → Type 0

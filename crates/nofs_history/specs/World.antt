@@ -107,9 +107,29 @@ abbrev pub blocks_needed : Files → Step → ℕ
 blocks_needed F (step.Put i g k at bytes) = blocks_for F i k
 blocks_needed F (step.Make d g name kind) = blocks_at F d (place_for F d name)
 blocks_needed F (step.Link d g name i of) = blocks_at F d (place_for F d name)
-blocks_needed F _ = 0
+blocks_needed F (step.Look _ _ _) = 0
+blocks_needed F (step.Drop _ _ _) = 0
+blocks_needed F (step.Rename _ _ _ _) = 0
+blocks_needed F (step.List _ _ _) = 0
+blocks_needed F (step.Get _ _ _) = 0
+blocks_needed F (step.Resize _ _ _) = 0
+blocks_needed F (step.Stat _ _) = 0
+blocks_needed F (step.Flush _ _) = 0
+blocks_needed F (step.SeeInode _) = 0
+blocks_needed F (step.SeeBlock _) = 0
 
 -- the inodes that a step claims
 abbrev pub inodes_needed : Step → ℕ
 inodes_needed (step.Make d g name kind) = 1
-inodes_needed _ = 0
+inodes_needed (step.Look _ _ _) = 0
+inodes_needed (step.Link _ _ _ _ _) = 0
+inodes_needed (step.Drop _ _ _) = 0
+inodes_needed (step.Rename _ _ _ _) = 0
+inodes_needed (step.List _ _ _) = 0
+inodes_needed (step.Get _ _ _) = 0
+inodes_needed (step.Put _ _ _ _ _) = 0
+inodes_needed (step.Resize _ _ _) = 0
+inodes_needed (step.Stat _ _) = 0
+inodes_needed (step.Flush _ _) = 0
+inodes_needed (step.SeeInode _) = 0
+inodes_needed (step.SeeBlock _) = 0

@@ -48,7 +48,8 @@ use Rattle.nofs_names.specs.declared.finding.placing.EntryBlocks.{EntryBlocks}
 use Rattle.nofs_names.specs.declared.finding.placing.EntrySlot.{EntrySlot}
 use Rattle.nofs_names.specs.declared.finding.searching.Unfound.{Unfound}
 use Rattle.nofs_state.specs.Owing.{RowsPass}
-use Rattle.nofs_names.specs.Makes.{FindsInode, MayMake, NoInode, PlaceIs, RowsLeft, RoomLeft, made_answer, room_left}
+use Rattle.nofs_names.specs.Linking.{PlaceIs}
+use Rattle.nofs_names.specs.Makes.{FindsInode, MayMake, NoInode, RowsLeft, RoomLeft, made_answer, room_left}
 use Rattle.nofs_names.proofs.Asking.{make-asks}
 use Rattle.nofs_crashlaw.proofs.Matching.{matched-agreed}
 use Rattle.nofs_history.specs.Steps.{InRange}

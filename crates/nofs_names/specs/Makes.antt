@@ -8,9 +8,9 @@ use Rattle.nofs_dirent.specs.Names.{NameOk}
 use Rattle.nofs_inode.specs.InodeRecords.{free_record}
 use Rattle.nofs_model.specs.Cells.{BackLink, FileKind, Record}
 use Rattle.nofs_history.specs.Search.{first_of}
-use Rattle.nofs_history.specs.Machine.{link_to, place_for}
+use Rattle.nofs_history.specs.Machine.{link_to}
 use Rattle.nofs_history.specs.World.{World, next_inode}
-use Rattle.nofs_history.specs.Refusals.{rows, inodes_full, full, serials_spent}
+use Rattle.nofs_history.specs.Refusals.{rows, inodes_full}
 use Rattle.nofs_history.specs.declared.machine.history.Claims.{Claims}
 use Rattle.nofs_history.specs.declared.machine.history.Entry1.{Entry1}
 use Rattle.nofs_history.specs.declared.machine.steps.Step.{Step}
@@ -25,6 +25,7 @@ use Rattle.nofs_state.specs.Standing.{IsOpen, Past}
 use Rattle.nofs_state.specs.Steps.{Goes}
 use Rattle.nofs_state.specs.declared.books.Books.{Books}
 use Rattle.nofs_names.specs.Refusing.{IsThere, KnownTrue}
+use Rattle.nofs_names.specs.Linking.{PlaceIs, block_rows}
 use Rattle.nofs_names.specs.Placing.{AreFree, FitsSlot, IsEntrySlot, IsSlotCell, slot_blocks}
 use Rattle.nofs_state.specs.declared.ending.Ended.{Ended}
 use Rattle.nofs_names.specs.declared.entering.EntryPlace.{EntryPlace}
@@ -58,10 +59,6 @@ abbrev pub made_answer : Claims → Result (Unit {0}) Refusal → Reply
 made_answer c (Ok done) = reply.Made c.inode c.generation
 made_answer c (Err why) = reply.Refused why
 
--- this is the place of the entry
-abbrev pub PlaceIs : DiskState → Books → ℕ → List ℕ → ℕ → Type 0
-PlaceIs d k i name e = IsTrue d.tells → (H : List Entry1) (p : Past) → IsOpen d k H p → place_for p.world.files i name ≡ Some e
-
 -- what a Make leaves, and answers
 abbrev pub MakeGoes : DiskState → Books → DiskState → Books → Step → Ended → Type 0
 MakeGoes old k new l s ended = Goes old k new l s ended.claims (made_answer ended.claims ended.result)
@@ -76,11 +73,8 @@ pub record GoesIn (d : DiskState) (k : Books) (to : NewFile) (name : List ℕ) (
   pub place : PlaceIs d k to.directory name e
 
 -- the rows of room: an inode, blocks, and stamps
-abbrev pub block_rows : ℕ → ℕ → List ℕ → FileKind → World → World → List (Option Refusal)
-block_rows i g name kind W V = full W V (step.Make i g name kind) ∷ serials_spent W (step.Make i g name kind) ∷ []
-
 abbrev pub room_left : ℕ → ℕ → List ℕ → FileKind → World → World → List (Option Refusal)
-room_left i g name kind W V = inodes_full W V ∷ block_rows i g name kind W V
+room_left i g name kind W V = inodes_full W V ∷ block_rows (step.Make i g name kind) W V
 
 -- no row before those of room refuses
 abbrev pub RowsLeft : DiskState → Books → ℕ → ℕ → List ℕ → FileKind → Type 0
@@ -90,7 +84,7 @@ RowsLeft d k i g name kind = IsTrue d.tells → (H : List Entry1) (p : Past) →
 -- nor that of inodes
 abbrev pub RoomLeft : DiskState → Books → ℕ → ℕ → List ℕ → FileKind → Type 0
 RoomLeft d k i g name kind = IsTrue d.tells → (H : List Entry1) (p : Past) → IsOpen d k H p → (V : World)
-    → first_of (rows p.world V (step.Make i g name kind)) ≡ first_of (block_rows i g name kind p.world V)
+    → first_of (rows p.world V (step.Make i g name kind)) ≡ first_of (block_rows (step.Make i g name kind) p.world V)
 
 -- what a Make stands on when it claims this inode, and an entry in this place
 pub record MayMake (d : DiskState) (k : Books) (i g : ℕ) (name : List ℕ) (r : Record) (p : EntryPlace) (made : ℕ) : Type 0 where

@@ -4,5 +4,4 @@ pub mod EntryNames
 pub mod Sighted
 pub mod Committing
 pub mod Lookups
-pub mod Going
 pub mod Swept

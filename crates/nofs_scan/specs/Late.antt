@@ -1,13 +1,12 @@
 -- A verdict of an earlier state of the mount, committed later.
 use Rattle.std.specs.Prelude.{◌≡◌, ◌<◌, ℕ, List, ◌++◌, length, Bool, false, IsTrue}
 use Rattle.nofs_disk.specs.Disk.{DiskState}
-use Rattle.nofs_model.specs.Image.{Image}
 use Rattle.nofs_history.specs.Claims.{no_claims}
 use Rattle.nofs_history.specs.declared.machine.history.Entry1.{Entry1}
 use Rattle.nofs_history.specs.declared.machine.steps.ElementKind.{ElementKind}
 use Rattle.nofs_history.specs.declared.machine.replies.Reply.TheVariants as reply
 use Rattle.nofs_state.specs.Books.{IsSafe}
-use Rattle.nofs_state.specs.Standing.{IsOpen, Past, Stands}
+use Rattle.nofs_state.specs.Standing.{IsOpen, Past}
 use Rattle.nofs_state.specs.Steps.{Causes, Follows, SameMount, entry}
 use Rattle.nofs_state.specs.Verdicts.{Settles}
 use Rattle.nofs_state.specs.declared.books.Books.{Books}
@@ -46,12 +45,3 @@ pub record Commits (early : DiskState) (before : Books) (d : DiskState) (k l : B
   -- and the commit is a See step
   pub from_open : IsTrue d.tells → (caller : ℕ) (H : List Entry1) (p : Past) → IsOpen d k H p → WasOpen early before k H p
       → Follows d d l H p (entry caller d d (see_step kind item) no_claims (reply.Seen result))
-
--- the earlier state is one of the mount of this base, and its history is a part of the present one
-pub record IsOfMount (early : DiskState) (before : Books) (k : Books) (base : Image) (first : ℕ) : Type 0 where
-  pub tells : IsTrue early.tells
-  pub going : before.stopped ≡ false
-  pub stands : Stands early before base first
-  pub start : before.history.start ≡ k.history.start
-  pub after : List Entry1
-  pub whole : k.history.entries ≡ before.history.entries ++ after

@@ -12,7 +12,7 @@ mod sees;
 mod sights;
 
 pub use commits::commit;
-pub use entries::{commit_step, step_of};
+pub use entries::step_of;
 pub use laws::law_scanned;
 pub use looks::look_batch;
 pub use nofs_history::ElementKind;

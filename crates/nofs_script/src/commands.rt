@@ -171,12 +171,7 @@ fn one_path(alloc: Global, verb: Verb, a: &[u8]) -> Result<Path, LineFault>
     match verb {
         Verb::Make | Verb::MakeDirectory | Verb::Drop => new_path(alloc, a),
         Verb::Stat | Verb::List | Verb::Fsync => path(alloc, a),
-        Verb::Put
-        | Verb::Get
-        | Verb::Size
-        | Verb::Link
-        | Verb::Rename
-        | Verb::Move => {
+        Verb::Put | Verb::Get | Verb::Size | Verb::Link | Verb::Rename | Verb::Move => {
             Err(LineFault::Wrong(ScriptKind::WordCount))
         }
     }
@@ -192,12 +187,7 @@ fn on_path(verb: Verb, path: Path) -> Result<Command, LineFault>
         Verb::Stat => Ok(Command::Stat { path }),
         Verb::List => Ok(Command::List { path }),
         Verb::Fsync => Ok(Command::Fsync { path }),
-        Verb::Put
-        | Verb::Get
-        | Verb::Size
-        | Verb::Link
-        | Verb::Rename
-        | Verb::Move => {
+        Verb::Put | Verb::Get | Verb::Size | Verb::Link | Verb::Rename | Verb::Move => {
             Err(LineFault::Wrong(ScriptKind::WordCount))
         }
     }
@@ -239,9 +229,7 @@ fn two_words(alloc: Global, verb: Verb, a: &[u8], b: &[u8]) -> Result<Command, L
         | Verb::Stat
         | Verb::List
         | Verb::Drop
-        | Verb::Fsync => {
-            Err(LineFault::Wrong(ScriptKind::WordCount))
-        }
+        | Verb::Fsync => Err(LineFault::Wrong(ScriptKind::WordCount)),
     }
 }
 
@@ -275,9 +263,7 @@ fn three_words(
         | Verb::Drop
         | Verb::Rename
         | Verb::Fsync
-        | Verb::Move => {
-            Err(LineFault::Wrong(ScriptKind::WordCount))
-        }
+        | Verb::Move => Err(LineFault::Wrong(ScriptKind::WordCount)),
     }
 }
 

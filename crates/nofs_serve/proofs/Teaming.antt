@@ -5,6 +5,7 @@ use mathlib.Core.List.{IsPrefix}
 use Rattle.nofs_turn.specs.declared.turn_rule.view.View.{View}
 use Rattle.nofs_turn.specs.Lists.{numbered, chosen}
 use Rattle.nofs_turn.proofs.Words.{prefix_self, prefix_trans}
+use Rattle.nofs_history.specs.declared.machine.callers.TheConstants.{BLOCK_SWEEPER, FLUSHER, INODE_SWEEPER, MOST_USERS}
 use Rattle.nofs_history.specs.Steps.{Made}
 use Rattle.nofs_history.specs.declared.machine.history.Entry1.{Entry1}
 use Rattle.nofs_history.specs.declared.machine.steps.ElementKind.{ElementKind}
@@ -36,49 +37,57 @@ sweeps-told Item kind count out short new now less is s = record {
 
 module _ {F : Type 0} (scripts : List (List Command)) (inodes blocks : ℕ) (short out out_inodes out_blocks : Bool) (lines : List (List Line))
     (v p w q f z u : View Entry1 F)
-    (few : length scripts ≤ 8) (one : v.stands ≡ 1) (same : SameSeat v p) (own : all_by 9 p.mine ≡ true)
+    (few : length scripts ≤ MOST_USERS) (one : v.stands ≡ 1) (same : SameSeat v p)
+    (own : all_by INODE_SWEEPER p.mine ≡ true)
     (up : Sweeps (λ place item. item ≡ place) Inode 0 inodes out_inodes [] (own_steps p.mine))
-    (same_blocks : SameSeat v w) (j : JoinsOwn 10 p w q)
+    (same_blocks : SameSeat v w) (j : JoinsOwn BLOCK_SWEEPER p w q)
     (down : Sweeps (λ place item. item ≡ blocks - 1 - place) Block 0 blocks out_blocks [] (own_steps w.mine))
-    (same_flusher : SameSeat v f) (joined_flusher : JoinsOwn 11 q f z) (no_step : own_steps f.mine ≡ [])
+    (same_flusher : SameSeat v f) (joined_flusher : JoinsOwn FLUSHER q f z) (no_step : own_steps f.mine ≡ [])
     (either : out ≡ (out_inodes || out_blocks)) where
-  none_of_sweeps : (c : ℕ) → c ≢ 9 → c ≢ 10 → made_by c q ≡ []
-  none_of_sweeps c not_inodes not_blocks = joins-other 10 c p w q j not_blocks ∙ made_by-other c 9 p own not_inodes
+  none_of_sweeps : (c : ℕ) → c ≢ INODE_SWEEPER → c ≢ BLOCK_SWEEPER → made_by c q ≡ []
+  none_of_sweeps c not_inodes not_blocks =
+      joins-other BLOCK_SWEEPER c p w q j not_blocks ∙ made_by-other c INODE_SWEEPER p own not_inodes
 
   -- the flusher adds nothing
   flusher-adds : (c : ℕ) → made_by c z ≡ made_by c q
-  flusher-adds c = go (eqb c 11) refl
+  flusher-adds c = go (eqb c FLUSHER) refl
     where
-      go : (b : Bool) → eqb c 11 ≡ b → made_by c z ≡ made_by c q
+      go : (b : Bool) → eqb c FLUSHER ≡ b → made_by c z ≡ made_by c q
       go true e =
-          let is : c ≡ 11 = eqb-true c 11 e in
-          let none : made_by 11 q ≡ [] = none_of_sweeps 11 (λ n. absurd (omega (arith, n))) (λ n. absurd (omega (arith, n))) in
-          subst (λ (n : ℕ). made_by n z ≡ made_by n q) (sym is) (joins-own 11 q f z joined_flusher none ∙ no_step ∙ sym none)
-      go false e = joins-other 11 c q f z joined_flusher (λ n. absurd (let t : eqb c 11 ≡ true = eq-eqb c 11 n in cc (t, e)))
+          let is : c ≡ FLUSHER = eqb-true c FLUSHER e in
+          let none : made_by FLUSHER q ≡ [] =
+          none_of_sweeps FLUSHER (λ n. absurd (omega (arith, n))) (λ n. absurd (omega (arith, n))) in
+          subst (λ (n : ℕ). made_by n z ≡ made_by n q) (sym is)
+          (joins-own FLUSHER q f z joined_flusher none ∙ no_step ∙ sym none)
+      go false e = joins-other FLUSHER c q f z joined_flusher
+          (λ n. absurd (let t : eqb c FLUSHER ≡ true = eq-eqb c FLUSHER n in cc (t, e)))
 
-  none_before : (c : ℕ) → c ≢ 9 → c ≢ 10 → made_by c z ≡ []
+  none_before : (c : ℕ) → c ≢ INODE_SWEEPER → c ≢ BLOCK_SWEEPER → made_by c z ≡ []
   none_before c not_inodes not_blocks = flusher-adds c ∙ none_of_sweeps c not_inodes not_blocks
 
   pub team-gathers : (((c : ℕ) → 1 ≤ c → c ≤ length scripts → made_by c z ≡ []) → Gathers v z 3
       → Gathers v u (3 + length scripts) × UsersGathered scripts out short lines z u) → TeamGathered scripts inodes blocks short lines v u
   team-gathers users =
-      let two = gathers-more 10 1 v p w q one (gathers-one v p one same) j same_blocks in
-      let three = gathers-more 11 2 v q f z one two joined_flusher same_flusher in
+      let two = gathers-more BLOCK_SWEEPER 1 v p w q one (gathers-one v p one same) j same_blocks in
+      let three = gathers-more FLUSHER 2 v q f z one two joined_flusher same_flusher in
       let r = users (λ c low high. none_before c (λ e. absurd (omega (arith, few, high, e))) (λ e. absurd (omega (arith, few, high, e)))) three in
       let g = r.1 in
-      let of_inodes : made_by 9 u ≡ own_steps p.mine = g.others 9 (inr (omega (arith, few)))
-      ∙ (flusher-adds 9 ∙ (joins-other 10 9 p w q j (λ e. absurd (omega (arith, e))) ∙ made_by-own 9 p own)) in
-      let of_blocks : made_by 10 u ≡ own_steps w.mine = g.others 10 (inr (omega (arith, few)))
-      ∙ (flusher-adds 10 ∙ joins-own 10 p w q j (made_by-other 10 9 p own (λ e. absurd (omega (arith, e))))) in
+      let of_inodes : made_by INODE_SWEEPER u ≡ own_steps p.mine = g.others INODE_SWEEPER (inr (omega (arith, few)))
+      ∙ (flusher-adds INODE_SWEEPER ∙ (joins-other BLOCK_SWEEPER INODE_SWEEPER p w q j (λ e. absurd (omega (arith, e)))
+      ∙ made_by-own INODE_SWEEPER p own)) in
+      let of_blocks : made_by BLOCK_SWEEPER u ≡ own_steps w.mine = g.others BLOCK_SWEEPER (inr (omega (arith, few)))
+      ∙ (flusher-adds BLOCK_SWEEPER ∙ joins-own BLOCK_SWEEPER p w q j
+      (made_by-other BLOCK_SWEEPER INODE_SWEEPER p own (λ e. absurd (omega (arith, e))))) in
       let less : short ≡ false → (out_inodes ≡ false) × (out_blocks ≡ false) = λ e. neither out_inodes out_blocks (sym either ∙ g.was_short e) in
       record {
         gathers = subst (λ n. Gathers v u n) (omega arith) r.0;
         made = record {
           begun = g.begun;
           served = g.served;
-          inodes_seen = sweeps-told (λ place item. item ≡ place) Inode inodes out_inodes short (own_steps p.mine) (made_by 9 u) (λ e. (less e).0) of_inodes up;
-          blocks_seen = sweeps-told (λ place item. item ≡ blocks - 1 - place) Block blocks out_blocks short (own_steps w.mine) (made_by 10 u)
-              (λ e. (less e).1) of_blocks down;
+          inodes_seen = sweeps-told (λ place item. item ≡ place) Inode inodes out_inodes short (own_steps p.mine)
+              (made_by INODE_SWEEPER u) (λ e. (less e).0) of_inodes up;
+          blocks_seen = sweeps-told (λ place item. item ≡ blocks - 1 - place) Block blocks out_blocks short
+              (own_steps w.mine) (made_by BLOCK_SWEEPER u) (λ e. (less e).1) of_blocks down;
           others = λ c nobody. g.others c nobody.2 ∙ none_before c nobody.0 nobody.1;
         };
       }
@@ -130,8 +139,10 @@ module _ (scripts : List (List Command)) (inodes blocks : ℕ) where
         made = record {
           begun = begun-none 1 scripts (λ c. steps_by c (drop (length H) K)) none;
           served = λ e. absurd (cc);
-          inodes_seen = sweeps-none (λ place item. item ≡ place) Inode inodes short (steps_by 9 (drop (length H) K)) wants (none 9);
-          blocks_seen = sweeps-none (λ place item. item ≡ blocks - 1 - place) Block blocks short (steps_by 10 (drop (length H) K)) wants (none 10);
+          inodes_seen = sweeps-none (λ place item. item ≡ place) Inode inodes short
+              (steps_by INODE_SWEEPER (drop (length H) K)) wants (none INODE_SWEEPER);
+          blocks_seen = sweeps-none (λ place item. item ≡ blocks - 1 - place) Block blocks short
+              (steps_by BLOCK_SWEEPER (drop (length H) K)) wants (none BLOCK_SWEEPER);
           others = λ c nobody. none c;
         };
       }

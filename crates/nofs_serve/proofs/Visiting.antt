@@ -4,6 +4,7 @@ use mathlib.Core.List.{IsPrefix}
 use Rattle.nofs_turn.specs.declared.turn_rule.view.View.{View}
 use Rattle.nofs_turn.specs.Lists.{numbered, chosen}
 use Rattle.nofs_turn.proofs.Words.{prefix_trans}
+use Rattle.nofs_history.specs.declared.machine.callers.TheConstants.{BLOCK_SWEEPER, INODE_SWEEPER}
 use Rattle.nofs_history.specs.Steps.{Made}
 use Rattle.nofs_history.specs.declared.machine.history.Entry1.{Entry1}
 use Rattle.nofs_history.specs.declared.machine.steps.ElementKind.TheVariants.{Inode, Block}
@@ -31,9 +32,9 @@ module _ {F : Type 0} (Visits : List Made → Type 0) (inodes blocks : ℕ) (sho
         made = record {
           visited = subst Visits (sym own) visits;
           inodes_seen = subst (λ (m : List Made). Sweeps (λ place item. item ≡ place) Inode 0 inodes short [] m)
-              (sym (apart 9 (λ e. absurd (omega (arith, e))))) t.made.inodes_seen;
+              (sym (apart INODE_SWEEPER (λ e. absurd (omega (arith, e))))) t.made.inodes_seen;
           blocks_seen = subst (λ (m : List Made). Sweeps (λ place item. item ≡ blocks - 1 - place) Block 0 blocks short [] m)
-              (sym (apart 10 (λ e. absurd (omega (arith, e))))) t.made.blocks_seen;
+              (sym (apart BLOCK_SWEEPER (λ e. absurd (omega (arith, e))))) t.made.blocks_seen;
           others = λ c not_own not_inodes not_blocks. apart c not_own ∙ t.made.others c (not_inodes, not_blocks, anyone c);
         };
       }

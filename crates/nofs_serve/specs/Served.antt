@@ -2,6 +2,7 @@
 use Rattle.std.specs.Prelude.{◌≡◌, ◌≢◌, ◌⊎◌, ℕ, ◌+◌, ◌-◌, ◌<◌, Bool, false, List, [], length, drop}
 use mathlib.Core.List.{IsPrefix}
 use Rattle.nofs_turn.specs.declared.turn_rule.view.View.{View}
+use Rattle.nofs_history.specs.declared.machine.callers.TheConstants.{BLOCK_SWEEPER, INODE_SWEEPER}
 use Rattle.nofs_history.specs.Steps.{Made}
 use Rattle.nofs_history.specs.declared.machine.history.Entry1.{Entry1}
 use Rattle.nofs_history.specs.declared.machine.steps.ElementKind.TheVariants.{Inode, Block}
@@ -12,17 +13,17 @@ use Rattle.nofs_workers.specs.Sweeps.{Sweeps}
 use Rattle.nofs_serve.specs.Joins.{Gathers, made_by}
 use Rattle.nofs_serve.specs.Teams.{UsersBegun, UsersServed}
 
--- no user of so many has this number, nor a sweep: so it is with the flusher's, 11
+-- no user of so many has this number, nor a sweep: so it is with the flusher's
 abbrev pub IsNobody : ℕ → ℕ → Type 0
-IsNobody users c = (c ≢ 9) × (c ≢ 10) × ((c ≡ 0) ⊎ (users < c))
+IsNobody users c = (c ≢ INODE_SWEEPER) × (c ≢ BLOCK_SWEEPER) × ((c ≡ 0) ⊎ (users < c))
 
 -- The steps that each caller made: a user's are just those that its commands ask for, in order, and those of the sweeps are one for each
 -- element, the inodes upwards and the blocks downwards. Where memory was wanting they may end early
 pub record TeamMade (scripts : List (List Command)) (inodes blocks : ℕ) (short : Bool) (lines : List (List Line)) (by : ℕ → List Made) : Type 0 where
   pub begun : UsersBegun 1 scripts by
   pub served : short ≡ false → UsersServed 1 scripts lines by
-  pub inodes_seen : Sweeps (λ place item. item ≡ place) Inode 0 inodes short [] (by 9)
-  pub blocks_seen : Sweeps (λ place item. item ≡ blocks - 1 - place) Block 0 blocks short [] (by 10)
+  pub inodes_seen : Sweeps (λ place item. item ≡ place) Inode 0 inodes short [] (by INODE_SWEEPER)
+  pub blocks_seen : Sweeps (λ place item. item ≡ blocks - 1 - place) Block 0 blocks short [] (by BLOCK_SWEEPER)
   pub others : (c : ℕ) → IsNobody (length scripts) c → by c ≡ []
 
 -- the passes of a team in one

@@ -2,6 +2,7 @@
 use Rattle.std.specs.Prelude.{◌≡◌, ◌≢◌, ℕ, ◌-◌, Bool, List, [], length, drop}
 use mathlib.Core.List.{IsPrefix}
 use Rattle.nofs_turn.specs.declared.turn_rule.view.View.{View}
+use Rattle.nofs_history.specs.declared.machine.callers.TheConstants.{BLOCK_SWEEPER, FIRST_USER, INODE_SWEEPER}
 use Rattle.nofs_history.specs.Steps.{Made}
 use Rattle.nofs_history.specs.declared.machine.history.Entry1.{Entry1}
 use Rattle.nofs_history.specs.declared.machine.steps.ElementKind.TheVariants.{Inode, Block}
@@ -12,10 +13,10 @@ use Rattle.nofs_serve.specs.Joins.{Gathers, made_by}
 -- The steps that each caller made: caller 1's are those of the visit, and those of the sweeps are one for each element, the inodes
 -- upwards and the blocks downwards. Where memory was wanting the sweeps may end early
 pub record VisitMade (Visits : List Made → Type 0) (inodes blocks : ℕ) (short : Bool) (by : ℕ → List Made) : Type 0 where
-  pub visited : Visits (by 1)
-  pub inodes_seen : Sweeps (λ place item. item ≡ place) Inode 0 inodes short [] (by 9)
-  pub blocks_seen : Sweeps (λ place item. item ≡ blocks - 1 - place) Block 0 blocks short [] (by 10)
-  pub others : (c : ℕ) → c ≢ 1 → c ≢ 9 → c ≢ 10 → by c ≡ []
+  pub visited : Visits (by FIRST_USER)
+  pub inodes_seen : Sweeps (λ place item. item ≡ place) Inode 0 inodes short [] (by INODE_SWEEPER)
+  pub blocks_seen : Sweeps (λ place item. item ≡ blocks - 1 - place) Block 0 blocks short [] (by BLOCK_SWEEPER)
+  pub others : (c : ℕ) → c ≢ FIRST_USER → c ≢ INODE_SWEEPER → c ≢ BLOCK_SWEEPER → by c ≡ []
 
 -- the passes of a visit in one
 pub record VisitGathered {F : Type 0} (Visits : List Made → Type 0) (inodes blocks : ℕ) (short : Bool) (v u : View Entry1 F) : Type 0 where

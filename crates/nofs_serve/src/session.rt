@@ -9,6 +9,7 @@ ghost use Rattle.nofs_serve.specs.Served.{TeamServed};
 use crate::teams::gather::Gathered;
 use crate::teams::team::{Plan, Sweeps, TeamRoom, WriteOuts, run_team};
 use nofs_client::LineList;
+use nofs_history::MOST_USERS;
 use nofs_shared::{Serves, ShareFault, SharedMount};
 use nofs_workers::Gate;
 use std::alloc::Global;
@@ -48,7 +49,7 @@ pub fn serve<R: Threads + Wait + Sync, V: Serves + Send, T: Gate + Send + Drop>(
 where
     V::Evidence: Send,
     requires small { sweeps.inodes < 2 ^ 32 }
-    requires few { vec_len plans ≤ 8 }
+    requires few { vec_len plans ≤ MOST_USERS }
     requires formed { All (λ p. AreWellFormed p.commands) plans.items }
     ensures fixed { V.fixed result.mount ≡ V.fixed mount }
     ensures served { TeamServed (map (λ p. p.commands) plans.items) sweeps.inodes sweeps.blocks

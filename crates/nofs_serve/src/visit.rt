@@ -1,7 +1,7 @@
 //! Serving one visitor at a mount, on the calling thread.
 //!
-//! Promise: the history has of caller 1 just the steps of the visit, and of each sweep one step for each element. The flusher has
-//! none, nor has any other caller.
+//! Promise: the history has of `FIRST_USER` just the steps of the visit, and of each sweep one step for each element.
+//! The flusher has none, nor has any other caller.
 ghost use Rattle.std.specs.Prelude.{◌≡◌, ℕ, ◌+◌, ◌<◌, ◌^◌, [], All, IfErr, IfOk, vec_len};
 ghost use Rattle.nofs_turn.specs.declared.turn_rule.view.View.{View};
 ghost use Rattle.nofs_turn.specs.Turns.{view_of, IsPassOf};
@@ -12,15 +12,13 @@ use crate::teams::gather::{either, join_way};
 use crate::teams::lend::work_beside;
 use crate::teams::team::{Sweeps, WriteOuts, seat};
 use crate::teams::works::Visits;
+use nofs_history::{BLOCK_SWEEPER, FIRST_USER, FLUSHER, INODE_SWEEPER};
 use nofs_shared::{Serves, ShareFault, SharedMount};
 use nofs_turn::Pass;
 use nofs_workers::{BlockSweeper, Downwards, Flusher, Gate, InodeSweeper, Upwards};
 use std::alloc::Global;
 use std::sync::Wait;
 use std::thread::Threads;
-
-/// The caller of a visit.
-const VISITOR: u32 = 1;
 
 /// A mount that was visited.
 #[derive(Drop)]
@@ -57,17 +55,17 @@ where
         → VisitGathered (G.visited visitor.old visitor.new []) sweeps.inodes sweeps.blocks result.out_of_memory v (view_of result.pass) }
 {
     let mut passes = passes;
-    let mut visit = seat(rt, alloc, shared, VISITOR, &mut passes);
+    let mut visit = seat(rt, alloc, shared, FIRST_USER, &mut passes);
     let Sweeps {
         inodes,
         blocks,
         gates: (gate, next_gate),
     } = sweeps;
-    let way = seat(rt, alloc, shared, 9, &mut passes);
+    let way = seat(rt, alloc, shared, INODE_SWEEPER, &mut passes);
     let mut inodes = InodeSweeper::new(way, Upwards { count: inodes }, gate);
-    let way = seat(rt, alloc, shared, 10, &mut passes);
+    let way = seat(rt, alloc, shared, BLOCK_SWEEPER, &mut passes);
     let mut blocks = BlockSweeper::new(way, Downwards { count: blocks }, next_gate);
-    let way = seat(rt, alloc, shared, 11, &mut passes);
+    let way = seat(rt, alloc, shared, FLUSHER, &mut passes);
     let mut flusher = Flusher::new(way, outs.gate, outs.turns);
     work_beside(
         rt,

@@ -15,7 +15,6 @@ pub mod Raising
 pub mod Sends
 pub mod Walking
 pub mod Collecting
-pub mod Two
 pub mod Examining
 pub mod Raised
 pub mod Blank

@@ -1,6 +1,7 @@
 -- The memory for entries, and what of it is kept for the sweeps.
 use Rattle.std.proofs.Common.{◌≡◌, ℕ, ◌+◌, ◌-◌, ◌^◌, ◌<◌, ◌≤◌, ◌==◌, Bool, true, false, ◌&&◌, ◌||◌, List, length, Some, arith}
 use Rattle.nofs_disk.specs.Disk.{DiskState}
+use Rattle.nofs_history.specs.declared.machine.callers.TheConstants.{BLOCK_SWEEPER, INODE_SWEEPER}
 use Rattle.nofs_history.specs.Steps.{is_out_of_memory}
 use Rattle.nofs_history.specs.declared.machine.history.Entry1.{Entry1}
 use Rattle.nofs_history.specs.declared.machine.steps.Step.{Step}
@@ -14,7 +15,7 @@ use Rattle.nofs_shared.specs.Added.{AddsStep}
 use Rattle.nofs_shared.proofs.Owning.{adds-one}
 
 pub sweep-sees : (c : ℕ) (s : Step) → is_of_sweep c s ≡ true → is_see s ≡ true
-sweep-sees c s e = second ((c == 9) || (c == 10)) (is_see s) e
+sweep-sees c s e = second ((c == INODE_SWEEPER) || (c == BLOCK_SWEEPER)) (is_see s) e
   where
     second : (a b : Bool) → a && b ≡ true → b ≡ true
     second true b h = h

@@ -1,6 +1,6 @@
 -- What a mount gives at its end.
-use Rattle.std.specs.Prelude.{◌≡◌, ◌≢◌, ℕ, ◌+◌, ◌-◌, ◌^◌, ◌≤◌, min, Bool, false, true, List, [], ◌∷◌, ◌++◌, map, Contains, slice_set}
-use mathlib.Core.List.{IsPrefix}
+use Rattle.std.specs.Prelude.{◌≡◌, ◌≢◌, ℕ, ◌+◌, ◌-◌, ◌^◌, ◌≤◌, min, Bool, false, true, List, ◌∷◌, ◌++◌, Contains}
+use Rattle.std.specs.Prelude.{slice_set}
 use Rattle.nofs_disk.specs.Disk.{DiskState, IsSameDisk, Picks}
 use Rattle.nofs_super.specs.Format.{super_cell}
 use Rattle.nofs_super.specs.Raise.{raised}
@@ -10,16 +10,10 @@ use Rattle.nofs_history.specs.World.{World, world_of, is_free_block, is_free_ino
 use Rattle.nofs_history.specs.Claims.{claimed_blocks}
 use Rattle.nofs_history.specs.Next.{Run, IsAfter}
 use Rattle.nofs_history.specs.Allowed.{IsAllowed}
-use Rattle.nofs_history.specs.Steps.{Made}
 use Rattle.nofs_history.specs.HistoryState.{HistoryState}
 use Rattle.nofs_history.specs.declared.machine.history.Entry1.{Entry1}
-use Rattle.nofs_history.specs.declared.machine.steps.Step.{Step}
-use Rattle.nofs_history.specs.declared.machine.steps.Step.TheVariants as step
-use Rattle.nofs_history.specs.declared.machine.replies.Reply.{Reply}
-use Rattle.nofs_history.specs.Callers.{made_step, steps_by}
 use Rattle.nofs_shared.specs.Forms.{Forms, OnlyCalls, faults_in}
 use Rattle.nofs_shared.specs.Mounts.{IsFound, IsSoundDisk}
-use Rattle.nofs_shared.specs.Added.{AddsStep}
 
 -- what an entry claims was known and free in the machine's world before it
 pub record EntryClaimsFree (W : World) (e : Entry1) : Type 0 where
@@ -59,45 +53,3 @@ pub record Ends (found last : DiskState) (first : ℕ) (h : HistoryState) : Type
   pub calls : OnlyCalls h.start last.moment h.entries
   pub faults : min (found.faults + faults_in h.entries) (2 ^ 64 - 1) ≤ last.faults
   pub contents : IsSoundDisk found → Contents found last first h
-
--- Sessions
-
--- the steps of a caller in the history are those of its script, in order; or the first ones of them, where memory ended it early
-abbrev pub FollowsSteps : ℕ → List Step → List Entry1 → Type 0
-FollowsSteps c script H = IsPrefix (map made_step (steps_by c H)) script
-
--- what a caller was to do, in order
-pub record Task : Type 0 where
-  pub caller : ℕ
-  pub steps : List Step
-
--- each of these callers made the steps of its task, in order; or the first ones of them, where memory ended it early
-abbrev pub FollowEach : List Task → List Entry1 → Type 0
-FollowEach [] H = Unit {0}
-FollowEach (t ∷ ts) H = FollowsSteps t.caller t.steps H × FollowEach ts H
-
--- each made all of them
-abbrev pub WholeEach : List Task → List Entry1 → Type 0
-WholeEach [] H = Unit {0}
-WholeEach (t ∷ ts) H = (map made_step (steps_by t.caller H) ≡ t.steps) × WholeEach ts H
-
--- no task is this caller's
-abbrev pub IdleIn : ℕ → List Task → Type 0
-IdleIn c [] = Unit {0}
-IdleIn c (t ∷ ts) = (c ≢ t.caller) × IdleIn c ts
-
--- the callers of these tasks, and then the flush that closes the session; the tasks are whole where memory was not wanting
-pub record AllFollow (tasks : List Task) (short : Bool) (H : List Entry1) : Type 0 where
-  pub served : List Entry1
-  pub flush : Reply
-  pub whole : AddsStep 0 (step.Flush 0 0) flush served H
-  pub each : FollowEach tasks served
-  pub all : short ≡ false → WholeEach tasks served
-  pub others : (c : ℕ) → IdleIn c tasks → steps_by c served ≡ []
-
--- THE HEADLINE. The call hands back one history, in which each caller's steps stand in order. Where the disk tells and each image that picks
--- from what it may hold as the call begins is sound: the replies are the machine's, and at every moment, in every image that
--- a crash may leave then, each slot reads as content accepted for it since the last flush, as a hole, or as lost
-pub record Headline (found last : DiskState) (tasks : List Task) (short : Bool) (h : HistoryState) : Type 0 where
-  pub follows : AllFollow tasks short h.entries
-  pub ends : Ends found last 0 h

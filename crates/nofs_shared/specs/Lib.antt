@@ -12,6 +12,4 @@ pub mod Settling
 pub mod GoingOn
 pub mod StepCauses
 pub mod Begins
-pub mod Served
-pub mod Passes
 pub mod ManyMounts

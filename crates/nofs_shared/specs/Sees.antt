@@ -1,5 +1,6 @@
 -- The steps that examine an element, and those of the sweeps.
 use Rattle.std.specs.Prelude.{◌≡◌, ℕ, ◌-◌, ◌<◌, ◌==◌, Bool, true, false, ◌&&◌, ◌||◌}
+use Rattle.nofs_history.specs.declared.machine.callers.TheConstants.{BLOCK_SWEEPER, INODE_SWEEPER}
 use Rattle.nofs_history.specs.Steps.{is_out_of_memory}
 use Rattle.nofs_history.specs.declared.machine.replies.Reply.{Reply}
 use Rattle.nofs_history.specs.declared.machine.steps.Step.{Step}
@@ -13,7 +14,7 @@ is_see _ = false
 
 -- a step of a sweep, for whose entry the mount keeps memory
 abbrev pub is_of_sweep : ℕ → Step → Bool
-is_of_sweep caller s = ((caller == 9) || (caller == 10)) && is_see s
+is_of_sweep caller s = ((caller == INODE_SWEEPER) || (caller == BLOCK_SWEEPER)) && is_see s
 
 -- what a step with this reply takes of the memory that the mount keeps for the entries of the sweeps
 pub record TakesKept (caller : ℕ) (s : Step) (r : Reply) (kept left : ℕ) : Type 0 where

@@ -9,4 +9,15 @@ use Rattle.nofs_history.specs.declared.machine.replies.Reply.TheVariants as repl
 -- after a flush that was made, a crash leaves just what a read gives
 abbrev pub Settles : Step → Reply → DiskState → Type 0
 Settles (step.Flush i g) r d = r ≡ reply.Flushed → IsSettled d
-Settles _ r d = Unit {0}
+Settles (step.Look _ _ _) r d = Unit {0}
+Settles (step.Make _ _ _ _) r d = Unit {0}
+Settles (step.Link _ _ _ _ _) r d = Unit {0}
+Settles (step.Drop _ _ _) r d = Unit {0}
+Settles (step.Rename _ _ _ _) r d = Unit {0}
+Settles (step.List _ _ _) r d = Unit {0}
+Settles (step.Get _ _ _) r d = Unit {0}
+Settles (step.Put _ _ _ _ _) r d = Unit {0}
+Settles (step.Resize _ _ _) r d = Unit {0}
+Settles (step.Stat _ _) r d = Unit {0}
+Settles (step.SeeInode _) r d = Unit {0}
+Settles (step.SeeBlock _) r d = Unit {0}

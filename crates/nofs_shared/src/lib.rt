@@ -8,13 +8,11 @@ mod looks;
 mod mount;
 mod mounts;
 mod outs;
-mod sessions;
 mod shared;
 mod sharing;
 
 pub use mount::mount::{BeginFault, Mount};
 pub use mount::serves::Serves;
 pub use mounts::{law_comes_after, law_mount_life, law_mounts};
-pub use sessions::{SessionEnd, session};
 pub use shared::{BusyStep, SharedPass};
 pub use sharing::{ShareFault, SharedMount, SharedOut};

@@ -8,7 +8,7 @@ ghost use Rattle.nofs_turn.specs.Turns.{view_of, IsPassOf};
 
 use nofs_dirent::Content;
 use nofs_disk::Disk;
-use nofs_history::{Refusal, Reply, Step};
+use nofs_history::{BLOCK_SWEEPER, Refusal, Reply, Step};
 use nofs_memdisk::MemDisk;
 use nofs_shared::{Mount, SharedMount};
 use nofs_test_disks::formatted;
@@ -62,7 +62,7 @@ pub fn seen(reply: &Reply) -> Option<bool> {
 
 /// Whether this block is used, as a step examines it.
 pub fn is_used<D: Disk + Drop>(alloc: Global, mount: &mut Mount<D>, block: u64) -> Option<bool> {
-    seen(&mount.step(alloc, 10, Step::SeeBlock { block }))
+    seen(&mount.step(alloc, BLOCK_SWEEPER, Step::SeeBlock { block }))
 }
 
 // Whether no block is left among those that were examined, all below 24.

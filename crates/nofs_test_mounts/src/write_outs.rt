@@ -3,7 +3,7 @@
 use crate::mounts::{is_stored, is_used, mounted, put, put_step, seen, two_passes};
 use nofs_cache::Cached;
 use nofs_disk::{Disk, OutFault};
-use nofs_history::{ElementKind, Step, Steps};
+use nofs_history::{ElementKind, FLUSHER, Step, Steps};
 use nofs_memdisk::{MemDisk, Unready};
 use nofs_scan::judge;
 use nofs_shared::{Mount, Serves, SharedPass};
@@ -81,7 +81,7 @@ fn outs_of_a_pass<R: Wait>(
     let mut user = shared.pass(rt, alloc, 1, first);
     let found = seen(&user.step(Step::SeeBlock { block: 15 }));
     let stored = is_stored(&user.step(put_step(alloc, 0)?));
-    let mut flusher = shared.pass(rt, alloc, 11, second);
+    let mut flusher = shared.pass(rt, alloc, FLUSHER, second);
     let outs = [
         flusher.write_out(),
         flusher.write_out(),
@@ -135,7 +135,7 @@ fn outs_with_little_memory<R: Wait>(
         return Err("no passes".into());
     };
     let mut user = shared.pass(rt, alloc, 1, first);
-    let mut flusher = shared.pass(rt, alloc, 11, second);
+    let mut flusher = shared.pass(rt, alloc, FLUSHER, second);
     let found = seen(&user.step(Step::SeeBlock { block: 15 }));
     let puts = [
         put_and_write_out(alloc, &mut user, &mut flusher)?,

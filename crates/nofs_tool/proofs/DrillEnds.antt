@@ -4,6 +4,7 @@ use Rattle.std.proofs.Common.{sym, ap, ◌-◌, subst, arith, ◌∙◌}
 use Rattle.std.specs.Prelude.{IfOk, IfSome, count_by, sum_by}
 use Rattle.std.specs.Result.{result_ok}
 use Rattle.std.specs.declared.option.Option.{Option}
+use Rattle.nofs_history.specs.declared.machine.callers.TheConstants.{BLOCK_SWEEPER, INODE_SWEEPER}
 use Rattle.nofs_history.specs.Steps.{is_out_of_memory, Made}
 use Rattle.nofs_history.specs.declared.machine.history.Entry1.{Entry1}
 use Rattle.nofs_history.specs.declared.machine.steps.Step.TheVariants as step
@@ -139,7 +140,8 @@ drill-session start steps = record {
 pub whole-drill : (start steps : ℕ) (at : SuperBlock) (H : List Entry1) (begun first : ℕ) (B : Image) (V : World) (X : Image)
     → IsDrillRun start steps at.inodes at.blocks false H → Run begun (world_of B first) H V → has_fault H ≡ false → ShowsDisk at V X → IsWholeScan V X
 whole-drill start steps at H begun first B V X run = whole-by at run.seen H run.flush run.closes
-    (subst (λ (m : List Made). Sweeps (λ place item. item ≡ place) Inode 0 at.inodes false [] m) (sym (run.adds.others 9 (omega arith))) run.team.inodes_seen)
-    (subst (λ (m : List Made). Sweeps (λ place item. item ≡ at.blocks - 1 - place) Block 0 at.blocks false [] m) (sym (run.adds.others 10 (omega arith)))
-    run.team.blocks_seen)
+    (subst (λ (m : List Made). Sweeps (λ place item. item ≡ place) Inode 0 at.inodes false [] m)
+    (sym (run.adds.others INODE_SWEEPER (omega arith))) run.team.inodes_seen)
+    (subst (λ (m : List Made). Sweeps (λ place item. item ≡ at.blocks - 1 - place) Block 0 at.blocks false [] m)
+    (sym (run.adds.others BLOCK_SWEEPER (omega arith))) run.team.blocks_seen)
     begun first B V X

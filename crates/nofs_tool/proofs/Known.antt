@@ -3,6 +3,7 @@ use Rattle.std.proofs.Common.{◌≡◌, ◌⊎◌, inl, inr, ℕ, zero, suc, �
 use Rattle.std.proofs.Common.{if◌then◌else◌, cond, ne_eqb, refl, sym, ap, ◌∙◌, subst, arith}
 use Rattle.std.specs.Prelude.{filter, nat_lt, nat_le, ◌==◌}
 use Rattle.std.proofs.lemmas.Bool.{eq-eqb, le-ltb, lt-leb}
+use Rattle.nofs_history.specs.declared.machine.callers.TheConstants.{BLOCK_SWEEPER, INODE_SWEEPER}
 use Rattle.nofs_history.specs.Search.{first_of}
 use Rattle.nofs_history.specs.World.{World}
 use Rattle.nofs_history.specs.Answers.{reply_of}
@@ -159,7 +160,8 @@ module _ (served : List Entry1) where
       let here : k < length (map made_step (steps_by c served)) = subst (λ (l : List Step). k < length l) (sym is) (low-map see elements k low) in
       subst (HasStep served) (ap (λ (l : List Step). get_or l k d) is ∙ get-map see elements k d low) (by-caller c served k d here)
 
-  pub inodes-seen : (inodes i : ℕ) → Sweeps (λ place item. item ≡ place) Inode 0 inodes false [] (steps_by 9 served) → 1 ≤ i → i ≤ inodes
+  pub inodes-seen : (inodes i : ℕ)
+      → Sweeps (λ place item. item ≡ place) Inode 0 inodes false [] (steps_by INODE_SWEEPER served) → 1 ≤ i → i ≤ inodes
       → HasStep served (step.SeeInode i)
   inodes-seen inodes i s low high =
       let whole = s.whole refl in
@@ -167,17 +169,19 @@ module _ (served : List Entry1) where
       let (item, place, is) = s.ordered (i - 1) here in
       let same : get_or s.elements (i - 1) 0 ≡ i = omega (arith, place, is, low) in
       subst (λ (n : ℕ). HasStep served (step.SeeInode n)) same
-      (in-order 9 (see_of Inode) s.elements (i - 1) (ap (map made_step) s.makes.more ∙ s.makes.steps) here)
+      (in-order INODE_SWEEPER (see_of Inode) s.elements (i - 1) (ap (map step_of) s.makes.more ∙ s.makes.steps) here)
 
-  pub blocks-seen : (blocks p : ℕ) → Sweeps (λ place item. item ≡ blocks - 1 - place) Block 0 blocks false [] (steps_by 10 served) → p < blocks
-      → HasStep served (step.SeeBlock p)
+  pub blocks-seen : (blocks p : ℕ)
+      → Sweeps (λ place item. item ≡ blocks - 1 - place) Block 0 blocks false [] (steps_by BLOCK_SWEEPER served)
+      → p < blocks → HasStep served (step.SeeBlock p)
   blocks-seen blocks p s low =
       let whole = s.whole refl in
       let here : blocks - 1 - p < length s.elements = omega (arith, whole, low) in
       let (item, place, is) = s.ordered (blocks - 1 - p) here in
       let same : get_or s.elements (blocks - 1 - p) 0 ≡ p = omega (arith, place, is, low) in
       subst (λ (n : ℕ). HasStep served (step.SeeBlock n)) same
-      (in-order 10 (see_of Block) s.elements (blocks - 1 - p) (ap (map made_step) s.makes.more ∙ s.makes.steps) here)
+      (in-order BLOCK_SWEEPER (see_of Block) s.elements (blocks - 1 - p)
+      (ap (map step_of) s.makes.more ∙ s.makes.steps) here)
 
 -- one more entry
 pub has-more : (es fs : List Entry1) (s : Step) → HasStep es s → HasStep (es ++ fs) s

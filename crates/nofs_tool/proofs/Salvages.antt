@@ -14,6 +14,7 @@ use Rattle.nofs_model.specs.Cells.{SuperBlock}
 use Rattle.nofs_model.specs.Image.{Image, FileState, Files, super_at}
 use Rattle.nofs_io.specs.Calls.{SinkState}
 use Rattle.nofs_io.specs.Texts.{AppendsAll}
+use Rattle.nofs_history.specs.declared.machine.callers.TheConstants.{BLOCK_SWEEPER, INODE_SWEEPER}
 use Rattle.nofs_history.specs.History.{SameFile, agreed_files}
 use Rattle.nofs_history.specs.HistoryState.{HistoryState}
 use Rattle.nofs_history.specs.Machine.{file_after, files_after, gives, is_write_fault, nothing, is_fault}
@@ -193,12 +194,13 @@ visit-quiet inodes blocks short H run = quiet-added run.served H run.flush run.c
     own : (c : ℕ) → AreQuiet (steps_by c run.served)
     own c = elim (cases_eq c 1) [
       | inl visitor ↦ subst (λ (n : ℕ). AreQuiet (steps_by n run.served)) (sym visitor) (quiet-reads (steps_by 1 run.served) run.made.visited)
-      | inr not_visitor ↦ elim (cases_eq c 9) [
+      | inr not_visitor ↦ elim (cases_eq c INODE_SWEEPER) [
         | inl nine ↦ subst (λ (n : ℕ). AreQuiet (steps_by n run.served)) (sym nine)
-            (quiet-sweep (λ place item. item ≡ place) Inode inodes short (steps_by 9 run.served) run.made.inodes_seen)
-        | inr not_nine ↦ elim (cases_eq c 10) [
+            (quiet-sweep (λ place item. item ≡ place) Inode inodes short (steps_by INODE_SWEEPER run.served)
+            run.made.inodes_seen)
+        | inr not_nine ↦ elim (cases_eq c BLOCK_SWEEPER) [
           | inl ten ↦ subst (λ (n : ℕ). AreQuiet (steps_by n run.served)) (sym ten)
-              (quiet-sweep _ Block blocks short (steps_by 10 run.served) run.made.blocks_seen)
+              (quiet-sweep _ Block blocks short (steps_by BLOCK_SWEEPER run.served) run.made.blocks_seen)
           | inr not_ten ↦ subst AreQuiet (sym (run.made.others c not_visitor not_nine not_ten)) none-quiet
         ]
       ]

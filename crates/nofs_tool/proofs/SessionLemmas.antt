@@ -7,6 +7,7 @@ use Rattle.std.specs.declared.option.Option.{Option}
 use Rattle.std.specs.List.{AllByRecursion, remove}
 use Rattle.std.proofs.lemmas.List.{map_push}
 use Rattle.std.proofs.lemmas.List.Elements.{All-from_recursion}
+use Rattle.nofs_history.specs.declared.machine.callers.TheConstants.{MOST_USERS}
 use Rattle.nofs_history.specs.Steps.{Made, is_out_of_memory}
 use Rattle.nofs_history.specs.declared.machine.history.Entry1.{Entry1}
 use Rattle.nofs_history.specs.declared.machine.steps.Step.{Step}
@@ -44,7 +45,8 @@ module _ {W : Type 0} (f : W → List Command) where
   pub plans-formed : (ws : List W) (session : List (List Command)) → IsSession session → map f ws ≡ session → All (λ w. AreWellFormed (f w)) ws
   plans-formed ws session s e = All-from_recursion (λ w. AreWellFormed (f w)) ws (all-of-map ws (subst (AllByRecursion AreWellFormed) (sym e) s.formed))
 
-  pub plans-few : (ws : List W) (session : List (List Command)) → IsSession session → map f ws ≡ session → length ws ≤ 8
+  pub plans-few : (ws : List W) (session : List (List Command)) → IsSession session → map f ws ≡ session
+      → length ws ≤ MOST_USERS
   plans-few ws session s e = let n = ap length e in let m = length-scripts f ws in omega (arith, n, m, s.few)
 
 -- where less is told to be whole

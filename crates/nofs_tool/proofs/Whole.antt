@@ -5,6 +5,7 @@ use Rattle.nofs_disk.specs.Disk.{DiskState, IsSettled}
 use Rattle.nofs_super.specs.Raise.{raised}
 use Rattle.nofs_model.specs.Cells.{SuperBlock}
 use Rattle.nofs_model.specs.Image.{Image, Files, is_special, super_at}
+use Rattle.nofs_history.specs.declared.machine.callers.TheConstants.{BLOCK_SWEEPER, INODE_SWEEPER}
 use Rattle.nofs_history.specs.Good.{IsGood}
 use Rattle.nofs_history.specs.History.{FilesMatch}
 use Rattle.nofs_history.specs.Machine.{is_write_fault, is_fault}
@@ -124,8 +125,9 @@ world-going B first = refl
 
 -- the sweeps have seen all: each element was examined before the last flush
 module _ (at : SuperBlock) (served H : List Entry1) (flush : Reply) (closes : AddsStep 0 (step.Flush 0 0) flush served H)
-    (inodes_seen : Sweeps (λ place item. item ≡ place) Inode 0 at.inodes false [] (steps_by 9 served))
-    (blocks_seen : Sweeps (λ place item. item ≡ at.blocks - 1 - place) Block 0 at.blocks false [] (steps_by 10 served)) where
+    (inodes_seen : Sweeps (λ place item. item ≡ place) Inode 0 at.inodes false [] (steps_by INODE_SWEEPER served))
+    (blocks_seen : Sweeps (λ place item. item ≡ at.blocks - 1 - place) Block 0 at.blocks false []
+    (steps_by BLOCK_SWEEPER served)) where
   pub whole-by : (start first : ℕ) (B : Image) (V : World) (X : Image) → Run start (world_of B first) H V → has_fault H ≡ false → ShowsDisk at V X
       → IsWholeScan V X
   whole-by start first B V X r ok shows =

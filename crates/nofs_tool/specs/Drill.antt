@@ -6,6 +6,7 @@ use Rattle.std.specs.declared.option.Option.{Option}
 use Rattle.nofs_model.specs.Cells.{SuperBlock}
 use Rattle.nofs_model.specs.declared.image.value.Value.{Value}
 use Rattle.nofs_model.specs.declared.image.value.Value.TheVariants as value
+use Rattle.nofs_history.specs.declared.machine.callers.TheConstants.{PROGRAM}
 use Rattle.nofs_history.specs.Machine.{cut_of, slots_in}
 use Rattle.nofs_history.specs.Steps.{Made, is_out_of_memory}
 use Rattle.nofs_history.specs.HistoryState.{HistoryState}
@@ -88,7 +89,7 @@ AreRead user (read ∷ reads) made = (front : List Made) × (back : List Made) �
 
 -- caller 0 added these steps with their replies, and no other caller anything
 pub record AddsOwn (made : List Made) (H K : List Entry1) : Type 0 where
-  pub own : steps_by 0 K ≡ steps_by 0 H ++ made
+  pub own : steps_by PROGRAM K ≡ steps_by PROGRAM H ++ made
   pub others : (c : ℕ) → 1 ≤ c → steps_by c K ≡ steps_by c H
 
 -- a step that changes nothing, as those are by which the files are read
@@ -164,7 +165,17 @@ wrong_told H (Some file) = slots_wrong (replay_of H file.found.inode file.found.
 abbrev pub is_refused_line : Line → Bool
 is_refused_line (line.Refused _) = true
 is_refused_line (line.RefusedPut _ _) = true
-is_refused_line _ = false
+is_refused_line line.Made = false
+is_refused_line (line.Put _) = false
+is_refused_line (line.Got _) = false
+is_refused_line (line.Sized _) = false
+is_refused_line (line.Stat _) = false
+is_refused_line (line.Names _) = false
+is_refused_line line.Linked = false
+is_refused_line line.Dropped = false
+is_refused_line line.Renamed = false
+is_refused_line line.Synced = false
+is_refused_line line.Moved = false
 
 -- the line of a drill
 unfoldable pub drill_line : ℕ → ℕ → ℕ → ℕ → ℕ → ℕ → List ℕ
@@ -182,7 +193,7 @@ pub record IsReadOut (start steps refused : ℕ) (served H : List Entry1) (text 
   pub flush : Reply
   pub read : AreRead 1 reads made
   pub adds : AddsOwn made served seen
-  pub closes : AddsStep 0 (step.Flush 0 0) flush seen H
+  pub closes : AddsStep PROGRAM (step.Flush 0 0) flush seen H
   pub closed : is_out_of_memory flush ≡ false
   pub tells : text ≡ drill_line start steps refused (sum_by size_told reads) (sum_by sum_told reads) (sum_by (wrong_told H) reads)
 
@@ -209,7 +220,7 @@ pub record IsDrillRun (start steps inodes blocks : ℕ) (short : Bool) (H : List
   pub adds : AddsOwn made served seen
   pub readings : AreReadings made
   pub read : short ≡ false → (reads : List (Option FileRead)) × AreRead 1 reads made
-  pub closes : AddsStep 0 (step.Flush 0 0) flush seen H
+  pub closes : AddsStep PROGRAM (step.Flush 0 0) flush seen H
   pub closed : short ≡ false → is_out_of_memory flush ≡ false
 
 -- what a drill leaves: its history, and whether there is a text of it
@@ -229,7 +240,7 @@ pub record IsReadFollowed (out : Bool) (served : List Entry1) (text : Option (Li
   pub adds : AddsOwn made served seen
   pub readings : AreReadings made
   pub read : short ≡ false → (reads : List (Option FileRead)) × AreRead 1 reads made
-  pub closes : AddsStep 0 (step.Flush 0 0) flush seen H
+  pub closes : AddsStep PROGRAM (step.Flush 0 0) flush seen H
   pub closed : short ≡ false → is_out_of_memory flush ≡ false
 
 -- a drill whose line the sink took

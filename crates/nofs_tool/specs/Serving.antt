@@ -1,6 +1,7 @@
 -- What a session leaves in the history of a mount.
 use Rattle.std.specs.Prelude.{◌≡◌, ℕ, Bool, false, List, true, None}
 use Rattle.nofs_disk.specs.Disk.{DiskState, IsSettled}
+use Rattle.nofs_history.specs.declared.machine.callers.TheConstants.{PROGRAM}
 use Rattle.nofs_history.specs.Steps.{is_out_of_memory}
 use Rattle.nofs_history.specs.declared.machine.history.Entry1.{Entry1}
 use Rattle.nofs_history.specs.declared.machine.steps.Step.TheVariants as step
@@ -19,7 +20,7 @@ use Rattle.nofs_model.specs.Cells.{SuperBlock}
 pub record IsSessionRun (scripts : List (List Command)) (inodes blocks : ℕ) (short : Bool) (lines : List (List Line)) (H : List Entry1) : Type 0 where
   pub served : List Entry1
   pub flush : Reply
-  pub closes : AddsStep 0 (step.Flush 0 0) flush served H
+  pub closes : AddsStep PROGRAM (step.Flush 0 0) flush served H
   pub closed : short ≡ false → is_out_of_memory flush ≡ false
   pub team : TeamMade scripts inodes blocks short lines (λ c. steps_by c served)
 
@@ -27,7 +28,7 @@ pub record IsSessionRun (scripts : List (List Command)) (inodes blocks : ℕ) (s
 pub record IsClosed (d : DiskState) (H : List Entry1) : Type 0 where
   pub served : List Entry1
   pub flush : Reply
-  pub closes : AddsStep 0 (step.Flush 0 0) flush served H
+  pub closes : AddsStep PROGRAM (step.Flush 0 0) flush served H
   pub made : is_out_of_memory flush ≡ false
   pub settled : flush ≡ reply.Flushed → IsSettled d
 

@@ -3,6 +3,7 @@ use Rattle.std.specs.Prelude.{◌≡◌, ℕ, Bool, true, false, List}
 use Rattle.std.specs.Prelude.{None}
 use Rattle.std.specs.declared.option.Option.{Option}
 use Rattle.nofs_model.specs.Cells.{SuperBlock}
+use Rattle.nofs_history.specs.declared.machine.callers.TheConstants.{PROGRAM}
 use Rattle.nofs_history.specs.Steps.{Made, is_out_of_memory}
 use Rattle.nofs_history.specs.declared.machine.history.Entry1.{Entry1}
 use Rattle.nofs_history.specs.declared.machine.steps.Step.TheVariants as step
@@ -16,7 +17,7 @@ use Rattle.nofs_serve.specs.Visiting.{VisitMade}
 pub record IsVisitRun (Visits : List Made → Type 0) (inodes blocks : ℕ) (short : Bool) (H : List Entry1) : Type 0 where
   pub served : List Entry1
   pub flush : Reply
-  pub closes : AddsStep 0 (step.Flush 0 0) flush served H
+  pub closes : AddsStep PROGRAM (step.Flush 0 0) flush served H
   pub closed : short ≡ false → is_out_of_memory flush ≡ false
   pub made : VisitMade Visits inodes blocks short (λ c. steps_by c served)
 

@@ -14,7 +14,7 @@ ghost use Rattle.nofs_tool.specs.Drill.{gets_from, is_reading, stat_in as stat_b
 
 use nofs_dirent::Name;
 use nofs_disk::Disk;
-use nofs_history::{Found, Refusal, Reply, Stat, Step};
+use nofs_history::{Found, PROGRAM, Refusal, Reply, Stat, Step};
 use nofs_shared::Mount;
 use std::alloc::{AllocError, Global};
 
@@ -26,15 +26,13 @@ pub struct FileRead {
     pub slots: Vec<Reply>,
 }
 
-const READER: u32 = 0;
-
 fn is_memory_wanting(reply: &Reply) -> bool
     ensures { result ≡ is_out_of_memory reply.now }
 {
     matches!(reply, Reply::Refused(Refusal::OutOfMemory))
 }
 
-// One step of caller 0. Where memory was wanting for it, none was made.
+// One step of the program itself. Where memory was wanting for it, none was made.
 fn ask<D: Disk + Drop>(
     alloc: Global,
     mount: &mut Mount<D>,
@@ -44,7 +42,7 @@ fn ask<D: Disk + Drop>(
     ensures reads { ReadsBy (IsOneStep asked) result mount.old.core.books.history.entries mount.new.core.books.history.entries }
     ensures same { (mount.new.found ≡ mount.old.found) × (mount.new.first ≡ mount.old.first) }
 {
-    let reply = mount.step(alloc, READER, asked);
+    let reply = mount.step(alloc, PROGRAM, asked);
     if is_memory_wanting(&reply) {
         return Err(AllocError);
     }

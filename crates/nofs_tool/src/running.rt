@@ -374,7 +374,7 @@ fn drill_outcome<R: Threads + Wait + Sync, K: Sink, D: Disk + Drop + Send>(
 /// | 2 | only where the text is no session, or a frame is bad or cut |
 /// | 4 | only where format, mount or upgrade refused with another cause than the device or memory |
 /// | 7 | where memory was wanting |
-/// | 3 | only where the device failed: in format, mount or upgrade, or in a step of the history; where a step has a fault, 3 or 7 |
+/// | 3 | only where the device failed: in format, mount or upgrade, or in a step; where a step has a fault, 3 or 7 |
 /// | 5 | only where the sink failed |
 /// | 0 | where none of these came |
 ///

@@ -41,7 +41,23 @@ kept_bytes (refusal.LostEntry entry) = number_bytes 4 entry
 kept_bytes (refusal.LostSlot slot) = number_bytes 8 slot
 kept_bytes (refusal.Full needed free unverified next) = number_bytes 8 needed ++ (number_bytes 8 free ++ (number_bytes 8 unverified ++ number_bytes 8 next))
 kept_bytes (refusal.InodesFull unverified next) = number_bytes 8 unverified ++ number_bytes 8 next
-kept_bytes _ = []
+kept_bytes refusal.Missing = []
+kept_bytes refusal.Exists = []
+kept_bytes refusal.NotDirectory = []
+kept_bytes refusal.IsDirectory = []
+kept_bytes refusal.NotEmpty = []
+kept_bytes refusal.BadName = []
+kept_bytes refusal.BadRange = []
+kept_bytes refusal.TooManyLinks = []
+kept_bytes refusal.DirectoryFull = []
+kept_bytes refusal.TooLarge = []
+kept_bytes refusal.PastEnd = []
+kept_bytes refusal.Stale = []
+kept_bytes refusal.SerialsSpent = []
+kept_bytes refusal.ReadFault = []
+kept_bytes refusal.WriteFault = []
+kept_bytes refusal.Stopped = []
+kept_bytes refusal.OutOfMemory = []
 
 -- the first byte of a reply: 0 where the step was accepted
 abbrev pub first_byte : Reply → ℕ
@@ -62,7 +78,11 @@ field_bytes reply.Lost = 3 ∷ []
 field_bytes (reply.Stat stat) = kind_byte stat.kind ∷ (number_bytes 8 stat.size ++ number_bytes 4 stat.links)
 field_bytes (reply.Seen used) = truth_byte used ∷ []
 field_bytes (reply.Refused refusal) = kept_bytes refusal
-field_bytes _ = []
+field_bytes reply.Linked = []
+field_bytes reply.Renamed = []
+field_bytes reply.Stored = []
+field_bytes reply.Resized = []
+field_bytes reply.Flushed = []
 
 -- the body of a reply's frame
 abbrev pub body_bytes : Reply → List ℕ
@@ -83,4 +103,19 @@ IsShort line = length line.name < 256
 -- the lists of a reply fit their numbers in the frame
 abbrev pub HasSpelling : Reply → Type 0
 HasSpelling (reply.Names slot lines) = (length lines < 256) × All IsShort lines
-HasSpelling _ = Unit {0}
+HasSpelling (reply.Found _) = Unit {0}
+HasSpelling (reply.Made _ _) = Unit {0}
+HasSpelling reply.Linked = Unit {0}
+HasSpelling (reply.Dropped _) = Unit {0}
+HasSpelling reply.Renamed = Unit {0}
+HasSpelling (reply.LostNames _) = Unit {0}
+HasSpelling reply.NoMore = Unit {0}
+HasSpelling (reply.Bytes _) = Unit {0}
+HasSpelling reply.Hole = Unit {0}
+HasSpelling reply.Lost = Unit {0}
+HasSpelling reply.Stored = Unit {0}
+HasSpelling reply.Resized = Unit {0}
+HasSpelling (reply.Stat _) = Unit {0}
+HasSpelling reply.Flushed = Unit {0}
+HasSpelling (reply.Seen _) = Unit {0}
+HasSpelling (reply.Refused _) = Unit {0}

@@ -1,9 +1,9 @@
 //! One frame's step, made and answered.
 //!
 //! Promise: a body that spells a step has it made once, and its reply written whole; of any other nothing is made.
-ghost use Rattle.std.specs.Prelude.{◌≡◌, ◌≤◌, not, Some};
+ghost use Rattle.std.specs.Prelude.{◌≡◌, ◌≤◌, Some};
 ghost use Rattle.nofs_io.specs.Calls.{Rose};
-ghost use Rattle.nofs_history.specs.Steps.{Fits, is_out_of_memory};
+ghost use Rattle.nofs_history.specs.Steps.{Fits};
 ghost use Rattle.nofs_history.specs.declared.machine.steps.Step.{Step};
 ghost use Rattle.nofs_wire.specs.Replies.{reply_bytes};
 ghost use Rattle.nofs_wire.specs.Requests.{step_of};
@@ -11,7 +11,7 @@ ghost use Rattle.nofs_wire.specs.Turns.{AnswersSo, GivesReply};
 
 use crate::requests::read_step;
 use crate::stream::replies::write_reply;
-use nofs_history::{Refusal, Reply, Step, Steps};
+use nofs_history::{Reply, Step, Steps};
 use nofs_io::{Sink, write_all};
 use std::alloc::Global;
 
@@ -55,17 +55,10 @@ fn make<S: Steps, K: Sink>(steps: &mut S, sink: &mut K, step: Step, out: &mut Ve
     ensures later { (K.state sink.old).faults ≤ (K.state sink.new).faults }
 {
     let reply = steps.step(step);
-    if found_memory(&reply) {
-        give_reply(sink, &reply, out)
-    } else {
-        Answered::OutOfMemory
+    if reply.is_out_of_memory() {
+        return Answered::OutOfMemory;
     }
-}
-
-fn found_memory(reply: &Reply) -> bool
-    ensures { result ≡ not (is_out_of_memory reply.now) }
-{
-    !matches!(reply, Reply::Refused(Refusal::OutOfMemory))
+    give_reply(sink, &reply, out)
 }
 
 fn give_reply<K: Sink>(sink: &mut K, reply: &Reply, out: &mut Vec<u8>) -> Answered

@@ -1,7 +1,7 @@
 //! A team over one mount: a worker for each user, the two sweepers, and the flusher.
 //!
-//! Promise: each worker has a caller of its own. Users are callers 1 and up, in their order; the sweeper of the inodes is caller
-//! 9, that of the blocks caller 10, and the flusher, which makes no step, caller 11.
+//! Promise: each worker has a caller of its own. Users are `FIRST_USER` and up, in their order; the sweeper of the inodes
+//! is `INODE_SWEEPER`, that of the blocks `BLOCK_SWEEPER`, and the flusher, which makes no step, `FLUSHER`.
 ghost use Rattle.std.specs.Prelude.{◌≡◌, ℕ, ◌+◌, ◌<◌, ◌≤◌, ◌^◌, List, [], All, length, map, vec_len, vec_capacity};
 ghost use Rattle.nofs_turn.specs.declared.turn_rule.view.View.{View};
 ghost use Rattle.nofs_turn.specs.Turns.{view_of, IsPassOf};
@@ -14,6 +14,7 @@ use crate::teams::gather::{Gathered, either, gather_users, join_way};
 use crate::teams::lend::work_team;
 use crate::teams::way::Way;
 use nofs_client::{CommandList, LineList};
+use nofs_history::{BLOCK_SWEEPER, FLUSHER, INODE_SWEEPER, MOST_USERS};
 use nofs_shared::{Serves, SharedMount};
 use nofs_turn::Pass;
 use nofs_workers::{BlockSweeper, Downwards, Flusher, Gate, InodeSweeper, Upwards, UserWorker};
@@ -82,7 +83,7 @@ fn seat_users<'a, R: Wait, V: Serves, T: Gate + Drop>(
     passes: &mut Vec<Pass<V>>,
     room: Vec<UserWorker<Way<'a, R, V>, T>>,
 ) -> Vec<UserWorker<Way<'a, R, V>, T>>
-    requires few { vec_len plans ≤ 8 }
+    requires few { vec_len plans ≤ MOST_USERS }
     requires formed { All (λ p. AreWellFormed p.commands) plans.items }
     requires passes { (vec_len plans ≤ vec_len passes.old) × All (λ p. IsPassOf shared.now.turn p × ((view_of p).mine ≡ [])) passes.old.items }
     requires room { (room.items ≡ []) × (vec_len plans ≤ vec_capacity room) }
@@ -120,7 +121,7 @@ pub(crate) fn run_team<'a, R: Threads + Wait + Sync, V: Serves + Send, T: Gate +
 ) -> Gathered<V>
 where
     V::Evidence: Send,
-    requires few { vec_len plans ≤ 8 }
+    requires few { vec_len plans ≤ MOST_USERS }
     requires formed { All (λ p. AreWellFormed p.commands) plans.items }
     requires small { sweeps.inodes < 2 ^ 32 }
     requires passes { (vec_len plans + 3 ≡ vec_len passes) × All (λ p. IsPassOf shared.now.turn p × ((view_of p).mine ≡ [])) passes.items }
@@ -138,11 +139,11 @@ where
         blocks,
         gates: (gate, next_gate),
     } = sweeps;
-    let way = seat(rt, alloc, shared, 9, &mut passes);
+    let way = seat(rt, alloc, shared, INODE_SWEEPER, &mut passes);
     let mut inodes = InodeSweeper::new(way, Upwards { count: inodes }, gate);
-    let way = seat(rt, alloc, shared, 10, &mut passes);
+    let way = seat(rt, alloc, shared, BLOCK_SWEEPER, &mut passes);
     let mut blocks = BlockSweeper::new(way, Downwards { count: blocks }, next_gate);
-    let way = seat(rt, alloc, shared, 11, &mut passes);
+    let way = seat(rt, alloc, shared, FLUSHER, &mut passes);
     let mut flusher = Flusher::new(way, outs.gate, outs.turns);
     work_team(rt, &mut users, &mut inodes, &mut blocks, &mut flusher);
     let out_of_memory = either(inodes.out_of_memory, blocks.out_of_memory);

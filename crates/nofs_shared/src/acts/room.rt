@@ -2,7 +2,7 @@
 ghost use Rattle.std.specs.Prelude.{◌≡◌, ◌+◌, ◌-◌, ◌^◌, ◌<◌, ◌≤◌, true, false, Some, None, length, IfSome};
 ghost use Rattle.nofs_shared.specs.Sees.{is_of_sweep, is_see};
 
-use nofs_history::{History, Step};
+use nofs_history::{BLOCK_SWEEPER, History, INODE_SWEEPER, Step};
 
 // As many entries as no memory holds.
 const MOST_ENTRIES: u64 = 1 << 62;
@@ -17,7 +17,7 @@ fn is_see(step: &Step) -> bool
 pub(crate) fn is_of_sweep(caller: u32, step: &Step) -> bool
     ensures { result ≡ is_of_sweep caller step.now }
 {
-    (caller == 9 || caller == 10) && is_see(step)
+    (caller == INODE_SWEEPER || caller == BLOCK_SWEEPER) && is_see(step)
 }
 
 /// Makes sure of memory for the entry of a step, beside the entries for which it stays kept: the

@@ -88,7 +88,7 @@ impl<D: Disk + Drop> Mount<D> {
         }
     }
 
-    /// Makes one step of a caller. Each See step of the sweeps, callers 9 and 10, has its memory while
+    /// Makes one step of a caller. Each See step of the sweeps has its memory while
     /// some is kept for them. Over any disk, a read fault comes only where its count of faults rose, a
     /// write fault only where it rose and a write or a flush was made, `Stopped` exactly where one of
     /// them failed before, and every other refusal leaves the cells. No step orders its writes: one that is no

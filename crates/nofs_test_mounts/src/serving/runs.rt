@@ -5,7 +5,7 @@ ghost use Rattle.nofs_script.specs.Sessions.{IsSession};
 
 use nofs_client::{CommandList, LineList};
 use nofs_disk::Disk;
-use nofs_history::History;
+use nofs_history::{BLOCK_SWEEPER, History, INODE_SWEEPER};
 use nofs_script::{Session, line_text, parse};
 use nofs_serve::{Plan, Served, Sweeps, WriteOuts, serve};
 use nofs_shared::Mount;
@@ -133,7 +133,9 @@ fn callers_of(alloc: Global, history: &History) -> Result<Vec<u32>, AllocError> 
 
 /// Whether each of these is a user of two or a sweep.
 pub(crate) fn are_of_team(callers: &Vec<u32>) -> bool {
-    callers.iter().all(|by| matches!(*by, 1 | 2 | 9 | 10))
+    callers
+        .iter()
+        .all(|by| matches!(*by, 1 | 2 | INODE_SWEEPER | BLOCK_SWEEPER))
 }
 
 /// How often a caller is among these.

@@ -4,6 +4,7 @@ use crate::mounts::mounted;
 use crate::serving::gates::{Hold, Marks};
 use crate::serving::runs::{are_of_team, count_of, plans_of, run_of, script};
 use nofs_cache::Cached;
+use nofs_history::{BLOCK_SWEEPER, INODE_SWEEPER};
 use nofs_test_disks::formatted;
 use nofs_workers::OpenGate;
 use std::sync::atomic::Ordering;
@@ -80,7 +81,7 @@ fn a_flusher_over_a_cache_makes_no_entry(rt: HostRuntime) -> Result<(), Fail> {
     let told = run_of(&rt, alloc, mount, plans, (OpenGate, OpenGate, OpenGate))?;
     assert_eq!(rt; told.text.as_slice(), BOTH);
     assert!(rt; are_of_team(&told.callers));
-    for (caller, count) in [(9, 16), (10, 64)] {
+    for (caller, count) in [(INODE_SWEEPER, 16), (BLOCK_SWEEPER, 64)] {
         assert_eq!(rt; count_of(&told.callers, caller), count, "caller {caller}");
     }
     Ok(())

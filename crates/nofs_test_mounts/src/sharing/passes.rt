@@ -1,6 +1,6 @@
 //! Two passes of one mount, taken by turns on one thread.
 use crate::mounts::{full_below_24, is_stored, mounted, put_step, seen, two_passes};
-use nofs_history::{ElementKind, Reply, Step, Steps};
+use nofs_history::{BLOCK_SWEEPER, ElementKind, Reply, Step, Steps};
 use nofs_scan::judge;
 use nofs_shared::SharedOut;
 use nofs_test_disks::formatted;
@@ -64,7 +64,7 @@ fn verdict_committed_late<R: Wait>(
     let Some((shared, first, second)) = two_passes(alloc, full_below_24(alloc)?) else {
         return Err("no passes".into());
     };
-    let mut sweeper = shared.pass(rt, alloc, 10, first);
+    let mut sweeper = shared.pass(rt, alloc, BLOCK_SWEEPER, first);
     let mut user = shared.pass(rt, alloc, 1, second);
     let Ok(evidence) = sweeper.look_batch(ElementKind::Block, &[24]) else {
         return Err("no evidence".into());

@@ -19,7 +19,7 @@ use nofs_client::LineList;
 use nofs_dirent::Content;
 use nofs_disk::Disk;
 use nofs_gen::script_of;
-use nofs_history::History;
+use nofs_history::{History, MOST_USERS};
 use nofs_serve::{Plan, Served};
 use nofs_shared::Mount;
 use nofs_workers::OpenGate;
@@ -52,7 +52,7 @@ fn push_plan(
 // The plans of the four users.
 fn drill_plans(alloc: Global, start: u64, steps: u64) -> Result<Vec<Plan<OpenGate>>, AllocError>
     requires { steps ≤ 4000 }
-    ensures few { IfOk result (λ plans. vec_len plans ≤ 8) }
+    ensures few { IfOk result (λ plans. vec_len plans ≤ MOST_USERS) }
     ensures formed { IfOk result (λ plans. All (λ p. AreWellFormed p.commands) plans.items) }
     ensures scripts { IfOk result (λ plans. map (λ p. p.commands) plans.items ≡ drill_session start steps) }
 {

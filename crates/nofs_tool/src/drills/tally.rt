@@ -205,7 +205,17 @@ fn is_refused(line: &Line) -> bool
     match line {
         Line::Refused(_) => true,
         Line::RefusedPut { .. } => true,
-        _ => false,
+        Line::Made
+        | Line::Put(_)
+        | Line::Got(_)
+        | Line::Sized(_)
+        | Line::Stat(_)
+        | Line::Names(_)
+        | Line::Linked
+        | Line::Dropped
+        | Line::Renamed
+        | Line::Synced
+        | Line::Moved => false,
     }
 }
 

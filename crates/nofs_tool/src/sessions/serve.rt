@@ -1,8 +1,8 @@
 //! Serving a session at a mount, and counting what is used.
 //!
-//! Promise: user `u` of a session is caller `u`, the sweeps are callers 9 and 10, the flusher, caller 11, makes no
-//! entry, and caller 0 makes the last entry, a flush of
-//! the whole disk. The text is that of the session by the replies in the history; there is none where memory was wanting.
+//! Promise: user `u` of a session is caller `u`, the sweeps and the flusher are the callers that `nofs_history`
+//! names; the flusher makes no entry, and the program itself the last one, a flush of the whole disk. The text is that
+//! of the session by the replies in the history; there is none where memory was wanting.
 
 ghost use Rattle.std.specs.Prelude.{◌≡◌, ◌≢◌, ℕ, ◌≤◌, ◌<◌, ◌++◌, [], None, Some, slice_get, true, false, not, map, flat_map, All, Bool, List, vec_len, IfOk, IfSome, OnOk};
 ghost use Rattle.nofs_history.specs.Steps.{is_out_of_memory};
@@ -26,7 +26,7 @@ use crate::sessions::scan::counts_text;
 use nofs_client::{Line, LineList};
 use nofs_dirent::Content;
 use nofs_disk::Disk;
-use nofs_history::{Entry1, History, Refusal, Reply, Step};
+use nofs_history::{Entry1, History, MOST_USERS, PROGRAM, Refusal, Reply, Step};
 use nofs_script::{Session, line_text};
 use nofs_serve::{Plan, Served, Sweeps, WriteOuts, serve};
 use nofs_shared::Mount;
@@ -42,8 +42,6 @@ pub struct Ran<D> {
     pub history: History,
     pub text: Option<Content>,
 }
-
-const CLOSING: u32 = 0;
 
 // Adds the text of a user's lines.
 fn add_text(alloc: Global, lines: &[Line], text: &mut Vec<u8>) -> Result<(), AllocError>
@@ -68,7 +66,8 @@ fn lines_text(alloc: Global, users: &[LineList]) -> Result<Content, AllocError>
 
 /// Makes all durable; false where memory was wanting.
 pub(crate) fn close<D: Disk + Drop>(alloc: Global, mount: &mut Mount<D>) -> bool
-    ensures adds { (reply : Reply) × AddsStep 0 (step.Flush 0 0) reply mount.old.core.books.history.entries mount.new.core.books.history.entries
+    ensures adds { (reply : Reply)
+        × AddsStep PROGRAM (step.Flush 0 0) reply mount.old.core.books.history.entries mount.new.core.books.history.entries
         × (result ≡ not (is_out_of_memory reply)) }
     ensures closed { result ≡ true → IsClosed (D.state mount.new.core.disk) mount.new.core.books.history.entries }
     ensures same { (mount.new.found ≡ mount.old.found) × (mount.new.first ≡ mount.old.first) }
@@ -77,14 +76,14 @@ pub(crate) fn close<D: Disk + Drop>(alloc: Global, mount: &mut Mount<D>) -> bool
         inode: 0,
         generation: 0,
     };
-    let reply = mount.step(alloc, CLOSING, flush);
+    let reply = mount.step(alloc, PROGRAM, flush);
     !matches!(reply, Reply::Refused(Refusal::OutOfMemory))
 }
 
 // A plan for each user: nothing holds its steps.
 fn plans_of(alloc: Global, session: Session) -> Result<Vec<Plan<OpenGate>>, AllocError>
     requires { IsSession session }
-    ensures few { IfOk result (λ plans. vec_len plans ≤ 8) }
+    ensures few { IfOk result (λ plans. vec_len plans ≤ MOST_USERS) }
     ensures formed { IfOk result (λ plans. All (λ p. AreWellFormed p.commands) plans.items) }
     ensures scripts { IfOk result (λ plans. map (λ p. p.commands) plans.items ≡ session) }
 {
@@ -137,7 +136,7 @@ pub(crate) fn serve_users<R: Threads + Wait + Sync, D: Disk + Drop + Send>(
     mount: Mount<D>,
     plans: Vec<Plan<OpenGate>>,
 ) -> Served<Mount<D>>
-    requires few { vec_len plans ≤ 8 }
+    requires few { vec_len plans ≤ MOST_USERS }
     requires formed { All (λ p. AreWellFormed p.commands) plans.items }
     ensures same { (result.mount.found.value ≡ mount.found.value) × (result.mount.first ≡ mount.first) }
     ensures served { TeamServed (map (λ p. p.commands) plans.items) mount.core.books.at.inodes mount.core.books.at.blocks result.out_of_memory
@@ -164,7 +163,7 @@ fn serve_and_close<R: Threads + Wait + Sync, D: Disk + Drop + Send>(
     plans: Vec<Plan<OpenGate>>,
 ) -> Served<Mount<D>>
     requires new { mount.core.books.history.entries ≡ [] }
-    requires few { vec_len plans ≤ 8 }
+    requires few { vec_len plans ≤ MOST_USERS }
     requires formed { All (λ p. AreWellFormed p.commands) plans.items }
     ensures same { (result.mount.found.value ≡ mount.found.value) × (result.mount.first ≡ mount.first) }
     ensures ran { IsSessionRun (map (λ p. p.commands) plans.items) mount.core.books.at.inodes mount.core.books.at.blocks result.out_of_memory

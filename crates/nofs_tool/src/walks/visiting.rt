@@ -1,7 +1,8 @@
 //! A visit at a mount: one caller at work on the calling thread, beside the sweeps and the flusher.
 //!
-//! Promise: the visitor is caller 1, and the history has of it just the steps that it made; the sweeps are callers 9 and 10, the
-//! flusher makes no entry, and caller 0 makes the last entry, a flush of the whole disk.
+//! Promise: the visitor is `FIRST_USER`, and the history has of it just the steps that it made; the sweeps are the
+//! callers that `nofs_history` names, the flusher makes no entry, and the program itself the last one, a flush of
+//! the whole disk.
 
 ghost use Rattle.std.specs.Prelude.{◌≡◌, [], false};
 ghost use Rattle.nofs_serve.specs.Visiting.{VisitServed};

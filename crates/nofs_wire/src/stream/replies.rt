@@ -144,7 +144,23 @@ fn push_kept(out: &mut Vec<u8>, refusal: &Refusal) -> Result<(), AllocError>
             push_u64(out, *unverified)?;
             push_u64(out, *next)
         }
-        _ => Ok(()),
+        Refusal::Missing
+        | Refusal::Exists
+        | Refusal::NotDirectory
+        | Refusal::IsDirectory
+        | Refusal::NotEmpty
+        | Refusal::BadName
+        | Refusal::BadRange
+        | Refusal::TooManyLinks
+        | Refusal::DirectoryFull
+        | Refusal::TooLarge
+        | Refusal::PastEnd
+        | Refusal::Stale
+        | Refusal::SerialsSpent
+        | Refusal::ReadFault
+        | Refusal::WriteFault
+        | Refusal::Stopped
+        | Refusal::OutOfMemory => Ok(()),
     }
 }
 
@@ -216,7 +232,7 @@ fn push_fields(out: &mut Vec<u8>, reply: &Reply) -> Result<(), AllocError>
         Reply::Stat(stat) => push_stat(out, stat),
         Reply::Seen { used } => push_truth(out, *used),
         Reply::Refused(refusal) => push_kept(out, refusal),
-        _ => Ok(()),
+        Reply::Linked | Reply::Renamed | Reply::Stored | Reply::Resized | Reply::Flushed => Ok(()),
     }
 }
 

@@ -6,7 +6,8 @@ use Rattle.nofs_state.specs.Steps.{Goes}
 use Rattle.nofs_state.proofs.Keeping.{goes-after, reads-keep}
 use Rattle.nofs_names.proofs.NamesIn.{unopened-goes}
 use Rattle.nofs_names.proofs.Onward.{directory-on, there-on}
-use Rattle.nofs_names.specs.Makes.{PlaceIs, RowsLeft, made_answer}
+use Rattle.nofs_names.specs.Linking.{PlaceIs}
+use Rattle.nofs_names.specs.Makes.{RowsLeft, made_answer}
 use Rattle.nofs_names.proofs.MakeRows.{make-bad, make-exists, make-no-place, make-place, make-room, make-unopened, refused-goes}
 use Rattle.nofs_names.proofs.makes.make_with_room.Goals as goal
 

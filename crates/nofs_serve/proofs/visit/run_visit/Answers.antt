@@ -1,6 +1,7 @@
 use Rattle.std.proofs.Common.{◌≡◌, ◌∙◌, ◌-◌, ℕ, List, [], true, ap, subst, arith}
 use Rattle.nofs_turn.specs.declared.turn_rule.view.View.{View}
 use Rattle.nofs_turn.specs.Turns.{view_of}
+use Rattle.nofs_history.specs.declared.machine.callers.TheConstants.{BLOCK_SWEEPER, FLUSHER, INODE_SWEEPER}
 use Rattle.nofs_history.specs.Steps.{Made}
 use Rattle.nofs_history.specs.declared.machine.history.Entry1.{Entry1}
 use Rattle.nofs_history.specs.declared.machine.steps.ElementKind.TheVariants.{Inode, Block}
@@ -30,11 +31,11 @@ returns-clause-gathered g c v one none all =
     let view9 : view_of c.new-inodes.result.steps.pass.pass ≡ v = ap (λ s. view_of s.pass.pass) c.new-inodes.ensures.0 ∙ s9.0 in
     let view10 : view_of c.new-blocks.result.steps.pass.pass ≡ v = ap (λ s. view_of s.pass.pass) c.new-blocks.ensures.0 ∙ s10.0 in
     let view11 : view_of c.new-flusher.result.steps.pass.pass ≡ v = ap (λ s. view_of s.pass.pass) c.new-flusher.ensures.0 ∙ s11.0 in
-    let caller9 : c.into_inner.result.pass.caller ≡ 9 = ap (λ s. s.pass.caller) c.into_inner.ensures
+    let caller9 : c.into_inner.result.pass.caller ≡ INODE_SWEEPER = ap (λ s. s.pass.caller) c.into_inner.ensures
     ∙ (went.1 ∙ (ap (λ s. s.pass.caller) c.new-inodes.ensures.0 ∙ c.seat-way.ensures.way.1)) in
-    let caller10 : c.into_inner-2.result.pass.caller ≡ 10 =
+    let caller10 : c.into_inner-2.result.pass.caller ≡ BLOCK_SWEEPER =
     ap (λ s. s.pass.caller) c.into_inner-2.ensures ∙ (went2.1 ∙ (ap (λ s. s.pass.caller) c.new-blocks.ensures.0 ∙ c.seat-way-2.ensures.way.1)) in
-    let caller11 : c.into_inner-3.result.pass.caller ≡ 11 =
+    let caller11 : c.into_inner-3.result.pass.caller ≡ FLUSHER =
     ap (λ s. s.pass.caller) c.into_inner-3.ensures ∙ (flushed.goes_on.1 ∙ (ap (λ s. s.pass.caller) c.new-flusher.ensures.0 ∙ c.seat-way-3.ensures.way.1)) in
     let caller1 : c.work_beside.new.steps.pass.caller ≡ 1 = seat.1 ∙ c.seat-visit.ensures.way.1 in
     let p_is : view_of c.back-pass.result ≡ p = ap (λ x. view_of x) c.back-pass.ensures.same ∙ ap (λ s. view_of s.pass.pass) c.into_inner.ensures in

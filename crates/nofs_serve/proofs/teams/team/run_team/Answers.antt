@@ -1,6 +1,7 @@
 use Rattle.std.proofs.Common.{rules, ◌≡◌, ◌∙◌, ◌-◌, ℕ, ◌<◌, ◌≤◌, List, true, length, map, ap, subst, arith}
 use Rattle.nofs_turn.specs.declared.turn_rule.view.View.{View}
 use Rattle.nofs_turn.specs.Turns.{view_of}
+use Rattle.nofs_history.specs.declared.machine.callers.TheConstants.{BLOCK_SWEEPER, FLUSHER, INODE_SWEEPER, MOST_USERS}
 use Rattle.nofs_history.specs.Steps.{Made}
 use Rattle.nofs_history.specs.declared.machine.history.Entry1.{Entry1}
 use Rattle.nofs_history.specs.declared.machine.steps.ElementKind.TheVariants.{Inode, Block}
@@ -33,11 +34,11 @@ returns-clause-gathered g c v one none all =
     let view9 : view_of c.new-inodes.result.steps.pass.pass ≡ v = ap (λ s. view_of s.pass.pass) c.new-inodes.ensures.0 ∙ s9.0 in
     let view10 : view_of c.new-blocks.result.steps.pass.pass ≡ v = ap (λ s. view_of s.pass.pass) c.new-blocks.ensures.0 ∙ s10.0 in
     let view11 : view_of c.new-flusher.result.steps.pass.pass ≡ v = ap (λ s. view_of s.pass.pass) c.new-flusher.ensures.0 ∙ s11.0 in
-    let caller9 : c.into_inner.result.pass.caller ≡ 9 = ap (λ s. s.pass.caller) c.into_inner.ensures
+    let caller9 : c.into_inner.result.pass.caller ≡ INODE_SWEEPER = ap (λ s. s.pass.caller) c.into_inner.ensures
     ∙ (went.1 ∙ (ap (λ s. s.pass.caller) c.new-inodes.ensures.0 ∙ c.seat-way.ensures.way.1)) in
-    let caller10 : c.into_inner-2.result.pass.caller ≡ 10 =
+    let caller10 : c.into_inner-2.result.pass.caller ≡ BLOCK_SWEEPER =
     ap (λ s. s.pass.caller) c.into_inner-2.ensures ∙ (went2.1 ∙ (ap (λ s. s.pass.caller) c.new-blocks.ensures.0 ∙ c.seat-way-2.ensures.way.1)) in
-    let caller11 : c.into_inner-3.result.pass.caller ≡ 11 =
+    let caller11 : c.into_inner-3.result.pass.caller ≡ FLUSHER =
     ap (λ s. s.pass.caller) c.into_inner-3.ensures ∙ (flushed.goes_on.1 ∙ (ap (λ s. s.pass.caller) c.new-flusher.ensures.0 ∙ c.seat-way-3.ensures.way.1)) in
     let p_is : view_of c.back-pass.result ≡ p = ap (λ x. view_of x) c.back-pass.ensures.same ∙ ap (λ s. view_of s.pass.pass) c.into_inner.ensures in
     let w_is : view_of c.into_inner-2.result.pass.pass ≡ w = ap (λ s. view_of s.pass.pass) c.into_inner-2.ensures in
@@ -46,7 +47,8 @@ returns-clause-gathered g c v one none all =
     c.args.sweeps.inodes c.args.sweeps.blocks c.gather_users.result.out_of_memory c.either-out_of_memory.result c.work_team.new.inodes.out_of_memory
     c.work_team.new.blocks.out_of_memory
     c.gather_users.result.lines.items v p w (view_of c.join_way.new.into) f (view_of c.join_way-2.new.into) (view_of c.gather_users.result.pass)
-    (let n = length-scripts (λ x. x.commands) c.args.plans.items in let few : length c.args.plans.items ≤ 8 = search rules in omega (arith, n, few))
+    (let n = length-scripts (λ x. x.commands) c.args.plans.items in
+    let few : length c.args.plans.items ≤ MOST_USERS = search rules in omega (arith, n, few))
     one
     (subst (λ z. SameSeat z p) view9 went.2)
     (subst (λ (x : ℕ × View Entry1 g.row.V-Fixed.Denot). all_by x.0 x.1.mine ≡ true) (λ i. (caller9 i, p_is i)) c.back-pass.ensures.own)

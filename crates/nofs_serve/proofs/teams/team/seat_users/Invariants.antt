@@ -1,12 +1,13 @@
 use Rattle.std.proofs.Common.{◌≡◌, ◌+◌, ◌≤◌, ◌++◌, List, [], All, map, vec_len, vec_capacity}
 use Rattle.nofs_turn.specs.Turns.{view_of, IsPassOf}
+use Rattle.nofs_history.specs.declared.machine.callers.TheConstants.{MOST_USERS}
 use Rattle.nofs_client.specs.Commands.{AreWellFormed}
 use Rattle.nofs_serve.specs.Teams.{Stand, IsReady}
 use Rattle.nofs_serve.proofs.teams.team.seat_users.Given as goal
 
 abbrev pub invariant-loop-alloc : goal.invariant-loop-alloc
 invariant-loop-alloc g l = record {
-  few : vec_len l.plans ≤ 8;
+  few : vec_len l.plans ≤ MOST_USERS;
   formed : All (λ p. AreWellFormed p.commands) l.plans.items;
   count : vec_len l.passes + vec_len l.fn.plans ≡ vec_len l.fn.passes + vec_len l.plans;
   enough : vec_len l.plans ≤ vec_len l.passes;
