@@ -1,5 +1,5 @@
 //! Back links that are pairs: the entry to which the link leads names the inode.
-ghost use Rattle.std.specs.Prelude.{◌≡◌, ◌<◌, ◌||◌, IsTrue, Some, not, nat_lt};
+ghost use Rattle.std.specs.Prelude.{◌≡◌, ◌<◌, ◌||◌, Some, not, nat_lt};
 ghost use Rattle.std.specs.List.{position};
 ghost use Rattle.nofs_inode.specs.InodeRecords.{is_empty_link};
 ghost use Rattle.nofs_inode.specs.declared.inode.FileKind.TheVariants as kind;

@@ -15,7 +15,7 @@
 //! - clean: the disk below has the cell; nothing of it is kept here.
 //! - dirty: the cell is in `dirty`, and a crash leaves what the disk below may leave of the block.
 //! - After a flush that succeeded every block is clean, and all of it lasts.
-ghost use Rattle.std.specs.Prelude.{◌≡◌, ℕ, ◌+◌, ◌*◌, ◌^◌, ◌<◌, ◌≤◌, ◌∷◌, [], length, List, IfOk, IfErr, IsOk, IsTrue, Contains};
+ghost use Rattle.std.specs.Prelude.{◌≡◌, ℕ, ◌+◌, ◌*◌, ◌^◌, ◌<◌, ◌≤◌, ◌∷◌, [], length, IfOk, IfErr, IsOk, IsTrue, Contains};
 ghost use Rattle.nofs_disk.specs.declared.tag.Cell.{Cell};
 ghost use Rattle.nofs_cache.specs.DirtyBlocks.{block_count, entries_of, room_of};
 ghost use Rattle.nofs_cache.specs.Laws.{CacheKeeps};

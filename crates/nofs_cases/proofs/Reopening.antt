@@ -1,5 +1,5 @@
 -- A disk in what a crash leaves of a sound one is sound.
-use Rattle.std.proofs.Common.{◌≡◌, ◌<◌, ℕ, List, IsTrue, arith, length, sym, ◌∙◌, subst}
+use Rattle.std.proofs.Common.{◌≡◌, ◌<◌, List, IsTrue, length, sym, ◌∙◌, subst}
 use Rattle.std.proofs.lemmas.List.{ext_get_or}
 use Rattle.nofs_disk.specs.declared.tag.Cell.{Cell}
 use Rattle.nofs_disk.specs.Disk.{DiskState, IsDisk, IsSettled, Picks, cell_at, no_cell}

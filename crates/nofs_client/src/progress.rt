@@ -1,11 +1,11 @@
 //! Where a command stands, with the steps that make room: a step that was answered Full or InodesFull
 //! is repeated as long as the disk has unexamined elements and ever fewer of them.
-ghost use Rattle.std.specs.Prelude.{◌≡◌, ◌&&◌, IfOk, nat_lt, true, false, if◌then◌else◌};
+ghost use Rattle.std.specs.Prelude.{◌≡◌, ◌&&◌, IfOk};
 ghost use Rattle.nofs_history.specs.declared.machine.replies.Reply.TheVariants.{Refused};
 ghost use Rattle.nofs_client.specs.Commands.{IsWellFormed};
-ghost use Rattle.nofs_client.specs.Task.{TaskStands, refused as refused_by};
-ghost use Rattle.nofs_client.specs.Asks.{IsAsked, task_asks, Answers, IsAnswered};
-ghost use Rattle.nofs_client.specs.Drive.{StandsAs, goes_on as is_going_on, start_of, fresh_progress as fresh_of, step_answered as ended_by, examines_block as block_seen, examines_inode as inode_seen, step_before_repeat, asks as asks_of, stored_by, after_step as step_after, after_refused as refused_after, after_see as see_after, progress_after as after_of};
+ghost use Rattle.nofs_client.specs.Task.{TaskStands};
+ghost use Rattle.nofs_client.specs.Asks.{IsAsked, Answers, IsAnswered};
+ghost use Rattle.nofs_client.specs.Drive.{StandsAs, goes_on as is_going_on, start_of, fresh_progress as fresh_of, step_answered as ended_by, examines_block as block_seen, examines_inode as inode_seen, asks as asks_of, stored_by, after_step as step_after, after_refused as refused_after, after_see as see_after, progress_after as after_of};
 
 use crate::task::answers::task_after;
 use crate::task::commands::Command;

@@ -15,7 +15,6 @@ use Rattle.nofs_crashlaw.proofs.NameStep.{pair-named, empty-lone, file-lone}
 use Rattle.nofs_crashlaw.proofs.NameInPlace.{no-file-zero}
 use Rattle.nofs_crashlaw.proofs.NameRename.{entry-parts}
 use Rattle.nofs_crashlaw.proofs.NameLinks.{pair-apart, entry-proper, record-proper, stays-match, free-proper, goes-match, pair-kept}
-use Rattle.nofs_model.specs.declared.image.path.PathAnswer.TheVariants as answer
 use Rattle.nofs_history.specs.Meta.{Gone, Is}
 use Rattle.nofs_history.specs.Marks.{Mark}
 use Rattle.nofs_history.specs.Machine.{zeros, files_after, entry_given, meta_given, drop_given, drop_meta, without_link, link_to, same_link}

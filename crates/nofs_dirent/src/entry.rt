@@ -2,12 +2,12 @@
 //! directory cells").
 //!
 //! Promise: what is written is read, an entry has one spelling, and other bytes stay.
-ghost use Rattle.std.specs.Prelude.{◌≡◌, ◌≢◌, ◌+◌, ◌*◌, ◌<◌, ◌≤◌, false, IfOk, IfSome, IfNone, List, None, Some, length, nat_eq, ℕ};
+ghost use Rattle.std.specs.Prelude.{◌≡◌, ◌≢◌, ◌+◌, ◌*◌, ◌<◌, ◌≤◌, false, IfOk, IfSome, IfNone, None, Some, length, nat_eq, ℕ};
 ghost use Rattle.std.specs.List.{list_all};
 ghost use Rattle.std.specs.Option.{option_copied as copied};
-ghost use Rattle.nofs_disk.specs.Number.{number_at, put_bytes, zeros};
+ghost use Rattle.nofs_disk.specs.Number.{put_bytes, zeros};
 ghost use Rattle.nofs_dirent.specs.EntryLaws.{Spells};
-ghost use Rattle.nofs_dirent.specs.Entries.{HasEntrySpelling, IsFirstNamed, entry_bytes, entry_in, entry_of, entry_with, has_entry_spelling, has_name, has_zeros_after, is_named, name_of, spelled_entry};
+ghost use Rattle.nofs_dirent.specs.Entries.{HasEntrySpelling, IsFirstNamed, entry_bytes, entry_in, entry_of, entry_with, has_entry_spelling, has_name, has_zeros_after, name_of, spelled_entry};
 
 use crate::lists::Name;
 use crate::name::name_ok;

@@ -4,7 +4,6 @@
 ghost use Rattle.std.specs.Prelude.{◌≡◌, ◌↔◌, IsTrue};
 ghost use Rattle.std.specs.List.{list_all};
 ghost use Rattle.nofs_dirent.specs.Names.{NameOk, is_name, is_name_byte};
-ghost use Rattle.nofs_dirent.specs.NameLaws.{is_name-Decides};
 
 /// Whether an entry can have this name: 1 to 48 bytes, none of them 0, the end of a line (10 or
 /// 13), a space or a slash, and neither `.` nor `..`.

@@ -5,7 +5,7 @@ ghost use Rattle.std.specs.Prelude.{◌≡◌, ◌+◌, ◌*◌, ◌^◌, ◌<�
 ghost use Rattle.nofs_disk.specs.Disk.{IsSizedCell};
 ghost use Rattle.nofs_disk.specs.Number.{IsBytes};
 ghost use Rattle.nofs_disk.specs.Pointer.{is_null, null};
-ghost use Rattle.nofs_disk.specs.Tag.{HasTagSpelling, SpellsTag, allows_parts, kind_number, kind_of, tag_bytes, tag_of, zero_cell};
+ghost use Rattle.nofs_disk.specs.Tag.{HasTagSpelling, SpellsTag, allows_parts, kind_number, kind_of, tag_bytes, tag_of};
 ghost use Rattle.nofs_disk.specs.declared.tag.Tag.{Tag};
 
 use crate::number::{clear, read_u32_at, read_u64_at, write_u32_at, write_u64_at};

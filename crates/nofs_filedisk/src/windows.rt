@@ -7,7 +7,7 @@
 //! other cell is read alone. How many those some are is learned: one at first, twice as many after each window that was given up
 //! with few reads, and one again after a window that was of use. So reads without neighbours, which an image can ask for as well as
 //! an honest order, cost a cell each.
-ghost use Rattle.std.specs.Prelude.{◌≡◌, ◌≢◌, ◌+◌, ◌*◌, ◌/◌, ◌%◌, ◌<◌, ◌≤◌, All, IfOk, IfSome, IsFalse, IsTrue, List, None, OnErr, OnOk, Some, length, slice_get, slice_range, ℕ};
+ghost use Rattle.std.specs.Prelude.{◌≡◌, ◌≢◌, ◌+◌, ◌*◌, ◌/◌, ◌%◌, ◌<◌, ◌≤◌, All, IfOk, IfSome, IsFalse, IsTrue, List, None, OnErr, OnOk, Some, length, slice_range, ℕ};
 ghost use Rattle.nofs_disk.specs.Disk.{Rose};
 ghost use Rattle.nofs_disk.specs.Number.{put_bytes};
 ghost use Rattle.nofs_filedisk.specs.Bytes.{HostFileState, IsPart, IsPut, KeepsBytes};

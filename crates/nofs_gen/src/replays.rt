@@ -3,7 +3,7 @@
 //! Promise: they are those of the definition. A step that was refused gives nothing.
 ghost use Rattle.std.specs.Prelude.{◌≡◌, ◌<◌, ◌+◌, length, IfOk, fold, drop};
 ghost use Rattle.nofs_history.specs.Machine as machine;
-ghost use Rattle.nofs_gen.specs.Replay.{after_entry as entry_after, file_with_step as step_after, empty_file, replayed_file, replay_of};
+ghost use Rattle.nofs_gen.specs.Replay.{after_entry as entry_after, file_with_step as step_after, replayed_file, replay_of};
 
 use crate::file::Replayed;
 use nofs_dirent::ListOf;

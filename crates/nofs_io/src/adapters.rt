@@ -3,7 +3,6 @@
 //! Promise: an error of std counts as a fault, and one that says that the call was interrupted is
 //! tried again. What standard input and output really hold is not promised: they tell nothing.
 ghost use Rattle.std.specs.Prelude.{◌≡◌};
-ghost use Rattle.nofs_io.specs.Calls.{SinkState, SourceState};
 
 use crate::traits::{Failed, Sink, Source};
 use std::io::{ErrorKind, Read, Write};

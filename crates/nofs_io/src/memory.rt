@@ -3,7 +3,7 @@
 //! Promise: a call fails exactly where its number is among those given at the start, or where a
 //! sink without room left is given a piece that is not empty. It then takes and appends nothing.
 ghost use Rattle.std.specs.Prelude.{◌≡◌, ◌+◌, ◌-◌, ◌<◌, ◌≤◌, ◌↔◌, ◌⊎◌, min, length, drop, Contains, [], IfOk, IsErr, OnErr, OnOk};
-ghost use Rattle.nofs_io.specs.Calls.{Gives, SinkState, SourceState, Takes, raised_count};
+ghost use Rattle.nofs_io.specs.Calls.{Gives, Takes, raised_count};
 ghost use Rattle.nofs_io.specs.Memory.{MemSinkState, MemSourceState, sink_of, source_of};
 
 use crate::traits::{Failed, Sink, Source};

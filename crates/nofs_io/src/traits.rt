@@ -2,7 +2,6 @@
 //!
 //! Promise: a source gives the bytes that are left from the front, a sink appends what it takes,
 //! and a call answers `Failed` only where the object's count of faults rose.
-ghost use Rattle.std.specs.Prelude.{◌≡◌};
 ghost use Rattle.nofs_io.specs.Calls.{Gives, SinkState, SourceState, Takes};
 
 /// A call of a source or of a sink has failed, and the object's count of faults rose.

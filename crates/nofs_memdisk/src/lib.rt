@@ -6,6 +6,9 @@
 //! that finds memory only so often is that other one but in this.
 //!
 //! What names its faults, its calls and what a crash picks is that of `nofs_versions`, which other disks share.
+//!
+//! - `memory`: the disk
+//! - `unready`: a disk over another that finds memory only so often
 #![tactic(auto)]
 
 mod memory;

@@ -3,7 +3,7 @@
 //!
 //! Promise: it is a disk that tells all, each of its calls changes it exactly as its kind says, and
 //! it leaves at a crash exactly the images that pick.
-ghost use Rattle.std.specs.Prelude.{◌≡◌, ◌+◌, ◌*◌, ◌^◌, ◌<◌, ◌≤◌, ◌↔◌, [], ◌∷◌, ◌++◌, ◌-◌, List, length, slice_index_or, All, OnOk, OnErr, IsErr, IsSome, IfOk, vec_capacity, replicate};
+ghost use Rattle.std.specs.Prelude.{◌≡◌, ◌+◌, ◌*◌, ◌^◌, ◌<◌, ◌≤◌, ◌↔◌, [], ◌++◌, ◌-◌, List, length, slice_index_or, All, OnOk, OnErr, IsErr, IsSome, IfOk, vec_capacity, replicate};
 ghost use Rattle.nofs_disk.specs.Disk.{no_cell, Flushes, IsSettled, IsSizedCell, MakesReady, Picks, Reads, Writes, WritesOut};
 ghost use Rattle.nofs_disk.specs.Tag.{zero_cell};
 ghost use Rattle.nofs_disk.specs.declared.tag.Cell.{Cell};

@@ -1,5 +1,5 @@
 //! Whether an image can be mounted.
-ghost use Rattle.std.specs.Prelude.{◌≡◌, ◌↔◌, ◌<◌, ◌==◌, IsTrue, IsNone, is_none, length, not, position};
+ghost use Rattle.std.specs.Prelude.{◌≡◌, ◌↔◌, ◌<◌, ◌==◌, IsTrue, is_none, not, position};
 ghost use Rattle.nofs_model.specs.Geometry as image;
 ghost use Rattle.nofs_super.specs.Super.{has_magic, is_super, is_version, rest_fault};
 

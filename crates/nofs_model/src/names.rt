@@ -1,5 +1,5 @@
 //! Which inodes have a name, by a chain of directories up to the root.
-ghost use Rattle.std.specs.Prelude.{◌≡◌, ◌<◌, ◌&&◌, Some, true, false, IfSome, IsNone, IsTrue};
+ghost use Rattle.std.specs.Prelude.{◌≡◌, ◌<◌, ◌&&◌, Some, true, false, IfSome, IsNone};
 ghost use Rattle.std.specs.List.{list_any, position};
 ghost use Rattle.nofs_inode.specs.declared.inode.FileKind.TheVariants as kind;
 ghost use Rattle.nofs_model.specs.Files as files;

@@ -1,5 +1,5 @@
 //! Which slot has a block.
-ghost use Rattle.std.specs.Prelude.{◌≡◌, ◌<◌, Some, length};
+ghost use Rattle.std.specs.Prelude.{◌≡◌, ◌<◌, Some};
 ghost use Rattle.nofs_model.specs.Geometry.{IsMountable};
 ghost use Rattle.nofs_model.specs.Owners as owners;
 ghost use Rattle.nofs_model.specs.Places.{AreAgreed, IsRead};

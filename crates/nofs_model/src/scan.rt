@@ -1,9 +1,9 @@
 //! Which inodes and blocks of an image are used.
-ghost use Rattle.std.specs.Prelude.{◌≡◌, ◌+◌, ◌<◌, ◌≤◌, IfOk, ℕ, length};
+ghost use Rattle.std.specs.Prelude.{◌≡◌, ◌+◌, ◌<◌, IfOk, ℕ, length};
 ghost use Rattle.nofs_bits.specs.Bits.{is_set};
 ghost use Rattle.nofs_model.specs.Geometry.{IsMountable};
 ghost use Rattle.nofs_model.specs.Owners as owners;
-ghost use Rattle.nofs_model.specs.Places.{AreAgreed, AreFound, IsRead};
+ghost use Rattle.nofs_model.specs.Places.{AreAgreed, IsRead};
 
 use crate::image::numbers_of;
 use crate::names::is_agreed;

@@ -1,5 +1,5 @@
 //! What stands in the slots of an image.
-ghost use Rattle.std.specs.Prelude.{◌≡◌, ◌<◌, ◌≤◌, ◌+◌, ◌/◌, length, IfOk, IsTrue};
+ghost use Rattle.std.specs.Prelude.{◌≡◌, ◌<◌, ◌+◌, ◌/◌, IfOk, IsTrue};
 ghost use Rattle.nofs_ptrs.specs.Paths.{slot_limit};
 ghost use Rattle.nofs_model.specs.Geometry.{IsMountable};
 ghost use Rattle.nofs_model.specs.Places.{InArea, IsPlace, IsRead, IsRecord, place_path};

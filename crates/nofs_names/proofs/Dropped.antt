@@ -14,7 +14,6 @@ use Rattle.nofs_history.specs.declared.machine.history.Entry1.{Entry1}
 use Rattle.nofs_history.specs.declared.machine.steps.Step.TheVariants as step
 use Rattle.nofs_history.specs.declared.machine.replies.Reply.TheVariants as reply
 use Rattle.nofs_history.specs.declared.machine.replies.Refusal.{Refusal}
-use Rattle.nofs_history.specs.declared.machine.replies.Refusal.TheVariants as refusal
 use Rattle.nofs_agree.specs.Reading.{KnowsInode, KnowsDirectory}
 use Rattle.nofs_crashlaw.specs.CellNumbers.{table_tag}
 use Rattle.nofs_state.specs.Books.{IsSafe}

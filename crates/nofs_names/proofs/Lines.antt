@@ -16,7 +16,6 @@ use Rattle.nofs_history.specs.Answers.{line_of, lines_from, lines_in_slot}
 use Rattle.nofs_history.specs.History.{FilesMatch}
 use Rattle.nofs_history.specs.declared.machine.replies.NameLine.{NameLine}
 use Rattle.nofs_history.specs.declared.machine.replies.Refusal.{Refusal}
-use Rattle.nofs_history.specs.declared.machine.replies.Refusal.TheVariants as refusal
 use Rattle.nofs_agree.specs.Reading.{IsLast, KnowsDirectory}
 use Rattle.nofs_agree.specs.declared.reads.LastRead.{LastRead}
 use Rattle.nofs_agree.proofs.Climbs.{told-on}

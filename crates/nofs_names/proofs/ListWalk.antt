@@ -1,11 +1,9 @@
 -- The search for the slot that List finds.
 use Rattle.std.proofs.Common.{ℕ, IsTrue}
 use Rattle.nofs_disk.specs.Disk.{DiskState, StaysButFaults}
-use Rattle.nofs_model.specs.declared.image.path.PathAnswer.TheVariants as answer
 use Rattle.nofs_agree.specs.Reading.{IsLast}
 use Rattle.nofs_agree.specs.declared.reads.LastRead.{LastRead}
 use Rattle.nofs_names.specs.Listing.{AreHoles}
-use Rattle.nofs_names.specs.declared.lists.ListedSlot.TheVariants as found
 
 pub record Seeking (old now : DiskState) (d from slot : ℕ) (last : LastRead) : Type 0 where
   pub stays : StaysButFaults old now

@@ -22,7 +22,6 @@ use Rattle.nofs_history.specs.Claims.{no_claims, next_stamp, IsClaim, has_block}
 use Rattle.nofs_history.specs.History.{FilesMatch, mark_at}
 use Rattle.nofs_history.specs.declared.machine.history.Entry1.{Entry1}
 use Rattle.nofs_history.specs.declared.machine.steps.Step.TheVariants as step
-use Rattle.nofs_history.specs.declared.machine.replies.Reply.TheVariants as reply
 use Rattle.nofs_history.proofs.EntryPut.{with-entry-put}
 use Rattle.nofs_history.specs.Gives.{GivesNothing}
 use Rattle.nofs_crashlaw.proofs.Matching.{Matched, matched-agreed, matched-file}

@@ -8,8 +8,6 @@ use Rattle.nofs_inode.specs.InodeRecords.{HasRecordSpelling}
 use Rattle.nofs_model.specs.Cells.{Pointer, Record, SuperBlock}
 use Rattle.nofs_model.specs.Places.{InArea}
 use Rattle.nofs_model.specs.declared.image.path.PathAnswer.TheVariants as answer
-use Rattle.nofs_history.specs.declared.machine.replies.Reply.TheVariants as reply
-use Rattle.nofs_history.specs.declared.machine.replies.Refusal.TheVariants as refusal
 use Rattle.nofs_agree.specs.Reading.{KnowsDirectory}
 use Rattle.nofs_state.specs.Books.{IsSafe, made_books}
 use Rattle.nofs_state.specs.declared.books.Books.{Books}

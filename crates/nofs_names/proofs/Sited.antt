@@ -21,7 +21,6 @@ use Rattle.nofs_state.proofs.Counting.{free-count, unknown-count}
 use Rattle.nofs_names.specs.Placing.{AreFree, FindsEntrySlot, IsUnderLeaf, TakesBlocks}
 use Rattle.nofs_names.specs.declared.finding.placing.EntryBlocks.{EntryBlocks}
 use Rattle.nofs_names.specs.declared.finding.placing.EntrySlot.{EntrySlot}
-use Rattle.nofs_names.specs.declared.finding.placing.EntrySlot.TheVariants as entry
 
 -- The slot
 

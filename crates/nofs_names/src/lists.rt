@@ -7,7 +7,7 @@ ghost use Rattle.nofs_model.specs.Slots.{value};
 ghost use Rattle.nofs_model.specs.declared.image.value.Value.TheVariants.{Bytes};
 ghost use Rattle.nofs_names.specs.Stepping.{Goes, IsAt, IsLast, IsSafe, no_claims};
 ghost use Rattle.nofs_names.specs.Inodes.{Knows, KnowsFolder};
-ghost use Rattle.nofs_names.specs.Listing.{FindsListed, HasListed, IsListedSlot, ReadsLine, ReadsLines, line_with, list_answer};
+ghost use Rattle.nofs_names.specs.Listing.{FindsListed, HasListed, ReadsLine, ReadsLines, line_with, list_answer};
 
 use crate::finding::entries::Named;
 use crate::finding::inodes::ReadInode;

@@ -32,7 +32,7 @@ use Rattle.nofs_state.proofs.Sessions.{open-with, stopped-with}
 use Rattle.nofs_state.proofs.Sounding.{sounds-keep}
 use Rattle.nofs_turn.proofs.Words.{prefix_length}
 use Rattle.nofs_shared.proofs.RestingImages.{rests-later}
-use Rattle.nofs_shared.specs.Forms.{Cells, Forms, IsNextEntry, NoCell, OnlyCalls, Wrote, flushes_in, flushes_of, faults_in}
+use Rattle.nofs_shared.specs.Forms.{Cells, Forms, IsNextEntry, NoCell, OnlyCalls, Wrote, flushes_of, faults_in}
 use Rattle.nofs_shared.specs.Mounts.{IsMount, IsMounted, IsSoundDisk, MountStands}
 
 -- The same books with another history

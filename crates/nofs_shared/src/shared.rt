@@ -1,8 +1,7 @@
 //! Passes by which callers make steps at a shared mount.
-ghost use Rattle.std.specs.Prelude.{◌≡◌, ◌+◌, ◌*◌, ◌/◌, ◌%◌, ◌<◌, ◌≤◌, true, [], length, vec_len, All, IfOk, IfErr, OnErr};
-ghost use Rattle.nofs_turn.specs.Turns.{view_of, IsPassOf, IsFreshPass};
+ghost use Rattle.std.specs.Prelude.{◌≡◌, ◌+◌, ◌/◌, ◌%◌, ◌<◌, ◌≤◌, true, [], length, IfOk, IfErr};
+ghost use Rattle.nofs_turn.specs.Turns.{view_of, IsPassOf};
 ghost use Rattle.nofs_turn.specs.Views.{looked};
-ghost use Rattle.nofs_turn.specs.Passes.{Closes};
 ghost use Rattle.nofs_history.specs.Steps.{Fits, with_made};
 ghost use Rattle.nofs_shared.specs.Owned.{all_by, own_steps};
 ghost use Rattle.nofs_shared.specs.Seats.{SameSeat};

@@ -1,6 +1,6 @@
 //! What a mount keeps in memory: which inodes and blocks were examined, which of them are free, the
 //! next stamp, and the history.
-ghost use Rattle.std.specs.Prelude.{◌≡◌, ◌+◌, ◌-◌, ◌*◌, ◌/◌, ◌^◌, ◌<◌, ◌≤◌, None, option_map, true, length, unwrap_or, IfOk, IfSome};
+ghost use Rattle.std.specs.Prelude.{◌≡◌, ◌+◌, ◌-◌, ◌/◌, ◌^◌, ◌<◌, ◌≤◌, None, true, length, unwrap_or, IfOk, IfSome};
 ghost use Rattle.nofs_bits.specs.Bits.{NoneSet, is_set};
 ghost use Rattle.nofs_super.specs.Geometry.{IsGeometry};
 ghost use Rattle.nofs_history.specs.World.{World, next_block, next_inode};

@@ -3,7 +3,6 @@
 //! Promise: each answer is the definition's, where what is said to be known of inodes is true.
 ghost use Rattle.std.specs.Prelude.{◌≡◌, ◌<◌, ◌+◌, ◌/◌, ◌≤◌, is_some, Some, false, IfOk};
 ghost use Rattle.nofs_model.specs.Owners as owners;
-ghost use Rattle.nofs_model.specs.Slots as slots;
 ghost use Rattle.nofs_model.specs.Files as files;
 ghost use Rattle.nofs_state.specs.Verdicts.{CanCheck, Judges, names_block};
 

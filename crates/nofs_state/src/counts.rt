@@ -1,5 +1,5 @@
 //! How many inodes and blocks are used, free, and not examined, by the maps.
-ghost use Rattle.std.specs.Prelude.{◌≡◌, ◌+◌, ◌-◌, ◌≤◌, length, min};
+ghost use Rattle.std.specs.Prelude.{◌≡◌, ◌+◌, ◌-◌, length, min};
 ghost use Rattle.nofs_bits.specs.Bits.{count_set};
 ghost use Rattle.nofs_history.specs.World.{World};
 ghost use Rattle.nofs_state.specs.Books.{Says};

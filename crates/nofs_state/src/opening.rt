@@ -1,5 +1,5 @@
 //! The file or directory that a step names.
-ghost use Rattle.std.specs.Prelude.{◌≡◌, length, IfOk, IfErr, IsTrue};
+ghost use Rattle.std.specs.Prelude.{◌≡◌, length, IfOk, IfErr};
 ghost use Rattle.nofs_agree.specs.Reading.{IsAt, IsLast};
 ghost use Rattle.nofs_state.specs.Opening.{Opens};
 

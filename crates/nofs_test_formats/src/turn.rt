@@ -1,7 +1,7 @@
 //! Turns and passes on one thread and on several: who waits, who is refused, and what is handed back.
 
-ghost use Rattle.std.specs.Prelude.{◌≡◌, ◌+◌, ◌<◌, All, IfOk, IfSome, length, vec_len};
-ghost use Rattle.nofs_turn.specs.Turns.{view_of, IsPassOf};
+ghost use Rattle.std.specs.Prelude.{◌≡◌, ◌+◌, ◌<◌, IfSome};
+ghost use Rattle.nofs_turn.specs.Turns.{IsPassOf};
 
 use nofs_turn::{Busy, Kept, Pass, PassesOut, Section, Turn, TurnFault};
 use std::alloc::{AllocError, Global};

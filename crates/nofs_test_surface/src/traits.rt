@@ -1,5 +1,5 @@
 //! The traits: each method is called through the bound, with what it asks.
-ghost use Rattle.std.specs.Prelude.{◌≡◌, ℕ, ◌^◌, ◌<◌, ◌≤◌, Bool, List, length};
+ghost use Rattle.std.specs.Prelude.{◌≡◌, ℕ, ◌<◌, ◌≤◌, Bool, List, length};
 ghost use Rattle.nofs_workers.specs.Sweeps.{AreInRange};
 
 use nofs_disk::{Cell, Disk, Failed, OutFault};

@@ -3,11 +3,10 @@
 //! Promise: the steps of the frames are those of caller 1, in order, and the sink takes just their replies. The status is that of
 //! the end of the frames, or of a fault of the device where they ended well.
 
-ghost use Rattle.std.specs.Prelude.{◌≡◌, ◌≢◌, ◌⊎◌, ◌+◌, ◌≤◌, [], None, Some, true, false, IfSome, IfErr};
+ghost use Rattle.std.specs.Prelude.{◌≡◌, ◌≢◌, ◌+◌, [], None, Some, false, IfSome};
 ghost use Rattle.nofs_disk.specs.Disk.{Rose};
 ghost use Rattle.nofs_wire.specs.Serves.{Serves};
 ghost use Rattle.nofs_tool.specs.Visits.{FollowsVisit, IsVisitRun};
-ghost use Rattle.nofs_tool.specs.Entries.{has_fault};
 ghost use Rattle.nofs_tool.specs.Serving.{IsClosed};
 ghost use Rattle.nofs_tool.specs.Whole.{Finished};
 ghost use Rattle.nofs_tool.specs.Wiring.{IsWired, WireEnds, end_status, wire_status};

@@ -13,7 +13,7 @@
 //!
 //! - counted: `parked` has it in its number, so that the next give takes it off and sends a wake.
 //! - asleep: counted, or the wake for it is sent. Nothing is promised of who is woken: any sleeper is.
-ghost use Rattle.std.specs.Prelude.{◌≡◌, ℕ, ◌+◌, ◌*◌, ◌/◌, ◌%◌, ◌^◌, ◌<◌, ◌≤◌, true, false, [], ◌∷◌, length, Some, IfOk, IfErr, OnOk, OnErr};
+ghost use Rattle.std.specs.Prelude.{◌≡◌, ℕ, ◌+◌, ◌*◌, ◌/◌, ◌%◌, ◌<◌, ◌≤◌, true, false, [], ◌∷◌, length, Some, IfOk, IfErr, OnErr};
 ghost use mathlib.Core.List.{IsPrefix};
 
 use crate::turn::{Busy, Pass, PassesOut, Turn};
@@ -35,7 +35,7 @@ const LOOKS: u32 = 50;
 const NAP: u64 = 1;
 
 impl<V: Kept> Turn<V> {
-    ghost use Rattle.nofs_turn.specs.Views.{looked, gave, joined};
+    ghost use Rattle.nofs_turn.specs.Views.{looked, joined};
     ghost use Rattle.nofs_turn.specs.Passes.{Ran, RanOnce, Carries, HasRun, MayRun, Closes, Waited};
     ghost use Rattle.nofs_turn.specs.Rules.{TakesFree, TakesBusy};
     ghost use Rattle.nofs_turn.specs.Turns.{view_of, IsPassOf};

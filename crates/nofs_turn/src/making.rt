@@ -1,7 +1,7 @@
 //! Making a turn with its passes.
 //!
 //! Promise: all memory is taken before the value is given up, so a refusal hands it back unchanged.
-ghost use Rattle.std.specs.Prelude.{◌≡◌, ℕ, ◌+◌, ◌-◌, ◌*◌, ◌^◌, ◌<◌, ◌≤◌, All, [], ◌∷◌, length, vec_len, vec_capacity, Some, IfOk, IfErr};
+ghost use Rattle.std.specs.Prelude.{◌≡◌, ◌-◌, ◌*◌, ◌<◌, ◌≤◌, All, [], vec_len, vec_capacity, Some, IfOk, IfErr};
 
 use crate::turn::{Pass, Turn, TurnFault};
 use crate::turn_rule::kept::Kept;
@@ -13,7 +13,7 @@ use std::snapshot::Snapshot;
 use std::sync::atomic::AtomicU64;
 
 impl<V: Kept> Turn<V> {
-    ghost use Rattle.nofs_turn.specs.Views.{maker, fresh, newcomer, Deals};
+    ghost use Rattle.nofs_turn.specs.Views.{maker, newcomer, Deals};
     ghost use Rattle.nofs_turn.specs.Turns.{view_of, IsPassOf, IsFreshPass, made_over};
 
     /// A turn over the value, and as many passes as there are seats, 1 to 64. Each pass has seen the value's

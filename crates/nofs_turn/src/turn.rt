@@ -15,7 +15,7 @@
 //!
 //! A pass rests, or its section runs and it has the turn. It stands for itself and those that were joined to it; the one that stands
 //! for all can close the turn.
-ghost use Rattle.std.specs.Prelude.{◌≡◌, ℕ, ◌<◌, ◌≤◌, false, true, [], length};
+ghost use Rattle.std.specs.Prelude.{◌≡◌, ◌<◌, ◌≤◌, false, true, []};
 ghost use Rattle.nofs_turn.specs.Lists.{rises};
 
 use crate::turn_rule::kept::Kept;

@@ -2,7 +2,7 @@
 //!
 //! Promise: whoever judges a batch hears for each element the verdict that was seen for it, and each
 //! commit is one step.
-ghost use Rattle.std.specs.Prelude.{◌≡◌, ℕ, ◌<◌, ◌≤◌, length, IfOk, get_or};
+ghost use Rattle.std.specs.Prelude.{◌≡◌, ◌<◌, ◌≤◌, length, IfOk, get_or};
 ghost use Rattle.nofs_history.specs.Steps.{Fits, with_made};
 ghost use Rattle.nofs_workers.specs.Sweeps.{Looked, AreInRange, see_of};
 

@@ -3,6 +3,11 @@
 //! Promise: a user makes just the steps that its commands ask for, in order. A sweeper makes one step
 //! for each place of its order. A flusher writes out as often as it was told to, and makes no step.
 //! Each ends early for want of memory, and a flusher at a fault, and then tells so.
+//!
+//! - `gate`, `batches`: the ways to a mount: with a gate before each step, and with looks at several elements
+//! - `course`, `orders`: what a sweep goes along
+//! - `tasks`, `sweep`, `sweepers`: how a sweep goes on, batch by batch, and the sweepers of inodes and of blocks
+//! - `user`, `flusher`: the worker that runs a user's commands, and the one that writes dirty blocks out
 #![tactic(auto)]
 
 mod batches;

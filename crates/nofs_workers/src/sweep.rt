@@ -1,15 +1,15 @@
 //! How a sweep goes over its order, batch by batch.
 //!
 //! Promise: one step for each place of the order, in order; fewer only where memory was wanting.
-ghost use Rattle.std.specs.Prelude.{◌≡◌, ℕ, ◌+◌, ◌-◌, ◌^◌, ◌<◌, ◌≤◌, length, get_or, take, not, IsTrue, false};
-ghost use Rattle.nofs_history.specs.Steps.{Fits, with_made, is_out_of_memory};
+ghost use Rattle.std.specs.Prelude.{◌≡◌, ◌+◌, ◌-◌, ◌^◌, ◌<◌, ◌≤◌, length, false};
+ghost use Rattle.nofs_history.specs.Steps.{is_out_of_memory};
 ghost use Rattle.nofs_history.specs.declared.machine.steps.ElementKind.TheVariants.{Inode};
-ghost use Rattle.nofs_workers.specs.Sweeps.{Looked, AreInRange, AreOrdered, IsOrdered, MakesFirst, Sweeps, element_number as number_in, see_of as step_to_see};
+ghost use Rattle.nofs_workers.specs.Sweeps.{AreInRange, AreOrdered, MakesFirst, Sweeps, element_number as number_in, see_of as step_to_see};
 
 use crate::batches::Batches;
 use crate::course::Course;
 use crate::gate::Gate;
-use nofs_history::{ElementKind, Reply, Step, Steps};
+use nofs_history::{ElementKind, Step, Steps};
 
 /// The most elements of one batch.
 const BATCH: u64 = 64;

@@ -3,7 +3,7 @@
 //!
 //! Promise: each dirty block has one cell, the last that was put. It is found in constant time by
 //! the block's number, and a clean block takes the four bytes of its slot.
-ghost use Rattle.std.specs.Prelude.{◌≡◌, ◌+◌, ◌^◌, IsPermutation, ◌<◌, ◌≤◌, ◌∷◌, [], ◌++◌, ◌-◌, take, IfOk, IfSome, IfNone, length, slice_set, vec_capacity, OnOk};
+ghost use Rattle.std.specs.Prelude.{◌≡◌, ◌+◌, ◌^◌, IsPermutation, ◌<◌, ◌≤◌, ◌∷◌, [], ◌++◌, ◌-◌, take, IfOk, IfSome, IfNone, length, slice_set, OnOk};
 ghost use Rattle.nofs_cache.specs.DirtyEntries.{HasCell, HasLast, HaveOwnBlocks, IsClean, IsDirtyEntryOf, AreBelow, AreSlotted, BlocksFall};
 ghost use Rattle.nofs_cache.specs.DirtyEntries.{PutsDirtyEntry, dirty_entry};
 

@@ -9,7 +9,7 @@ ghost use Rattle.nofs_cache.specs.DirtyBlocks.{block_count, entries_of, room_of}
 ghost use Rattle.nofs_cache.specs.DirtyEntries.{BlocksFall};
 ghost use Rattle.nofs_cache.specs.Cache.{WrittenBack, WritesRising, SettlesDirty, TakesOut, Shrinks, SpendsOne, WroteOne, WroteAll, Stopped};
 
-use crate::dirty::dirty::{DirtyBlocks, DirtyEntry};
+use crate::dirty::dirty::DirtyBlocks;
 use nofs_disk::{Disk, Failed};
 
 /// Writes the block of the last entry below, and names it; `None` where none is dirty.

@@ -1,15 +1,15 @@
 //! Where a command stands after the reply to its step, as if there were always room.
-ghost use Rattle.std.specs.Prelude.{◌≡◌, ◌+◌, ◌-◌, ◌/◌, ◌%◌, ◌<◌, ◌≤◌, ◌^◌, ◌++◌, [], ◌∷◌, length, IfOk, map, take, drop, ℕ, List};
+ghost use Rattle.std.specs.Prelude.{◌≡◌, ◌+◌, ◌-◌, ◌/◌, ◌%◌, ◌<◌, ◌≤◌, ◌++◌, [], ◌∷◌, length, IfOk, map, take, drop};
 ghost use Rattle.nofs_history.specs.Steps.{Fits};
 ghost use Rattle.nofs_history.specs.declared.machine.steps.Step.TheVariants.{Get as get_step, List as list_step};
 ghost use Rattle.nofs_client.specs.declared.task.lines.ListPart.TheVariants.{Name as listed_name, Lost as listed_lost};
 ghost use Rattle.nofs_client.specs.Commands.{IsWellFormed};
 ghost use Rattle.nofs_client.specs.Places.{looks, new_looks};
 ghost use Rattle.nofs_client.specs.Task.{TaskStands, IsActing, IsPutting, IsLinking, HasTwoPaths};
-ghost use Rattle.nofs_client.specs.Asks.{act_of, link_step, put_at, within_slot, task_asks, Answers, IsAnswered};
+ghost use Rattle.nofs_client.specs.Asks.{IsAnswered};
 ghost use Rattle.nofs_client.specs.Answers.{handle_of as handle_in, looked as looked_by, looked_new as looked_new_by, getting as getting_from};
 ghost use Rattle.nofs_client.specs.Answers.{task_after_stat as sized_by, acted as acted_by, next_stage as stage_after, linked as linked_by};
-ghost use Rattle.nofs_client.specs.Answers.{stored as stored_of, after_put as put_after, after_get as get_after, got_here, listing as listing_from};
+ghost use Rattle.nofs_client.specs.Answers.{stored as stored_of, after_put as put_after, after_get as get_after, listing as listing_from};
 ghost use Rattle.nofs_client.specs.Answers.{after_list as list_after, task_after as after_task};
 
 use crate::task::commands::Command;

@@ -1,5 +1,5 @@
 //! Which names a command looks up, and where it begins.
-ghost use Rattle.std.specs.Prelude.{◌≡◌, [], length, IfOk, slice_get, unwrap_or};
+ghost use Rattle.std.specs.Prelude.{◌≡◌, length, IfOk};
 ghost use Rattle.nofs_client.specs.Commands.{names_of};
 ghost use Rattle.nofs_client.specs.Places.{first_handle as begins_at, command_path as path_in, new_path_of as new_path_in, name_at as name_in};
 ghost use Rattle.nofs_client.specs.Places.{last_name as last_in, looks, new_looks};

@@ -1,9 +1,8 @@
 //! The next step of a command, as if there were always room.
-ghost use Rattle.std.specs.Prelude.{◌≡◌, ◌+◌, ◌-◌, ◌/◌, ◌%◌, ◌<◌, ◌≤◌, length, IfOk, take, drop, ℕ, List};
-ghost use Rattle.nofs_client.specs.Places.{command_path as path_in, new_path_of as new_path_in, name_at as name_in, last_name as last_in};
+ghost use Rattle.std.specs.Prelude.{◌≡◌, ◌+◌, ◌-◌, ◌/◌, ◌%◌, ◌<◌, IfOk, List};
 ghost use Rattle.nofs_client.specs.Task.{IsActing, IsPutting, TaskStands};
-ghost use Rattle.nofs_client.specs.Asks.{IsAsked, look_of, act_of, link_step, put_slot_step, put_at as place_of_put, put_slot as slot_of_put};
-ghost use Rattle.nofs_client.specs.Asks.{within_slot, task_asks};
+ghost use Rattle.nofs_client.specs.Asks.{IsAsked, look_of, act_of, link_step, put_slot_step};
+ghost use Rattle.nofs_client.specs.Asks.{task_asks};
 
 use crate::task::commands::Command;
 use crate::task::places::{Handle, Location, last_name, name_at, new_path_of, path_of};

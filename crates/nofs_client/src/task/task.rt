@@ -1,7 +1,6 @@
 //! Where a command stands, apart from the steps that make room.
 ghost use Rattle.std.specs.Prelude.{◌≡◌};
 ghost use Rattle.nofs_client.specs.Commands.{IsWellFormed};
-ghost use Rattle.nofs_client.specs.Places.{first_handle as begins_at, command_path as path_in, new_path_of as new_path_in};
 ghost use Rattle.nofs_client.specs.Task.{TaskStands, HasTwoPaths, first_stage as stage_of, arrived_new as arrived_at_new, acting as acting_at};
 ghost use Rattle.nofs_client.specs.Task.{arrived as arrived_at, first_task as first_task_of, refused as refused_by};
 

@@ -1,6 +1,5 @@
 //! A file gets another size.
-ghost use Rattle.std.specs.Prelude.{◌≡◌, ◌*◌, ◌<◌, ◌≤◌, ◌∷◌, [], false, true, IfSome, IsTrue};
-ghost use Rattle.nofs_inode.specs.InodeRecords.{largest_size};
+ghost use Rattle.std.specs.Prelude.{◌*◌, ◌<◌, ◌≤◌, ◌∷◌, [], true, IfSome};
 ghost use Rattle.nofs_agree.specs.Reading.{IsLast};
 ghost use Rattle.nofs_state.specs.Books.{IsSafe};
 ghost use Rattle.nofs_state.specs.Writing.{Stores, WritesAll};

@@ -15,7 +15,7 @@ use crate::putting::put::Put;
 use crate::reading::content::put_content;
 use nofs_agree::{LastRead, read_block};
 use nofs_disk::{Cell, Disk, Kind, Pointer, Tag, clear, write_tag};
-use nofs_history::{Claims, NO_CLAIMS, Refusal};
+use nofs_history::{NO_CLAIMS, Refusal};
 use nofs_inode::{Record, write_record};
 use nofs_model::{Place, slot_number};
 use nofs_ptrs::write_pointer;

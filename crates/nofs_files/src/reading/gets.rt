@@ -1,5 +1,4 @@
 //! The content of a slot.
-ghost use Rattle.std.specs.Prelude.{◌≡◌};
 ghost use Rattle.nofs_history.specs.Claims.{no_claims};
 ghost use Rattle.nofs_history.specs.declared.machine.steps.Step.TheVariants as step;
 ghost use Rattle.nofs_state.specs.Books.{IsSafe};

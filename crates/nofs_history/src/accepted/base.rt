@@ -3,7 +3,6 @@
 //! Promise: they are the files of its agreed inodes, and of no other.
 ghost use Rattle.std.specs.Prelude.{◌≡◌, ◌<◌, ◌≤◌, ℕ, IfOk, IsTrue, Some, length};
 ghost use Rattle.nofs_ptrs.specs.Paths.{slot_limit};
-ghost use Rattle.nofs_disk.specs.Number.{number_at};
 ghost use Rattle.nofs_history.specs.History.{agreed_files};
 ghost use Rattle.nofs_model.specs.Files.{file_from};
 ghost use Rattle.nofs_model.specs.Geometry as image;

@@ -8,7 +8,6 @@ ghost use Rattle.nofs_mirror.specs.Past.{past_calls};
 use crate::sides::asking::{SideAnswer, SideCall, any_done, lead_stays, other_stays};
 use crate::sides::past::{Effect, MirrorCall, Past, Span};
 use nofs_disk::Failed;
-use std::alloc::AllocError;
 use std::mem;
 use std::snapshot::Snapshot;
 

@@ -21,7 +21,6 @@ use crate::finding::inodes::ReadInode;
 use crate::finding::opening::{NameIn, find_pair, open_named};
 use crate::finding::pairing::same_link;
 use crate::finding::pairs::NamedPair;
-use crate::finding::searching::Paired;
 use crate::finding::tables::with_record;
 use nofs_agree::{LastRead, read_block};
 use nofs_dirent::clear_entry;

@@ -2,7 +2,7 @@
 //!
 //! Promise: each worker has a caller of its own. Users are `FIRST_USER` and up, in their order; the sweeper of the inodes
 //! is `INODE_SWEEPER`, that of the blocks `BLOCK_SWEEPER`, and the flusher, which makes no step, `FLUSHER`.
-ghost use Rattle.std.specs.Prelude.{◌≡◌, ℕ, ◌+◌, ◌<◌, ◌≤◌, ◌^◌, List, [], All, length, map, vec_len, vec_capacity};
+ghost use Rattle.std.specs.Prelude.{◌≡◌, ◌+◌, ◌<◌, ◌≤◌, ◌^◌, [], All, map, vec_len, vec_capacity};
 ghost use Rattle.nofs_turn.specs.declared.turn_rule.view.View.{View};
 ghost use Rattle.nofs_turn.specs.Turns.{view_of, IsPassOf};
 ghost use Rattle.nofs_history.specs.declared.machine.history.Entry1.{Entry1};

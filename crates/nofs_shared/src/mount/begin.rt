@@ -1,5 +1,4 @@
 //! What a mount needs before it raises the mount number.
-ghost use Rattle.std.specs.Prelude.{◌≡◌, ◌^◌, ◌≤◌};
 ghost use Rattle.nofs_shared.specs.Begins.{Prepares};
 
 use nofs_disk::Disk;

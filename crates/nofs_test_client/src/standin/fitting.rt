@@ -1,5 +1,5 @@
 //! Which replies fit a step.
-ghost use Rattle.std.specs.Prelude.{◌≡◌, ◌≤◌, ◌<◌, ◌^◌, IsTrue, All, length};
+ghost use Rattle.std.specs.Prelude.{◌<◌, IsTrue, All};
 ghost use Rattle.nofs_dirent.specs.Names.{is_name};
 ghost use Rattle.nofs_history.specs.Steps.{Fits, InRange};
 

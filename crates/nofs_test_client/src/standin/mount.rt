@@ -1,5 +1,5 @@
 //! The stand-in itself.
-ghost use Rattle.std.specs.Prelude.{◌≡◌, []};
+ghost use Rattle.std.specs.Prelude.{◌≡◌};
 ghost use Rattle.nofs_history.specs.Steps.{Fits};
 
 use crate::standin::fitting::fits;

@@ -1,5 +1,5 @@
 //! What a stand-in for a mount replies; it notes the elements that it is asked for.
-ghost use Rattle.std.specs.Prelude.{◌≡◌, ◌^◌, ◌<◌, All};
+ghost use Rattle.std.specs.Prelude.{◌≡◌, ◌^◌, ◌<◌};
 ghost use Rattle.nofs_history.specs.declared.machine.steps.ElementKind.TheVariants.{Inode};
 ghost use Rattle.nofs_workers.specs.Sweeps.{AreInRange, see_of as step_to_see};
 

@@ -1,6 +1,4 @@
 //! A file that is moved by a client of a pass.
-ghost use Rattle.std.specs.Prelude.{◌↔◌, IsTrue};
-ghost use Rattle.nofs_client.specs.Commands.{IsWellFormed};
 
 use crate::mounts::mounted;
 use nofs_client::{Client, Command, Line, Path};

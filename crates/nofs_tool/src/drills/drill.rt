@@ -4,7 +4,7 @@
 //! made all durable, and the numbers are those of the lines, of these reads, and of a replay of the history. Where none is told
 //! each of them may have ended early, and made no other steps.
 
-ghost use Rattle.std.specs.Prelude.{◌≡◌, ◌≤◌, ◌∷◌, ◌++◌, ◌+◌, [], false, sum_by, count_by, All, List, map, vec_len, IfOk, IfSome, OnOk};
+ghost use Rattle.std.specs.Prelude.{◌≡◌, ◌≤◌, ◌∷◌, ◌++◌, ◌+◌, [], false, sum_by, count_by, All, map, vec_len, IfOk, IfSome, OnOk};
 ghost use Rattle.nofs_client.specs.Commands.{AreWellFormed};
 ghost use Rattle.nofs_gen.specs.Script.{script_of as script_in};
 ghost use Rattle.nofs_tool.specs.Serving.{IsClosed};

@@ -3,7 +3,7 @@
 //! Promise: its numbers are those of the definition, for what was read and a plain replay of the history. A number that 64 bits
 //! can't hold is told as want of memory: no file system is that large.
 
-ghost use Rattle.std.specs.Prelude.{◌≡◌, ◌≤◌, ◌<◌, ◌+◌, ◌*◌, IfOk, take, flat_map, if◌then◌else◌, sum, sum_by, count_by};
+ghost use Rattle.std.specs.Prelude.{◌≡◌, ◌≤◌, ◌<◌, ◌+◌, ◌*◌, IfOk, take, if◌then◌else◌, sum, sum_by, count_by};
 ghost use Rattle.nofs_history.specs.Machine.{cut_of};
 ghost use Rattle.nofs_gen.specs.Replay.{slot_value};
 ghost use Rattle.nofs_tool.specs.Drill.{drill_line, is_bytes_read as is_bytes_in, is_hole_read as is_hole_in, is_refused_line};

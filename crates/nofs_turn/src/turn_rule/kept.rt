@@ -1,7 +1,7 @@
 //! What lies behind a turn, and what is done to it there.
 //!
 //! Promise: a section keeps the fixed part and every entry, and adds at most one.
-ghost use Rattle.std.specs.Prelude.{◌≡◌, ℕ, ◌+◌, ◌^◌, ◌<◌, ◌≤◌, List, ◌++◌, length};
+ghost use Rattle.std.specs.Prelude.{◌≡◌, ◌+◌, ◌^◌, ◌<◌, ◌≤◌, List, ◌++◌, length};
 ghost use mathlib.Core.List.{IsPrefix};
 
 /// A value that keeps a list of entries beside a part that never changes.

@@ -1,7 +1,7 @@
 //! The bytes that came and weren't used yet, at most one frame and the length of the next.
 //!
 //! Promise: bytes are kept in the order in which they came, none lost and none twice.
-ghost use Rattle.std.specs.Prelude.{◌≡◌, ◌+◌, ◌-◌, ◌<◌, ◌≤◌, ◌^◌, ◌++◌, [], IfOk, IsErr, OnErr, drop, length, take, vec_len};
+ghost use Rattle.std.specs.Prelude.{◌≡◌, ◌+◌, ◌-◌, ◌<◌, ◌≤◌, ◌^◌, [], IfOk, drop, length, take, vec_len};
 ghost use Rattle.nofs_io.specs.Calls.{HasCause};
 ghost use Rattle.nofs_wire.specs.Inbox.{InboxState, TakesInto, TakesMore};
 

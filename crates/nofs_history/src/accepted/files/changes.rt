@@ -1,7 +1,6 @@
 //! How one inode's file changes.
-ghost use Rattle.std.specs.Prelude.{◌≡◌, ◌<◌, ◌≤◌, ℕ, IfOk, IfSome, IsNone, OnOk, Some, None, false, option_map};
+ghost use Rattle.std.specs.Prelude.{◌≡◌, ◌<◌, IfOk, IfSome, IsNone, OnOk, Some, None, false, option_map};
 ghost use Rattle.nofs_ptrs.specs.Paths.{slot_limit};
-ghost use Rattle.nofs_history.specs.Machine as machine;
 ghost use Rattle.nofs_history.specs.Accepted.Files.{value_now, file_of, kept_files_of, with_file, with_value, has_generation};
 
 use crate::accepted::files::file::{FileNow, FilesNow, ValueNow};

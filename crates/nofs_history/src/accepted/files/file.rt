@@ -1,6 +1,5 @@
 //! The files of the machine, whole in memory, and the entries of their directories.
-ghost use Rattle.std.specs.Prelude.{◌≡◌, ◌<◌, ◌≤◌, ◌/◌, ℕ, IfOk, IfSome, IsNone, length, Some, None};
-ghost use Rattle.std.specs.Option.{option_copied as copied};
+ghost use Rattle.std.specs.Prelude.{◌≡◌, ◌<◌, ◌/◌, IfOk, IfSome, IsNone, Some, None};
 ghost use Rattle.nofs_history.specs.Machine as machine;
 ghost use Rattle.nofs_model.specs.Files as files;
 ghost use Rattle.nofs_model.specs.declared.image.value.Value.TheVariants as value;

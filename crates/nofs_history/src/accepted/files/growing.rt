@@ -1,5 +1,5 @@
 //! Lists whose places behind the last one count as empty.
-ghost use Rattle.std.specs.Prelude.{◌≡◌, ◌≤◌, ◌<◌, ℕ, OnOk, length, slice_get, slice_set};
+ghost use Rattle.std.specs.Prelude.{◌≡◌, ◌≤◌, ◌<◌, ℕ, OnOk, length, slice_get};
 ghost use Rattle.nofs_history.specs.Accepted.Files.{value_at, file_at};
 
 use crate::accepted::files::file::{FileNow, ValueNow};

@@ -1,5 +1,5 @@
 //! How the back links of a file change.
-ghost use Rattle.std.specs.Prelude.{◌≡◌, ◌<◌, ◌≤◌, ◌&&◌, not, ℕ, IfOk, IfSome, None, Some, drop, ◌∷◌, [], if◌then◌else◌};
+ghost use Rattle.std.specs.Prelude.{◌≡◌, ◌<◌, ◌&&◌, not, IfOk, IfSome, None, Some, drop, ◌∷◌, [], if◌then◌else◌};
 ghost use Rattle.std.specs.List.{list_any};
 ghost use Rattle.nofs_history.specs.Machine as machine;
 ghost use Rattle.nofs_inode.specs.InodeRecords.{is_empty_link};

@@ -1,5 +1,5 @@
 //! Which names of a directory lead to files, and where a new one goes.
-ghost use Rattle.std.specs.Prelude.{◌≡◌, ◌<◌, ◌≤◌, ◌+◌, ◌/◌, ◌&&◌, ℕ, IfOk, IfSome, IsNone, Some, None, bytes_eq};
+ghost use Rattle.std.specs.Prelude.{◌≡◌, ◌<◌, ◌≤◌, ◌+◌, ◌&&◌, IfOk, IfSome, Some, None};
 ghost use Rattle.std.specs.List.{list_any};
 ghost use Rattle.nofs_dirent.specs.Entries.{entry_limit};
 ghost use Rattle.nofs_inode.specs.declared.inode.FileKind.TheVariants as kind;

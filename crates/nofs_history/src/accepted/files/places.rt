@@ -1,5 +1,5 @@
 //! Where a new entry goes.
-ghost use Rattle.std.specs.Prelude.{◌≡◌, ◌<◌, ◌≤◌, ◌+◌, ◌*◌, ◌/◌, ◌&&◌, ◌∷◌, [], not, ℕ, IfOk, IfSome, Some, None, is_some, option_map};
+ghost use Rattle.std.specs.Prelude.{◌≡◌, ◌<◌, ◌≤◌, ◌+◌, ◌*◌, ◌/◌, ◌&&◌, ◌∷◌, [], not, IfOk, IfSome, Some, None, is_some, option_map};
 ghost use Rattle.nofs_dirent.specs.Entries.{entry_limit};
 ghost use Rattle.nofs_history.specs.Machine as machine;
 ghost use Rattle.nofs_history.specs.Meta as meta;

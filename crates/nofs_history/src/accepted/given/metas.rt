@@ -1,5 +1,5 @@
 //! What an accepted step makes of a file beside its content.
-ghost use Rattle.std.specs.Prelude.{◌≡◌, ◌<◌, ℕ, IfOk, max};
+ghost use Rattle.std.specs.Prelude.{◌≡◌, ◌<◌, IfOk, max};
 ghost use Rattle.nofs_history.specs.Meta.{Is};
 ghost use Rattle.nofs_history.specs.Machine as machine;
 ghost use Rattle.nofs_history.specs.Accepted.Files.{kept_files_of};

@@ -1,5 +1,5 @@
 //! The value that an accepted step gives to one slot.
-ghost use Rattle.std.specs.Prelude.{◌≡◌, ◌<◌, ◌≤◌, ◌+◌, ◌&&◌, ◌==◌, ℕ, IfOk, Some, None, if◌then◌else◌};
+ghost use Rattle.std.specs.Prelude.{◌≡◌, ◌<◌, ◌+◌, ◌&&◌, ◌==◌, IfOk, Some, None, if◌then◌else◌};
 ghost use Rattle.nofs_ptrs.specs.Paths.{slot_limit};
 ghost use Rattle.nofs_model.specs.declared.image.value.Value.TheVariants as value;
 ghost use Rattle.nofs_history.specs.Machine as machine;
