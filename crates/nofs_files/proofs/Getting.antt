@@ -31,12 +31,23 @@ use Rattle.nofs_state.specs.declared.books.Books.{Books}
 use Rattle.nofs_state.proofs.Replies.{goes-row, goes-read, goes-answer, open-files}
 use Rattle.nofs_state.proofs.Rows.{IsLate, first-late, late-row}
 use Rattle.nofs_state.proofs.Machine.{are-agreed, stale-none}
+use Rattle.nofs_state.proofs.Keeping.{goes-memory, reads-keep}
 use Rattle.nofs_files.specs.Answers.{OpensFile, slots_of}
 use Rattle.nofs_files.proofs.FileRows.{current-agreed, folder-is, goes-unfiled, large-none, large-some, slots-most, value-is}
 
 reads : (i g k : ℕ) → IsReading (step.Get i g k)
 unfolding gives
 reads i g k = record { no_inode = refl; no_block = λ F. refl; gives = λ F. refl; no_slot = λ F. refl; sees_no_inode = λ j. refl; sees_no_block = λ p. refl }
+
+-- it may be one that found no memory, wherever it ends
+module _ (old : DiskState) (k : Books) (i g slot : ℕ) (safe : IsSafe old k) where
+  pub get-memory : (new : DiskState) → StaysButFaults old new
+      → Goes old k new k (step.Get i g slot) no_claims (reply.Refused refusal.OutOfMemory)
+  get-memory new stays = goes-memory old new (reads-keep old new stays) k (step.Get i g slot) no_claims safe
+
+  pub get-memory-found : (mid new : DiskState) → StaysButFaults old mid → StaysButFaults mid new
+      → Goes old k new k (step.Get i g slot) no_claims (reply.Refused refusal.OutOfMemory)
+  get-memory-found mid new opened found = get-memory new (StaysButFaults-trans old mid new opened found)
 
 module _ {old : DiskState} {k : Books} (i g slot : ℕ) (is : IsDisk old) (safe : IsSafe old k) (going : k.stopped ≡ false) where
   pub get-large : slots_of k.at ≤ slot → Goes old k old k (step.Get i g slot) no_claims (reply.Refused refusal.TooLarge)

@@ -1,6 +1,6 @@
 -- What stays over a Put.
 use Rattle.std.proofs.Common.{◌≡◌, ℕ, ◌<◌, inl, inr, Bool, true, false, cond, eqb, leb, ltb, ◌&&◌, List, Option, Some, None, unwrap_or, refl, sym, ap, ◌∙◌}
-use Rattle.std.proofs.Common.{subst, arith}
+use Rattle.std.proofs.Common.{subst, arith, zero, suc, ◌-◌, ◌++◌, ◌∷◌, take}
 use Rattle.std.proofs.lemmas.Bool.{cases_eq}
 use Rattle.std.proofs.lemmas.Bool.Decides.{nat_tests}
 use Rattle.nofs_ptrs.specs.Paths.{slot_limit}
@@ -83,3 +83,23 @@ pub same-content : (v : Value) (size slot at : ℕ) (bytes : List ℕ) → is_by
     → put_content (Bytes (number.zeros 1024)) size slot at bytes ≡ put_content v size slot at bytes
 unfolding put_content
 same-content v size slot at bytes e = ap (λ (old : List ℕ). put_bytes at bytes (trimmed (cut_of size slot) old)) (sym (bytes-none v e))
+
+-- zeros from a place on leave zeros as they are
+pub trimmed-zeros : (cut n : ℕ) → take cut (number.zeros n) ++ number.zeros (n - cut) ≡ number.zeros n
+unfolding number.zeros
+trimmed-zeros zero n =
+    let all : n - 0 ≡ n = omega arith in
+    ap number.zeros all
+trimmed-zeros (suc cut) zero =
+    let none : zero - suc cut ≡ zero = omega arith in
+    ap number.zeros none
+trimmed-zeros (suc cut) (suc n) =
+    let less : suc n - suc cut ≡ n - cut = omega arith in
+    let first : ℕ = 0 in
+    rw less (ap (λ (rest : List ℕ). first ∷ rest) (trimmed-zeros cut n))
+
+-- the content of a slot that had no bytes: these, and zeros around them
+pub fresh-content : (size slot at : ℕ) (bytes : List ℕ)
+    → put_content (Bytes (number.zeros 1024)) size slot at bytes ≡ put_bytes at bytes (number.zeros 1024)
+unfolding put_content trimmed number.zeros
+fresh-content size slot at bytes = ap (put_bytes at bytes) (trimmed-zeros (cut_of size slot) 1024)

@@ -2,5 +2,4 @@ pub mod Joining
 pub mod Gathering
 pub mod Working
 pub mod Teaming
-pub mod Looking
 pub mod Visiting

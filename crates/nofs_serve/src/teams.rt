@@ -2,5 +2,4 @@
 pub(crate) mod gather;
 pub(crate) mod lend;
 pub(crate) mod team;
-pub(crate) mod way;
 pub(crate) mod works;

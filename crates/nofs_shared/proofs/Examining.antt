@@ -1,5 +1,6 @@
 -- What a pass knows after a batch was looked at, or a verdict committed.
-use Rattle.std.proofs.Common.{◌≡◌, ℕ, ◌+◌, ◌<◌, ◌≤◌, List, ◌++◌, length, drop, Some, sym, ap, ◌∙◌, subst, append-nil, le_refl}
+use Rattle.std.proofs.Common.{◌≡◌, ℕ, ◌+◌, ◌<◌, ◌≤◌, List, ◌++◌, length, drop, Some, refl, sym, ap, ◌∙◌, subst}
+use Rattle.std.proofs.Common.{append-nil, le_refl}
 use Rattle.std.specs.Prelude.{Result, Ok, Err, IfOk}
 use Rattle.std.proofs.lemmas.List.{drop_all}
 use mathlib.Core.List.{IsPrefix}
@@ -8,8 +9,12 @@ use Rattle.nofs_turn.specs.Lists.{numbered}
 use Rattle.nofs_turn.specs.Passes.{MayRun, Ran}
 use Rattle.nofs_turn.proofs.Words.{prefix_trans}
 use Rattle.nofs_history.specs.declared.machine.history.Entry1.{Entry1}
+use Rattle.nofs_history.specs.declared.machine.steps.ElementKind.{ElementKind}
+use Rattle.nofs_history.specs.declared.machine.steps.ElementKind.TheVariants as element
 use Rattle.nofs_history.specs.declared.machine.steps.Step.{Step}
 use Rattle.nofs_history.specs.declared.machine.replies.Reply.{Reply}
+use Rattle.nofs_scan.specs.Elements.{see_step}
+use Rattle.nofs_workers.specs.Sweeps.{see_of}
 use Rattle.nofs_shared.specs.Commits.{CommitRan}
 use Rattle.nofs_shared.specs.Owned.{TellsStep}
 use Rattle.nofs_shared.specs.Seats.{SameSeat}
@@ -84,3 +89,8 @@ module _ {F : Type 0} (commits : F → List Entry1 → Reply → Type 0) (caller
     at_most_one = subst (λ (l : List Entry1). length l ≤ length h.before + 1) (sym (ap (λ (u : View Entry1 F). u.seen) h.now)) h.at_most_one;
     says = h.told.1;
   }
+
+-- the step that examines an element is one, whether a sweeper makes it or a scan
+pub same-see : (kind : ElementKind) (item : ℕ) → see_step kind item ≡ see_of kind item
+same-see element.Inode item = refl
+same-see element.Block item = refl

@@ -1,3 +1,4 @@
+pub mod Contents
 pub mod RestingImages
 pub mod Mounting
 pub mod Owning

@@ -1,3 +1,4 @@
+pub mod Contents
 pub mod Forms
 pub mod Sees
 pub mod Mounts

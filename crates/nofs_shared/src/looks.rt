@@ -12,6 +12,7 @@ use crate::mount::serves::Serves;
 use crate::shared::SharedPass;
 use nofs_history::{ElementKind, Refusal, Reply};
 use nofs_turn::Section;
+use nofs_workers::Batches;
 use std::alloc::Global;
 use std::sync::Wait;
 
@@ -108,5 +109,28 @@ impl<R: Wait, V: Serves> SharedPass<'_, R, V> {
             used,
         };
         self.turn.with(self.rt, &mut self.pass, settle)
+    }
+}
+
+impl<R: Wait, V: Serves> Batches for SharedPass<'_, R, V> {
+    ghost use Rattle.nofs_turn.specs.Turns.{view_of};
+    ghost use Rattle.nofs_turn.specs.Passes.{MayRun};
+
+    type Evidence = V::Evidence;
+
+    ghost looked = { λ e. record { kind = V.kind_of e; items = V.items_in e; verdict = V.verdict_in e } };
+
+    ghost owns = { λ p e. MayRun (V.is_of e) (view_of p.pass) };
+
+    fn look_batch(&mut self, kind: ElementKind, items: &[u64]) -> Result<V::Evidence, Refusal> {
+        SharedPass::look_batch(self, kind, items)
+    }
+
+    fn judge(evidence: &V::Evidence, at: u32) -> bool {
+        V::judge(evidence, at)
+    }
+
+    fn commit(&mut self, evidence: &V::Evidence, at: u32, used: bool) -> Reply {
+        SharedPass::commit(self, evidence, at, used)
     }
 }

@@ -12,6 +12,7 @@ use crate::mount::serves::Serves;
 use crate::shared::SharedPass;
 use nofs_disk::OutFault;
 use nofs_turn::Section;
+use nofs_workers::WritesOut;
 use std::sync::Wait;
 use std::sync::atomic::{AtomicBool, Ordering};
 
@@ -66,5 +67,16 @@ impl<R: Wait, V: Serves> SharedPass<'_, R, V> {
             return Ok(None);
         }
         self.take_out()
+    }
+}
+
+impl<R: Wait, V: Serves> WritesOut for SharedPass<'_, R, V> {
+    ghost use Rattle.std.specs.Prelude.{◌<◌};
+    ghost use Rattle.nofs_turn.specs.Turns.{view_of};
+
+    ghost wrote = { λ old _ new. (view_of old.pass).looks < (view_of new.pass).looks };
+
+    fn write_out(&mut self) -> Result<Option<u64>, OutFault> {
+        SharedPass::write_out(self)
     }
 }

@@ -1,4 +1,8 @@
-//! Passes by which callers make steps at a shared mount.
+//! Passes by which callers make steps at a shared mount. Workers take one as their way to it.
+//!
+//! Promise: a step is made under one turn, and its entry is the pass's own. A batch is looked at under one turn, and
+//! each of its verdicts is committed under a later one. A write-out makes no step, and takes the turn only where a
+//! block may be kept back.
 ghost use Rattle.std.specs.Prelude.{◌≡◌, ◌+◌, ◌/◌, ◌%◌, ◌<◌, ◌≤◌, true, [], length, IfOk, IfErr};
 ghost use Rattle.nofs_turn.specs.Turns.{view_of, IsPassOf};
 ghost use Rattle.nofs_turn.specs.Views.{looked};
@@ -118,9 +122,11 @@ impl<'a, R, V: Serves> SharedPass<'a, R, V> {
         self.turn.count(&mut self.pass)
     }
 
-    /// The pass, with its entries.
+    /// The pass, handed back with its entries. They are all its caller's.
     pub fn back(self) -> Pass<V>
-        ensures { result ≡ self.entry.pass }
+        ensures same { result ≡ self.entry.pass }
+        ensures of { IsPassOf self.entry.turn.now result }
+        ensures own { all_by self.entry.caller (view_of result).mine ≡ true }
     {
         let SharedPass { pass, .. } = self;
         pass

@@ -56,7 +56,7 @@ pub(crate) fn put_in_hole<D: Disk + Drop>(
         Err(why) => return refused(why),
     }
     let claims = claim_one(&mut core.books, block);
-    let cell = content_cell(put, it.size, claims.cell.stamp);
+    let cell = content_cell(put, claims.cell.stamp);
     let it = pointed(it, size_after(put, it.size), put.slot, claims.cell);
     let table = record_cell(&last.cell, put.inode, &it);
     Ended {
@@ -102,7 +102,7 @@ pub(crate) fn put_below<D: Disk + Drop>(
         Err(why) => return refused(why),
     }
     let claims = claim_one(&mut core.books, block);
-    let cell = content_cell(put, it.size, claims.cell.stamp);
+    let cell = content_cell(put, claims.cell.stamp);
     write_pointer(&mut pointers.payload, place, claims.cell);
     let table = record_cell(&last.cell, put.inode, &sized(it, size_after(put, it.size)));
     let number = table_block(put.inode);
@@ -163,7 +163,7 @@ pub(crate) fn put_with_leaf<D: Disk + Drop>(
         Err(why) => return refused(why),
     }
     let claims = claim_two(&mut core.books, two);
-    let cell = content_cell(put, it.size, claims.cell.stamp);
+    let cell = content_cell(put, claims.cell.stamp);
     let above = Place::InRecord(8);
     let leaf = pointers_cell(put, above, claims.leaf.stamp, place, claims.cell);
     let it = rooted(it, size_after(put, it.size), 8, claims.leaf);
@@ -221,7 +221,7 @@ pub(crate) fn put_with_child<D: Disk + Drop>(
         place: child,
     };
     let pointers = pointers_cell(put, above, claims.leaf.stamp, place, claims.cell);
-    let cell = content_cell(put, it.size, claims.cell.stamp);
+    let cell = content_cell(put, claims.cell.stamp);
     let table = record_cell(&last.cell, put.inode, &sized(it, size_after(put, it.size)));
     let number = table_block(put.inode);
     Ended {
@@ -265,7 +265,7 @@ pub(crate) fn put_with_top<D: Disk + Drop>(
         Err(why) => return refused(why),
     }
     let claims = claim_three(&mut core.books, three);
-    let cell = content_cell(put, it.size, claims.cell.stamp);
+    let cell = content_cell(put, claims.cell.stamp);
     let above = Place::UnderRecord {
         at: 9,
         place: child,

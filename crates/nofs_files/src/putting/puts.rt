@@ -1,7 +1,8 @@
 //! What every Put needs, and the Puts that write no block of pointers.
-ghost use Rattle.std.specs.Prelude.{◌≡◌, ◌+◌, ◌*◌, ◌-◌, ◌/◌, ◌<◌, ◌≤◌, Err, length, IsTrue};
+ghost use Rattle.std.specs.Prelude.{◌≡◌, ℕ, ◌+◌, ◌*◌, ◌-◌, ◌/◌, ◌<◌, ◌≤◌, Err, Some, length, IsTrue};
 ghost use Rattle.nofs_disk.specs.Disk.{cell_at};
 ghost use Rattle.nofs_disk.specs.Number.{zeros};
+ghost use Rattle.nofs_disk.specs.Tag.{HasTagSpelling, tag_of};
 ghost use Rattle.nofs_ptrs.specs.Paths.{slot_limit};
 ghost use Rattle.nofs_inode.specs.InodeRecords.{HasRecordSpelling};
 ghost use Rattle.nofs_model.specs.Places.{IsPlace, place_path};
@@ -14,7 +15,7 @@ ghost use Rattle.nofs_files.specs.Putting.{HeldAt, IsContent, IsRecordCell, MayP
 use crate::putting::put::Put;
 use crate::reading::content::put_content;
 use nofs_agree::{LastRead, read_block};
-use nofs_disk::{Cell, Disk, Kind, Pointer, Tag, clear, write_tag};
+use nofs_disk::{Cell, Disk, Kind, Pointer, Tag, write_bytes_at, write_tag};
 use nofs_history::{NO_CLAIMS, Refusal};
 use nofs_inode::{Record, write_record};
 use nofs_model::{Place, slot_number};
@@ -79,17 +80,23 @@ pub(crate) fn record_cell(old: &Cell, inode: u32, it: &Record) -> Cell
     table
 }
 
-fn clear_payload(payload: &mut [u8; 1024])
-    ensures { payload.new ≡ zeros 1024 }
+// A cell of zeros but for its tag, which names this owner.
+#[tactic(auto, unfolding(nofs_disk::specs::Number::zeros))]
+fn empty_cell(owner: &Tag) -> Cell
+    requires { HasTagSpelling owner.now }
+    ensures tag { tag_of result.tag ≡ Some owner.now }
+    ensures payload { result.payload ≡ zeros 1024 }
 {
-    clear(payload);
+    let mut cell = Cell::ZERO;
+    write_tag(owner, &mut cell.tag);
+    cell
 }
 
 /// The cell of a slot that had no bytes, in a block with this stamp.
-pub(crate) fn content_cell(put: &Put<'_>, size: u64, stamp: u64) -> Cell
+pub(crate) fn content_cell(put: &Put<'_>, stamp: u64) -> Cell
     requires slot { put.now.slot < slot_limit }
     requires range { put.now.at + length put.now.bytes.now ≤ 1024 }
-    ensures { IsContent put.now size stamp result }
+    ensures { (size : ℕ) → IsContent put.now size stamp result }
 {
     let owner = Tag {
         kind: Kind::Content,
@@ -98,16 +105,8 @@ pub(crate) fn content_cell(put: &Put<'_>, size: u64, stamp: u64) -> Cell
         slot: put.slot,
         stamp,
     };
-    let mut cell = Cell::ZERO;
-    write_tag(&owner, &mut cell.tag);
-    clear_payload(&mut cell.payload);
-    put_content(
-        &mut cell.payload,
-        size,
-        put.slot,
-        put.at as usize,
-        put.bytes,
-    );
+    let mut cell = empty_cell(&owner);
+    write_bytes_at(&mut cell.payload, put.at as usize, put.bytes);
     cell
 }
 
@@ -130,9 +129,7 @@ pub(crate) fn pointers_cell(
         slot: slot_number(above),
         stamp,
     };
-    let mut cell = Cell::ZERO;
-    write_tag(&owner, &mut cell.tag);
-    clear_payload(&mut cell.payload);
+    let mut cell = empty_cell(&owner);
     write_pointer(&mut cell.payload, place, it);
     cell
 }

@@ -1,6 +1,8 @@
 //! The content of a slot.
 ghost use Rattle.nofs_history.specs.Claims.{no_claims};
 ghost use Rattle.nofs_history.specs.declared.machine.steps.Step.TheVariants as step;
+ghost use Rattle.nofs_history.specs.declared.machine.replies.Refusal.TheVariants as refusal;
+ghost use Rattle.nofs_history.specs.declared.machine.replies.Reply.TheVariants as reply;
 ghost use Rattle.nofs_state.specs.Books.{IsSafe};
 ghost use Rattle.nofs_state.specs.Steps.{Goes};
 ghost use Rattle.nofs_files.specs.Answers.{got_answer};
@@ -22,7 +24,9 @@ pub enum Got {
     Lost,
 }
 
-/// Reads a slot of a file, whatever the size. Where there are bytes, `into` has them.
+/// Reads a slot of a file, whatever the size. Where there are bytes, `into` has them. It has only read, so its caller
+/// may still
+/// find no memory for them.
 pub fn get<D: Disk + Drop>(
     core: &mut Core<D>,
     inode: u32,
@@ -31,8 +35,10 @@ pub fn get<D: Disk + Drop>(
     into: &mut [u8; 1024],
 ) -> Result<Got, Refusal>
     requires { IsSafe (D.state core.old.disk) core.old.books }
-    ensures { Goes (D.state core.old.disk) core.old.books (D.state core.new.disk) core.new.books
+    ensures goes { Goes (D.state core.old.disk) core.old.books (D.state core.new.disk) core.new.books
         (step.Get inode generation slot) no_claims (got_answer into.new result) }
+    ensures memory { Goes (D.state core.old.disk) core.old.books (D.state core.new.disk) core.new.books
+        (step.Get inode generation slot) no_claims (reply.Refused refusal.OutOfMemory) }
 {
     if core.books.stopped {
         return Err(Refusal::Stopped);

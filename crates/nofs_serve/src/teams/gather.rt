@@ -12,9 +12,8 @@ ghost use Rattle.nofs_serve.specs.Joins.{JoinsOwn, Gathers, made_by};
 ghost use Rattle.nofs_serve.specs.Teams.{Stand, HasRun};
 ghost use Rattle.nofs_serve.specs.Served.{UsersGathered};
 
-use crate::teams::way::Way;
 use nofs_client::LineList;
-use nofs_shared::{Serves, SharedMount};
+use nofs_shared::{Serves, SharedMount, SharedPass};
 use nofs_turn::Pass;
 use nofs_workers::{Gate, UserEnd, UserWorker};
 use std::sync::Wait;
@@ -31,11 +30,11 @@ pub struct Gathered<V: Serves> {
 pub(crate) fn join_way<R, V: Serves>(
     shared: &SharedMount<V>,
     into: &mut Pass<V>,
-    way: Way<'_, R, V>,
+    way: SharedPass<'_, R, V>,
 )
-    requires of { IsPassOf shared.now.turn into.old × (way.pass.turn.now ≡ shared.now.turn) }
+    requires of { IsPassOf shared.now.turn into.old × (way.turn.now ≡ shared.now.turn) }
     ensures of { IsPassOf shared.now.turn into.new }
-    ensures joined { JoinsOwn way.entry.pass.caller (view_of into.old) (view_of way.entry.pass.pass) (view_of into.new) }
+    ensures joined { JoinsOwn way.entry.caller (view_of into.old) (view_of way.entry.pass) (view_of into.new) }
 {
     let from = way.back();
     shared.join(into, from);
@@ -51,19 +50,19 @@ pub(crate) fn either(one: bool, two: bool) -> bool
 /// Takes the users apart, of whom the last one is the first user. The list of lines has room for them.
 pub(crate) fn gather_users<R: Wait, V: Serves, T: Gate + Drop>(
     shared: &SharedMount<V>,
-    users: Vec<UserWorker<Way<'_, R, V>, T>>,
+    users: Vec<UserWorker<SharedPass<'_, R, V>, T>>,
     begun: Gathered<V>,
 ) -> Gathered<V>
     requires of { IsPassOf shared.now.turn begun.pass }
-    requires ways { All (λ w. w.client.steps.steps.pass.turn.now ≡ shared.now.turn) users.items }
+    requires ways { All (λ w. w.client.steps.steps.turn.now ≡ shared.now.turn) users.items }
     requires lines { begun.lines.items ≡ [] }
     requires room { vec_len begun.lines + vec_len users ≤ vec_capacity begun.lines }
     ensures of { IsPassOf shared.now.turn result.pass }
     ensures gathered { (v : View Entry1 V.Fixed) (scripts : List (List Command)) (count : ℕ) → v.stands ≡ 1
         → ((c : ℕ) → 1 ≤ c → c ≤ length scripts → made_by c (view_of begun.pass) ≡ [])
         → Gathers v (view_of begun.pass) count
-        → Stand (HasRun (λ c way. (way.pass.caller ≡ c) × SameSeat v (view_of way.pass.pass))
-        (λ way. own_steps (view_of way.pass.pass).mine)) 1 scripts users.entry.items
+        → Stand (HasRun (λ c way. (way.caller ≡ c) × SameSeat v (view_of way.pass))
+        (λ way. own_steps (view_of way.pass).mine)) 1 scripts users.entry.items
         → Gathers v (view_of result.pass) (count + length scripts)
         × UsersGathered scripts begun.out_of_memory result.out_of_memory result.lines.items (view_of begun.pass) (view_of result.pass) }
 {

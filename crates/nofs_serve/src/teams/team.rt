@@ -12,10 +12,9 @@ ghost use Rattle.nofs_serve.specs.Served.{TeamGathered};
 
 use crate::teams::gather::{Gathered, either, gather_users, join_way};
 use crate::teams::lend::work_team;
-use crate::teams::way::Way;
 use nofs_client::{CommandList, LineList};
 use nofs_history::{BLOCK_SWEEPER, FLUSHER, INODE_SWEEPER, MOST_USERS};
-use nofs_shared::{Serves, SharedMount};
+use nofs_shared::{Serves, SharedMount, SharedPass};
 use nofs_turn::Pass;
 use nofs_workers::{BlockSweeper, Downwards, Flusher, Gate, InodeSweeper, Upwards, UserWorker};
 use std::alloc::Global;
@@ -47,7 +46,7 @@ pub struct WriteOuts<T> {
 /// What a team is put together in: room for its users, and for their lines.
 #[derive(Drop)]
 pub struct TeamRoom<'a, R: Wait, V: Serves, T: Gate> {
-    pub users: Vec<UserWorker<Way<'a, R, V>, T>>,
+    pub users: Vec<UserWorker<SharedPass<'a, R, V>, T>>,
     pub lines: Vec<LineList>,
 }
 
@@ -58,20 +57,18 @@ pub(crate) fn seat<'a, R, V: Serves>(
     shared: &'a SharedMount<V>,
     caller: u32,
     passes: &mut Vec<Pass<V>>,
-) -> Way<'a, R, V>
+) -> SharedPass<'a, R, V>
     requires some { 0 < vec_len passes.old }
     requires new { All (λ p. IsPassOf shared.now.turn p × ((view_of p).mine ≡ [])) passes.old.items }
-    ensures way { (result.pass.turn.now ≡ shared.now.turn) × (result.pass.caller ≡ caller) }
+    ensures way { (result.turn.now ≡ shared.now.turn) × (result.caller ≡ caller) }
     ensures seen { (v : View Entry1 V.Fixed) → All (λ p. view_of p ≡ v) passes.old.items
-        → (view_of result.pass.pass ≡ v) × All (λ p. view_of p ≡ v) passes.new.items }
+        → (view_of result.pass ≡ v) × All (λ p. view_of p ≡ v) passes.new.items }
     ensures rest { (vec_len passes.new + 1 ≡ vec_len passes.old) × All (λ p. IsPassOf shared.now.turn p × ((view_of p).mine ≡ [])) passes.new.items }
 {
     let Some(pass) = passes.pop() else {
         unreachable!()
     };
-    Way {
-        pass: shared.pass(rt, alloc, caller, pass),
-    }
+    shared.pass(rt, alloc, caller, pass)
 }
 
 // A worker for each user. The list has room for them.
@@ -81,16 +78,17 @@ fn seat_users<'a, R: Wait, V: Serves, T: Gate + Drop>(
     shared: &'a SharedMount<V>,
     plans: Vec<Plan<T>>,
     passes: &mut Vec<Pass<V>>,
-    room: Vec<UserWorker<Way<'a, R, V>, T>>,
-) -> Vec<UserWorker<Way<'a, R, V>, T>>
+    room: Vec<UserWorker<SharedPass<'a, R, V>, T>>,
+) -> Vec<UserWorker<SharedPass<'a, R, V>, T>>
     requires few { vec_len plans ≤ MOST_USERS }
     requires formed { All (λ p. AreWellFormed p.commands) plans.items }
     requires passes { (vec_len plans ≤ vec_len passes.old) × All (λ p. IsPassOf shared.now.turn p × ((view_of p).mine ≡ [])) passes.old.items }
     requires room { (room.items ≡ []) × (vec_len plans ≤ vec_capacity room) }
     ensures len { vec_len result ≡ vec_len plans }
-    ensures ways { All (λ w. w.client.steps.steps.pass.turn.now ≡ shared.now.turn) result.items }
+    ensures ways { All (λ w. w.client.steps.steps.turn.now ≡ shared.now.turn) result.items }
     ensures ready { (v : View Entry1 V.Fixed) → All (λ p. view_of p ≡ v) passes.old.items
-        → Stand (IsReady (λ c way. (way.pass.caller ≡ c) × (view_of way.pass.pass ≡ v))) 1 (map (λ p. p.commands) plans.items) result.items
+        → Stand (IsReady (λ c way. (way.caller ≡ c) × (view_of way.pass ≡ v))) 1 (map
+        (λ p. p.commands) plans.items) result.items
         × All (λ p. view_of p ≡ v) passes.new.items }
     ensures rest { (vec_len passes.new + vec_len plans ≡ vec_len passes.old)
         × All (λ p. IsPassOf shared.now.turn p × ((view_of p).mine ≡ [])) passes.new.items }

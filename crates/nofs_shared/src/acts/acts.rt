@@ -1,46 +1,59 @@
 //! One step at a mount: each kind of step by its step function.
 ghost use Rattle.std.specs.Prelude.{◌≡◌, true, false};
 ghost use Rattle.nofs_history.specs.Claims.{no_claims};
-ghost use Rattle.nofs_history.specs.Steps.{Fits, InRange, is_out_of_memory};
-ghost use Rattle.nofs_history.specs.declared.machine.steps.Step.{Step};
+ghost use Rattle.nofs_history.specs.Steps.{Fits, is_out_of_memory};
+ghost use Rattle.nofs_history.specs.declared.machine.replies.Refusal.TheVariants as refusal;
+ghost use Rattle.nofs_history.specs.declared.machine.replies.Reply.TheVariants as reply;
+ghost use Rattle.nofs_history.specs.declared.machine.steps.Step.TheVariants as step;
 ghost use Rattle.nofs_state.specs.Books.{IsSafe};
 ghost use Rattle.nofs_state.specs.Steps.{Goes};
+ghost use Rattle.nofs_shared.specs.Contents.{reads_content};
 ghost use Rattle.nofs_shared.specs.Sees.{is_see};
 ghost use Rattle.nofs_shared.specs.Settling.{Settles};
 
-use crate::acts::file_acts::{act_flush, act_get, act_put, act_resize, act_stat};
-use crate::acts::name_acts::{act_drop, act_link, act_list, act_look, act_make, act_rename};
-use crate::acts::see_acts::{act_see_block, act_see_inode};
+use crate::acts::acted::{
+    Acted, dropped, flushed, found, got, linked, listed, made, refused, renamed, resized, seen,
+    slot_room, stated, stored,
+};
 use nofs_disk::Disk;
-use nofs_history::{Claims, NO_CLAIMS, Refusal, Reply, Step};
+use nofs_files::{flush, get, put, resize, stat};
+use nofs_history::{Refusal, Step};
+use nofs_names::{drop_name, link, list, look, make, rename};
+use nofs_scan::{see_block, see_inode};
 use nofs_state::Core;
 use std::alloc::Global;
 
-/// What a step came to: the caller's reply, the one that the history keeps, and what was claimed.
-#[derive(Drop)]
-pub struct Acted {
-    pub reply: Reply,
-    pub kept: Reply,
-    pub claims: Claims,
-}
-
-pub(crate) fn refused(why: Refusal) -> Acted
-    requires { InRange why }
-    ensures is { (result.reply ≡ Reply.Refused why) × (result.kept ≡ Reply.Refused why) × (result.claims ≡ no_claims) }
-    ensures fits { (s : Step) → Fits s result.reply }
+// A Get. The memory for its bytes comes first: without it nothing is read.
+fn get_content<D: Disk + Drop>(
+    core: &mut Core<D>,
+    alloc: Global,
+    inode: u32,
+    generation: u64,
+    slot: u64,
+) -> Acted
+    requires { IsSafe (D.state core.old.disk) core.old.books }
+    ensures goes { Goes (D.state core.old.disk) core.old.books (D.state core.new.disk) core.new.books
+        (step.Get inode generation slot) result.claims result.reply }
+    ensures memory { Goes (D.state core.old.disk) core.old.books (D.state core.new.disk) core.new.books
+        (step.Get inode generation slot) no_claims (reply.Refused refusal.OutOfMemory) }
+    ensures fits { Fits (step.Get inode generation slot) result.reply }
 {
-    Acted {
-        reply: Reply::Refused(why),
-        kept: Reply::Refused(why),
-        claims: NO_CLAIMS,
-    }
+    let Ok(room) = slot_room(alloc) else {
+        return refused(Refusal::OutOfMemory);
+    };
+    let mut bytes = [0; 1024];
+    let done = get(core, inode, generation, slot, &mut bytes);
+    got(done, room, &bytes)
 }
 
-/// Makes one step. What of it needs memory takes it before anything is done.
+/// Makes one step. What of it needs memory takes it before anything is written. A step whose reply has the content of
+/// a slot has
+/// only read, and may be taken as one that found no memory.
 pub(crate) fn act<D: Disk + Drop>(core: &mut Core<D>, alloc: Global, step: &Step) -> Acted
     requires { IsSafe (D.state core.old.disk) core.old.books }
     ensures goes { Goes (D.state core.old.disk) core.old.books (D.state core.new.disk) core.new.books step.now result.claims result.reply }
-    ensures same { result.kept ≡ result.reply }
+    ensures memory { reads_content step.now ≡ true → Goes (D.state core.old.disk) core.old.books
+        (D.state core.new.disk) core.new.books step.now no_claims (reply.Refused refusal.OutOfMemory) }
     ensures fits { Fits step.now result.reply }
     ensures sees { is_see step.now ≡ true → is_out_of_memory result.reply ≡ false }
     ensures settled { Settles step.now result.reply (D.state core.new.disk) }
@@ -50,56 +63,71 @@ pub(crate) fn act<D: Disk + Drop>(core: &mut Core<D>, alloc: Global, step: &Step
             directory,
             generation,
             name,
-        } => act_look(core, *directory, *generation, name),
+        } => found(look(core, *directory, *generation, name.as_slice())),
         Step::Rename {
             directory,
             generation,
             old,
             new,
-        } => act_rename(core, alloc, *directory, *generation, old, new),
+        } => renamed(rename(
+            alloc,
+            core,
+            *directory,
+            *generation,
+            old.as_slice(),
+            new.as_slice(),
+        )),
         Step::List {
             directory,
             generation,
             slot,
-        } => act_list(core, alloc, *directory, *generation, *slot),
+        } => listed(list(alloc, core, *directory, *generation, *slot)),
         Step::Get {
             inode,
             generation,
             slot,
-        } => act_get(core, alloc, *inode, *generation, *slot),
+        } => get_content(core, alloc, *inode, *generation, *slot),
         Step::Put {
             inode,
             generation,
             bytes,
             slot,
             at,
-        } => act_put(core, *inode, *generation, *slot, *at, bytes),
-        Step::Stat { inode, generation } => act_stat(core, *inode, *generation),
-        Step::Flush { inode, generation } => act_flush(core, *inode, *generation),
+        } => stored(put(core, *inode, *generation, *slot, *at, bytes.as_slice())),
+        Step::Stat { inode, generation } => stated(stat(core, *inode, *generation)),
+        Step::Flush { inode, generation } => flushed(flush(core, *inode, *generation)),
         Step::Resize {
             inode,
             generation,
             size,
-        } => act_resize(core, alloc, *inode, *generation, *size),
+        } => resized(resize(core, alloc, *inode, *generation, *size)),
         Step::Make {
             directory,
             generation,
             name,
             kind,
-        } => act_make(core, alloc, *directory, *generation, name, *kind),
+        } => made(make(alloc, core, *directory, *generation, name.as_slice(), *kind)),
         Step::Link {
             directory,
             generation,
             name,
             of,
             inode,
-        } => act_link(core, alloc, *directory, *generation, name, *inode, *of),
+        } => linked(link(
+            core,
+            alloc,
+            *directory,
+            *generation,
+            name.as_slice(),
+            *inode,
+            *of,
+        )),
         Step::Drop {
             directory,
             generation,
             name,
-        } => act_drop(core, alloc, *directory, *generation, name),
-        Step::SeeInode { inode } => act_see_inode(core, *inode),
-        Step::SeeBlock { block } => act_see_block(core, *block),
+        } => dropped(drop_name(core, alloc, *directory, *generation, name.as_slice())),
+        Step::SeeInode { inode } => seen(see_inode(core, *inode)),
+        Step::SeeBlock { block } => seen(see_block(core, *block)),
     }
 }

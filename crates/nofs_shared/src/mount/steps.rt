@@ -10,9 +10,11 @@ ghost use Rattle.nofs_shared.specs.Sees.{is_see};
 ghost use Rattle.nofs_shared.specs.Settling.{Settles};
 ghost use Rattle.nofs_shared.specs.StepCauses.{StepCauses, StepOrder};
 
-use crate::acts::acts::{Acted, act};
+use crate::acts::acted::Acted;
+use crate::acts::acts::act;
+use crate::acts::copies::copy_reply;
 use nofs_disk::Disk;
-use nofs_history::{Entry1, Refusal, Reply, Step};
+use nofs_history::{Refusal, Reply, Step};
 use nofs_state::Core;
 use std::alloc::Global;
 
@@ -45,22 +47,16 @@ pub(crate) fn step_in<D: Disk + Drop>(
     ensures order { StepOrder (D.state core.old.disk) (D.state core.new.disk) (MeetsOpen (D.state core.old.disk) core.old.books) step result }
 {
     let from = core.disk.moment();
-    let Acted {
-        reply,
-        kept,
-        claims,
-    } = act(core, alloc, &step);
+    let Acted { reply, claims } = act(core, alloc, &step);
     if wants_memory(&reply) {
         return reply;
     }
-    let entry = Entry1 {
-        caller,
-        from,
-        to: core.disk.moment(),
-        step,
-        reply: kept,
-        claims,
-    };
-    core.books.history.push(entry);
-    reply
+    match copy_reply(alloc, &reply) {
+        Ok(kept) => {
+            core.keep_step(caller, from, step, kept, claims);
+            reply
+        }
+        // The step has only read: without memory for its entry it is none.
+        Err(_) => Reply::Refused(Refusal::OutOfMemory),
+    }
 }

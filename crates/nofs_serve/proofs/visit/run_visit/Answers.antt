@@ -24,23 +24,29 @@ returns-clause-gathered g c v one none all =
     let (kept2, swept2, went2) = c.work_beside.ensures.blocks in
     let flushed = c.work_beside.ensures.flusher in
     let seat = c.work_beside.ensures.goes in
-    let p : View Entry1 g.row.V-Fixed.Denot = view_of c.work_beside.new.inodes.steps.pass.pass in
-    let w : View Entry1 g.row.V-Fixed.Denot = view_of c.work_beside.new.blocks.steps.pass.pass in
-    let f : View Entry1 g.row.V-Fixed.Denot = view_of c.work_beside.new.flusher.steps.pass.pass in
-    let o : View Entry1 g.row.V-Fixed.Denot = view_of c.work_beside.new.steps.pass.pass in
-    let view9 : view_of c.new-inodes.result.steps.pass.pass ≡ v = ap (λ s. view_of s.pass.pass) c.new-inodes.ensures.0 ∙ s9.0 in
-    let view10 : view_of c.new-blocks.result.steps.pass.pass ≡ v = ap (λ s. view_of s.pass.pass) c.new-blocks.ensures.0 ∙ s10.0 in
-    let view11 : view_of c.new-flusher.result.steps.pass.pass ≡ v = ap (λ s. view_of s.pass.pass) c.new-flusher.ensures.0 ∙ s11.0 in
-    let caller9 : c.into_inner.result.pass.caller ≡ INODE_SWEEPER = ap (λ s. s.pass.caller) c.into_inner.ensures
-    ∙ (went.1 ∙ (ap (λ s. s.pass.caller) c.new-inodes.ensures.0 ∙ c.seat-way.ensures.way.1)) in
-    let caller10 : c.into_inner-2.result.pass.caller ≡ BLOCK_SWEEPER =
-    ap (λ s. s.pass.caller) c.into_inner-2.ensures ∙ (went2.1 ∙ (ap (λ s. s.pass.caller) c.new-blocks.ensures.0 ∙ c.seat-way-2.ensures.way.1)) in
-    let caller11 : c.into_inner-3.result.pass.caller ≡ FLUSHER =
-    ap (λ s. s.pass.caller) c.into_inner-3.ensures ∙ (flushed.goes_on.1 ∙ (ap (λ s. s.pass.caller) c.new-flusher.ensures.0 ∙ c.seat-way-3.ensures.way.1)) in
-    let caller1 : c.work_beside.new.steps.pass.caller ≡ 1 = seat.1 ∙ c.seat-visit.ensures.way.1 in
-    let p_is : view_of c.back-pass.result ≡ p = ap (λ x. view_of x) c.back-pass.ensures.same ∙ ap (λ s. view_of s.pass.pass) c.into_inner.ensures in
-    let w_is : view_of c.into_inner-2.result.pass.pass ≡ w = ap (λ s. view_of s.pass.pass) c.into_inner-2.ensures in
-    let f_is : view_of c.into_inner-3.result.pass.pass ≡ f = ap (λ s. view_of s.pass.pass) c.into_inner-3.ensures in
+    let p : View Entry1 g.row.V-Fixed.Denot = view_of c.work_beside.new.inodes.steps.pass in
+    let w : View Entry1 g.row.V-Fixed.Denot = view_of c.work_beside.new.blocks.steps.pass in
+    let f : View Entry1 g.row.V-Fixed.Denot = view_of c.work_beside.new.flusher.steps.pass in
+    let o : View Entry1 g.row.V-Fixed.Denot = view_of c.work_beside.new.steps.pass in
+    let view9 : view_of c.new-inodes.result.steps.pass ≡ v = ap
+    (λ s. view_of s.pass) c.new-inodes.ensures.0 ∙ s9.0 in
+    let view10 : view_of c.new-blocks.result.steps.pass ≡ v = ap
+    (λ s. view_of s.pass) c.new-blocks.ensures.0 ∙ s10.0 in
+    let view11 : view_of c.new-flusher.result.steps.pass ≡ v = ap (λ s. view_of s.pass) c.new-flusher.ensures.0
+    ∙ s11.0 in
+    let caller9 : c.into_inner.result.caller ≡ INODE_SWEEPER = ap (λ s. s.caller) c.into_inner.ensures
+    ∙ (went.1 ∙ (ap (λ s. s.caller) c.new-inodes.ensures.0 ∙ c.seat-way.ensures.way.1)) in
+    let caller10 : c.into_inner-2.result.caller ≡ BLOCK_SWEEPER =
+    ap (λ s. s.caller) c.into_inner-2.ensures ∙ (went2.1 ∙ (ap (λ s. s.caller) c.new-blocks.ensures.0
+    ∙ c.seat-way-2.ensures.way.1)) in
+    let caller11 : c.into_inner-3.result.caller ≡ FLUSHER =
+    ap (λ s. s.caller) c.into_inner-3.ensures ∙ (flushed.goes_on.1 ∙ (ap (λ s. s.caller) c.new-flusher.ensures.0
+    ∙ c.seat-way-3.ensures.way.1)) in
+    let caller1 : c.work_beside.new.steps.caller ≡ 1 = seat.1 ∙ c.seat-visit.ensures.way.1 in
+    let p_is : view_of c.back-pass.result ≡ p = ap (λ x. view_of x) c.back-pass.ensures.same ∙ ap
+    (λ s. view_of s.pass) c.into_inner.ensures in
+    let w_is : view_of c.into_inner-2.result.pass ≡ w = ap (λ s. view_of s.pass) c.into_inner-2.ensures in
+    let f_is : view_of c.into_inner-3.result.pass ≡ f = ap (λ s. view_of s.pass) c.into_inner-3.ensures in
     let z : View Entry1 g.row.V-Fixed.Denot = view_of c.join_way-2.new.into in
     let team = team-gathers [] c.args.sweeps.inodes c.args.sweeps.blocks c.either-out_of_memory.result c.either-out_of_memory.result
     c.work_beside.new.inodes.out_of_memory c.work_beside.new.blocks.out_of_memory

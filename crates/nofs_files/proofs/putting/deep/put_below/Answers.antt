@@ -32,7 +32,7 @@ returns g c = below-ends
     (g.met.D.Disk.is_disk c.read_table.new.disk) (g.met.D.Disk.is_disk c.write_three.new.core.disk)
     (StaysButFaults-trans (g.D.Disk.state c.args.core.now.disk) (g.D.Disk.state c.read_block.new.disk) (g.D.Disk.state c.read_table.new.disk)
     c.read_block.ensures.stays c.read_table.ensures.stays)
-    c.requires.upper c.requires.path c.content_cell-cell.ensures c.in-Ok-read_block.ensures.cell
+    c.requires.upper c.requires.path (c.content_cell-cell.ensures c.args.it.now.size) c.in-Ok-read_block.ensures.cell
     (record { here = c.write_pointer.ensures.written; others = λ q ne lt. c.write_pointer.ensures.others q ne lt; tag = refl })
     (later-cell (g.D.Disk.state c.args.core.now.disk) (g.D.Disk.state c.read_block.new.disk) c.read_table.new.last.cell (1 + (c.args.put.now.inode - 1) / 4)
     c.read_block.ensures.stays c.in-Ok-read_table.ensures.cell)

@@ -20,7 +20,8 @@ returns g c = top-ends (g.met.D.Disk.is_disk c.read_table.new.disk) (g.met.D.Dis
     (top-asked (g.met.D.Disk.is_disk c.args.core.now.disk) c.requires.may c.requires.empty c.requires.rows c.requires.path c.requires.hole)
     c.in-Ok.ensures.room
     (takes-three c.requires.may.safe c.in-Ok.ensures.found c.in-Ok.ensures.room c.claim_three-claims.ensures.claims c.claim_three-claims.ensures.books)
-    c.requires.path c.requires.hole c.content_cell-cell.ensures c.pointers_cell-pointers.ensures c.pointers_cell-tops.ensures
+    c.requires.path c.requires.hole (c.content_cell-cell.ensures c.args.it.now.size) c.pointers_cell-pointers.ensures
+    c.pointers_cell-tops.ensures
     (recorded (c.rooted-it.ensures ∙ ap (λ (n : ℕ). rooted c.args.it.now n 9 c.claim_three-claims.result.top) c.size_after.ensures)
     c.record_cell-table.ensures) c.write_four.ensures
 

@@ -26,9 +26,9 @@ loop-user-init g c = record {
 pub join_way-requires : goal.join_way-requires
 join_way-requires g c =
     let is : c.loop-user.users.items ≡ c.pop.new.self.items ++ c.in-Some.user ∷ [] = search rules in
-    let own = (all-end (λ w. w.client.steps.steps.pass.turn.now ≡ c.args.shared.now.turn)
+    let own = (all-end (λ w. w.client.steps.steps.turn.now ≡ c.args.shared.now.turn)
     c.loop-user.users.items c.pop.new.self.items c.in-Some.user is c.loop-user.invariant.ways).1 in
-    record { of = (c.loop-user.invariant.of, ap (λ s. s.pass.turn.now) c.into_inner-steps.ensures.steps ∙ own) }
+    record { of = (c.loop-user.invariant.of, ap (λ s. s.turn.now) c.into_inner-steps.ensures.steps ∙ own) }
 
 pub loop-user-preserved : goal.loop-user-preserved
 loop-user-preserved g c =
@@ -36,17 +36,18 @@ loop-user-preserved g c =
     let is : c.loop-user.users.items ≡ c.pop.new.self.items ++ c.in-Some.user ∷ [] = search rules in
     record {
       of = c.join_way.ensures.of;
-      ways = (all-end (λ w. w.client.steps.steps.pass.turn.now ≡ c.args.shared.now.turn)
+      ways = (all-end (λ w. w.client.steps.steps.turn.now ≡ c.args.shared.now.turn)
           c.loop-user.users.items c.pop.new.self.items c.in-Some.user is i.ways).0;
       room = search rules;
       gathered = λ v scripts count one absent gathers stand.
           (let (done, rest, whole, st, ga, ug) = i.gathered v scripts count one absent gathers stand in
           let (script, rest2, rest_is, run, st2) = stand-pop (1 + length done) rest c.loop-user.users.items c.pop.new.self.items c.in-Some.user is st in
-          let step = gather-step done _ _ _ _ _ _ _ _ _ script (1 + length done) _ count v _ _ _ (view_of (steps_in c.in-Some.user).pass.pass)
+          let step = gather-step done _ _ _ _ _ _ _ _ _ script (1 + length done) _ count v _ _ _ (view_of
+          (steps_in c.in-Some.user).pass)
           _ one ga ug c.join_way.ensures.joined
-          (ap (λ s. s.pass.caller) c.into_inner-steps.ensures.steps ∙ run.back.0) refl
+          (ap (λ s. s.caller) c.into_inner-steps.ensures.steps ∙ run.back.0) refl
           (absent (1 + length done) (omega arith) (let n = ap length whole in let m = ap length rest_is in omega (arith, n, m, length-append done rest)))
-          (ap (λ s. view_of s.pass.pass) c.into_inner-steps.ensures.steps)
+          (ap (λ s. view_of s.pass) c.into_inner-steps.ensures.steps)
           c.into_inner-steps.ensures.lines c.into_inner-steps.ensures.out_of_memory c.either.ensures (search rules)
           run.back.1 run.some run.all in (
             done ++ script ∷ [],

@@ -28,21 +28,27 @@ returns-clause-gathered g c v one none all =
     let (kept, swept, went) = c.work_team.ensures.inodes in
     let (kept2, swept2, went2) = c.work_team.ensures.blocks in
     let flushed = c.work_team.ensures.flusher in
-    let p : View Entry1 g.row.V-Fixed.Denot = view_of c.work_team.new.inodes.steps.pass.pass in
-    let w : View Entry1 g.row.V-Fixed.Denot = view_of c.work_team.new.blocks.steps.pass.pass in
-    let f : View Entry1 g.row.V-Fixed.Denot = view_of c.work_team.new.flusher.steps.pass.pass in
-    let view9 : view_of c.new-inodes.result.steps.pass.pass ≡ v = ap (λ s. view_of s.pass.pass) c.new-inodes.ensures.0 ∙ s9.0 in
-    let view10 : view_of c.new-blocks.result.steps.pass.pass ≡ v = ap (λ s. view_of s.pass.pass) c.new-blocks.ensures.0 ∙ s10.0 in
-    let view11 : view_of c.new-flusher.result.steps.pass.pass ≡ v = ap (λ s. view_of s.pass.pass) c.new-flusher.ensures.0 ∙ s11.0 in
-    let caller9 : c.into_inner.result.pass.caller ≡ INODE_SWEEPER = ap (λ s. s.pass.caller) c.into_inner.ensures
-    ∙ (went.1 ∙ (ap (λ s. s.pass.caller) c.new-inodes.ensures.0 ∙ c.seat-way.ensures.way.1)) in
-    let caller10 : c.into_inner-2.result.pass.caller ≡ BLOCK_SWEEPER =
-    ap (λ s. s.pass.caller) c.into_inner-2.ensures ∙ (went2.1 ∙ (ap (λ s. s.pass.caller) c.new-blocks.ensures.0 ∙ c.seat-way-2.ensures.way.1)) in
-    let caller11 : c.into_inner-3.result.pass.caller ≡ FLUSHER =
-    ap (λ s. s.pass.caller) c.into_inner-3.ensures ∙ (flushed.goes_on.1 ∙ (ap (λ s. s.pass.caller) c.new-flusher.ensures.0 ∙ c.seat-way-3.ensures.way.1)) in
-    let p_is : view_of c.back-pass.result ≡ p = ap (λ x. view_of x) c.back-pass.ensures.same ∙ ap (λ s. view_of s.pass.pass) c.into_inner.ensures in
-    let w_is : view_of c.into_inner-2.result.pass.pass ≡ w = ap (λ s. view_of s.pass.pass) c.into_inner-2.ensures in
-    let f_is : view_of c.into_inner-3.result.pass.pass ≡ f = ap (λ s. view_of s.pass.pass) c.into_inner-3.ensures in
+    let p : View Entry1 g.row.V-Fixed.Denot = view_of c.work_team.new.inodes.steps.pass in
+    let w : View Entry1 g.row.V-Fixed.Denot = view_of c.work_team.new.blocks.steps.pass in
+    let f : View Entry1 g.row.V-Fixed.Denot = view_of c.work_team.new.flusher.steps.pass in
+    let view9 : view_of c.new-inodes.result.steps.pass ≡ v = ap
+    (λ s. view_of s.pass) c.new-inodes.ensures.0 ∙ s9.0 in
+    let view10 : view_of c.new-blocks.result.steps.pass ≡ v = ap
+    (λ s. view_of s.pass) c.new-blocks.ensures.0 ∙ s10.0 in
+    let view11 : view_of c.new-flusher.result.steps.pass ≡ v = ap (λ s. view_of s.pass) c.new-flusher.ensures.0
+    ∙ s11.0 in
+    let caller9 : c.into_inner.result.caller ≡ INODE_SWEEPER = ap (λ s. s.caller) c.into_inner.ensures
+    ∙ (went.1 ∙ (ap (λ s. s.caller) c.new-inodes.ensures.0 ∙ c.seat-way.ensures.way.1)) in
+    let caller10 : c.into_inner-2.result.caller ≡ BLOCK_SWEEPER =
+    ap (λ s. s.caller) c.into_inner-2.ensures ∙ (went2.1 ∙ (ap (λ s. s.caller) c.new-blocks.ensures.0
+    ∙ c.seat-way-2.ensures.way.1)) in
+    let caller11 : c.into_inner-3.result.caller ≡ FLUSHER =
+    ap (λ s. s.caller) c.into_inner-3.ensures ∙ (flushed.goes_on.1 ∙ (ap (λ s. s.caller) c.new-flusher.ensures.0
+    ∙ c.seat-way-3.ensures.way.1)) in
+    let p_is : view_of c.back-pass.result ≡ p = ap (λ x. view_of x) c.back-pass.ensures.same ∙ ap
+    (λ s. view_of s.pass) c.into_inner.ensures in
+    let w_is : view_of c.into_inner-2.result.pass ≡ w = ap (λ s. view_of s.pass) c.into_inner-2.ensures in
+    let f_is : view_of c.into_inner-3.result.pass ≡ f = ap (λ s. view_of s.pass) c.into_inner-3.ensures in
     team-gathers (map (λ x. x.commands) c.args.plans.items)
     c.args.sweeps.inodes c.args.sweeps.blocks c.gather_users.result.out_of_memory c.either-out_of_memory.result c.work_team.new.inodes.out_of_memory
     c.work_team.new.blocks.out_of_memory
@@ -68,5 +74,5 @@ returns-clause-gathered g c v one none all =
     (λ absent two. c.gather_users.ensures.gathered v (map (λ x. x.commands) c.args.plans.items) 3 one absent two
     (stand-run 1 (map (λ x. x.commands) c.args.plans.items)
     c.seat_users-users.result.items c.work_team.new.users.items ready.0 c.work_team.ensures.users c.work_team.ensures.len
-    (λ k a b new goes. (goes.1 ∙ new.0, subst (λ z. SameSeat z (view_of b.pass.pass)) new.1 goes.2))
+    (λ k a b new goes. (goes.1 ∙ new.0, subst (λ z. SameSeat z (view_of b.pass)) new.1 goes.2))
     (λ k a new. ap (λ z. own_steps z.mine) new.1 ∙ ap own_steps none)))

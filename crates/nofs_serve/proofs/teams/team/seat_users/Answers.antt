@@ -39,9 +39,10 @@ loop-alloc-preserved g c =
       new = c.seat-way.ensures.rest.1;
       len = search rules;
       room = search rules;
-      ways = subst (λ l. All (λ w. w.client.steps.steps.pass.turn.now ≡ c.args.shared.now.turn) l) (sym made)
-          (All-push (λ w. w.client.steps.steps.pass.turn.now ≡ c.args.shared.now.turn) c.loop-alloc.users.items c.new.result i.ways
-          (ap (λ w. w.pass.turn.now) c.new.ensures.steps ∙ c.seat-way.ensures.way.0));
+      ways = subst (λ l. All (λ w. w.client.steps.steps.turn.now ≡ c.args.shared.now.turn) l) (sym made)
+          (All-push (λ w. w.client.steps.steps.turn.now ≡ c.args.shared.now.turn) c.loop-alloc.users.items c.new.result
+          i.ways
+          (ap (λ w. w.turn.now) c.new.ensures.steps ∙ c.seat-way.ensures.way.0));
       ready = (
         c.in-Some.plan ∷ i.ready.0,
         i.ready.1 ∙ (ap (λ l. l ++ i.ready.0) is ∙ append_assoc c.pop.new.self.items (c.in-Some.plan ∷ []) i.ready.0),
@@ -52,8 +53,8 @@ loop-alloc-preserved g c =
                   _ c.loop-alloc.users.items c.new.result made (omega (arith, long))
                   (record {
                     new = (
-                      ap (λ w. w.pass.caller) c.new.ensures.steps ∙ (c.seat-way.ensures.way.1 ∙ search rules),
-                      ap (λ w. view_of w.pass.pass) c.new.ensures.steps ∙ s.0,
+                      ap (λ w. w.caller) c.new.ensures.steps ∙ (c.seat-way.ensures.way.1 ∙ search rules),
+                      ap (λ w. view_of w.pass) c.new.ensures.steps ∙ s.0,
                     );
                     script_is = c.new.ensures.commands;
                     no_lines = c.new.ensures.fresh.0;

@@ -14,10 +14,11 @@ invariant-loop-alloc g l = record {
   new : All (λ p. IsPassOf l.shared.turn p × ((view_of p).mine ≡ [])) l.passes.items;
   len : vec_len l.users + vec_len l.plans ≡ vec_len l.fn.plans;
   room : vec_len l.fn.plans ≤ vec_capacity l.users;
-  ways : All (λ w. w.client.steps.steps.pass.turn.now ≡ l.shared.turn) l.users.items;
+  ways : All (λ w. w.client.steps.steps.turn.now ≡ l.shared.turn) l.users.items;
   ready : (rest : List _) × (l.fn.plans.items ≡ l.plans.items ++ rest)
       × ((v : _) → All (λ p. view_of p ≡ v) l.fn.passes.items
-      → Stand (IsReady (λ c way. (way.pass.caller ≡ c) × (view_of way.pass.pass ≡ v))) (1 + vec_len l.plans) (map (λ p. p.commands) rest) l.users.items
+      → Stand (IsReady (λ c way. (way.caller ≡ c) × (view_of way.pass ≡ v))) (1 + vec_len l.plans) (map
+      (λ p. p.commands) rest) l.users.items
       × All (λ p. view_of p ≡ v) l.passes.items);
 }
 

@@ -1,9 +1,24 @@
-use Rattle.std.proofs.Common.{sym, ap, ◌∙◌, rules}
-use Rattle.nofs_state.specs.Steps.{goes-safely}
+use Rattle.std.proofs.Common.{ℕ, List, ◌++◌, ◌∷◌, [], refl, sym, ap, ◌∙◌, subst, subst₂, rules}
+use Rattle.nofs_disk.specs.Disk.{DiskState}
+use Rattle.nofs_history.specs.Claims.{no_claims}
+use Rattle.nofs_history.specs.declared.machine.history.Entry1.{Entry1}
+use Rattle.nofs_history.specs.declared.machine.replies.Reply.{Reply}
+use Rattle.nofs_history.specs.declared.machine.replies.Reply.TheVariants as reply
+use Rattle.nofs_history.specs.declared.machine.replies.Refusal.TheVariants as refusal
+use Rattle.nofs_state.specs.Books.{IsSafe}
+use Rattle.nofs_state.specs.Steps.{MeetsOpen, goes-safely}
+use Rattle.nofs_state.specs.declared.books.Books.{Books}
+use Rattle.nofs_shared.specs.Mounts.{IsMount}
+use Rattle.nofs_shared.specs.Settling.{Settles}
+use Rattle.nofs_shared.specs.StepCauses.{StepCauses, StepOrder}
 use Rattle.nofs_shared.proofs.Claiming.{unowned-none, unowned-more}
 use Rattle.nofs_shared.proofs.Causing.{causes-kept, causes-none}
-use Rattle.nofs_shared.proofs.Mounting.{mount-none, mount-goes}
+use Rattle.nofs_shared.proofs.Contents.{see-reads-none}
+use Rattle.nofs_shared.proofs.Mounting.{mount-none, mount-goes, safe-history}
+use Rattle.nofs_shared.proofs.Rooming.{adds-none, settles-memory}
 use Rattle.nofs_shared.proofs.mount.steps.step_in.Goals as goal
+
+-- no memory for the step
 
 pub returns-then-wants_memory-clause-keeps : goal.returns-then-wants_memory-clause-keeps
 returns-then-wants_memory-clause-keeps g c = λ found first m.
@@ -11,37 +26,111 @@ returns-then-wants_memory-clause-keeps g c = λ found first m.
     first c.args.core.now.books c.act-reply.new.core.books m
     c.act-reply.result.reply (goes-safely c.act-reply.ensures.goes) (sym c.wants_memory.ensures ∙ c.if-wants_memory.true)
 
-pub returns-clause-keeps : goal.returns-clause-keeps
-returns-clause-keeps g c = λ found first m.
-    mount-goes (g.D.Disk.state found) (g.D.Disk.state c.args.core.now.disk) (g.D.Disk.state c.act-reply.new.core.disk)
-    first c.args.core.now.books c.act-reply.new.core.books m
-    c.args.step c.act-reply.result.claims c.act-reply.result.reply c.args.caller c.act-reply.ensures.goes (sym c.wants_memory.ensures ∙ c.if-wants_memory.false)
-    c.push.new.self (ap (λ h. h.start) c.push.ensures) (search rules)
-
 pub returns-then-wants_memory-clause-claims : goal.returns-then-wants_memory-clause-claims
 returns-then-wants_memory-clause-claims g c = λ found first m q.
     unowned-none (g.D.Disk.state c.args.core.now.disk).now c.args.core.now.books.history.entries c.act-reply.new.core.books.history.entries
     (ap (λ h. h.entries) c.act-reply.ensures.goes.history)
-
-pub returns-clause-claims : goal.returns-clause-claims
-returns-clause-claims g c = λ found first m q.
-    unowned-more (g.D.Disk.state found) (g.D.Disk.state c.args.core.now.disk) (g.D.Disk.state c.act-reply.new.core.disk)
-    first c.args.core.now.books c.act-reply.new.core.books
-    c.args.step c.act-reply.result.claims c.act-reply.result.reply c.args.caller c.act-reply.ensures.goes m
-    (sym c.wants_memory.ensures ∙ c.if-wants_memory.false) q c.push.new.self.entries (search rules)
 
 pub returns-then-wants_memory-clause-causes : goal.returns-then-wants_memory-clause-causes
 returns-then-wants_memory-clause-causes g c = causes-none (g.D.Disk.state c.args.core.now.disk) (g.D.Disk.state c.act-reply.new.core.disk)
     c.args.core.now.books c.act-reply.new.core.books
     c.act-reply.result.reply (goes-safely c.act-reply.ensures.goes)
 
-pub returns-clause-causes : goal.returns-clause-causes
-returns-clause-causes g c = causes-kept (g.D.Disk.state c.args.core.now.disk) (g.D.Disk.state c.act-reply.new.core.disk)
-    c.args.core.now.books c.act-reply.new.core.books
-    c.act-reply.result.reply c.push.new.self (goes-safely c.act-reply.ensures.goes)
-
 pub returns-then-wants_memory-clause-order : goal.returns-then-wants_memory-clause-order
 returns-then-wants_memory-clause-order g c = record { claims = c.act-reply.result.claims; order = c.act-reply.ensures.goes.order }
 
-pub returns-clause-order : goal.returns-clause-order
-returns-clause-order g c = record { claims = c.act-reply.result.claims; order = c.act-reply.ensures.goes.order }
+-- no memory for a second reply
+
+pub returns-in-Err-clause-keeps : goal.returns-in-Err-clause-keeps
+returns-in-Err-clause-keeps g c = λ found first m.
+    mount-none (g.D.Disk.state found) (g.D.Disk.state c.args.core.now.disk) (g.D.Disk.state c.act-reply.new.core.disk)
+    first c.args.core.now.books c.act-reply.new.core.books m (reply.Refused refusal.OutOfMemory)
+    (goes-safely (c.act-reply.ensures.memory (c.in-Err.ensures.memory c.args.step c.act-reply.ensures.fits))) refl
+
+pub returns-in-Err-clause-claims : goal.returns-in-Err-clause-claims
+returns-in-Err-clause-claims g c = λ found first m q.
+    unowned-none (g.D.Disk.state c.args.core.now.disk).now c.args.core.now.books.history.entries
+    c.act-reply.new.core.books.history.entries
+    (ap (λ h. h.entries) c.act-reply.ensures.goes.history)
+
+pub returns-in-Err-clause-tells : goal.returns-in-Err-clause-tells
+returns-in-Err-clause-tells g c = record {
+  adds = adds-none c.args.caller c.args.step c.args.core.now.books.history.entries
+      c.act-reply.new.core.books.history.entries
+      (ap (λ h. h.entries) c.act-reply.ensures.goes.history);
+  fits = tt;
+}
+
+pub returns-in-Err-clause-sees : goal.returns-in-Err-clause-sees
+returns-in-Err-clause-sees g c = λ see.
+    absurd (see-reads-none c.args.step see (c.in-Err.ensures.memory c.args.step c.act-reply.ensures.fits))
+
+pub returns-in-Err-clause-settled : goal.returns-in-Err-clause-settled
+returns-in-Err-clause-settled g c = settles-memory c.args.step (g.D.Disk.state c.act-reply.new.core.disk)
+
+pub returns-in-Err-clause-causes : goal.returns-in-Err-clause-causes
+returns-in-Err-clause-causes g c = causes-none (g.D.Disk.state c.args.core.now.disk)
+    (g.D.Disk.state c.act-reply.new.core.disk)
+    c.args.core.now.books c.act-reply.new.core.books (reply.Refused refusal.OutOfMemory)
+    (goes-safely (c.act-reply.ensures.memory (c.in-Err.ensures.memory c.args.step c.act-reply.ensures.fits)))
+
+pub returns-in-Err-clause-order : goal.returns-in-Err-clause-order
+returns-in-Err-clause-order g c = record {
+  claims = no_claims;
+  order = (c.act-reply.ensures.memory (c.in-Err.ensures.memory c.args.step c.act-reply.ensures.fits)).order;
+}
+
+-- with its entry
+
+pub returns-in-Ok-clause-keeps : goal.returns-in-Ok-clause-keeps
+returns-in-Ok-clause-keeps g c = λ found first m.
+    subst₂ (λ (d : DiskState) (l : Books). IsMount (g.D.Disk.state found) d first l)
+    (ap g.D.Disk.state (sym c.keep_step.ensures.disk)) (sym c.keep_step.ensures.books)
+    (mount-goes (g.D.Disk.state found) (g.D.Disk.state c.args.core.now.disk) (g.D.Disk.state c.act-reply.new.core.disk)
+    first c.args.core.now.books c.act-reply.new.core.books m
+    c.args.step c.act-reply.result.claims c.act-reply.result.reply c.args.caller c.act-reply.ensures.goes
+    (sym c.wants_memory.ensures ∙ c.if-wants_memory.false) _ refl
+    (ap (λ (x : ℕ × Reply). c.act-reply.new.core.books.history.entries
+    ++ record { caller = c.args.caller; from = x.0; to = (g.D.Disk.state c.act-reply.new.core.disk).moment; step =
+    c.args.step; reply = x.1; claims = c.act-reply.result.claims } ∷ [])
+    (λ i. (c.moment-from.ensures i, c.in-Ok.ensures.same i))))
+
+pub returns-in-Ok-clause-claims : goal.returns-in-Ok-clause-claims
+returns-in-Ok-clause-claims g c = λ found first m q.
+    unowned-more (g.D.Disk.state found) (g.D.Disk.state c.args.core.now.disk) (g.D.Disk.state c.act-reply.new.core.disk)
+    first c.args.core.now.books c.act-reply.new.core.books
+    c.args.step c.act-reply.result.claims c.act-reply.result.reply c.args.caller c.act-reply.ensures.goes m
+    (sym c.wants_memory.ensures ∙ c.if-wants_memory.false) q c.keep_step.new.self.books.history.entries
+    (ap (λ (l : Books). l.history.entries) c.keep_step.ensures.books
+    ∙ ap (λ (x : List Entry1 × ℕ × Reply). x.0
+    ++ record { caller = c.args.caller; from = x.1; to = (g.D.Disk.state c.act-reply.new.core.disk).moment; step =
+    c.args.step; reply = x.2; claims = c.act-reply.result.claims } ∷ [])
+    (λ i. ((c.act-reply.ensures.goes.history i).entries, c.moment-from.ensures i, c.in-Ok.ensures.same i)))
+
+pub returns-in-Ok-clause-goes_on : goal.returns-in-Ok-clause-goes_on
+returns-in-Ok-clause-goes_on g c = record {
+  safe = subst₂ (λ (d : DiskState) (l : Books). IsSafe d l) (ap g.D.Disk.state (sym c.keep_step.ensures.disk))
+      (sym c.keep_step.ensures.books)
+      (safe-history c.act-reply.new.core.books _ (g.D.Disk.state c.act-reply.new.core.disk)
+      c.act-reply.ensures.goes.safe);
+  same = search rules;
+  room = search rules;
+}
+
+pub returns-in-Ok-clause-settled : goal.returns-in-Ok-clause-settled
+returns-in-Ok-clause-settled g c = subst (λ (d : DiskState). Settles c.args.step c.act-reply.result.reply d)
+    (ap g.D.Disk.state (sym c.keep_step.ensures.disk)) c.act-reply.ensures.settled
+
+pub returns-in-Ok-clause-causes : goal.returns-in-Ok-clause-causes
+returns-in-Ok-clause-causes g c = subst₂ (λ (d : DiskState) (l : Books). StepCauses
+    (g.D.Disk.state c.args.core.now.disk) d c.args.core.now.books l c.act-reply.result.reply)
+    (ap g.D.Disk.state (sym c.keep_step.ensures.disk)) (sym c.keep_step.ensures.books)
+    (causes-kept (g.D.Disk.state c.args.core.now.disk) (g.D.Disk.state c.act-reply.new.core.disk) c.args.core.now.books
+    c.act-reply.new.core.books
+    c.act-reply.result.reply _ (goes-safely c.act-reply.ensures.goes))
+
+pub returns-in-Ok-clause-order : goal.returns-in-Ok-clause-order
+returns-in-Ok-clause-order g c = subst (λ (d : DiskState). StepOrder (g.D.Disk.state c.args.core.now.disk) d (MeetsOpen
+    (g.D.Disk.state c.args.core.now.disk) c.args.core.now.books) c.args.step c.act-reply.result.reply)
+    (ap g.D.Disk.state (sym c.keep_step.ensures.disk))
+    (record { claims = c.act-reply.result.claims; order = c.act-reply.ensures.goes.order })

@@ -3,13 +3,15 @@ use Rattle.nofs_turn.specs.Turns.{view_of}
 use Rattle.nofs_history.specs.Steps.{Fits, with_made}
 use Rattle.nofs_history.specs.declared.machine.steps.Step.{Step}
 use Rattle.nofs_shared.specs.Owned.{own_steps}
-use Rattle.nofs_serve.proofs.Looking.{same-see}
-use Rattle.nofs_serve.proofs.teams.way.WayBatches.commit.Goals as goal
+use Rattle.nofs_shared.proofs.Examining.{same-see}
+use Rattle.nofs_shared.proofs.looks.SharedPassBatches.commit.Goals as goal
 
 pub returns-clause-made : goal.returns-clause-made
-returns-clause-made g c = c.commit.ensures.made ∙ ap (λ (s : Step). with_made (own_steps (view_of c.args.self.now.pass.pass).mine) s c.commit.result)
+returns-clause-made g c = c.commit.ensures.made ∙ ap (λ (s : Step). with_made (own_steps
+    (view_of c.args.self.now.pass).mine) s c.commit.result)
     (same-see (g.V.Serves.kind_of c.args.evidence.now) (get_or (g.V.Serves.items_in c.args.evidence.now) c.args.at 0))
 
 pub returns-clause-fits : goal.returns-clause-fits
 returns-clause-fits g c = subst (λ (s : Step). Fits s c.commit.result)
-    (same-see (g.V.Serves.kind_of c.args.evidence.now) (get_or (g.V.Serves.items_in c.args.evidence.now) c.args.at 0)) c.commit.ensures.fits
+    (same-see (g.V.Serves.kind_of c.args.evidence.now) (get_or
+    (g.V.Serves.items_in c.args.evidence.now) c.args.at 0)) c.commit.ensures.fits

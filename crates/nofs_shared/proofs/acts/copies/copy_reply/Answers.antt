@@ -1,0 +1,11 @@
+use Rattle.std.proofs.Common.{subst}
+use Rattle.nofs_history.specs.Steps.{Fits}
+use Rattle.nofs_history.specs.declared.machine.replies.Reply.{Reply}
+use Rattle.nofs_shared.proofs.Contents.{bytes-read, names-read}
+use Rattle.nofs_shared.proofs.acts.copies.copy_reply.Goals as goal
+
+pub returns-in-Err-clause-memory : goal.returns-in-Err-clause-memory
+returns-in-Err-clause-memory c = λ s fits. names-read s _ _ (subst (λ (r : Reply). Fits s r) c.in-Names.is fits)
+
+pub returns-in-Err-copy-clause-memory : goal.returns-in-Err-copy-clause-memory
+returns-in-Err-copy-clause-memory c = λ s fits. bytes-read s _ (subst (λ (r : Reply). Fits s r) c.in-Bytes.is fits)
