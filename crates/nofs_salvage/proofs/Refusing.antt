@@ -36,7 +36,7 @@ use Rattle.nofs_salvage.proofs.Answers.{clash, no-value, accepted-done}
 -- The cause of a refusal
 
 -- a read failed, the mount has stopped, a row came, or the step was answered so
-data Cause (U V : World) (s : Step) (why : Refusal) : Type 0 where
+pub data Cause (U V : World) (s : Step) (why : Refusal) : Type 0 where
   Fault : why ≡ refusal.ReadFault → Cause U V s why
   Halt : why ≡ refusal.Stopped → Cause U V s why
   Row : first_of (rows U V s) ≡ Some why → Cause U V s why

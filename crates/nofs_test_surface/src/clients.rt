@@ -39,7 +39,9 @@ pub fn command_variant(it: &Command) -> u8 {
             offset,
             bytes,
         } => {
-            let _typed: (&Path, &u64, &Content) = (path, offset, bytes);
+            let _path: &Path = path;
+            let _offset: &u64 = offset;
+            let _bytes: &Content = bytes;
             2
         }
         Command::Get {
@@ -47,11 +49,14 @@ pub fn command_variant(it: &Command) -> u8 {
             offset,
             length,
         } => {
-            let _typed: (&Path, &u64, &u64) = (path, offset, length);
+            let _path: &Path = path;
+            let _offset: &u64 = offset;
+            let _length: &u64 = length;
             3
         }
         Command::Size { path, size } => {
-            let _typed: (&Path, &u64) = (path, size);
+            let _path: &Path = path;
+            let _size: &u64 = size;
             4
         }
         Command::Stat { path } => {
@@ -63,7 +68,8 @@ pub fn command_variant(it: &Command) -> u8 {
             6
         }
         Command::Link { path, new_path } => {
-            let _typed: (&Path, &Path) = (path, new_path);
+            let _path: &Path = path;
+            let _new_path: &Path = new_path;
             7
         }
         Command::Drop { path } => {
@@ -71,7 +77,8 @@ pub fn command_variant(it: &Command) -> u8 {
             8
         }
         Command::Rename { path, name } => {
-            let _typed: (&Path, &Name) = (path, name);
+            let _path: &Path = path;
+            let _name: &Name = name;
             9
         }
         Command::Fsync { path } => {
@@ -79,7 +86,8 @@ pub fn command_variant(it: &Command) -> u8 {
             10
         }
         Command::Move { from, to } => {
-            let _typed: (&Path, &Path) = (from, to);
+            let _from: &Path = from;
+            let _to: &Path = to;
             11
         }
     }
@@ -151,7 +159,8 @@ pub fn line_variant(it: &Line) -> u8 {
             11
         }
         Line::RefusedPut { refusal, stored } => {
-            let _typed: (&Refusal, &u64) = (refusal, stored);
+            let _refusal: &Refusal = refusal;
+            let _stored: &u64 = stored;
             12
         }
     }

@@ -72,7 +72,8 @@ pub fn mount_fault_variant(it: &MountFault) -> u8 {
             1
         }
         MountFault::BadGeometry { blocks, inodes } => {
-            let _typed: (&u64, &u64) = (blocks, inodes);
+            let _blocks: &u64 = blocks;
+            let _inodes: &u64 = inodes;
             2
         }
         MountFault::DeviceTooSmall { has } => {
@@ -162,7 +163,8 @@ pub fn slot_path_variant(it: &SlotPath) -> u8 {
             1
         }
         SlotPath::Child(first, second) => {
-            let _typed: (&u32, &u32) = (first, second);
+            let _first: &u32 = first;
+            let _second: &u32 = second;
             2
         }
     }

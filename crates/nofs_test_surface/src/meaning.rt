@@ -116,7 +116,9 @@ pub fn step_variant(it: &Step) -> u8 {
             generation,
             name,
         } => {
-            let _typed: (&u32, &u64, &Name) = (directory, generation, name);
+            let _directory: &u32 = directory;
+            let _generation: &u64 = generation;
+            let _name: &Name = name;
             0
         }
         Step::Make {
@@ -125,7 +127,10 @@ pub fn step_variant(it: &Step) -> u8 {
             name,
             kind,
         } => {
-            let _typed: (&u32, &u64, &Name, &FileKind) = (directory, generation, name, kind);
+            let _directory: &u32 = directory;
+            let _generation: &u64 = generation;
+            let _name: &Name = name;
+            let _kind: &FileKind = kind;
             1
         }
         Step::Link {
@@ -135,7 +140,11 @@ pub fn step_variant(it: &Step) -> u8 {
             inode,
             of,
         } => {
-            let _typed: (&u32, &u64, &Name, &u32, &u64) = (directory, generation, name, inode, of);
+            let _directory: &u32 = directory;
+            let _generation: &u64 = generation;
+            let _name: &Name = name;
+            let _inode: &u32 = inode;
+            let _of: &u64 = of;
             2
         }
         Step::Drop {
@@ -143,7 +152,9 @@ pub fn step_variant(it: &Step) -> u8 {
             generation,
             name,
         } => {
-            let _typed: (&u32, &u64, &Name) = (directory, generation, name);
+            let _directory: &u32 = directory;
+            let _generation: &u64 = generation;
+            let _name: &Name = name;
             3
         }
         Step::Rename {
@@ -152,7 +163,10 @@ pub fn step_variant(it: &Step) -> u8 {
             old,
             new,
         } => {
-            let _typed: (&u32, &u64, &Name, &Name) = (directory, generation, old, new);
+            let _directory: &u32 = directory;
+            let _generation: &u64 = generation;
+            let _old: &Name = old;
+            let _new: &Name = new;
             4
         }
         Step::List {
@@ -160,7 +174,9 @@ pub fn step_variant(it: &Step) -> u8 {
             generation,
             slot,
         } => {
-            let _typed: (&u32, &u64, &u64) = (directory, generation, slot);
+            let _directory: &u32 = directory;
+            let _generation: &u64 = generation;
+            let _slot: &u64 = slot;
             5
         }
         Step::Get {
@@ -168,7 +184,9 @@ pub fn step_variant(it: &Step) -> u8 {
             generation,
             slot,
         } => {
-            let _typed: (&u32, &u64, &u64) = (inode, generation, slot);
+            let _inode: &u32 = inode;
+            let _generation: &u64 = generation;
+            let _slot: &u64 = slot;
             6
         }
         Step::Put {
@@ -178,7 +196,11 @@ pub fn step_variant(it: &Step) -> u8 {
             at,
             bytes,
         } => {
-            let _typed: (&u32, &u64, &u64, &u32, &Content) = (inode, generation, slot, at, bytes);
+            let _inode: &u32 = inode;
+            let _generation: &u64 = generation;
+            let _slot: &u64 = slot;
+            let _at: &u32 = at;
+            let _bytes: &Content = bytes;
             7
         }
         Step::Resize {
@@ -186,15 +208,19 @@ pub fn step_variant(it: &Step) -> u8 {
             generation,
             size,
         } => {
-            let _typed: (&u32, &u64, &u64) = (inode, generation, size);
+            let _inode: &u32 = inode;
+            let _generation: &u64 = generation;
+            let _size: &u64 = size;
             8
         }
         Step::Stat { inode, generation } => {
-            let _typed: (&u32, &u64) = (inode, generation);
+            let _inode: &u32 = inode;
+            let _generation: &u64 = generation;
             9
         }
         Step::Flush { inode, generation } => {
-            let _typed: (&u32, &u64) = (inode, generation);
+            let _inode: &u32 = inode;
+            let _generation: &u64 = generation;
             10
         }
         Step::SeeInode { inode } => {
@@ -216,7 +242,8 @@ pub fn reply_variant(it: &Reply) -> u8 {
             0
         }
         Reply::Made { inode, generation } => {
-            let _typed: (&u32, &u64) = (inode, generation);
+            let _inode: &u32 = inode;
+            let _generation: &u64 = generation;
             1
         }
         Reply::Linked => 2,
@@ -226,7 +253,8 @@ pub fn reply_variant(it: &Reply) -> u8 {
         }
         Reply::Renamed => 4,
         Reply::Names(first, second) => {
-            let _typed: (&u64, &NameList) = (first, second);
+            let _first: &u64 = first;
+            let _second: &NameList = second;
             5
         }
         Reply::LostNames(first) => {
@@ -287,11 +315,15 @@ pub fn refusal_variant(it: &Refusal) -> u8 {
             unverified,
             next,
         } => {
-            let _typed: (&u64, &u64, &u64, &u64) = (needed, free, unverified, next);
+            let _needed: &u64 = needed;
+            let _free: &u64 = free;
+            let _unverified: &u64 = unverified;
+            let _next: &u64 = next;
             14
         }
         Refusal::InodesFull { unverified, next } => {
-            let _typed: (&u64, &u64) = (unverified, next);
+            let _unverified: &u64 = unverified;
+            let _next: &u64 = next;
             15
         }
         Refusal::SerialsSpent => 16,
@@ -379,4 +411,19 @@ pub fn history_start(this: &History) -> u64 {
     this.start()
 }
 
-// To be cited here once they stand there: `nofs_history::accepted_of` and `nofs_history::FileKind`.
+/// `nofs_history::accepted_of`
+pub fn accepted_of(
+    alloc: Global,
+    base: &[Cell],
+    history: &History,
+    inode: u32,
+    generation: u64,
+    slot: u64,
+) -> Result<Vec<Value>, AllocError> {
+    nofs_history::accepted_of(alloc, base, history, inode, generation, slot)
+}
+
+/// `nofs_history::FileKind`
+pub fn file_kind_of_history(it: FileKind) -> nofs_history::FileKind {
+    it
+}

@@ -186,7 +186,8 @@ pub fn found_fields(it: Found) -> (u32, u64, FileKind) {
 pub fn listed_variant(it: &Listed) -> u8 {
     match it {
         Listed::Names(first, second) => {
-            let _typed: (&u64, &NameList) = (first, second);
+            let _first: &u64 = first;
+            let _second: &NameList = second;
             0
         }
         Listed::LostNames(first) => {

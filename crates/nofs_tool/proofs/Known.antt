@@ -169,7 +169,7 @@ module _ (served : List Entry1) where
       let (item, place, is) = s.ordered (i - 1) here in
       let same : get_or s.elements (i - 1) 0 ≡ i = omega (arith, place, is, low) in
       subst (λ (n : ℕ). HasStep served (step.SeeInode n)) same
-      (in-order INODE_SWEEPER (see_of Inode) s.elements (i - 1) (ap (map step_of) s.makes.more ∙ s.makes.steps) here)
+      (in-order INODE_SWEEPER (see_of Inode) s.elements (i - 1) (ap (map made_step) s.makes.more ∙ s.makes.steps) here)
 
   pub blocks-seen : (blocks p : ℕ)
       → Sweeps (λ place item. item ≡ blocks - 1 - place) Block 0 blocks false [] (steps_by BLOCK_SWEEPER served)
@@ -181,7 +181,7 @@ module _ (served : List Entry1) where
       let same : get_or s.elements (blocks - 1 - p) 0 ≡ p = omega (arith, place, is, low) in
       subst (λ (n : ℕ). HasStep served (step.SeeBlock n)) same
       (in-order BLOCK_SWEEPER (see_of Block) s.elements (blocks - 1 - p)
-      (ap (map step_of) s.makes.more ∙ s.makes.steps) here)
+      (ap (map made_step) s.makes.more ∙ s.makes.steps) here)
 
 -- one more entry
 pub has-more : (es fs : List Entry1) (s : Step) → HasStep es s → HasStep (es ++ fs) s
