@@ -7,7 +7,7 @@ use nofs_script::number_of;
 
 /// The image that is served.
 #[derive(Clone, Copy, Debug, PartialEq, Eq)]
-pub enum Image<'a> {
+pub enum ImageChoice<'a> {
     /// A disk in memory.
     Memory,
     /// A disk in this file.
@@ -31,12 +31,12 @@ fn is_path(word: &str) -> bool {
 }
 
 // A mirror, by its words.
-fn mirror_of<'a>(blocks: &str, lead: &'a str, other: &'a str) -> Option<Image<'a>> {
+fn mirror_of<'a>(blocks: &str, lead: &'a str, other: &'a str) -> Option<ImageChoice<'a>> {
     let blocks = number_of(blocks.as_bytes())?;
     if blocks < LEAST_BLOCKS || blocks > MOST_BLOCKS || !is_path(lead) || !is_path(other) {
         return None;
     }
-    Some(Image::Mirror {
+    Some(ImageChoice::Mirror {
         blocks,
         lead,
         other,
@@ -44,12 +44,12 @@ fn mirror_of<'a>(blocks: &str, lead: &'a str, other: &'a str) -> Option<Image<'a
 }
 
 /// The image that a word names; none where it begins with `mirror:` and has not the shape `mirror:BLOCKS:LEAD:OTHER`.
-pub fn image_of(word: &str) -> Option<Image<'_>> {
+pub fn image_of(word: &str) -> Option<ImageChoice<'_>> {
     if word == "-" {
-        return Some(Image::Memory);
+        return Some(ImageChoice::Memory);
     }
     let Some(rest) = word.strip_prefix("mirror:") else {
-        return Some(Image::File(word));
+        return Some(ImageChoice::File(word));
     };
     let (blocks, files) = rest.split_once(':')?;
     let (lead, other) = files.split_once(':')?;
@@ -61,20 +61,20 @@ pub fn image_of(word: &str) -> Option<Image<'_>> {
 
 #[cfg(test)]
 mod tests {
-    use super::{Image, image_of};
+    use super::{ImageChoice, image_of};
     use std::test::Fail;
 
     #[test]
     fn each_first_word_names_its_image(rt: HostRuntime) -> Result<(), Fail> {
-        let mirror = Image::Mirror {
+        let mirror = ImageChoice::Mirror {
             blocks: 64,
             lead: "a.img",
             other: "b.img",
         };
         for (word, image) in [
-            ("-", Some(Image::Memory)),
-            ("disk.img", Some(Image::File("disk.img"))),
-            ("mirror", Some(Image::File("mirror"))),
+            ("-", Some(ImageChoice::Memory)),
+            ("disk.img", Some(ImageChoice::File("disk.img"))),
+            ("mirror", Some(ImageChoice::File("mirror"))),
             ("mirror:64:a.img:b.img", Some(mirror)),
             ("mirror:15:a.img:b.img", None),
             ("mirror:1048577:a.img:b.img", None),

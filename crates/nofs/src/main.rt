@@ -10,7 +10,7 @@ mod image;
 mod tests;
 
 use crate::cached::{tool_cached, tool_mirrored};
-use crate::image::{Image, image_of};
+use crate::image::{ImageChoice, image_of};
 use nofs_cache::Cached;
 use nofs_disk::Disk;
 use nofs_filedisk::{FileDisk, HostFile};
@@ -43,7 +43,7 @@ fn all_words<R: Env + AllocGlobal>(rt: &R) -> io::Result<Vec<String>> {
 
 // The image and the words behind it, where they are a command. They are judged before any image is opened: a mistyped command line
 // leaves nothing behind.
-fn command(words: &[String]) -> Option<(Image<'_>, &[String])> {
+fn command(words: &[String]) -> Option<(ImageChoice<'_>, &[String])> {
     match words {
         [first, rest @ ..] if task_of(rest).is_some() => {
             let image = image_of(first.as_str())?;
@@ -185,12 +185,12 @@ fn main(rt: HostRuntime) -> ExitCode {
     };
     let alloc = rt.alloc();
     let status = match image {
-        Image::Memory => run_in_memory(&rt, alloc, rest, &mut source, &mut sink),
-        Image::File(path) => {
+        ImageChoice::Memory => run_in_memory(&rt, alloc, rest, &mut source, &mut sink),
+        ImageChoice::File(path) => {
             let file = HostFile::open(&rt, path);
             run_in_file(&rt, alloc, rest, &mut source, &mut sink, file)
         }
-        Image::Mirror {
+        ImageChoice::Mirror {
             blocks,
             lead,
             other,

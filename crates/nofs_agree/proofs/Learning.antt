@@ -10,7 +10,7 @@ use Rattle.nofs_disk.specs.declared.Failed.{Failed}
 use Rattle.nofs_model.specs.Cells.{Record, SuperBlock}
 use Rattle.nofs_model.specs.Files.{agreed, files_in, is_root, is_special}
 use Rattle.nofs_model.specs.Geometry.{Image, inode}
-use Rattle.nofs_agree.specs.Chains.{AreTrue, Learns, LearnsAbove, LearnsOne, LearnsChain, ReadsParent, told}
+use Rattle.nofs_agree.specs.Chains.{AreTrue, LearnsAgreement, LearnsAbove, LearnsOne, LearnsChain, ReadsParent, known_agreement}
 use Rattle.nofs_agree.specs.Reading.{IsLast, KnowsInode}
 use Rattle.nofs_agree.specs.declared.chain.Directory.{Directory}
 use Rattle.nofs_agree.specs.declared.reads.LastRead.{LastRead}
@@ -23,10 +23,10 @@ leb-not : (a b : ℕ) → b < a → leb a b ≡ false
 leb-not a b h = grind (arith, nat_tests)
 
 -- what was set of one inode is told of it, and nothing else of the others
-pub told-here : (known : List (Option Bool)) (i : ℕ) (v : Option Bool) → 1 ≤ i → i ≤ length known → told (slice_set known (i - 1) v) i ≡ v
+pub told-here : (known : List (Option Bool)) (i : ℕ) (v : Option Bool) → 1 ≤ i → i ≤ length known → known_agreement (slice_set known (i - 1) v) i ≡ v
 told-here known i v low high = rw (leb-le 1 i low) (get_or-set_same known (i - 1) v None (omega (arith, low, high)))
 
-pub told-other : (known : List (Option Bool)) (i j : ℕ) (v : Option Bool) → 1 ≤ i → j ≢ i → told (slice_set known (i - 1) v) j ≡ told known j
+pub told-other : (known : List (Option Bool)) (i j : ℕ) (v : Option Bool) → 1 ≤ i → j ≢ i → known_agreement (slice_set known (i - 1) v) j ≡ known_agreement known j
 told-other known i j v low other = elim (cases_lt j 1) [
   | inl none ↦ rw (leb-not 1 j none) refl
   | inr some ↦ rw (leb-le 1 j some) (get_or-set_other known (i - 1) (j - 1) v None (λ e. other (omega (arith, e, low, some))))
@@ -42,17 +42,17 @@ none-of n m = elim (cases_lt m n) [
 ]
 
 -- at first nothing is
-pub told-nothing : (n i : ℕ) → told (empty n) i ≡ None
+pub told-nothing : (n i : ℕ) → known_agreement (empty n) i ≡ None
 told-nothing n i = elim (cases_lt i 1) [
   | inl none ↦ rw (leb-not 1 i none) refl
   | inr some ↦ rw (leb-le 1 i some) (none-of n (i - 1))
 ]
 
-pub told-set : (known : List (Option Bool)) (i : ℕ) (v : Option Bool) (a : Bool) → 1 ≤ i → told (slice_set known (i - 1) v) i ≡ Some a → v ≡ Some a
+pub told-set : (known : List (Option Bool)) (i : ℕ) (v : Option Bool) (a : Bool) → 1 ≤ i → known_agreement (slice_set known (i - 1) v) i ≡ Some a → v ≡ Some a
 told-set known i v a low t = elim (cases_lt (length known) i) [
   | inl past ↦
       let len = length-set known (i - 1) v in
-      let none : told (slice_set known (i - 1) v) i ≡ None =
+      let none : known_agreement (slice_set known (i - 1) v) i ≡ None =
       rw (leb-le 1 i low) (get_or_past (slice_set known (i - 1) v) (i - 1) None (omega (arith, past, len, low))) in
       absurd (cc (none, t))
   | inr high ↦ sym (told-here known i v low high) ∙ t
@@ -63,16 +63,16 @@ pub if-told : (o : Option Bool) (P : Bool → Type 0) → ((a : Bool) → o ≡ 
 if-told None P h = tt
 if-told (Some a) P h = h a refl
 
-pub is-told : (X : Image) (known : List (Option Bool)) (i : ℕ) (a : Bool) → AreTrue X known → told known i ≡ Some a → agreed (files_in X) i ≡ a
+pub is-told : (X : Image) (known : List (Option Bool)) (i : ℕ) (a : Bool) → AreTrue X known → known_agreement known i ≡ Some a → agreed (files_in X) i ≡ a
 is-told X known i a all e = subst (λ (o : Option Bool). IfSome o (λ b. agreed (files_in X) i ≡ b)) e (all i)
 
 -- nothing is learned
-pub learns-none : (d : DiskState) (known : List (Option Bool)) → Learns d known known
+pub learns-none : (d : DiskState) (known : List (Option Bool)) → LearnsAgreement d known known
 learns-none d known = record { len = refl; still = λ t a. a }
 
 -- more and still more, while the disk stays
-pub learns-more : (old now : DiskState) (one two three : List (Option Bool)) → StaysButFaults old now → Learns old one two → Learns now two three
-    → Learns old one three
+pub learns-more : (old now : DiskState) (one two three : List (Option Bool)) → StaysButFaults old now → LearnsAgreement old one two → LearnsAgreement now two three
+    → LearnsAgreement old one three
 learns-more old now one two three s a b = record {
   len = b.len ∙ a.len;
   still = λ t true-first.
@@ -81,18 +81,18 @@ learns-more old now one two three s a b = record {
 }
 
 -- of an inode what is true of it
-pub learns-one : (d : DiskState) (one two three : List (Option Bool)) (i : ℕ) (b : Bool) → Learns d one two → LearnsOne two three i b
-    → (IsTrue d.tells → AreTrue d.now one → b ≡ agreed (files_in d.now) i) → Learns d one three
+pub learns-one : (d : DiskState) (one two three : List (Option Bool)) (i : ℕ) (b : Bool) → LearnsAgreement d one two → LearnsOne two three i b
+    → (IsTrue d.tells → AreTrue d.now one → b ≡ agreed (files_in d.now) i) → LearnsAgreement d one three
 learns-one d one two three i b a more is = record {
   len = more.len ∙ a.len;
-  still = λ t first j. if-told (told three j) (λ c. agreed (files_in d.now) j ≡ c) (λ c e. elim (more.each j c e) [
+  still = λ t first j. if-told (known_agreement three j) (λ c. agreed (files_in d.now) j ≡ c) (λ c e. elim (more.each j c e) [
     | inl here ↦ ap (λ (n : ℕ). agreed (files_in d.now) n) here.0 ∙ sym (is t first) ∙ sym here.1
     | inr before ↦ is-told d.now two j c (a.still t first) before
   ]);
 }
 
 -- an answer of a check that knows more is one for the disk at first
-pub agreed-at-first : (old now : DiskState) (known more : List (Option Bool)) (i : ℕ) (b : Bool) → StaysButFaults old now → Learns old known more
+pub agreed-at-first : (old now : DiskState) (known more : List (Option Bool)) (i : ℕ) (b : Bool) → StaysButFaults old now → LearnsAgreement old known more
     → (IsTrue now.tells → AreTrue now.now more → b ≡ agreed (files_in now.now) i) → IsTrue old.tells → AreTrue old.now known → b ≡ agreed (files_in old.now) i
 agreed-at-first old now known more i b s a is t first =
     subst (λ (X : Image). b ≡ agreed (files_in X) i) s.cells.now
@@ -101,12 +101,12 @@ agreed-at-first old now known more i b s a is t first =
 -- On the way up from the first directory to this one all is known to be what the first one is
 pub record Keeps (old now : DiskState) (at : SuperBlock) (known more : List (Option Bool)) (first here : Directory) (last : LastRead) : Type 0 where
   pub climbed : Climbed old now at first here last
-  pub learns : Learns old known more
+  pub learns : LearnsAgreement old known more
 
 -- this one, too
 pub keeps-here : (old now : DiskState) (at : SuperBlock) (known more most : List (Option Bool)) (first here : Directory) (last : LastRead) (b : Bool)
     → (IsTrue old.tells → AreTrue old.now known → b ≡ agreed (files_in old.now) first.inode)
-    → Keeps old now at known more first here last → LearnsOne more most here.inode b → Learns old known most
+    → Keeps old now at known more first here last → LearnsOne more most here.inode b → LearnsAgreement old known most
 keeps-here old now at known more most first here last b is k one =
     learns-one old known more most here.inode b k.learns one (λ t a. is t a ∙ k.climbed.same t)
 
@@ -168,7 +168,7 @@ pub record Above (old now : DiskState) (at : SuperBlock) (known more : List (Opt
   pub stays : StaysButFaults old now
   pub is : KnowsInode now at i r
   pub kept : IsLast now last
-  pub learns : Learns old known more
+  pub learns : LearnsAgreement old known more
 
 pub above-goes : (old now new : DiskState) (at : SuperBlock) (known more most : List (Option Bool)) (i : ℕ) (r : Record) (last next : LastRead)
     (res : Result (Unit {0}) Failed)
@@ -199,7 +199,7 @@ above-fails old now new at known more most i r last next res whole x a reads e =
     }
 
 -- the inode itself, once the ways up from it are known
-pub chain-learned : (old now new : DiskState) (known more most : List (Option Bool)) (i : ℕ) (b : Bool) → StaysButFaults old now → Learns old known more
-    → (IsTrue now.tells → AreTrue now.now more → b ≡ agreed (files_in now.now) i) → LearnsOne more most i b → Learns old known most
+pub chain-learned : (old now new : DiskState) (known more most : List (Option Bool)) (i : ℕ) (b : Bool) → StaysButFaults old now → LearnsAgreement old known more
+    → (IsTrue now.tells → AreTrue now.now more → b ≡ agreed (files_in now.now) i) → LearnsOne more most i b → LearnsAgreement old known most
 chain-learned old now new known more most i b s a is one =
     learns-one old known more most i b a one (agreed-at-first old now known more i b s a is)

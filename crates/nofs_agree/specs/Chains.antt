@@ -13,15 +13,15 @@ use Rattle.nofs_agree.specs.declared.chain.Directory.{Directory}
 use Rattle.nofs_agree.specs.declared.reads.LastRead.{LastRead}
 
 -- what is known of an inode, whose place is the one before its number: whether it is agreed. Past the end nothing is known
-abbrev pub told : List (Option Bool) → ℕ → Option Bool
-told known i = if nat_le 1 i then get_or known (i - 1) None else None
+abbrev pub known_agreement : List (Option Bool) → ℕ → Option Bool
+known_agreement known i = if nat_le 1 i then get_or known (i - 1) None else None
 
 -- what is known is true of the image
 abbrev pub AreTrue : Image → List (Option Bool) → Type 0
-AreTrue X known = (i : ℕ) → IfSome (told known i) (λ a. agreed (files_in X) i ≡ a)
+AreTrue X known = (i : ℕ) → IfSome (known_agreement known i) (λ a. agreed (files_in X) i ≡ a)
 
 -- more is known than before, and it is true where what was known is
-pub record Learns (d : DiskState) (old new : List (Option Bool)) : Type 0 where
+pub record LearnsAgreement (d : DiskState) (old new : List (Option Bool)) : Type 0 where
   pub len : length new ≡ length old
   pub still : IsTrue d.tells → AreTrue d.now old → AreTrue d.now new
 
@@ -78,18 +78,18 @@ pub record ReadsParent (old new : DiskState) (at : SuperBlock) (it : Directory) 
 -- so it is of one inode: what is known of the others was known before
 pub record LearnsOne (old new : List (Option Bool)) (i : ℕ) (agreed : Bool) : Type 0 where
   pub len : length new ≡ length old
-  pub here : 1 ≤ i → i ≤ length old → told new i ≡ Some agreed
-  pub each : (j : ℕ) (a : Bool) → told new j ≡ Some a → ((j ≡ i) × (a ≡ agreed)) ⊎ (told old j ≡ Some a)
+  pub here : 1 ≤ i → i ≤ length old → known_agreement new i ≡ Some agreed
+  pub each : (j : ℕ) (a : Bool) → known_agreement new j ≡ Some a → ((j ≡ i) × (a ≡ agreed)) ⊎ (known_agreement old j ≡ Some a)
 
 -- the way up from a directory was walked: what is known after it is true where what was known before is
 pub record LearnsChain (old new : DiskState) (known more : List (Option Bool)) (last : LastRead) (result : Result (Unit {0}) Failed) : Type 0 where
   pub stays : StaysButFaults old new
-  pub learns : Learns old known more
+  pub learns : LearnsAgreement old known more
   pub kept : OnOk result (IsLast new last)
   pub cause : OnErr result (Rose old.faults new.faults)
 
 -- so were all ways up from an inode
 pub record LearnsAbove (old new : DiskState) (known more : List (Option Bool)) (result : Result (Unit {0}) Failed) : Type 0 where
   pub stays : StaysButFaults old new
-  pub learns : Learns old known more
+  pub learns : LearnsAgreement old known more
   pub cause : OnErr result (Rose old.faults new.faults)

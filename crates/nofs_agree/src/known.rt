@@ -2,7 +2,7 @@
 //!
 //! Promise: what was set of an inode is what is told of it. Whether that is true is its user's to see to.
 ghost use Rattle.std.specs.Prelude.{◌≡◌, ◌-◌, ◌≤◌, IfOk, None, length, replicate, slice_set};
-ghost use Rattle.nofs_agree.specs.Chains.{LearnsOne, told};
+ghost use Rattle.nofs_agree.specs.Chains.{LearnsOne, known_agreement};
 
 use std::alloc::{AllocError, Global};
 use std::marker::Model;
@@ -35,7 +35,7 @@ impl Known {
 
     /// Whether an inode is agreed; `None` where that isn't known, and where there is no such inode.
     pub fn told(&self, inode: u32) -> Option<bool>
-        ensures { result ≡ told self.now inode }
+        ensures { result ≡ known_agreement self.now inode }
     {
         let place = inode as usize;
         if place == 0 || place > self.inodes.len() {

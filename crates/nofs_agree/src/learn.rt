@@ -6,7 +6,7 @@
 ghost use Rattle.std.specs.Prelude.{◌≡◌, ◌≤◌, IfOk, IsTrue, OnErr, Some, length};
 ghost use Rattle.nofs_disk.specs.Disk.{Rose, StaysButFaults};
 ghost use Rattle.nofs_model.specs.Files as files;
-ghost use Rattle.nofs_agree.specs.Chains.{AreTrue, Learns, LearnsAbove, LearnsChain, told};
+ghost use Rattle.nofs_agree.specs.Chains.{AreTrue, LearnsAgreement, LearnsAbove, LearnsChain, known_agreement};
 ghost use Rattle.nofs_agree.specs.Reading.{IsAt, IsLast, KnowsDirectory, KnowsInode};
 
 use crate::chain::{Directory, check_chain, is_agreed_directory, is_root, is_special, read_parent};
@@ -32,10 +32,10 @@ pub fn learn_chain<D: Disk>(
     requires numbers { IsAt (D.state disk.old) at.now }
     requires known { length known.old ≡ at.now.inodes }
     ensures stays { StaysButFaults (D.state disk.old) (D.state disk.new) }
-    ensures learns { Learns (D.state disk.old) known.old known.new }
+    ensures learns { LearnsAgreement (D.state disk.old) known.old known.new }
     ensures agreed { IfOk result (λ answer. IsTrue (D.state disk.old).tells → AreTrue (D.state disk.old).now known.old
         → answer ≡ files.agreed (files.files_in (D.state disk.old).now) inode) }
-    ensures knows { IfOk result (λ answer. 1 ≤ inode → inode ≤ at.now.inodes → told known.new inode ≡ Some answer) }
+    ensures knows { IfOk result (λ answer. 1 ≤ inode → inode ≤ at.now.inodes → known_agreement known.new inode ≡ Some answer) }
     ensures cause { OnErr result (Rose (D.state disk.old).faults (D.state disk.new).faults) }
 {
     if let Some(agreed) = known.told(inode) {

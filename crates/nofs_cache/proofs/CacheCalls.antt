@@ -13,10 +13,11 @@ use Rattle.nofs_disk.specs.Cells.{same_cell, same_cell-refl, same_cell-true}
 use Rattle.nofs_disk.specs.Chains.{IsSameDisk-refl, KeepsPast-refl}
 use Rattle.nofs_disk.specs.Disk.{DiskState, IsDisk, IsSameDisk, KeepsCells, KeepsPast, MakesReady, Picks, Reads, StaysButFaults, cell_at}
 use Rattle.nofs_disk.specs.Moments.{AtEach, AtEach-stays}
+use Rattle.nofs_disk.specs.Held.{IsWithin}
 use Rattle.nofs_cache.specs.declared.dirty.dirty.DirtyEntry.{DirtyEntry}
 use Rattle.nofs_cache.specs.declared.dirty.past.CacheCall.{CacheCall}
 use Rattle.nofs_cache.specs.declared.dirty.past.CacheCall.TheVariants.{Flush}
-use Rattle.nofs_cache.specs.Cache.{Agrees, Covers, IsMarked, IsWithin, Left, LeftWithin, began, cache_state, ended_at, held, last_end, was}
+use Rattle.nofs_cache.specs.Cache.{Agrees, Covers, IsMarked, Left, LeftWithin, began, cache_state, ended_at, held, last_end, was}
 use Rattle.nofs_cache.specs.DirtyEntries.{HasCell, IsClean, dirty_entry_at, no_dirty_entry}
 use Rattle.nofs_cache.specs.Laws.{CacheKeeps, Left-later, first_held}
 

@@ -9,10 +9,11 @@ use Rattle.nofs_disk.specs.declared.tag.Cell.{Cell}
 use Rattle.nofs_disk.specs.Cells.{Picks-known, has_cell, has_cell-true}
 use Rattle.nofs_disk.specs.Disk.{DiskState, Flushes, IsDisk, IsSettled, Picks, Rose, WritesOut, cell_at}
 use Rattle.nofs_disk.specs.Moments.{AtEach}
+use Rattle.nofs_disk.specs.Held.{Held, IsWithin}
 use Rattle.nofs_cache.specs.declared.dirty.dirty.DirtyEntry.{DirtyEntry}
 use Rattle.nofs_cache.specs.declared.dirty.past.CacheCall.{CacheCall}
 use Rattle.nofs_cache.specs.declared.dirty.past.CacheCall.TheVariants.{Flush}
-use Rattle.nofs_cache.specs.Cache.{Agrees, Covers, Held, IsMarked, IsWithin, Left, WrittenBack, SettlesDirty, TakesOut, after_flush, cache_state}
+use Rattle.nofs_cache.specs.Cache.{Agrees, Covers, IsMarked, Left, WrittenBack, SettlesDirty, TakesOut, held_after_flush, cache_state}
 use Rattle.nofs_cache.specs.Cache.{held, last_end, only}
 use Rattle.nofs_cache.specs.Laws.{CacheKeeps, first_held, only_has}
 use Rattle.nofs_cache.proofs.CacheCalls.{agrees_of, cache_disk, cache_past_more, left_before, left_during, left_keeps, left_more, was_keeps, was_now}
@@ -44,10 +45,10 @@ same_within : (may : ℕ → List Cell) (old new : DiskState) → new.blocks ≡
 same_within may old new same w = let F : ℕ → Type 0 = λ n. IsWithin may n in subst F (sym same) w
 
 -- the cells that may be held after a flush
-flush_within : (h : Held) (n : ℕ) → IsWithin h.may n → IsWithin (after_flush true h).may n
+flush_within : (h : Held) (n : ℕ) → IsWithin h.may n → IsWithin (held_after_flush true h).may n
 flush_within h n w = record { beyond = λ b c low has. w.beyond b c low (back b c has); sized = λ b c has. w.sized b c (back b c has) }
   where
-    back : (b : ℕ) (c : Cell) → Contains ((after_flush true h).may b) c → Contains (h.may b) c
+    back : (b : ℕ) (c : Cell) → Contains ((held_after_flush true h).may b) c → Contains (h.may b) c
     back b c has =
         let one = only_in (h.may b) (cell_at h.now b) c has in
         let F : Cell → Type 0 = λ x. Contains (h.may b) x in
@@ -69,14 +70,14 @@ kept_writes_back under new first past before after p kept = ∥∥₁_elim kept 
         }
 
 flush_covers : (h : Held) (new : DiskState) (after : List DirtyEntry) → IsSettled new → after ≡ [] → Agrees h.now new.now after
-    → Covers h.may new.blocks new.may after → Covers (after_flush true h).may new.blocks new.may after
+    → Covers h.may new.blocks new.may after → Covers (held_after_flush true h).may new.blocks new.may after
 flush_covers h new after settled none ag cov =
     let len : length after ≡ 0 = ap length none in
     record {
       below = λ b c low has.
           let is : c ≡ cell_at h.now b = settled b c low has ∙ ag.clean b (record { none = λ i in_range e. absurd (omega arith) }) in
           let F : Cell → Type 0 = λ x. Contains (h.may b) x in
-          let G : Cell → Type 0 = λ x. Contains ((after_flush true h).may b) x in
+          let G : Cell → Type 0 = λ x. Contains ((held_after_flush true h).may b) x in
           subst G (sym is) (only_has (h.may b) (cell_at h.now b) (subst F is (cov.below b c low has)));
       kept = λ i low. absurd (omega arith);
     }
@@ -91,13 +92,13 @@ kept_flush under new first past before after from to (Ok u) is ends s kept = ∥
         let h = held (first_held first) past in
         let ag = s.writes_back.agrees h.now k.agrees in
         let cov = flush_covers h new after s.settled s.clean ag (same_blocks h.may under new before after s.writes_back k.covers) in
-        let F : ℕ → Type 0 = λ m. AtEach (λ j image. Picks (after_flush true h).may new.blocks image) m new in
+        let F : ℕ → Type 0 = λ m. AtEach (λ j image. Picks (held_after_flush true h).may new.blocks image) m new in
         record {
           covers = cov;
-          picks = subst F (sym ends) (rest_at (after_flush true h).may new after is cov);
+          picks = subst F (sym ends) (rest_at (held_after_flush true h).may new after is cov);
           agrees = ag;
           within =
-              same_within (after_flush true h).may under new s.writes_back.disk.blocks (flush_within h under.blocks k.within);
+              same_within (held_after_flush true h).may under new s.writes_back.disk.blocks (flush_within h under.blocks k.within);
         }
 kept_flush under new first past before after from to (Err failed) is ends s kept = ∥∥₁_elim kept ∥∥₁_prop (λ k. ∣ goes k ∣₁)
   where

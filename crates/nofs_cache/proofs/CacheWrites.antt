@@ -13,12 +13,13 @@ use Rattle.nofs_disk.specs.Cells.{Picks-known}
 use Rattle.nofs_disk.specs.Chains.{IsSameDisk-refl, KeepsPast-refl}
 use Rattle.nofs_disk.specs.Disk.{DiskState, IsDisk, IsSizedCell, Picks, Writes, cell_at, no_cell}
 use Rattle.nofs_disk.specs.Moments.{AtEach}
+use Rattle.nofs_disk.specs.Held.{Held, IsWithin, written, written_here, written_other}
 use Rattle.nofs_cache.specs.declared.dirty.dirty.DirtyEntry.{DirtyEntry}
 use Rattle.nofs_cache.specs.declared.dirty.past.CacheCall.{CacheCall}
 use Rattle.nofs_cache.specs.declared.dirty.past.CacheCall.TheVariants.{Write}
-use Rattle.nofs_cache.specs.Cache.{Agrees, Covers, Held, IsMarked, IsWithin, cache_state, held, written}
+use Rattle.nofs_cache.specs.Cache.{Agrees, Covers, IsMarked, cache_state, held}
 use Rattle.nofs_cache.specs.DirtyEntries.{IsClean, AreSlotted, PutsDirtyEntry, dirty_entry, dirty_entry_at, no_dirty_entry}
-use Rattle.nofs_cache.specs.Laws.{CacheKeeps, first_held, written_here, written_other}
+use Rattle.nofs_cache.specs.Laws.{CacheKeeps, first_held}
 use Rattle.nofs_cache.proofs.CacheCalls.{cache_disk, cache_past_more, left_during}
 use Rattle.nofs_cache.proofs.WritesBack.{Covers-picks}
 

@@ -12,11 +12,11 @@ use Rattle.nofs_cache.specs.declared.dirty.dirty.DirtyBlocks.{DirtyBlocks}
 use Rattle.nofs_cache.specs.declared.dirty.dirty.DirtyEntry.{DirtyEntry}
 use Rattle.nofs_cache.specs.declared.dirty.past.CacheCall.{CacheCall}
 use Rattle.nofs_cache.specs.declared.dirty.past.CacheCall.TheVariants.{Write, Flush}
-use Rattle.nofs_cache.specs.Cache.{IsMarked, LeavesAll, SettlesDirty, TakesOut, WroteOne, WrittenBack, began, cache_state, ended_at}
+use Rattle.nofs_cache.specs.Cache.{IsMarked, LeavesAll, SettlesDirty, TakesOut, WroteBelow, WrittenBack, began, cache_state, ended_at}
 use Rattle.nofs_cache.specs.DirtyBlocks.{block_count, entries_of, room_of}
 use Rattle.nofs_cache.specs.DirtyEntries.{HasCell, IsClean, PutsDirtyEntry}
 use Rattle.nofs_cache.specs.Laws.{CacheKeeps, cache_is}
-use Rattle.nofs_cache.specs.Past.{past_calls}
+use Rattle.nofs_cache.specs.Past.{cache_calls}
 use Rattle.nofs_cache.proofs.CacheCalls.{cache_ready, kept_same, kept_stays, marked_later, marked_more, reads_below, reads_kept}
 use Rattle.nofs_cache.proofs.CacheFlushes.{cache_flushes, cache_writes_out, kept_flush, kept_writes_back}
 use Rattle.nofs_cache.proofs.CacheLeaves.{leaves_during, leaves_now, marked_last}
@@ -50,7 +50,7 @@ module _ {D : Type 0} {δ : Ghosts D} (old : Cached D δ) where
   first = δ.state old.first.value
 
   abbrev calls : List CacheCall
-  calls = past_calls old.past.value
+  calls = cache_calls old.past.value
 
   abbrev before : List DirtyEntry
   before = entries_of old.dirty
@@ -141,11 +141,11 @@ module _ {D : Type 0} {δ : Ghosts D} (old : Cached D δ) where
   below_reads {new} {block} {into} {result} clean reads = reads_below under new first calls before old.spare block into result clean reads old.kept old.marked
 
   pub out_does : {new : DiskState} {after : List DirtyEntry} {result : Result (Option ℕ) Failed} → WrittenBack under new before after
-      → TakesOut before after result → OnErr result (Rose under.faults new.faults) → OnOk result (WroteOne under new before after) → 1 ≤ old.spare
+      → TakesOut before after result → OnErr result (Rose under.faults new.faults) → OnOk result (WroteBelow under new before after) → 1 ≤ old.spare
       → WritesOut seen (cache_state new first calls after (old.spare - 1)) result
   out_does {new} {after} {result} wrote out cause one some =
       cache_writes_out under new first calls before after old.spare (old.spare - 1) result wrote out cause
-      (part_of_ok result one (λ (w : WroteOne under new before after). w.no_fault)) old.marked (omega arith)
+      (part_of_ok result one (λ (w : WroteBelow under new before after). w.no_fault)) old.marked (omega arith)
 
   -- a write of a cell, and its snapshot
   module _ {b at : ℕ} {cell : Cell} (dirty : DirtyBlocks) (snap : Snapshot Cell) (is : IsDisk under) (low : b < under.blocks) (some : 1 ≤ old.spare)

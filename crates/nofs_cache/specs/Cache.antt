@@ -1,11 +1,12 @@
 -- What a cached disk holds, and what a crash may leave of it.
-use Rattle.std.specs.Prelude.{◌≡◌, ◌⊎◌, ℕ, ◌+◌, ◌-◌, ◌*◌, ◌<◌, ◌≤◌, ◌==◌, if◌then◌else◌, Bool, true, false, List, [], ◌∷◌, ◌++◌, length, map, take, slice_set}
+use Rattle.std.specs.Prelude.{◌≡◌, ◌⊎◌, ℕ, ◌+◌, ◌-◌, ◌*◌, ◌<◌, ◌≤◌, ◌==◌, if◌then◌else◌, Bool, true, false, List, [], ◌∷◌, length, map, take}
 use Rattle.std.specs.Prelude.{slice_index_or, Contains, Option, None, Some, Result, Ok, Err, IsPermutation, OnOk, OnErr}
 use Rattle.nofs_disk.specs.declared.Failed.{Failed}
 use Rattle.nofs_disk.specs.declared.tag.Cell.{Cell}
-use Rattle.nofs_disk.specs.Disk.{DiskState, IsSameDisk, IsSettled, IsSizedCell, KeepsPast, Picks, Rose, cell_at}
+use Rattle.nofs_disk.specs.Disk.{DiskState, IsSameDisk, IsSettled, KeepsPast, Picks, Rose, cell_at}
 use Rattle.nofs_disk.specs.Cells.{has_cell}
 use Rattle.nofs_disk.specs.Moments.{AtEach}
+use Rattle.nofs_disk.specs.Held.{Held, IsWithin, written}
 use Rattle.nofs_cache.specs.declared.dirty.past.CacheCall.{CacheCall}
 use Rattle.nofs_cache.specs.declared.dirty.past.CacheCall.TheVariants.{Write, Flush}
 use Rattle.nofs_cache.specs.declared.dirty.dirty.DirtyEntry.{DirtyEntry}
@@ -13,30 +14,21 @@ use Rattle.nofs_cache.specs.declared.dirty.dirty.DirtyBlocks.{DirtyBlocks}
 use Rattle.nofs_cache.specs.DirtyBlocks.{block_count, entries_of, room_of}
 use Rattle.nofs_cache.specs.DirtyEntries.{IsClean, dirty_entry_at}
 
--- the present cells, and for each block the cells that it may hold
-pub record Held : Type 0 where
-  pub now : List Cell
-  pub may : ℕ → List Cell
-
--- a cell was written
-abbrev pub written : Held → ℕ → Cell → Held
-written held block cell = record { now = slice_set held.now block cell; may = λ b. if b == block then held.may b ++ cell ∷ [] else held.may b }
-
 -- this cell, where it may be there
 abbrev pub only : Bool → Cell → List Cell
 only true cell = cell ∷ []
 only false cell = []
 
 -- a flush ended: where it settles, each block may hold its present cell alone
-abbrev pub after_flush : Bool → Held → Held
-after_flush true held = record { now = held.now; may = λ b. only (has_cell (held.may b) (cell_at held.now b)) (cell_at held.now b) }
-after_flush false held = held
+abbrev pub held_after_flush : Bool → Held → Held
+held_after_flush true held = record { now = held.now; may = λ b. only (has_cell (held.may b) (cell_at held.now b)) (cell_at held.now b) }
+held_after_flush false held = held
 
 -- what the disk holds after these calls
 abbrev pub held : Held → List CacheCall → Held
 held first [] = first
 held first (Write block cell at ∷ past) = written (held first past) block cell.value
-held first (Flush settles began ended_at ∷ past) = after_flush settles (held first past)
+held first (Flush settles began ended_at ∷ past) = held_after_flush settles (held first past)
 
 -- the moment of the disk below at which a call began
 abbrev pub began : CacheCall → ℕ
@@ -105,11 +97,6 @@ pub record Agrees (now below : List Cell) (entries : List DirtyEntry) : Type 0 w
       → (dirty_entry_at entries i).cell ≡ cell_at now (dirty_entry_at entries i).block
   pub clean : (b : ℕ) → IsClean entries b → cell_at below b ≡ cell_at now b
 
--- each cell that may be held is that of a block that is there, and has the bytes of a cell
-pub record IsWithin (may : ℕ → List Cell) (blocks : ℕ) : Type 0 where
-  pub beyond : (b : ℕ) (c : Cell) → blocks ≤ b → Contains (may b) c → ⊥
-  pub sized : (b : ℕ) (c : Cell) → Contains (may b) c → IsSizedCell c
-
 -- what holds of a cached disk's cells
 pub record IsCached (held : Held) (from : ℕ) (under : DiskState) (entries : List DirtyEntry) : Type 0 where
   pub covers : Covers held.may under.blocks under.may entries
@@ -157,13 +144,13 @@ pub record SpendsOne (old new : DiskState) (before after : List DirtyEntry) : Ty
   pub all : old.spare + length after ≤ new.spare + length before + 1
 
 -- a write below was done: one entry is less, and no fault was added
-pub record WroteOne (old new : DiskState) (before after : List DirtyEntry) : Type 0 where
+pub record WroteBelow (old new : DiskState) (before after : List DirtyEntry) : Type 0 where
   pub fewer : length after ≡ length before - 1
   pub spare : old.spare + length after ≤ new.spare + length before
   pub no_fault : new.faults ≡ old.faults
 
 -- every write below was done
-pub record WroteAll (old new : DiskState) (before after : List DirtyEntry) : Type 0 where
+pub record WroteAllBelow (old new : DiskState) (before after : List DirtyEntry) : Type 0 where
   pub clean : after ≡ []
   pub spare : old.spare ≤ new.spare + length before
   pub no_fault : new.faults ≡ old.faults

@@ -1,29 +1,18 @@
 -- A cached disk is a disk.
-use Rattle.std.proofs.Common.{◌≡◌, ◌≢◌, ℕ, ◌+◌, ◌*◌, ◌^◌, ◌<◌, true, false, List, [], ◌∷◌, ◌++◌, length, arith, inl, inr, refl, sym, subst, ◌∙◌}
+use Rattle.std.proofs.Common.{◌≡◌, ℕ, ◌+◌, ◌*◌, ◌^◌, ◌<◌, true, false, List, [], ◌∷◌, length, arith, inl, inr, refl, sym, subst, ◌∙◌}
 use Rattle.std.specs.Prelude.{Bool, Contains, IsTrue}
 use Rattle.std.proofs.Math.Logic.{∥∥₁_elim, ∥∥₁_prop}
-use Rattle.std.proofs.lemmas.Bool.{cases_eq, eq-eqb, ne_eqb}
+use Rattle.std.proofs.lemmas.Bool.{cases_eq}
 use Rattle.std.proofs.lemmas.List.{length-set, get_or-set_same, get_or-set_other}
 use Rattle.std.proofs.lemmas.List.Elements.{Contains-push}
 use Rattle.nofs_disk.specs.declared.tag.Cell.{Cell}
 use Rattle.nofs_disk.specs.Cells.{IsSizedCell-known, Picks-known, has_cell, has_cell-from}
 use Rattle.nofs_disk.specs.Disk.{DiskState, IsDisk, Picks, cell_at, no_cell}
+use Rattle.nofs_disk.specs.Held.{Held, IsHeld, IsWithin, written_here, written_other}
 use Rattle.nofs_cache.specs.declared.dirty.past.CacheCall.{CacheCall}
 use Rattle.nofs_cache.specs.declared.dirty.past.CacheCall.TheVariants.{Write, Flush}
 use Rattle.nofs_cache.specs.declared.dirty.dirty.DirtyEntry.{DirtyEntry}
-use Rattle.nofs_cache.specs.Cache.{Held, IsCached, IsWithin, Left, LeftWithin, cache_state, held, last_end, only, written}
-
--- each block may hold its present cell
-pub record IsHeld (n : ℕ) (h : Held) : Type 0 where
-  pub len : length h.now ≡ n
-  pub has_now : (b : ℕ) → b < n → Contains (h.may b) (cell_at h.now b)
-
--- the cells of the block that was written, and of another
-pub written_here : (h : Held) (block : ℕ) (cell : Cell) → (written h block cell).may block ≡ h.may block ++ cell ∷ []
-written_here h block cell = rw (eq-eqb block block refl)
-
-pub written_other : (h : Held) (block b : ℕ) (cell : Cell) → b ≢ block → (written h block cell).may b ≡ h.may b
-written_other h block b cell other = rw (ne_eqb b block other)
+use Rattle.nofs_cache.specs.Cache.{IsCached, Left, LeftWithin, cache_state, held, last_end, only}
 
 single : (c : Cell) → Contains (c ∷ []) c
 single c = (0, omega arith, refl)

@@ -1,15 +1,15 @@
 -- The calls that a cached disk has had, the last one first.
 use Rattle.std.specs.Prelude.{List, [], ◌∷◌}
 use Rattle.nofs_cache.specs.declared.dirty.past.CacheCall.{CacheCall}
-use Rattle.nofs_cache.specs.declared.dirty.past.Past.{Past}
-use Rattle.nofs_cache.specs.declared.dirty.past.Past.TheOpen.{Past-F}
-use Rattle.nofs_cache.specs.declared.dirty.past.Past.TheFolds.{fold-Past}
+use Rattle.nofs_cache.specs.declared.dirty.past.CachePast.{CachePast}
+use Rattle.nofs_cache.specs.declared.dirty.past.CachePast.TheOpen.{CachePast-F}
+use Rattle.nofs_cache.specs.declared.dirty.past.CachePast.TheFolds.{fold-CachePast}
 
 -- one call more
-abbrev pub calls_step : Past-F (List CacheCall) → List CacheCall
-calls_step Past-F.Start = []
-calls_step (Past-F.Made call earlier) = call ∷ earlier.value
+abbrev pub cache_calls_step : CachePast-F (List CacheCall) → List CacheCall
+cache_calls_step CachePast-F.Start = []
+cache_calls_step (CachePast-F.Made call earlier) = call ∷ earlier.value
 
 -- the calls of a past
-abbrev pub past_calls : Past → List CacheCall
-past_calls = fold-Past (List CacheCall) calls_step
+abbrev pub cache_calls : CachePast → List CacheCall
+cache_calls = fold-CachePast (List CacheCall) cache_calls_step

@@ -21,10 +21,10 @@ ghost use Rattle.nofs_cache.specs.DirtyBlocks.{block_count, entries_of, room_of}
 ghost use Rattle.nofs_cache.specs.Laws.{CacheKeeps};
 ghost use Rattle.nofs_disk.specs.Disk.{Flushes, Reads, Writes, WritesOut, cell_at};
 ghost use Rattle.nofs_cache.specs.Cache.{IsMarked, LeavesAll, WritesRising};
-ghost use Rattle.nofs_cache.specs.Past.{past_calls};
+ghost use Rattle.nofs_cache.specs.Past.{cache_calls};
 
 use crate::dirty::dirty::DirtyBlocks;
-use crate::dirty::past::{CacheCall, Past};
+use crate::dirty::past::{CacheCall, CachePast};
 use crate::dirty::writing::{write_back, write_back_and_flush};
 use nofs_disk::{Cell, Disk, Failed};
 use std::alloc::{AllocError, Global};
@@ -40,7 +40,7 @@ pub struct Cached<D: Disk + Drop> {
     /// The disk below as it was given.
     first: Snapshot<D>,
     /// The writes and flushes since.
-    past: Snapshot<Past>,
+    past: Snapshot<CachePast>,
     /// The cells that are not yet written below.
     dirty: DirtyBlocks,
     moment: u64,
@@ -49,27 +49,27 @@ pub struct Cached<D: Disk + Drop> {
     ghost blocks: { (D.state first.value).blocks ≡ (D.state under).blocks },
     ghost tells: { (D.state first.value).tells ≡ (D.state under).tells },
     ghost slots: { block_count dirty ≡ (D.state under).blocks },
-    ghost made: { moment ≡ 2 * length (past_calls past.value) },
+    ghost made: { moment ≡ 2 * length (cache_calls past.value) },
     ghost room: { 2 * spare + moment < 2 ^ 64 },
     ghost kept_room: { length (entries_of dirty) + spare ≤ room_of dirty },
     ghost below_room: { length (entries_of dirty) + spare ≤ (D.state under).spare },
-    ghost marked: { IsMarked (D.state first.value).moment (past_calls past.value) (D.state under).moment },
-    ghost kept: { ∥ CacheKeeps (D.state under) (D.state first.value) (past_calls past.value) (entries_of dirty) ∥₁ },
+    ghost marked: { IsMarked (D.state first.value).moment (cache_calls past.value) (D.state under).moment },
+    ghost kept: { ∥ CacheKeeps (D.state under) (D.state first.value) (cache_calls past.value) (entries_of dirty) ∥₁ },
 }
 
 // No calls.
-fn start() -> Snapshot<Past>
-    ensures { past_calls result.value ≡ [] }
+fn start() -> Snapshot<CachePast>
+    ensures { cache_calls result.value ≡ [] }
 {
-    Snapshot::of(&Past::Start)
+    Snapshot::of(&CachePast::Start)
 }
 
 // Adds a call.
-fn add(call: CacheCall, past: &mut Snapshot<Past>)
-    ensures { past_calls past.new.value ≡ call ∷ past_calls past.old.value }
+fn add(call: CacheCall, past: &mut Snapshot<CachePast>)
+    ensures { cache_calls past.new.value ≡ call ∷ cache_calls past.old.value }
 {
-    let earlier = mem::replace(past, Snapshot::of(&Past::Start));
-    let next = Past::Made(call, earlier);
+    let earlier = mem::replace(past, Snapshot::of(&CachePast::Start));
+    let next = CachePast::Made(call, earlier);
     *past = Snapshot::of(&next);
 }
 
@@ -128,9 +128,9 @@ impl<D: Disk + Drop> Disk for Cached<D> {
     ghost use Rattle.nofs_cache.specs.Cache.{cache_state};
     ghost use Rattle.nofs_cache.specs.Laws.{cache_is};
 
-    ghost state = { λ c. cache_state (D.state c.under) (D.state c.first.value) (past_calls c.past.value) (entries_of c.dirty) c.spare };
+    ghost state = { λ c. cache_state (D.state c.under) (D.state c.first.value) (cache_calls c.past.value) (entries_of c.dirty) c.spare };
 
-    ghost is_disk = { λ c. cache_is (D.state c.under) (D.state c.first.value) (past_calls c.past.value) (entries_of c.dirty)
+    ghost is_disk = { λ c. cache_is (D.state c.under) (D.state c.first.value) (cache_calls c.past.value) (entries_of c.dirty)
         c.spare (D.is_disk c.under) (D.is_disk c.first.value) c.blocks c.tells c.made c.room c.kept };
 
     fn blocks(&self) -> u64 {

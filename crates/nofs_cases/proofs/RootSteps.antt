@@ -5,7 +5,7 @@ use Rattle.nofs_model.specs.Cells.{Cell, BackLink, Pointer, Record, spelled_entr
 use Rattle.nofs_model.specs.Image.{Image, cell_at, is_data_block, inode, InRecord, path_of, find, record_pointer, Files, entry_at}
 use Rattle.nofs_model.specs.declared.image.value.Value.{Value}
 use Rattle.nofs_model.specs.declared.image.value.Value.TheVariants.{Bytes}
-use Rattle.nofs_history.specs.Machine.{zeros, with_entry, is_paired, link_to, set_link}
+use Rattle.nofs_history.specs.Machine.{zero_bytes, with_entry, is_paired, link_to, set_link}
 use Rattle.nofs_history.specs.History.{FilesMatch}
 use Rattle.nofs_crashlaw.specs.Frames.{OldPointers}
 use Rattle.nofs_crashlaw.specs.Grows.{ClaimedCell}
@@ -141,7 +141,7 @@ module _ (F : Files) (X Y : Image) (v : Value) (n s : ℕ) (ready : IsReady F X 
 
   -- Drop of a name of inode 3, whose entry is cleared in place
   pub drop-lies : (name : List ℕ) (links : List BackLink) → entry_at F 1 n ≡ Some (entry_named name) → is_paired F 1 n ≡ true → F 3 ≡ Some (third_file links)
-      → EntryInPlace X Y 1 n 3 (zeros 64) (block_two 1) → DropLies F X Y 1 1 n s (root_file v) (third_file links) (block_two 1) (entry_named name)
+      → EntryInPlace X Y 1 n 3 (zero_bytes 64) (block_two 1) → DropLies F X Y 1 1 n s (root_file v) (third_file links) (block_two 1) (entry_named name)
   drop-lies name links found paired is cleared = record {
     files = ready.files;
     is = ready.root;

@@ -21,8 +21,8 @@ use Rattle.nofs_client.specs.Task.{TaskStands}
 use Rattle.nofs_client.specs.Places.{command_path, new_path_of, name_at, last_name}
 
 -- a name is looked up in a directory
-abbrev pub look_of : Handle → List ℕ → Step
-look_of at name = step.Look at.inode at.generation name
+abbrev pub look_in : Handle → List ℕ → Step
+look_in at name = step.Look at.inode at.generation name
 
 -- the one step of a command
 abbrev pub act_of : Command → Handle → Step
@@ -41,11 +41,11 @@ act_of (command.Link path new_path) at = step.Flush at.inode at.generation
 act_of (command.Move from to) at = step.Flush at.inode at.generation
 
 -- the steps of a link and of a move
-abbrev pub link_step : Command → Location → Handle → Stage → Step
-link_step c place to stage.Flush = step.Flush place.found.inode place.found.generation
-link_step c place to stage.Link = step.Link to.inode to.generation (last_name (new_path_of c)) place.found.inode place.found.generation
-link_step c place to stage.FlushAgain = step.Flush place.found.inode place.found.generation
-link_step c place to stage.Drop = step.Drop place.directory.inode place.directory.generation (last_name (command_path c))
+abbrev pub stage_step : Command → Location → Handle → Stage → Step
+stage_step c place to stage.Flush = step.Flush place.found.inode place.found.generation
+stage_step c place to stage.Link = step.Link to.inode to.generation (last_name (new_path_of c)) place.found.inode place.found.generation
+stage_step c place to stage.FlushAgain = step.Flush place.found.inode place.found.generation
+stage_step c place to stage.Drop = step.Drop place.directory.inode place.directory.generation (last_name (command_path c))
 
 -- the slot of the byte of a put after so many
 abbrev pub put_slot : ℕ → ℕ → ℕ
@@ -78,10 +78,10 @@ put_slot_step (command.Move from to) at done = step.Flush at.inode at.generation
 
 -- the next step of a task, or its line
 abbrev pub task_asks : Command → Task → Next
-task_asks c (task.Looking place depth) = Do (look_of place.found (name_at (command_path c) depth))
-task_asks c (task.LookingNew place to depth) = Do (look_of to (name_at (new_path_of c) depth))
+task_asks c (task.Looking place depth) = Do (look_in place.found (name_at (command_path c) depth))
+task_asks c (task.LookingNew place to depth) = Do (look_in to (name_at (new_path_of c) depth))
 task_asks c (task.Acting at) = Do (act_of c at)
-task_asks c (task.Linking place to s) = Do (link_step c place to s)
+task_asks c (task.Linking place to s) = Do (stage_step c place to s)
 task_asks c (task.Putting at done) = Do (put_slot_step c at done)
 task_asks c (task.Getting at from end parts) = Do (step.Get at.inode at.generation (from / 1024))
 task_asks c (task.Listing at slot parts) = Do (step.List at.inode at.generation slot)
@@ -103,7 +103,7 @@ Answers (Do s) r = Fits s r × (is_out_of_memory r ≡ false)
 Answers (Say line) r = ⊥
 
 -- a well formed command, its task and the reply to the task's step
-pub record IsAnswered (c : Command) (t : Task) (r : Reply) : Type 0 where
+pub record IsAnsweredTask (c : Command) (t : Task) (r : Reply) : Type 0 where
   pub formed : IsWellFormed c
   pub stands : TaskStands c t
   pub fits : Answers (task_asks c t) r

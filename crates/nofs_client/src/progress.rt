@@ -4,7 +4,7 @@ ghost use Rattle.std.specs.Prelude.{◌≡◌, ◌&&◌, IfOk};
 ghost use Rattle.nofs_history.specs.declared.machine.replies.Reply.TheVariants.{Refused};
 ghost use Rattle.nofs_client.specs.Commands.{IsWellFormed};
 ghost use Rattle.nofs_client.specs.Task.{TaskStands};
-ghost use Rattle.nofs_client.specs.Asks.{IsAsked, Answers, IsAnswered};
+ghost use Rattle.nofs_client.specs.Asks.{IsAsked, Answers, IsAnsweredTask};
 ghost use Rattle.nofs_client.specs.Drive.{StandsAs, goes_on as is_going_on, start_of, fresh_progress as fresh_of, step_answered as ended_by, examines_block as block_seen, examines_inode as inode_seen, asks as asks_of, stored_by, after_step as step_after, after_refused as refused_after, after_see as see_after, progress_after as after_of};
 
 use crate::task::answers::task_after;
@@ -110,7 +110,7 @@ struct Asker<'a> {
 impl Asker<'_> {
     // The step of the task was answered for good.
     fn ended(&self, progress: Progress, reply: &Reply) -> Result<Progress, AllocError>
-        requires { IsAnswered self.now.command.now progress.task reply.now }
+        requires { IsAnsweredTask self.now.command.now progress.task reply.now }
         ensures { IfOk result (StandsAs self.now.command.now (ended_by self.now.command.now progress reply.now)) }
     {
         Ok(fresh(task_after(self.alloc, self.command, progress.task, reply)?))
@@ -118,7 +118,7 @@ impl Asker<'_> {
 
     // A refusal for good, or for want of room that may be found yet.
     fn after_refused(&self, progress: Progress, refusal: &Refusal) -> Result<Progress, AllocError>
-        requires { IsAnswered self.now.command.now progress.task (Refused refusal.now) }
+        requires { IsAnsweredTask self.now.command.now progress.task (Refused refusal.now) }
         ensures { IfOk result (StandsAs self.now.command.now (refused_after self.now.command.now progress refusal.now)) }
     {
         match *refusal {
@@ -136,7 +136,7 @@ impl Asker<'_> {
     }
 
     fn after_step(&self, progress: Progress, reply: &Reply) -> Result<Progress, AllocError>
-        requires { IsAnswered self.now.command.now progress.task reply.now }
+        requires { IsAnsweredTask self.now.command.now progress.task reply.now }
         ensures { IfOk result (StandsAs self.now.command.now (step_after self.now.command.now progress reply.now)) }
     {
         match reply {

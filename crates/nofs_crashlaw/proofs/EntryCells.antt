@@ -4,7 +4,7 @@ use Rattle.std.proofs.lemmas.List.{length-take-le, length-append, take_at, drop_
 use Rattle.std.proofs.lemmas.List.{length-drop, length-replicate, replicate-append-replicate}
 use Rattle.std.proofs.lemmas.Bool.{cases_lt}
 use Rattle.std.proofs.lemmas.Slice.{drop-append-drop}
-use Rattle.nofs_history.specs.Machine.{bytes_in, zeros, with_entry}
+use Rattle.nofs_history.specs.Machine.{bytes_in, zero_bytes, with_entry}
 use Rattle.nofs_model.specs.Cells.{number_at, entry_fields, entry_of, entry_in}
 use Rattle.nofs_model.specs.declared.image.value.Value.{Value}
 use Rattle.nofs_model.specs.declared.image.value.Value.TheVariants.{Hole, Bytes, Lost}
@@ -36,20 +36,20 @@ window-above xs ys a b le len lt =
     let lp : length (take a xs ++ ys) ≡ a + 64 = length-append (take a xs) ys ∙ omega (arith, la, len) in
     ap (λ (l : List ℕ). take 64 l) (drop-append-drop (a + 64) xs (take a xs ++ ys) b lt lp)
 
-zeros-split : (n k m : ℕ) → n ≡ k + m → zeros n ≡ zeros k ++ zeros m
+zeros-split : (n k m : ℕ) → n ≡ k + m → zero_bytes n ≡ zero_bytes k ++ zero_bytes m
 zeros-split n k m e = ap (λ (q : ℕ). replicate q 0) e ∙ sym (replicate-append-replicate k m 0)
 
-window-zeros : (n b m : ℕ) → n ≡ b + (64 + m) → take 64 (drop b (zeros n)) ≡ zeros 64
+window-zeros : (n b m : ℕ) → n ≡ b + (64 + m) → take 64 (drop b (zero_bytes n)) ≡ zero_bytes 64
 window-zeros n b m e =
     ap (λ (l : List ℕ). take 64 (drop b l)) (zeros-split n b (64 + m) e)
-    ∙ ap (λ (l : List ℕ). take 64 l) (drop_at (zeros b) (zeros (64 + m)) b (length-replicate {A = ℕ} b 0))
-    ∙ ap (λ (l : List ℕ). take 64 l) (zeros-split (64 + m) 64 m refl) ∙ take_at (zeros 64) (zeros m) 64 (length-replicate {A = ℕ} 64 0)
+    ∙ ap (λ (l : List ℕ). take 64 l) (drop_at (zero_bytes b) (zero_bytes (64 + m)) b (length-replicate {A = ℕ} b 0))
+    ∙ ap (λ (l : List ℕ). take 64 l) (zeros-split (64 + m) 64 m refl) ∙ take_at (zero_bytes 64) (zero_bytes m) 64 (length-replicate {A = ℕ} 64 0)
 
-pub no-entry : entry_of (zeros 64) ≡ None
+pub no-entry : entry_of (zero_bytes 64) ≡ None
 unfolding entry_of entry_fields number_at
 no-entry = refl
 
-no-entry-at : (n j : ℕ) → 64 * j + 64 ≤ n → entry_of (take 64 (drop (64 * j) (zeros n))) ≡ None
+no-entry-at : (n j : ℕ) → 64 * j + 64 ≤ n → entry_of (take 64 (drop (64 * j) (zero_bytes n))) ≡ None
 no-entry-at n j lt = ap (λ (l : List ℕ). entry_of l) (window-zeros n (64 * j) (n - (64 * j + 64)) (omega (arith, lt))) ∙ no-entry
 
 module _ (old : Value) (e : ℕ) (bytes : List ℕ) (whole : length (bytes_in old) ≡ 1024) (short : length bytes ≡ 64) where

@@ -7,7 +7,7 @@ use Rattle.nofs_model.specs.declared.image.value.Value.{Value}
 use Rattle.nofs_model.specs.declared.image.value.Value.TheVariants.{Hole}
 use Rattle.nofs_history.specs.Meta.{Meta, Gone, Is, meta_of}
 use Rattle.nofs_history.specs.Machine.{Given, nothing, gives, at_place, place_for, found, link_place, make_given, link_given, drop_given}
-use Rattle.nofs_history.specs.Machine.{rename_given, put_given, resize_given, entry_given, link_to, zeros, meta_given, no_meta, drop_meta, filled}
+use Rattle.nofs_history.specs.Machine.{rename_given, put_given, resize_given, entry_given, link_to, zero_bytes, meta_given, no_meta, drop_meta, filled}
 use Rattle.nofs_history.specs.Machine.{new_file, after_meta, born_file, file_after, files_after, given_by, files_by, is_refused, is_write_fault}
 use Rattle.nofs_history.specs.Machine.{may_give}
 use Rattle.nofs_history.specs.History.{accepted_of, files_along, values_given, metas_given, last_in, NoWriteFault, accepted_meta_of, agreed_files}
@@ -65,7 +65,7 @@ gives-birth F (step.Drop d g name) claims = go (found F d name)
     given : (e : ℕ) (o : Option Entry) → entry_at F d e ≡ o → IsBirth (drop_given F d g e)
     given e None eo = rw (eo, drop_given) (no-birth nothing (λ j. refl))
     given e (Some entry) eo = rw (eo, drop_given) (no-birth
-        (entry_given F d g e (zeros 64) (meta_given entry.inode entry.generation (drop_meta F entry.inode (link_to d e g)))) (λ j. refl))
+        (entry_given F d g e (zero_bytes 64) (meta_given entry.inode entry.generation (drop_meta F entry.inode (link_to d e g)))) (λ j. refl))
 
     go : (o : Option ℕ) → IsBirth (at_place o (λ e. drop_given F d g e))
     go None = no-birth nothing (λ j. refl)

@@ -12,7 +12,7 @@ use Rattle.nofs_model.proofs.Chains.{pair-of}
 use Rattle.nofs_history.specs.Meta.{Meta, Gone, Is}
 use Rattle.nofs_history.specs.Search.{first_of, least_from}
 use Rattle.nofs_history.specs.Machine.{Given, gives, found, place_for, link_place, entry_has_name, is_paired, is_folder_at, generation_of, value_of}
-use Rattle.nofs_history.specs.Machine.{bytes_in, zeros, with_entry, link_to, set_link, filled, after_meta, files_after, given_by, drop_given}
+use Rattle.nofs_history.specs.Machine.{bytes_in, zero_bytes, with_entry, link_to, set_link, filled, after_meta, files_after, given_by, drop_given}
 use Rattle.nofs_history.specs.Machine.{link_given, is_refused}
 use Rattle.nofs_history.specs.World.{World}
 use Rattle.nofs_history.specs.Refusals.{row, rows, stale, not_directory, exists, too_many_links, bad_name}
@@ -82,11 +82,11 @@ drop-clears W V c d of g p name f r is gen ef whole =
     let x = found-parts W.files d name p ef in
     let old : Value = value_of W.files d (p / 16) in
     let whole' : length (bytes_in (value_of W.files d (p / 16))) ≡ 1024 = ap (λ (v : Value). length (bytes_in v)) (value-of W.files d f is (p / 16)) ∙ whole in
-    let gives-it : (gives W.files (step.Drop d of name) c).slots d g (p / 16) ≡ Some (with_entry (value_of W.files d (p / 16)) p (zeros 64)) =
+    let gives-it : (gives W.files (step.Drop d of name) c).slots d g (p / 16) ≡ Some (with_entry (value_of W.files d (p / 16)) p (zero_bytes 64)) =
     ap (λ (y : Given). y.slots d g (p / 16)) (drop-gives W.files d of name c p ef) ∙ given x.0 x.1 in (
-      with_entry (value_of W.files d (p / 16)) p (zeros 64),
+      with_entry (value_of W.files d (p / 16)) p (zero_bytes 64),
       gives-it,
-      entry-here (value_of W.files d (p / 16)) p (zeros 64) whole' (length-replicate {A = ℕ} 64 0) ∙ no-entry,
+      entry-here (value_of W.files d (p / 16)) p (zero_bytes 64) whole' (length-replicate {A = ℕ} 64 0) ∙ no-entry,
     )
   where
     live : of ≡ g
@@ -101,7 +101,7 @@ drop-clears W V c d of g p name f r is gen ef whole =
         both false b e t = cc t
 
     given : (x : Entry) → entry_at W.files d p ≡ Some x → (drop_given W.files d of p).slots d g (p / 16) ≡ Some
-        (with_entry (value_of W.files d (p / 16)) p (zeros 64))
+        (with_entry (value_of W.files d (p / 16)) p (zero_bytes 64))
     given x ex =
         let a = eq-eqb d d refl in
         let b = eq-eqb of g live in

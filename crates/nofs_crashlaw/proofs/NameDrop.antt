@@ -17,7 +17,7 @@ use Rattle.nofs_crashlaw.proofs.NameRename.{entry-parts}
 use Rattle.nofs_crashlaw.proofs.NameLinks.{pair-apart, entry-proper, record-proper, stays-match, free-proper, goes-match, pair-kept}
 use Rattle.nofs_history.specs.Meta.{Gone, Is}
 use Rattle.nofs_history.specs.Marks.{Mark}
-use Rattle.nofs_history.specs.Machine.{zeros, files_after, entry_given, meta_given, drop_given, drop_meta, without_link, link_to, same_link}
+use Rattle.nofs_history.specs.Machine.{zero_bytes, files_after, entry_given, meta_given, drop_given, drop_meta, without_link, link_to, same_link}
 use Rattle.nofs_history.specs.Machine.{is_paired, generation_of, nothing}
 use Rattle.nofs_history.specs.History.{FilesMatch}
 use Rattle.nofs_model.specs.Cells.{FileKind, File, BackLink, Entry, Pointer, entry_of, entry_limit}
@@ -108,13 +108,13 @@ module _ (F : Files) (X Y : Image) (d g e s : ℕ) (f h : FileState) (x : Pointe
       let some : names (Some entry) entry.inode h.generation ≡ true = subst (λ (o : Option Entry). names o entry.inode h.generation ≡ true) found at in
       eqb-true entry.generation h.generation (and-both (eqb entry.inode entry.inode) (eqb entry.generation h.generation) some).1
 
-  given-is : drop_given F d g e ≡ entry_given F d g e (zeros 64) (meta_given entry.inode h.generation (drop_meta F entry.inode (link_to d e g)))
+  given-is : drop_given F d g e ≡ entry_given F d g e (zero_bytes 64) (meta_given entry.inode h.generation (drop_meta F entry.inode (link_to d e g)))
   given-is = ap (λ (o : Option Entry). elim o [
     | None ↦ nothing
-    | Some q ↦ entry_given F d g e (zeros 64)
+    | Some q ↦ entry_given F d g e (zero_bytes 64)
         (meta_given q.inode q.generation (drop_meta F q.inode (link_to d e g)))
   ]) found
-      ∙ ap (λ (q : ℕ). entry_given F d g e (zeros 64) (meta_given entry.inode q (drop_meta F entry.inode (link_to d e g)))) same-generation
+      ∙ ap (λ (q : ℕ). entry_given F d g e (zero_bytes 64) (meta_given entry.inode q (drop_meta F entry.inode (link_to d e g)))) same-generation
 
   abbrev pub goes : Bool
   goes = not (is_special entry.inode) && not (list_any (λ l. is_pair F entry.inode l) (without_link (link_to d e g) h.links))
@@ -141,15 +141,15 @@ module _ (F : Files) (X Y : Image) (d g e s : ℕ) (f h : FileState) (x : Pointe
       go true e = empty-lone F entry.inode (no_names e) j link has pair
       go false e = file-lone F entry.inode (λ q eq. let same : h ≡ q = cc (eq, is_i) in subst (λ (r : FileState). is_folder r.kind ≡ false) same e) j link pair
 
-  named : (j q : ℕ) → j ≢ entry.inode → names (entry_of (zeros 64)) j q ≡ false
+  named : (j q : ℕ) → j ≢ entry.inode → names (entry_of (zero_bytes 64)) j q ≡ false
   named j q ne = ap (λ (o : Option Entry). names o j q) no-entry
 
-  short : length (zeros 64) ≡ 64
+  short : length (zero_bytes 64) ≡ 64
   short = refl
 
   -- the directory's cell is proper
   pub drop-entry-proper : (m : Mark) → is_data_block m.image x.block ≡ true → Proper (during m (drop_given F d g e)) X x.block (cell_at Y x.block)
-  drop-entry-proper m area = entry-proper F X Y d g e entry.inode s f h x (zeros 64) (drop_meta F entry.inode (link_to d e g)) (drop_given F d g e)
+  drop-entry-proper m area = entry-proper F X Y d g e entry.inode s f h x (zero_bytes 64) (drop_meta F entry.inode (link_to d e g)) (drop_given F d g e)
       match is gen parts.0 is_i apart parts.1 given-is held whole short content writes old m area
 
   module _ (keeps : goes ≡ false) (linked_now : Relinked X Y entry.inode (without_link (link_to d e g) h.links)) where
@@ -158,7 +158,7 @@ module _ (F : Files) (X Y : Image) (d g e s : ℕ) (f h : FileState) (x : Pointe
 
     pub drop-record-proper : (m : Mark) → super_at m.image ≡ super_at Y → is_data_block m.image (1 + (entry.inode - 1) / 4) ≡ false
         → Proper (during m (drop_given F d g e)) X (1 + (entry.inode - 1) / 4) (cell_at Y (1 + (entry.inode - 1) / 4))
-    drop-record-proper m super area = record-proper F X Y d g e entry.inode s f h x (zeros 64) (drop_meta F entry.inode (link_to d e g)) (drop_given F d g e)
+    drop-record-proper m super area = record-proper F X Y d g e entry.inode s f h x (zero_bytes 64) (drop_meta F entry.inode (link_to d e g)) (drop_given F d g e)
         match is gen parts.0 is_i apart parts.1 given-is held whole short content writes old
         (without_link (link_to d e g) h.links) stays linked_now m super area
 
@@ -173,12 +173,12 @@ module _ (F : Files) (X Y : Image) (d g e s : ℕ) (f h : FileState) (x : Pointe
 
         same-kind : (q : FileKind) (r : ℕ) → is_a q r (F entry.inode) ≡ is_a q r (files_after F (drop_given F d g e) entry.inode)
         same-kind q r = ap (λ (o : Option FileState). is_a q r o) is_i ∙ alike q ∙ sym (ap (λ (o : Option FileState). is_a q r o)
-            (Rattle.nofs_crashlaw.proofs.NameLinks.file-now F X Y d g e entry.inode s f h x (zeros 64) (drop_meta F entry.inode (link_to d e g))
+            (Rattle.nofs_crashlaw.proofs.NameLinks.file-now F X Y d g e entry.inode s f h x (zero_bytes 64) (drop_meta F entry.inode (link_to d e g))
             (drop_given F d g e) match is gen parts.0 is_i apart parts.1 given-is held whole short content writes old
             (without_link (link_to d e g) h.links) stays linked_now))
           where
             alike : (q : FileKind) → is_a q r (Some h) ≡ is_a q r
-                (Some (Rattle.nofs_crashlaw.proofs.NameLinks.made F X Y d g e entry.inode s f h x (zeros 64) (drop_meta F entry.inode (link_to d e g))
+                (Some (Rattle.nofs_crashlaw.proofs.NameLinks.made F X Y d g e entry.inode s f h x (zero_bytes 64) (drop_meta F entry.inode (link_to d e g))
                 (drop_given F d g e) match is gen parts.0 is_i apart parts.1 given-is held whole short content writes old
                 (without_link (link_to d e g) h.links) stays linked_now))
             alike File = refl
@@ -213,7 +213,7 @@ module _ (F : Files) (X Y : Image) (d g e s : ℕ) (f h : FileState) (x : Pointe
               l.0,
               sp,
               l.1,
-              pair-kept F X Y d g e entry.inode s f h x (zeros 64) (drop_meta F entry.inode (link_to d e g)) (drop_given F d g e)
+              pair-kept F X Y d g e entry.inode s f h x (zero_bytes 64) (drop_meta F entry.inode (link_to d e g)) (drop_given F d g e)
                   match is gen parts.0 is_i apart parts.1 given-is held whole short content writes old
                   (without_link (link_to d e g) h.links) stays linked_now l.0 l.2 (other l.0 l.2 l.3),
               pair-apart F entry.inode l.0 l.2,
@@ -221,7 +221,7 @@ module _ (F : Files) (X Y : Image) (d g e s : ℕ) (f h : FileState) (x : Pointe
             )
 
     pub drop-matches : FilesMatch (files_after F (drop_given F d g e)) Y
-    drop-matches = stays-match F X Y d g e entry.inode s f h x (zeros 64) (drop_meta F entry.inode (link_to d e g)) (drop_given F d g e)
+    drop-matches = stays-match F X Y d g e entry.inode s f h x (zero_bytes 64) (drop_meta F entry.inode (link_to d e g)) (drop_given F d g e)
         match is gen parts.0 is_i apart parts.1 given-is held whole short content writes old
         (without_link (link_to d e g) h.links) stays linked_now away lone named home
 
@@ -232,11 +232,11 @@ module _ (F : Files) (X Y : Image) (d g e s : ℕ) (f h : FileState) (x : Pointe
     pub remove-record-proper : (m : Mark) → super_at m.image ≡ super_at Y → is_data_block m.image (1 + (entry.inode - 1) / 4) ≡ false
         → ((q : ℕ) → m.stands entry.inode q ≡ true → h.generation ≡ q)
         → Proper (during m (drop_given F d g e)) X (1 + (entry.inode - 1) / 4) (cell_at Y (1 + (entry.inode - 1) / 4))
-    remove-record-proper m super area tracked = free-proper F X Y d g e entry.inode s f h x (zeros 64) (drop_meta F entry.inode (link_to d e g))
+    remove-record-proper m super area tracked = free-proper F X Y d g e entry.inode s f h x (zero_bytes 64) (drop_meta F entry.inode (link_to d e g))
         (drop_given F d g e) match is gen parts.0 is_i apart parts.1 given-is held whole short content writes old
         is-gone free m super area tracked
 
     pub remove-matches : FilesMatch (files_after F (drop_given F d g e)) Y
-    remove-matches = goes-match F X Y d g e entry.inode s f h x (zeros 64) (drop_meta F entry.inode (link_to d e g)) (drop_given F d g e)
+    remove-matches = goes-match F X Y d g e entry.inode s f h x (zero_bytes 64) (drop_meta F entry.inode (link_to d e g)) (drop_given F d g e)
         match is gen parts.0 is_i apart parts.1 given-is held whole short content writes old
         is-gone free away lone named

@@ -9,7 +9,7 @@ use Rattle.nofs_model.specs.declared.image.value.Value.{Value}
 use Rattle.nofs_model.specs.declared.image.value.Value.TheVariants.{Bytes}
 use Rattle.nofs_model.proofs.Find.{find-held}
 use Rattle.nofs_model.proofs.Paths.{path_of-slot}
-use Rattle.nofs_history.specs.Machine.{zeros, with_entry, link_to, same_link, without_link}
+use Rattle.nofs_history.specs.Machine.{zero_bytes, with_entry, link_to, same_link, without_link}
 use Rattle.nofs_history.specs.History.{FilesMatch}
 use Rattle.nofs_history.specs.World.{World}
 use Rattle.nofs_history.specs.declared.machine.history.Claims.{Claims}
@@ -115,7 +115,7 @@ one-record W c X Y i others own j = go (eqb j i) refl
 pub law-drop-numbers : LawDropNumbers
 law-drop-numbers W X Y d g e s f h x entry c o p = (
   (let parts = entry-parts (W.files d) f e entry p.is p.found in
-      entry-in-place W c X Y d e (zeros 64) f x o p.files p.is parts.0 parts.1 p.held p.whole p.writes.tag refl p.content
+      entry-in-place W c X Y d e (zero_bytes 64) f x o p.files p.is parts.0 parts.1 p.held p.whole p.writes.tag refl p.content
       (subst (λ (q : Option Entry). IfSome q (λ (n : Entry). Numbered W c n.generation)) (sym no-entry) tt)),
   λ what. one-record W c X Y entry.inode p.writes.records (elim what [
     | inl r ↦ relinked-record W c X Y entry.inode h (without_link (link_to d e g) h.links) p.files p.named r

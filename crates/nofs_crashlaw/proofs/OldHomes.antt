@@ -3,7 +3,7 @@ use Rattle.std.proofs.Common.{◌≡◌, ◌≢◌, ℕ, ◌/◌, ◌<◌, List,
 use Rattle.nofs_dirent.specs.Entries.{entry_limit}
 use Rattle.nofs_model.specs.Cells.{Entry, Pointer, Record, spelled_entry}
 use Rattle.nofs_model.specs.Image.{Image, FileState, Files, entry_at}
-use Rattle.nofs_history.specs.Machine.{Given, zeros, files_after, entry_given, no_meta, meta_given, nothing, link_to, without_link, drop_meta}
+use Rattle.nofs_history.specs.Machine.{Given, zero_bytes, files_after, entry_given, no_meta, meta_given, nothing, link_to, without_link, drop_meta}
 use Rattle.nofs_history.specs.Machine.{drop_given, rename_given}
 use Rattle.nofs_history.specs.History.{FilesMatch}
 use Rattle.nofs_history.specs.World.{World}
@@ -40,7 +40,7 @@ drop-born F d g e j = go (entry_at F d e)
   where
     go : (o : Option Entry) → (elim o as (λ t. Given) [
       | None ↦ nothing
-      | Some q ↦ entry_given F d g e (zeros 64)
+      | Some q ↦ entry_given F d g e (zero_bytes 64)
           (meta_given q.inode q.generation (drop_meta F q.inode (link_to d e g)))
     ]).born j ≡ None
     go None = refl

@@ -13,7 +13,7 @@ use Rattle.nofs_model.specs.declared.image.value.Value.TheVariants.{Hole}
 use Rattle.nofs_history.specs.Meta.{Meta, Gone, Is}
 use Rattle.nofs_history.specs.Search.{first_of}
 use Rattle.nofs_history.specs.Machine.{Given, gives, at_place, found, place_for, link_place, make_given, link_given, drop_given, rename_given}
-use Rattle.nofs_history.specs.Machine.{entry_given, no_meta, zeros, bytes_in, value_of, with_entry, filled, new_file, after_meta, born_file}
+use Rattle.nofs_history.specs.Machine.{entry_given, no_meta, zero_bytes, bytes_in, value_of, with_entry, filled, new_file, after_meta, born_file}
 use Rattle.nofs_history.specs.Machine.{file_after, files_after}
 use Rattle.nofs_history.specs.World.{World, is_free_inode, inodes_needed, blocks_needed}
 use Rattle.nofs_history.specs.Refusals.{bad_name, rows, serials_spent}
@@ -81,7 +81,7 @@ module _ (W V : World) (c : Claims) (sane : IsSane W) (j : ℕ) (f : FileState) 
     where
       by : (p : ℕ) (o : Option Entry) → entry_at W.files dir p ≡ o → (drop_given W.files dir g p).slots j f.generation k ≡ Some v → length (bytes_in v) ≡ 1024
       by p None eo q = absurd (cc (rw (eo, drop_given) at q))
-      by p (Some x) eo q = part dir g p (zeros 64) v (length-replicate {A = ℕ} 64 0) (rw (eo, drop_given) at q)
+      by p (Some x) eo q = part dir g p (zero_bytes 64) v (length-replicate {A = ℕ} 64 0) (rw (eo, drop_given) at q)
 
       go : (o : Option ℕ) → (at_place o (λ p. drop_given W.files dir g p)).slots j f.generation k ≡ Some v → length (bytes_in v) ≡ 1024
       go None q = cc q

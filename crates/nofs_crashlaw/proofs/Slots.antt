@@ -16,7 +16,7 @@ use Rattle.nofs_history.specs.Meta.{Meta, Gone, Is}
 use Rattle.nofs_history.specs.Search.{first_of}
 use Rattle.nofs_history.specs.Machine.{gives, at_place, found, place_for, link_place, place_for_link, make_given, link_given, drop_given}
 use Rattle.nofs_history.specs.Machine.{rename_given, entry_given, meta_given, no_meta, meta_with, drop_meta, same_link, link_to, set_link}
-use Rattle.nofs_history.specs.Machine.{without_link, zeros, bytes_in, value_of, with_entry, is_paired}
+use Rattle.nofs_history.specs.Machine.{without_link, zero_bytes, bytes_in, value_of, with_entry, is_paired}
 use Rattle.nofs_history.specs.World.{World}
 use Rattle.nofs_history.specs.Refusals.{bad_name, rows}
 use Rattle.nofs_history.specs.Claims.{IsClaim}
@@ -45,7 +45,7 @@ good-name name e = (is_name-Decides name).0 (not-false (is_name name) (row-none 
 pub short-entry : (i g : ℕ) (name : List ℕ) → bad_name name ≡ None → length (spelled_entry i g name) ≡ 64
 short-entry i g name e = length-spelled_entry i g name (good-name name e).short
 
-short-zeros : length (zeros 64) ≡ 64
+short-zeros : length (zero_bytes 64) ≡ 64
 short-zeros = length-replicate {A = ℕ} 64 0
 
 -- an entry that is given to a slot
@@ -177,7 +177,7 @@ module _ (W V : World) (c : Claims) (d e : ℕ) (f : FileState) (entry : Entry)
       by : (p : ℕ) → found W.files dir name ≡ Some p → (o : Option Entry) → entry_at W.files dir p ≡ o
           → (drop_given W.files dir g p).slots d f.generation (e / 16) ≡ Some v → Kept W.files (step.Drop dir g name) d e entry v
       by p ep None eo q = absurd (cc (rw (eo, drop_given) at q))
-      by p ep (Some x) eo q = beside dir g p (zeros 64) no_meta (step.Drop dir g name) v short-zeros (rw (eo, drop_given) at q)
+      by p ep (Some x) eo q = beside dir g p (zero_bytes 64) no_meta (step.Drop dir g name) v short-zeros (rw (eo, drop_given) at q)
           (λ qd qp w. Dropped g name (ap (λ (j : ℕ). step.Drop j g name) qd) (sym (ap (λ (j : ℕ). found W.files j name) qd) ∙ ep ∙ ap Some qp))
 
       go : (o : Option ℕ) → found W.files dir name ≡ o → (at_place o (λ p. drop_given W.files dir g p)).slots d f.generation (e / 16) ≡ Some v

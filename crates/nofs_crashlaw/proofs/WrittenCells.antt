@@ -7,7 +7,7 @@ use Rattle.nofs_model.specs.declared.image.value.Value.{Value}
 use Rattle.nofs_model.specs.declared.image.value.Value.TheVariants.{Hole}
 use Rattle.nofs_model.proofs.Find.{and-both, find-held}
 use Rattle.nofs_model.proofs.Sound.{if-some}
-use Rattle.nofs_history.specs.Machine.{zeros, bytes_in}
+use Rattle.nofs_history.specs.Machine.{zero_bytes, bytes_in}
 use Rattle.nofs_history.specs.World.{World}
 use Rattle.nofs_history.specs.Claims.{next_stamp}
 use Rattle.nofs_history.specs.declared.machine.history.Claims.{Claims}
@@ -46,7 +46,7 @@ no-entries j lt =
     let small : j % 16 ≡ j = omega (arith, lt) in
     let apart : j % 16 ≢ suc j % 16 = λ e. omega (arith, e, lt) in
     ap (λ (q : ℕ). entry_in (bytes_in Hole) q) (sym small)
-    ∙ sym (others Hole (suc j) (zeros 64) refl refl j apart) ∙ entry-there Hole (suc j) j (zeros 64) refl refl (λ e. cc e) apart
+    ∙ sym (others Hole (suc j) (zero_bytes 64) refl refl j apart) ∙ entry-there Hole (suc j) j (zero_bytes 64) refl refl (λ e. cc e) apart
 
 -- those of a cell that held are old
 pub held-entries : (W : World) (c : Claims) (X : Image) (d : ℕ) (a : Path) (y : Pointer) → OldNumbers W X → kind_in (inode X d) a ≡ Directory

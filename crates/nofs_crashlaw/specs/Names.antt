@@ -7,7 +7,7 @@ use Rattle.nofs_model.specs.declared.image.path.PathAnswer.TheVariants as answer
 use Rattle.nofs_model.specs.declared.image.value.Value.TheVariants.{Bytes}
 use Rattle.nofs_history.specs.Meta.{Gone, Is}
 use Rattle.nofs_history.specs.Marks.{Mark}
-use Rattle.nofs_history.specs.Machine.{zeros, is_paired, with_entry, link_to, without_link, drop_meta, drop_given, rename_given, files_after}
+use Rattle.nofs_history.specs.Machine.{zero_bytes, is_paired, with_entry, link_to, without_link, drop_meta, drop_given, rename_given, files_after}
 use Rattle.nofs_history.specs.History.{FilesMatch}
 use Rattle.nofs_crashlaw.specs.Proper.{Proper}
 use Rattle.nofs_crashlaw.specs.Moments.{during}
@@ -67,7 +67,7 @@ pub record DropLies (F : Files) (X Y : Image) (d g n s : ℕ) (f h : FileState) 
   pub no_names : is_folder h.kind ≡ true → (b : ℕ) → b < entry_limit → is_paired F entry.inode b ≡ false
   pub held : find X d (path_of (n / 16)) ≡ answer.Holds x
   pub whole : length (cell_at X x.block).payload ≡ 1024
-  pub content : Bytes (cell_at Y x.block).payload ≡ with_entry (Bytes (cell_at X x.block).payload) n (zeros 64)
+  pub content : Bytes (cell_at Y x.block).payload ≡ with_entry (Bytes (cell_at X x.block).payload) n (zero_bytes 64)
   pub writes : InPlace X Y x entry.inode
   pub old : (j : ℕ) → is_some (F j) ≡ true → OldPointers s X j
 

@@ -8,3 +8,4 @@ pub mod OneSpelling
 pub mod Parts
 pub mod Pointer
 pub mod Tag
+pub mod Held

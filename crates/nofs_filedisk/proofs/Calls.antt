@@ -10,8 +10,8 @@ use Rattle.nofs_disk.specs.Number.{IsBytes}
 use Rattle.nofs_disk.specs.Cells.{Contains-known}
 use Rattle.nofs_versions.specs.declared.call.Call.{Call}
 use Rattle.nofs_versions.specs.declared.call.Call.TheVariants.{Write, Flush}
-use Rattle.nofs_versions.specs.Memory.{Held, after_write, state_of, within}
-use Rattle.nofs_versions.specs.MemoryLaws.{held_after-held, within_from, written_here, written_other}
+use Rattle.nofs_versions.specs.Memory.{after_write, state_of, within}
+use Rattle.nofs_versions.specs.MemoryLaws.{held_after-held, within_from}
 use Rattle.nofs_versions.proofs.Calls.{flushes, writes}
 use Rattle.nofs_versions.proofs.Held.{after_none, flush_of, flush_present, may_of, now_of, settled_none}
 use Rattle.nofs_versions.proofs.Leaves.{leaves_flush, leaves_rest, leaves_write}
@@ -20,7 +20,7 @@ use Rattle.nofs_filedisk.specs.Bytes.{HostFileState, IsHostFile, IsSynced}
 use Rattle.nofs_filedisk.specs.Cells.{cell_in, part_of}
 use Rattle.nofs_filedisk.specs.Files.{FileSized, LastsWithin, at-cells_in, cells_in, file_held, file_state, length-cells_in}
 use Rattle.nofs_filedisk.specs.Present.{IsPresent, LastsOrPresent, StaysPresent, TakesCell}
-use Rattle.nofs_filedisk.specs.Told.{told}
+use Rattle.nofs_filedisk.specs.Told.{telling_disk}
 use Rattle.nofs_filedisk.specs.declared.run.Run.{Run}
 use Rattle.std.proofs.lemmas.List.FromFn.{get_or-map-range_with_len, length-map-range_with_len}
 use Rattle.std.proofs.Math.ListN.{get_or-eq_default}
@@ -28,18 +28,19 @@ use Rattle.std.proofs.lemmas.Bool.{cases_eq, cases_lt}
 use Rattle.std.specs.Prelude.{slice_index}
 use Rattle.std.specs.List.{range_with_len}
 use Rattle.std.proofs.Common.{inl, inr, map}
+use Rattle.nofs_disk.specs.Held.{Held, written_here, written_other}
 use Rattle.nofs_filedisk.proofs.Present.{present-all, present-first}
 
 -- A disk that tells or not
 
-told_same : (t u : Bool) (n : ℕ) (d e : DiskState) → u ≡ t → IsSameDisk d e → IsSameDisk (told t n d) (told u n e)
+told_same : (t u : Bool) (n : ℕ) (d e : DiskState) → u ≡ t → IsSameDisk d e → IsSameDisk (telling_disk t n d) (telling_disk u n e)
 told_same t u n d e same s = record { blocks = refl; tells = same; holds_back = s.holds_back; faults = s.faults }
 
-told_past : (t u : Bool) (n : ℕ) (d e : DiskState) → KeepsPast d e → KeepsPast (told t n d) (told u n e)
+told_past : (t u : Bool) (n : ℕ) (d e : DiskState) → KeepsPast d e → KeepsPast (telling_disk t n d) (telling_disk u n e)
 told_past t u n d e p = record { was = p.was; no_more = p.no_more; no_less = p.no_less }
 
 told_writes : (t u : Bool) (n : ℕ) (d e : DiskState) (block : ℕ) (cell : Cell) (result : Result (Unit {0}) Failed) → u ≡ t → e.blocks ≡ n
-    → Writes d e block cell result → Writes (told t n d) (told u n e) block cell result
+    → Writes d e block cell result → Writes (telling_disk t n d) (telling_disk u n e) block cell result
 told_writes t u n d e block cell result same blocks w = record {
   disk = told_same t u n d e same w.disk;
   past = told_past t u n d e w.past;
@@ -64,7 +65,7 @@ on_ok (Ok u) goes p = goes p
 on_ok (Err failed) goes p = tt
 
 told_flushes : (t u : Bool) (n : ℕ) (d e : DiskState) (result : Result (Unit {0}) Failed) → u ≡ t → d.blocks ≡ n → e.blocks ≡ n
-    → Flushes d e result → Flushes (told t n d) (told u n e) result
+    → Flushes d e result → Flushes (telling_disk t n d) (telling_disk u n e) result
 told_flushes t u n d e result same blocks blocks_now f = record {
   disk = told_same t u n d e same f.disk;
   past = told_past t u n d e f.past;

@@ -5,12 +5,13 @@ use Rattle.std.proofs.Common.{arith}
 use Rattle.std.proofs.lemmas.List.FromFn.{get_or-map-range_with_len, length-map-range_with_len}
 use Rattle.nofs_disk.specs.declared.tag.Cell.{Cell}
 use Rattle.nofs_disk.specs.Disk.{DiskState, IsDisk, cell_at, no_cell}
+use Rattle.nofs_disk.specs.Held.{Held}
 use Rattle.nofs_versions.specs.declared.call.Call.{Call}
-use Rattle.nofs_versions.specs.Memory.{Held, held_after, state_of}
+use Rattle.nofs_versions.specs.Memory.{held_after, state_of}
 use Rattle.nofs_versions.specs.MemoryLaws.{AreSized, state_of-is}
 use Rattle.nofs_filedisk.specs.Bytes.{HostFileState, IsHostFile}
 use Rattle.nofs_filedisk.specs.Cells.{cell_in}
-use Rattle.nofs_filedisk.specs.Told.{told, told_is}
+use Rattle.nofs_filedisk.specs.Told.{telling_disk, telling_disk-is}
 
 -- the cells of the first blocks
 unfoldable pub first_cells : List ℕ → ℕ → List Cell
@@ -51,11 +52,11 @@ LastsWithin file first calls =
 
 -- what contracts see of it
 abbrev pub file_state : HostFileState → HostFileState → List Call → ℕ → DiskState
-file_state file first calls spare = told file.tells 1048576 (state_of 0 (cells_in first.bytes) calls spare file.faults)
+file_state file first calls spare = telling_disk file.tells 1048576 (state_of 0 (cells_in first.bytes) calls spare file.faults)
 
 pub file_is : (file first : HostFileState) (calls : List Call) (moment spare : ℕ) → IsHostFile file → moment ≡ 2 * length calls
     → 2 * spare + moment < 2 ^ 64 → FileSized first calls → IsDisk (file_state file first calls spare)
 file_is file first calls moment spare is made room sized =
     let low : 2 * spare + (0 + 2 * length calls) < 2 ^ 64 = omega arith in
-    told_is file.tells 1048576 (state_of 0 (cells_in first.bytes) calls spare file.faults) (length-cells_in first.bytes) refl
+    telling_disk-is file.tells 1048576 (state_of 0 (cells_in first.bytes) calls spare file.faults) (length-cells_in first.bytes) refl
     (state_of-is 0 (cells_in first.bytes) calls spare file.faults low is.counted sized)

@@ -4,12 +4,12 @@ use Rattle.std.proofs.Common.{subst, arith, ◌∙◌}
 use Rattle.nofs_disk.specs.Disk.{DiskState, IsDisk, Picks}
 
 -- a disk of so many blocks, that tells or not, and is else this one
-abbrev pub told : Bool → ℕ → DiskState → DiskState
-told tells blocks d = record d { tells = tells; blocks = blocks }
+abbrev pub telling_disk : Bool → ℕ → DiskState → DiskState
+telling_disk tells blocks d = record d { tells = tells; blocks = blocks }
 
 -- it is a disk where that one is, has so many blocks, and tells
-pub told_is : (tells : Bool) (blocks : ℕ) (d : DiskState) → d.blocks ≡ blocks → IsTrue d.tells → IsDisk d → IsDisk (told tells blocks d)
-told_is tells blocks d same telling is = record {
+pub telling_disk-is : (tells : Bool) (blocks : ℕ) (d : DiskState) → d.blocks ≡ blocks → IsTrue d.tells → IsDisk d → IsDisk (telling_disk tells blocks d)
+telling_disk-is tells blocks d same telling is = record {
   room = is.room;
   counted = is.counted;
   whole = λ t. is.whole telling ∙ same;

@@ -8,11 +8,11 @@ ghost use Rattle.nofs_disk.specs.declared.tag.Cell.{Cell};
 ghost use Rattle.nofs_filedisk.specs.Bytes.{IsSynced};
 ghost use Rattle.nofs_filedisk.specs.Cells.{cell_in};
 ghost use Rattle.nofs_filedisk.specs.Files.{FileSized, LastsWithin, cells_in, file_held};
-ghost use Rattle.nofs_filedisk.specs.Past.{call_of, past_calls};
+ghost use Rattle.nofs_filedisk.specs.Past.{call_of, file_calls};
 ghost use Rattle.nofs_filedisk.specs.Present.{IsPresent};
 
 use crate::contents::Contents;
-use crate::past::{FileCall, Past};
+use crate::past::{FileCall, FilePast};
 use crate::positioned::Positioned;
 use nofs_disk::{Cell, Disk, Failed};
 use std::alloc::{AllocError, Global};
@@ -33,31 +33,31 @@ pub struct FileDisk<B: Positioned + Drop> {
     /// The file as it was given.
     first: Snapshot<B>,
     /// The writes and flushes since.
-    past: Snapshot<Past>,
+    past: Snapshot<FilePast>,
     moment: u64,
     /// For how many writes, flushes and write-outs there is room.
     spare: u64,
-    ghost made: { moment ≡ 2 * length (past_calls past.value) },
+    ghost made: { moment ≡ 2 * length (file_calls past.value) },
     ghost room: { 2 * spare + moment < 2 ^ 64 },
-    ghost sized: { FileSized (B.state first.value) (past_calls past.value) },
+    ghost sized: { FileSized (B.state first.value) (file_calls past.value) },
     ghost present: { IsTrue (B.state contents.file).tells
-        → IsPresent (B.state contents.file).bytes contents.run (file_held (B.state first.value) (past_calls past.value)).now },
-    ghost lasting: { LastsWithin (B.state contents.file) (B.state first.value) (past_calls past.value) },
+        → IsPresent (B.state contents.file).bytes contents.run (file_held (B.state first.value) (file_calls past.value)).now },
+    ghost lasting: { LastsWithin (B.state contents.file) (B.state first.value) (file_calls past.value) },
 }
 
 // No calls.
-fn start() -> Snapshot<Past>
-    ensures { past_calls result.value ≡ [] }
+fn start() -> Snapshot<FilePast>
+    ensures { file_calls result.value ≡ [] }
 {
-    Snapshot::of(&Past::Start)
+    Snapshot::of(&FilePast::Start)
 }
 
 // Adds a call.
-fn add(call: FileCall, past: &mut Snapshot<Past>)
-    ensures { past_calls past.new.value ≡ past_calls past.old.value ++ call_of call ∷ [] }
+fn add(call: FileCall, past: &mut Snapshot<FilePast>)
+    ensures { file_calls past.new.value ≡ file_calls past.old.value ++ call_of call ∷ [] }
 {
-    let earlier = mem::replace(past, Snapshot::of(&Past::Start));
-    let next = Past::Made(call, earlier);
+    let earlier = mem::replace(past, Snapshot::of(&FilePast::Start));
+    let next = FilePast::Made(call, earlier);
     *past = Snapshot::of(&next);
 }
 
@@ -97,9 +97,9 @@ impl<B: Positioned + Drop> FileDisk<B> {
 impl<B: Positioned + Drop> Disk for FileDisk<B> {
     ghost use Rattle.nofs_filedisk.specs.Files.{file_is, file_state};
 
-    ghost state = { λ d. file_state (B.state d.contents.file) (B.state d.first.value) (past_calls d.past.value) d.spare };
+    ghost state = { λ d. file_state (B.state d.contents.file) (B.state d.first.value) (file_calls d.past.value) d.spare };
 
-    ghost is_disk = { λ d. file_is (B.state d.contents.file) (B.state d.first.value) (past_calls d.past.value) d.moment d.spare
+    ghost is_disk = { λ d. file_is (B.state d.contents.file) (B.state d.first.value) (file_calls d.past.value) d.moment d.spare
         (B.is_file d.contents.file) d.made d.room d.sized };
 
     fn blocks(&self) -> u64 {

@@ -124,7 +124,7 @@ impl MemFile {
 }
 
 impl Positioned for MemFile {
-    ghost use Rattle.nofs_filedisk.specs.Memory.{telling_file, told_is};
+    ghost use Rattle.nofs_filedisk.specs.Memory.{telling_file, telling_file-is};
 
     ghost state = { λ f. telling_file f.bytes.items f.durable.items f.faults };
 
@@ -157,7 +157,7 @@ impl Positioned for MemFile {
         }
     }
 
-    ghost is_file = { λ f. told_is f.bytes.items f.durable.items f.faults f.counted f.small };
+    ghost is_file = { λ f. telling_file-is f.bytes.items f.durable.items f.faults f.counted f.small };
 }
 
 // Copies some bytes from a place on.

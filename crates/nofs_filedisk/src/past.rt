@@ -20,7 +20,7 @@ pub enum FileCall {
 
 /// The calls so far, the last one first.
 #[derive(Drop)]
-pub enum Past {
+pub enum FilePast {
     Start,
-    Made(FileCall, Snapshot<Past>),
+    Made(FileCall, Snapshot<FilePast>),
 }

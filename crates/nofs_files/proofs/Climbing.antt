@@ -2,7 +2,7 @@
 use Rattle.std.proofs.Common.{◌≡◌, ◌≢◌, ℕ, ◌+◌, ◌-◌, ◌*◌, ◌/◌, ◌<◌, ◌≤◌, ◌⊎◌, max, inl, inr, Bool, true, false, cond, eqb, eqb-true}
 use Rattle.std.proofs.Common.{eq-eqb, leb, ltb, leb-true, ltb-true, ◌&&◌, ◌||◌, not, List, [], ◌∷◌, ◌++◌, length, Option, Some, None, is_some, IsTrue}
 use Rattle.std.proofs.Common.{Ok, refl, sym, ap, ◌∙◌, subst, subst₂, arith}
-use Rattle.nofs_agree.specs.Chains.{told}
+use Rattle.nofs_agree.specs.Chains.{known_agreement}
 use Rattle.nofs_ptrs.specs.Paths.{slot_limit}
 use Rattle.nofs_disk.specs.Disk.{DiskState, IsDisk, Picks, cell_at}
 use Rattle.nofs_disk.specs.Adds.{Adds}
@@ -665,7 +665,7 @@ module _ (old new : DiskState) (k l : Books) (H : List Entry1) (p : Past) (i g s
       | inr (none, home) ↦ takes.other n none ∙ o.says.free_blocks n (subst (λ (q : SuperBlock). n < q.blocks) l-at lt)
           ∙ (λ q. (o.says.known_blocks n ∙ sym (l-block n)) q && not (sym (V-other n home) q))
     ];
-    agreement = λ j a t. uses-inode-same j ∙ o.says.agreement j a (ap (λ (b : Books). told b.agreement j) (sym takes.same) ∙ t);
+    agreement = λ j a t. uses-inode-same j ∙ o.says.agreement j a (ap (λ (b : Books). known_agreement b.agreement j) (sym takes.same) ∙ t);
   }
     where
       and-false : (t : Bool) → (t && false) ≡ false

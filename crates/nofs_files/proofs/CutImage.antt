@@ -18,7 +18,7 @@ use Rattle.nofs_model.proofs.Find.{and-both, find-held}
 use Rattle.nofs_model.proofs.Paths.{path_of-slot, path_of-content, slot_of-path_of}
 use Rattle.nofs_model.proofs.Sound.{mountable-law}
 use Rattle.nofs_history.specs.Meta.{is_bytes}
-use Rattle.nofs_history.specs.Machine.{bytes_in, resize_slot, size_of, slots_in, trimmed, value_of, zeros}
+use Rattle.nofs_history.specs.Machine.{bytes_in, resize_slot, size_of, slots_in, trimmed, value_of, zero_bytes}
 use Rattle.nofs_history.specs.World.{World}
 use Rattle.nofs_history.specs.Claims.{next_stamp}
 use Rattle.nofs_history.specs.History.{FilesMatch, SameFile}
@@ -51,7 +51,7 @@ use Rattle.nofs_files.proofs.CutWrites.{above-at, held-at, same-slot, same-at, c
 abbrev slot_by : ℕ → Value → ℕ → ℕ → Option Value
 slot_by old v size k = cond (leb (kept_slots old size) k) (cond (ltb k slot_limit) (Some Hole) None)
     (cond (leb old size && (eqb (k + 1) (kept_slots old size) && (not (eqb (old % 1024) 0) && is_bytes v)))
-    (Some (Bytes (take (old % 1024) (bytes_in v) ++ zeros (1024 - old % 1024)))) None)
+    (Some (Bytes (take (old % 1024) (bytes_in v) ++ zero_bytes (1024 - old % 1024)))) None)
 
 slot-by : (F : Files) (i size k : ℕ) → resize_slot F i size k ≡ slot_by (size_of F i) (value_of F i k) size k
 slot-by F i size k = refl

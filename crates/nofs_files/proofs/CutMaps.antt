@@ -1,7 +1,7 @@
 -- What the maps say after blocks were freed: which are known, which are free.
 use Rattle.std.proofs.Common.{◌≡◌, ◌≢◌, ℕ, ◌+◌, ◌-◌, ◌/◌, ◌<◌, ◌≤◌, ◌⊎◌, inl, inr, Bool, true, false, leb, ltb, lt-ltb, ◌&&◌, ◌||◌, not, List, length, None}
 use Rattle.std.proofs.Common.{is_some, refl, sym, ap, ◌∙◌, subst, arith}
-use Rattle.nofs_agree.specs.Chains.{told}
+use Rattle.nofs_agree.specs.Chains.{known_agreement}
 use Rattle.std.proofs.lemmas.Bool.{cases_lt}
 use Rattle.std.proofs.lemmas.Bool.Decides.{nat_tests}
 use Rattle.std.proofs.Math.Bool.{or-false, or-true}
@@ -135,5 +135,5 @@ module _ (k l : Books) (W V : World) (s : Step) (freed : List Bool) (says : Says
         (λ z. (knows_blocks q ∙ known-freed q t) z && not (block-gone q t z)))
         (λ t. a.blocks.freeing q low ∙ (λ z. is_set k.free_blocks q || t z) ∙ or-false (is_set k.free_blocks q) ∙ says.free_blocks q low
         ∙ (λ z. (says.known_blocks q ∙ sym (knows_blocks q ∙ known-kept q t)) z && not (sym (block-same q t) z)));
-    agreement = λ j v t. used j ∙ says.agreement j v (ap (λ (b : Books). told b.agreement j) (sym a.same) ∙ t);
+    agreement = λ j v t. used j ∙ says.agreement j v (ap (λ (b : Books). known_agreement b.agreement j) (sym a.same) ∙ t);
   }

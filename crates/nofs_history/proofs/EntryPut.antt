@@ -4,7 +4,7 @@ use Rattle.nofs_disk.specs.Number.{put_bytes}
 use Rattle.nofs_disk.specs.Number as number
 use Rattle.nofs_model.specs.declared.image.value.Value.{Value}
 use Rattle.nofs_model.specs.declared.image.value.Value.TheVariants.{Bytes}
-use Rattle.nofs_history.specs.Machine.{bytes_in, with_entry, zeros}
+use Rattle.nofs_history.specs.Machine.{bytes_in, with_entry, zero_bytes}
 
 -- the 64 bytes of an entry stand at its place
 pub with-entry-put : (old : Value) (e : ℕ) (bytes : List ℕ) → length bytes ≡ 64
@@ -16,6 +16,6 @@ with-entry-put old e bytes short =
     ∙ ap (λ (n : ℕ). Bytes (take at (bytes_in old) ++ (bytes ++ drop (at + n) (bytes_in old)))) (sym short)
 
 -- zeros are those that a device's cell begins with
-pub zeros-are : (n : ℕ) → zeros n ≡ number.zeros n
+pub zeros-are : (n : ℕ) → zero_bytes n ≡ number.zeros n
 unfolding number.zeros
 zeros-are n = refl

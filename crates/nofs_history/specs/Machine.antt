@@ -107,14 +107,14 @@ abbrev pub slots_in : ℕ → ℕ
 slots_in size = (size + 1023) / 1024
 
 -- this many zeros
-abbrev pub zeros : ℕ → List ℕ
-zeros n = replicate n 0
+abbrev pub zero_bytes : ℕ → List ℕ
+zero_bytes n = replicate n 0
 
 -- the bytes of a value, zeros where it has none
 abbrev pub bytes_in : Value → List ℕ
 bytes_in (Bytes content) = content
-bytes_in Hole = zeros 1024
-bytes_in Lost = zeros 1024
+bytes_in Hole = zero_bytes 1024
+bytes_in Lost = zero_bytes 1024
 
 -- how many bytes of slot k lie below the size
 abbrev pub cut_of : ℕ → ℕ → ℕ
@@ -200,7 +200,7 @@ resize_slot F i size k =
     let m : ℕ = min (slots_in old) (slots_in size) in
     if nat_le m k then (if nat_lt k slot_limit then Some Hole else None) else
     (if nat_le old size && ((k + 1 == m) && (not (old % 1024 == 0) && is_bytes (value_of F i k)))
-    then Some (Bytes (take (old % 1024) (bytes_in (value_of F i k)) ++ zeros (1024 - old % 1024))) else None)
+    then Some (Bytes (take (old % 1024) (bytes_in (value_of F i k)) ++ zero_bytes (1024 - old % 1024))) else None)
 
 -- Resize: which blocks of pointers go, where the file is cut to m slots
 abbrev pub resize_node : ℕ → Path → Option NodeState
@@ -257,7 +257,7 @@ drop_meta F i link = meta_with F i (λ f.
 abbrev pub drop_given : Files → ℕ → ℕ → ℕ → Given
 drop_given F d g e = elim (entry_at F d e) [
   | None ↦ nothing
-  | Some entry ↦ entry_given F d g e (zeros 64) (meta_given entry.inode entry.generation (drop_meta F entry.inode (link_to d e g)))
+  | Some entry ↦ entry_given F d g e (zero_bytes 64) (meta_given entry.inode entry.generation (drop_meta F entry.inode (link_to d e g)))
 ]
 
 -- Rename: the entry with the new name

@@ -24,13 +24,13 @@ abbrev pub raised_count : ℕ → ℕ
 raised_count count = min (count + 1) (2 ^ 64 - 1)
 
 -- a count that is kept in 64 bits has risen, or stands at its last value
-abbrev pub Rose : ℕ → ℕ → Type 0
-Rose before now = raised_count before ≤ now
+abbrev pub CountRose : ℕ → ℕ → Type 0
+CountRose before now = raised_count before ≤ now
 
 -- the count of faults never falls, and a call fails only where it rose
 pub record HasCause {T E : Type 0} (before now : ℕ) (result : Result T E) : Type 0 where
   pub later : before ≤ now
-  pub failed : OnErr result (Rose before now)
+  pub failed : OnErr result (CountRose before now)
 
 -- what `take` does: the bytes that it gives leave the front, none for a piece that is not empty
 -- only at the end, and a call that fails takes nothing away

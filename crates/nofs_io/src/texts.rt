@@ -4,7 +4,7 @@
 //! and go. A fault is reported only where the object had one, and then a prefix was taken or given.
 ghost use Rattle.std.specs.Prelude.{◌≡◌, ◌+◌, ◌<◌, ◌≤◌, ◌^◌, IfOk, OnOk, OnErr, IsErrOf, length, vec_len};
 ghost use Rattle.std.specs.Io.KnownBytes.{IsAtEnd};
-ghost use Rattle.nofs_io.specs.Calls.{HasCause, Rose};
+ghost use Rattle.nofs_io.specs.Calls.{HasCause, CountRose};
 ghost use Rattle.nofs_io.specs.Texts.{AppendsAll, AppendsPart, IsWhole, MovesBehind, TakesAtMost, TakesJust};
 ghost use Rattle.nofs_io.specs.declared.texts.ReadFault.TheVariants.{OutOfMemory};
 
@@ -49,7 +49,7 @@ pub fn read_all<S: Source>(
     requires { limit < 2 ^ 32 }
     ensures whole { IfOk result (λ bytes. IsWhole (S.state source.old) (S.state source.new) bytes.items limit) }
     ensures too_long { IsErrOf result ReadFault.TooLong → TakesJust (S.state source.old) (S.state source.new) (limit + 1) }
-    ensures fault { IsErrOf result ReadFault.Source → Rose (S.state source.old).faults (S.state source.new).faults }
+    ensures fault { IsErrOf result ReadFault.Source → CountRose (S.state source.old).faults (S.state source.new).faults }
     ensures later { (S.state source.old).faults ≤ (S.state source.new).faults }
     ensures taken { TakesAtMost (S.state source.old) (S.state source.new) (limit + 1) }
 {
@@ -74,7 +74,7 @@ fn take_piece<S: Source>(
     ensures count { IfOk result (λ count. (count ≤ length piece.old) × (vec_len bytes.new ≡ vec_len bytes.old + count)) }
     ensures ended { IfOk result (λ count. count ≡ 0 → 0 < length piece.old → IsAtEnd (S.state source.new).left) }
     ensures taken { OnErr result (TakesAtMost (S.state source.old) (S.state source.new) (length piece.old)) }
-    ensures fault { IsErrOf result ReadFault.Source → Rose (S.state source.old).faults (S.state source.new).faults }
+    ensures fault { IsErrOf result ReadFault.Source → CountRose (S.state source.old).faults (S.state source.new).faults }
     ensures later { (S.state source.old).faults ≤ (S.state source.new).faults }
     ensures short { IsErrOf result ReadFault.TooLong → ⊥ }
 {

@@ -14,10 +14,10 @@ use Rattle.nofs_mirror.specs.declared.mirror.Mirror.{Mirror}
 use Rattle.nofs_mirror.specs.declared.sides.opening.MirrorStart.{MirrorStart}
 use Rattle.nofs_mirror.specs.declared.sides.past.MirrorCall.{MirrorCall}
 use Rattle.nofs_mirror.specs.declared.sides.past.Effect.TheVariants.{Settle, Nothing}
-use Rattle.nofs_mirror.specs.Asking.{SideFlushes, any_done, call_of, counted_if, flush_effect, is_asked, lead_stays}
+use Rattle.nofs_mirror.specs.Asking.{SideFlushes, any_done, answered_call, counted_if, flush_effect, is_asked, lead_stays}
 use Rattle.nofs_mirror.specs.Laws.{MirrorKeeps, told-Picks, told-has, told-is}
 use Rattle.nofs_mirror.specs.Mirror.{both_tell, flushed_cells, may_step, mirror_state, now_of, if_told}
-use Rattle.nofs_mirror.specs.Past.{past_calls}
+use Rattle.nofs_mirror.specs.Past.{mirror_calls}
 use Rattle.nofs_mirror.proofs.MirrorCalls.{AreAsked, Called, asked_kept, asked_now, called_during, called_goes, called_may, called_tells, calls_sides}
 use Rattle.nofs_mirror.proofs.MirrorCalls.{mirror_cause, mirror_disk, mirror_no_fault}
 use Rattle.nofs_mirror.proofs.MirrorCells.{cells_of, flush_goes, may_of, on_err, on_ok, told_put}
@@ -41,7 +41,7 @@ module _ {lead lead_new other other_new first : DiskState} {opening : MirrorStar
     (w : CalledFlush lead lead_new other other_new first opening past s a o) where
   -- the call, the cells of a side that flushed, and those that may be held, as the sides tell of them
   abbrev call : MirrorCall
-  call = call_of (flush_effect a.answer o.answer) a o
+  call = answered_call (flush_effect a.answer o.answer) a o
 
   abbrev seen : List Cell
   seen = flushed_cells lead_new.was other_new.was call
@@ -169,7 +169,7 @@ pub flushes_sides : {A B : Type 0} {α : Ghosts A} {β : Ghosts B} (old : Mirror
     → ((d : A) → IsDisk (α.state d)) → ((d : B) → IsDisk (β.state d))
     → FlushesSide α old.log.sides.lead_in old.lead lead a → FlushesSide β old.log.sides.other_in old.other other o
     → CalledFlush (α.state old.lead) (α.state lead) (β.state old.other) (β.state other) (α.state old.first.value) old.opening
-    (past_calls old.log.past.value) old.log.spare a o
+    (mirror_calls old.log.past.value) old.log.spare a o
 flushes_sides old {lead} {other} {a} {o} lead_is other_is f h = record {
   called = calls_sides old lead_is other_is (flush_goes a.answer _ _ f.flushes)
       (flush_goes o.answer _ _ h.flushes) f.asked h.asked f.began f.ended h.began h.ended;

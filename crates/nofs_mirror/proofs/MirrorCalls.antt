@@ -14,10 +14,10 @@ use Rattle.nofs_mirror.specs.declared.sides.opening.MirrorStart.{MirrorStart}
 use Rattle.nofs_mirror.specs.declared.sides.past.Effect.{Effect}
 use Rattle.nofs_mirror.specs.declared.sides.past.MirrorCall.{MirrorCall}
 use Rattle.nofs_mirror.specs.declared.sides.past.Span.{Span}
-use Rattle.nofs_mirror.specs.Asking.{call_of, counted, counted_if, is_asked, sides_after}
+use Rattle.nofs_mirror.specs.Asking.{answered_call, counted, counted_if, is_asked, sides_after}
 use Rattle.nofs_mirror.specs.Laws.{MirrorKeeps, told-has}
 use Rattle.nofs_mirror.specs.Mirror.{IsMirrored, IsSide, SideLeaves, SideLeft, both_tell, last_span, mirror_state, now_of, if_told}
-use Rattle.nofs_mirror.specs.Past.{past_calls}
+use Rattle.nofs_mirror.specs.Past.{mirror_calls}
 use Rattle.nofs_mirror.proofs.MirrorCells.{Holds, LeavesFirst, SideGoes, cells_known, cells_of, may_of, mirrored_same, on_err, on_ok, side_during}
 use Rattle.nofs_mirror.proofs.MirrorCells.{side_goes, some_stays, told_put}
 use Rattle.nofs_mirror.proofs.MirrorLeaves.{during_leaves}
@@ -92,9 +92,9 @@ module _ {lead lead_new other other_new first : DiskState} {opening : MirrorStar
   -- an image that a side leaves during the call picks from what the mirror may hold then
   pub called_during : (effect : Effect) (may : ℕ → List Cell) → (IsTrue (is_asked a.answer) → LeavesFirst opening.blocks may lead lead_new)
       → (IsTrue (is_asked o.answer) → LeavesFirst opening.blocks may other other_new) → (image : List Cell)
-      → SidesLeave lead_new other_new opening (call_of effect a o ∷ past) (2 * length past + 1) image → Picks may opening.blocks image
-  called_during effect may f h image (inl left) = asks_during c.on_lead may (call_of effect a o) refl refl f image left
-  called_during effect may f h image (inr left) = asks_during c.on_other may (call_of effect a o) refl refl h image left
+      → SidesLeave lead_new other_new opening (answered_call effect a o ∷ past) (2 * length past + 1) image → Picks may opening.blocks image
+  called_during effect may f h image (inl left) = asks_during c.on_lead may (answered_call effect a o) refl refl f image left
+  called_during effect may f h image (inr left) = asks_during c.on_other may (answered_call effect a o) refl refl h image left
 
 counted_grows : (done : Bool) (e : ℕ) → e < 2 ^ 64 → e ≤ counted_if done e
 counted_grows true e low = omega arith
@@ -152,11 +152,11 @@ module _ {A B : Type 0} {α : Ghosts A} {β : Ghosts B} (old : Mirror A B α β)
   -- a write or flush of this mirror
   abbrev pub CallOf : DiskState → DiskState → SideCall → SideCall → Type 0
   CallOf lead other a o = Called (α.state old.lead) lead (β.state old.other) other (α.state old.first.value) old.opening
-      (past_calls old.log.past.value) old.log.spare a o
+      (mirror_calls old.log.past.value) old.log.spare a o
 
   -- the calls with it
   abbrev pub calls_with : Effect → SideCall → SideCall → List MirrorCall
-  calls_with effect a o = call_of effect a o ∷ past_calls old.log.past.value
+  calls_with effect a o = answered_call effect a o ∷ mirror_calls old.log.past.value
 
   -- as each side answers that is asked where it is in
   pub calls_sides : {lead : A} {other : B} {a o : SideCall} → ((d : A) → IsDisk (α.state d)) → ((d : B) → IsDisk (β.state d))
@@ -176,8 +176,8 @@ module _ {A B : Type 0} {α : Ghosts A} {β : Ghosts B} (old : Mirror A B α β)
       → ∥ MirrorKeeps lead other (α.state old.first.value) old.opening (calls_with effect a o) ∥₁
       → Holds lead other (α.state old.first.value) old.opening next t sides
   called_holds {lead} {other} {a} {o} effect {next} {t} {sides} w noted room same kept = rw (noted, same) (record {
-    lead_side = side_goes _ _ t (λ c. c.lead) _ _ (call_of effect a o) _ _ w.on_lead.goes w.on_lead.began w.on_lead.ended room old.lead_side;
-    other_side = side_goes _ _ t (λ c. c.other) _ _ (call_of effect a o) _ _ w.on_other.goes w.on_other.began w.on_other.ended room old.other_side;
+    lead_side = side_goes _ _ t (λ c. c.lead) _ _ (answered_call effect a o) _ _ w.on_lead.goes w.on_lead.began w.on_lead.ended room old.lead_side;
+    other_side = side_goes _ _ t (λ c. c.other) _ _ (answered_call effect a o) _ _ w.on_other.goes w.on_other.began w.on_other.ended room old.other_side;
     lead_in = refl;
     other_in = refl;
     some_in = some_stays _ _ _ _ (w.on_lead.asked ∙ sym old.lead_in) (w.on_other.asked ∙ sym old.other_in) old.some_in;
@@ -187,12 +187,12 @@ module _ {A B : Type 0} {α : Ghosts A} {β : Ghosts B} (old : Mirror A B α β)
   -- what a crash may leave of a side during it, it may leave of the mirror
   pub called_leaves : {lead other : DiskState} {a o : SideCall} (effect : Effect) (s e : ℕ) → CallOf lead other a o
       → let mirror : DiskState = mirror_state lead other (α.state old.first.value) old.opening (calls_with effect a o) s e in
-      let during = 2 * length (past_calls old.log.past.value) + 1 in
+      let during = 2 * length (mirror_calls old.log.past.value) + 1 in
       SideLeaves old.log.sides.lead_in (α.state old.lead).moment mirror lead during
       × SideLeaves old.log.sides.other_in (β.state old.other).moment mirror other during
   called_leaves {lead} {other} {a} {o} effect s e w =
       let mirror : DiskState = mirror_state lead other (α.state old.first.value) old.opening (calls_with effect a o) s e in
-      let call : MirrorCall = call_of effect a o in (
+      let call : MirrorCall = answered_call effect a o in (
         during_leaves (λ c. c.lead) _ _ call (α.state old.lead) lead mirror _ old.lead_in w.on_lead.began w.on_lead.ended (λ image t left. (t, inl left)),
         during_leaves (λ c. c.other) _ _ call (β.state old.other) other mirror _ old.other_in w.on_other.began w.on_other.ended (λ image t left. (t, inr left)),
       )

@@ -15,9 +15,9 @@ use Rattle.nofs_mirror.specs.declared.sides.past.MirrorCall.{MirrorCall}
 use Rattle.nofs_mirror.specs.declared.sides.past.Span.{Span}
 use Rattle.nofs_mirror.specs.Asking.{Rests}
 use Rattle.nofs_mirror.specs.Laws.{MirrorKeeps, told-is}
-use Rattle.nofs_mirror.specs.Mirror.{EitherReads, IsFrom, IsMirrored, IsServed, IsSide, SideLeft, SideServes, both_tell, last_span, mirror_state}
+use Rattle.nofs_mirror.specs.Mirror.{EitherReads, IsFrom, IsMirrored, IsMirrorSide, IsSide, SideLeft, SideServes, both_tell, last_span, mirror_state}
 use Rattle.nofs_mirror.specs.Mirror.{now_of, if_told}
-use Rattle.nofs_mirror.specs.Past.{past_calls}
+use Rattle.nofs_mirror.specs.Past.{mirror_calls}
 use Rattle.nofs_mirror.proofs.MirrorCells.{Holds, cells_known, cells_of, may_of, mirrored_same}
 use Rattle.nofs_mirror.proofs.MirrorPast.{Goes, goes_was, may_keeps, past_stays, tells_same, told_same}
 use Rattle.nofs_mirror.proofs.SidePast.{marked_later}
@@ -43,8 +43,8 @@ pub record BothRest (lead lead_new other other_new : DiskState) (opening : Mirro
   pub other_side : IsSide opening.blocks s (λ c. c.other) opening.other past other
 
 -- a side that is in goes on
-serves_on : (n : ℕ) (may : ℕ → List Cell) (now now_new : List Cell) (old new : DiskState) → Rests old new → now_new ≡ now → IsServed n may now old
-    → IsServed n may now_new new
+serves_on : (n : ℕ) (may : ℕ → List Cell) (now now_new : List Cell) (old new : DiskState) → Rests old new → now_new ≡ now → IsMirrorSide n may now old
+    → IsMirrorSide n may now_new new
 serves_on n may now now_new old new r same s = record {
   now = ap (take n) r.cells.now ∙ s.now ∙ sym same;
   covers = λ b c low has. let F : List Cell → Type 0 = λ l. Contains l c in let p = r.cells.may in s.covers b c low (subst F (λ i. p i b) has);
@@ -122,7 +122,7 @@ given n block t side now into low if_told gave same = gave ∙ sym (get_or-take 
 module _ {A B : Type 0} {α : Ghosts A} {β : Ghosts B} (m : Mirror A B α β) where
   -- its calls, and what contracts see of it
   abbrev calls : List MirrorCall
-  calls = past_calls m.log.past.value
+  calls = mirror_calls m.log.past.value
 
   abbrev seen : DiskState
   seen = mirror_state (α.state m.lead) (β.state m.other) (α.state m.first.value) m.opening calls m.log.spare m.log.faults

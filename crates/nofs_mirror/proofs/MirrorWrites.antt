@@ -9,11 +9,12 @@ use Rattle.std.specs.declared.snapshot.Snapshot.{Snapshot}
 use Rattle.nofs_disk.specs.declared.Failed.{Failed}
 use Rattle.nofs_disk.specs.declared.tag.Cell.{Cell}
 use Rattle.nofs_disk.specs.Disk.{DiskState, IsDisk, IsSizedCell, Writes}
+use Rattle.nofs_disk.specs.Held.{IsWithin}
 use Rattle.nofs_mirror.specs.declared.sides.asking.SideAnswer.{SideAnswer}
 use Rattle.nofs_mirror.specs.declared.sides.asking.SideAnswer.TheVariants.{Out, Done, Fault}
 use Rattle.nofs_mirror.specs.declared.sides.past.Effect.TheVariants.{Write}
 use Rattle.nofs_mirror.specs.Asking.{SideWrites, any_done, is_asked, lead_stays, other_stays}
-use Rattle.nofs_mirror.specs.Mirror.{IsMirrored, IsWithin, may_step, now_of}
+use Rattle.nofs_mirror.specs.Mirror.{IsMirrored, may_step, now_of}
 use Rattle.nofs_mirror.proofs.MirrorCells.{Covers, LeavesFirst, lead_stays-asked, other_stays-asked, write_leaves}
 
 -- the cells that may be held after a write

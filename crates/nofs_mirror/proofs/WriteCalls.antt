@@ -14,10 +14,10 @@ use Rattle.nofs_mirror.specs.declared.mirror.Mirror.{Mirror}
 use Rattle.nofs_mirror.specs.declared.sides.opening.MirrorStart.{MirrorStart}
 use Rattle.nofs_mirror.specs.declared.sides.past.MirrorCall.{MirrorCall}
 use Rattle.nofs_mirror.specs.declared.sides.past.Effect.TheVariants.{Write}
-use Rattle.nofs_mirror.specs.Asking.{SideWrites, any_done, call_of, counted_if, is_asked, lead_stays}
+use Rattle.nofs_mirror.specs.Asking.{SideWrites, any_done, answered_call, counted_if, is_asked, lead_stays}
 use Rattle.nofs_mirror.specs.Laws.{MirrorKeeps, told-Picks}
 use Rattle.nofs_mirror.specs.Mirror.{both_tell, flushed_cells, mirror_state, now_of}
-use Rattle.nofs_mirror.specs.Past.{past_calls}
+use Rattle.nofs_mirror.specs.Past.{mirror_calls}
 use Rattle.nofs_mirror.proofs.MirrorCalls.{Called, asked_kept, asked_now, called_during, called_goes, called_may, called_tells, calls_sides, mirror_cause}
 use Rattle.nofs_mirror.proofs.MirrorCalls.{mirror_disk, mirror_no_fault, told_either, told_goes, told_set}
 use Rattle.nofs_mirror.proofs.MirrorCells.{cells_of, may_of, on_err, on_ok, write_goes}
@@ -37,7 +37,7 @@ module _ {lead lead_new other other_new first : DiskState} {opening : MirrorStar
     {snap : Snapshot Cell} (w : CalledWrite lead lead_new other other_new first opening past s a o b snap) where
   -- the call, the cells of a side at its end, and those that may be held before it and after it, as the sides tell of them then
   abbrev call : MirrorCall
-  call = call_of (Write b snap) a o
+  call = answered_call (Write b snap) a o
 
   abbrev seen : List Cell
   seen = flushed_cells lead_new.was other_new.was call
@@ -125,7 +125,7 @@ pub writes_sides : {A B : Type 0} {α : Ghosts A} {β : Ghosts B} (old : Mirror 
     → ((d : A) → IsDisk (α.state d)) → ((d : B) → IsDisk (β.state d)) → b < old.opening.blocks → IsSizedCell cell → snap.value ≡ cell
     → WritesSide α old.log.sides.lead_in b cell old.lead lead a → WritesSide β old.log.sides.other_in b cell old.other other o
     → CalledWrite (α.state old.lead) (α.state lead) (β.state old.other) (β.state other) (α.state old.first.value) old.opening
-    (past_calls old.log.past.value) old.log.spare a o b snap
+    (mirror_calls old.log.past.value) old.log.spare a o b snap
 writes_sides old {lead} {other} {a} {o} {b} snap lead_is other_is inside sized same f h = record {
   called = calls_sides old lead_is other_is (write_goes a.answer _ _ b _ f.writes)
       (write_goes o.answer _ _ b _ h.writes) f.asked h.asked f.began f.ended h.began h.ended;

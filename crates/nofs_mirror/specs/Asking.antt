@@ -57,8 +57,8 @@ abbrev pub flush_effect : SideAnswer → SideAnswer → Effect
 flush_effect lead other = if any_done lead other then Settle else Nothing
 
 -- the call with these answers
-abbrev pub call_of : Effect → SideCall → SideCall → MirrorCall
-call_of effect lead other = record {
+abbrev pub answered_call : Effect → SideCall → SideCall → MirrorCall
+answered_call effect lead other = record {
   effect = effect;
   lead = record { began = lead.began; ended = lead.ended; is_in = lead_stays lead.answer other.answer };
   other = record { began = other.began; ended = other.ended; is_in = other_stays lead.answer other.answer };

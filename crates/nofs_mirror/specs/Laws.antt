@@ -11,7 +11,7 @@ use Rattle.nofs_mirror.specs.declared.sides.log.Sides.{Sides}
 use Rattle.nofs_mirror.specs.declared.sides.opening.MirrorStart.{MirrorStart}
 use Rattle.nofs_mirror.specs.declared.sides.past.MirrorCall.{MirrorCall}
 use Rattle.nofs_mirror.specs.declared.sides.past.Span.{Span}
-use Rattle.nofs_mirror.specs.Mirror.{IsMirrored, IsServed, IsSide, LeftBy, SideLeft, both_tell, last_span, may_after, mirror_state, now_of, if_told}
+use Rattle.nofs_mirror.specs.Mirror.{IsMirrored, IsMirrorSide, IsSide, LeftBy, SideLeft, both_tell, last_span, may_after, mirror_state, now_of, if_told}
 
 -- what is kept of a mirror over all its calls, where it tells
 abbrev pub MirrorKeeps : DiskState → DiskState → DiskState → MirrorStart → List MirrorCall → Type 0
@@ -66,7 +66,7 @@ SideLeft-now side leaves n opened (call ∷ past) to image (inr (inr left)) =
 -- what a side that is in leaves at the present moment picks from what the mirror may hold
 pub side_rests : (may : ℕ → List Cell) (now : List Cell) (n : ℕ) (is_in : Bool) (disk : DiskState) (from : ℕ) (image : List Cell) → IsDisk disk
     → n ≤ disk.blocks → from ≡ disk.moment
-    → (IsTrue is_in → IsServed n may now disk) → LeftBy disk.left n is_in from disk.moment image → Picks may n image
+    → (IsTrue is_in → IsMirrorSide n may now disk) → LeftBy disk.left n is_in from disk.moment image → Picks may n image
 side_rests may now n is_in disk from image is fits ends serves left =
     let low = left.low in
     let high = left.high in
@@ -78,7 +78,7 @@ side_rests may now n is_in disk from image is fits ends serves left =
 
 -- each block may hold the cell that a side that is in gives
 pub side_has : (may : ℕ → List Cell) (now : List Cell) (n : ℕ) (disk : DiskState) → IsDisk disk → n ≤ disk.blocks → IsTrue disk.tells
-    → IsServed n may now disk → (b : ℕ) → b < n → Contains (may b) (cell_at now b)
+    → IsMirrorSide n may now disk → (b : ℕ) → b < n → Contains (may b) (cell_at now b)
 side_has may now n disk is fits tells s b low =
     let F : Cell → Type 0 = λ c. Contains (may b) c in
     let G : List Cell → Type 0 = λ l. Contains (may b) (cell_at l b) in

@@ -3,7 +3,8 @@ use Rattle.std.specs.Prelude.{◌≡◌, ◌⊎◌, ℕ, ◌+◌, ◌*◌, ◌<�
 use Rattle.std.specs.Prelude.{slice_index_or, Contains, Result, OnOk, OnErr, IsTrue, IsFalse, ⊤}
 use Rattle.nofs_disk.specs.declared.Failed.{Failed}
 use Rattle.nofs_disk.specs.declared.tag.Cell.{Cell}
-use Rattle.nofs_disk.specs.Disk.{DiskState, IsSameDisk, IsSizedCell, KeepsCells, KeepsPast, Rose, StaysButFaults, cell_at}
+use Rattle.nofs_disk.specs.Disk.{DiskState, IsSameDisk, KeepsCells, KeepsPast, Rose, StaysButFaults, cell_at}
+use Rattle.nofs_disk.specs.Held.{IsWithin}
 use Rattle.nofs_mirror.specs.declared.sides.log.Sides.{Sides}
 use Rattle.nofs_mirror.specs.declared.sides.opening.MirrorCause.{MirrorCause}
 use Rattle.nofs_mirror.specs.declared.sides.opening.MirrorCause.TheVariants.{TooSmall, ReadFault, OutOfMemory}
@@ -94,19 +95,14 @@ mirror_state lead other first opening past spare faults = record {
 }
 
 -- a side that is in holds the mirror's cells, and may hold no cell that the mirror may not
-pub record IsServed (blocks : ℕ) (may : ℕ → List Cell) (cells : List Cell) (side : DiskState) : Type 0 where
+pub record IsMirrorSide (blocks : ℕ) (may : ℕ → List Cell) (cells : List Cell) (side : DiskState) : Type 0 where
   pub now : take blocks side.now ≡ cells
   pub covers : (b : ℕ) (c : Cell) → b < blocks → Contains (side.may b) c → Contains (may b) c
 
--- each cell that may be held is that of a block that is there, and has the bytes of a cell
-pub record IsWithin (may : ℕ → List Cell) (blocks : ℕ) : Type 0 where
-  pub beyond : (b : ℕ) (c : Cell) → blocks ≤ b → Contains (may b) c → ⊥
-  pub sized : (b : ℕ) (c : Cell) → Contains (may b) c → IsSizedCell c
-
 -- what holds of a mirror's cells
 pub record IsMirrored (blocks : ℕ) (may : ℕ → List Cell) (now : List Cell) (lead_in other_in : Bool) (lead_disk other_disk : DiskState) : Type 0 where
-  pub lead : IsTrue lead_in → IsServed blocks may now lead_disk
-  pub other : IsTrue other_in → IsServed blocks may now other_disk
+  pub lead : IsTrue lead_in → IsMirrorSide blocks may now lead_disk
+  pub other : IsTrue other_in → IsMirrorSide blocks may now other_disk
   pub within : IsWithin may blocks
 
 abbrev pub no_span : Span

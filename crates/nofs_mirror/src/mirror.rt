@@ -23,7 +23,7 @@ ghost use Rattle.nofs_mirror.specs.Copying.{HasCopied};
 ghost use Rattle.nofs_mirror.specs.Laws.{MirrorKeeps};
 ghost use Rattle.nofs_mirror.specs.Mirror.{ChangesSides, Counts, EitherReads, IsFrom, IsReadFault, IsSide, LeadBack, LeavesOut, OpensMirror};
 ghost use Rattle.nofs_mirror.specs.Mirror.{OtherBack, ReadFails, Refuses, SideLeaves, SideServes, last_span};
-ghost use Rattle.nofs_mirror.specs.Past.{past_calls};
+ghost use Rattle.nofs_mirror.specs.Past.{mirror_calls};
 
 use crate::copying::{CopyFault, copy_and_flush};
 use crate::sides::asking::{SideAnswer, flush_side, read_side, write_side};
@@ -44,12 +44,12 @@ pub struct Mirror<A: Disk + Drop, B: Disk + Drop> {
     first: Snapshot<A>,
     opening: MirrorStart,
     log: Log,
-    ghost lead_side: { IsSide opening.blocks log.spare (λ c. c.lead) opening.lead (past_calls log.past.value) (A.state lead) },
-    ghost other_side: { IsSide opening.blocks log.spare (λ c. c.other) opening.other (past_calls log.past.value) (B.state other) },
-    ghost lead_in: { log.sides.lead_in ≡ (last_span (λ c. c.lead) opening.lead (past_calls log.past.value)).is_in },
-    ghost other_in: { log.sides.other_in ≡ (last_span (λ c. c.other) opening.other (past_calls log.past.value)).is_in },
+    ghost lead_side: { IsSide opening.blocks log.spare (λ c. c.lead) opening.lead (mirror_calls log.past.value) (A.state lead) },
+    ghost other_side: { IsSide opening.blocks log.spare (λ c. c.other) opening.other (mirror_calls log.past.value) (B.state other) },
+    ghost lead_in: { log.sides.lead_in ≡ (last_span (λ c. c.lead) opening.lead (mirror_calls log.past.value)).is_in },
+    ghost other_in: { log.sides.other_in ≡ (last_span (λ c. c.other) opening.other (mirror_calls log.past.value)).is_in },
     ghost some_in: { IsTrue (log.sides.lead_in || log.sides.other_in) },
-    ghost kept: { ∥ MirrorKeeps (A.state lead) (B.state other) (A.state first.value) opening (past_calls log.past.value) ∥₁ },
+    ghost kept: { ∥ MirrorKeeps (A.state lead) (B.state other) (A.state first.value) opening (mirror_calls log.past.value) ∥₁ },
 }
 
 /// A mirror was not opened. Both disks come back.
@@ -170,7 +170,7 @@ impl<A: Disk + Drop, B: Disk + Drop> Mirror<A, B> {
         requires copied { IsTrue other_in → HasCopied (A.state lead) (B.state other) blocks × IsSettled (B.state other) }
         ensures disks { (result.lead ≡ lead) × (result.other ≡ other) × (result.first ≡ first) }
         ensures blocks { result.opening.blocks ≡ blocks }
-        ensures fresh { (past_calls result.log.past.value ≡ []) × (result.log.spare ≡ 0) × (result.log.faults ≡ 0) }
+        ensures fresh { (mirror_calls result.log.past.value ≡ []) × (result.log.spare ≡ 0) × (result.log.faults ≡ 0) }
         ensures sides { IsTrue result.log.sides.lead_in × (result.log.sides.other_in ≡ other_in) × IsTrue result.opening.lead.is_in }
     {
         let lead_at = lead.moment();
@@ -223,10 +223,10 @@ impl<A: Disk + Drop, B: Disk + Drop> Disk for Mirror<A, B> {
     ghost use Rattle.nofs_mirror.specs.Laws.{mirror_is};
 
     ghost state = { λ m. mirror_state (A.state m.lead) (B.state m.other) (A.state m.first.value) m.opening
-        (past_calls m.log.past.value) m.log.spare m.log.faults };
+        (mirror_calls m.log.past.value) m.log.spare m.log.faults };
 
     ghost is_disk = { λ m. mirror_is (A.state m.lead) (B.state m.other) (A.state m.first.value) m.opening
-        (past_calls m.log.past.value) m.log.spare m.log.faults (A.is_disk m.lead) (B.is_disk m.other)
+        (mirror_calls m.log.past.value) m.log.spare m.log.faults (A.is_disk m.lead) (B.is_disk m.other)
         m.lead_side m.other_side m.lead_in m.other_in m.some_in m.log.made m.log.room m.log.counted m.kept };
 
     fn blocks(&self) -> u64 {

@@ -22,7 +22,7 @@ use Rattle.nofs_client.specs.declared.task.task.Task.TheVariants as task
 use Rattle.nofs_client.specs.Commands.{names_of, HasName}
 use Rattle.nofs_client.specs.Places.{first_handle, name_at, last_name, new_looks}
 use Rattle.nofs_client.specs.Task.{arrived, arrived_new}
-use Rattle.nofs_client.specs.Asks.{task_asks, look_of}
+use Rattle.nofs_client.specs.Asks.{task_asks, look_in}
 use Rattle.nofs_client.specs.Answers.{task_after, handle_of}
 use Rattle.nofs_client.specs.Drive.{start_of, progress_after}
 use Rattle.nofs_client.specs.Runs.{Asked}
@@ -80,9 +80,9 @@ module _ (from to : Path) where
       → Asked (command.Move from to) p ms → Goes from to p ms → Reaching (Says from to p ms) place ms
   reaching place [] p into depth t told asked (inl (k, s, h)) = absurd (none-in [] k (s, reply.Linked) refl h)
   reaching place [] p into depth t told asked (inr says) = absurd
-      (unsaid from to p (look_of into (name_at to depth)) line.Moved (ap (task_asks (command.Move from to)) t) says)
+      (unsaid from to p (look_in into (name_at to depth)) line.Moved (ap (task_asks (command.Move from to)) t) says)
   reaching place (x ∷ ms) p into depth t told asked goes =
-      elim (leads from to p (look_of into (name_at to depth)) x (ap (task_asks (command.Move from to)) t)
+      elim (leads from to p (look_in into (name_at to depth)) x (ap (task_asks (command.Move from to)) t)
       (λ why. ap (λ t. task_after (command.Move from to) t (reply.Refused why)) t) asked.0) [
         | Again idle same ↦
             more-reaching (Says from to p (x ∷ ms)) place x ms idle
@@ -92,7 +92,7 @@ module _ (from to : Path) where
             (passes-other from to x ms p (not-linked from to x.1 why r) goes))
         | Answered is ok e ↦
             let answer = told-look into.inode into.generation (name_at to depth) x.1 (subst (λ s. Told s x.1) is (first-told x ms told)) ok in
-            let idle = looks-idle x (look_of into (name_at to depth)) is refl in
+            let idle = looks-idle x (look_in into (name_at to depth)) is refl in
             let next : (progress_after (command.Move from to) p x.1).task ≡ arrived_new (command.Move from to) place (handle_of answer.0) (depth + 1) =
             ap (λ (q : Progress). q.task) e ∙ ap (λ t. task_after (command.Move from to) t x.1) t
             ∙ ap (λ r. task_after (command.Move from to) (task.LookingNew place into depth) r) answer.1 in
@@ -169,9 +169,9 @@ module _ (from to : Path) where
       → Asked (command.Move from to) p ms → Goes from to p ms → Located (Says from to p ms) ms
   locating [] p place depth t lt told asked (inl (k, s, h)) = absurd (none-in [] k (s, reply.Linked) refl h)
   locating [] p place depth t lt told asked (inr says) = absurd
-      (unsaid from to p (look_of place.found (name_at from depth)) line.Moved (ap (task_asks (command.Move from to)) t) says)
+      (unsaid from to p (look_in place.found (name_at from depth)) line.Moved (ap (task_asks (command.Move from to)) t) says)
   locating (x ∷ ms) p place depth t lt told asked goes =
-      elim (leads from to p (look_of place.found (name_at from depth)) x (ap (task_asks (command.Move from to)) t)
+      elim (leads from to p (look_in place.found (name_at from depth)) x (ap (task_asks (command.Move from to)) t)
       (λ why. ap (λ t. task_after (command.Move from to) t (reply.Refused why)) t) asked.0) [
         | Again idle same ↦
             more-located (Says from to p (x ∷ ms)) x ms
@@ -181,7 +181,7 @@ module _ (from to : Path) where
             (passes-other from to x ms p (not-linked from to x.1 why r) goes))
         | Answered is ok e ↦
             let answer = told-look place.found.inode place.found.generation (name_at from depth) x.1 (subst (λ s. Told s x.1) is (first-told x ms told)) ok in
-            let idle = looks-idle x (look_of place.found (name_at from depth)) is refl in
+            let idle = looks-idle x (look_in place.found (name_at from depth)) is refl in
             let here : Location = record { directory = place.found; found = handle_of answer.0 } in
             let next : (progress_after (command.Move from to) p x.1).task ≡ arrived (command.Move from to) here (depth + 1) =
             ap (λ (q : Progress). q.task) e ∙ ap (λ t. task_after (command.Move from to) t x.1) t
@@ -193,7 +193,7 @@ module _ (from to : Path) where
               | inr on ↦
                   let last : depth ≡ length (names_of from) - 1 = omega (arith, lt, on.1) in
                   let is_look : x.0 ≡ step.Look place.found.inode place.found.generation (last_name from) =
-                  is ∙ ap (λ n. look_of place.found (name_at from n)) last in
+                  is ∙ ap (λ n. look_in place.found (name_at from n)) last in
                   looked-reaching (Says from to p (x ∷ ms)) here answer.0.kind x ms (λ j. (is_look j, answer.1 j))
                   (elim (arrives-new here (first_handle to) 0) [
                     | inl new ↦ reaching here ms (progress_after (command.Move from to) p x.1) (first_handle to) 0 (next ∙ on.0 ∙ new) (after-told x ms told)

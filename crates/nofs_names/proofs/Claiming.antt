@@ -3,7 +3,7 @@ use Rattle.std.proofs.Common.{◌≡◌, ◌≢◌, ℕ, ◌+◌, ◌-◌, ◌<�
 use Rattle.std.proofs.Common.{sym, ap, ◌∙◌, subst, arith}
 use Rattle.std.proofs.lemmas.Bool.{cases_eq}
 use Rattle.std.proofs.Math.Bool.{and-false, or-true}
-use Rattle.nofs_agree.specs.Chains.{told}
+use Rattle.nofs_agree.specs.Chains.{known_agreement}
 use Rattle.nofs_bits.specs.Bits.{is_set}
 use Rattle.nofs_model.specs.Cells.{Pointer, SuperBlock}
 use Rattle.nofs_model.specs.Image.{Image, is_special, Files, Home}
@@ -77,9 +77,9 @@ taken-by k l c n takes = record {
 -- an inode after it, and what the books have of it: it was claimed and is a file now, or it stays
 pub data InodeAfter (W : World) (k l : Books) (G : Files) (j : ℕ) : Type 0 where
   WasMade : W.known_inodes j ≡ true → is_some (G j) ≡ true → is_set l.free_inodes (j - 1) ≡ false
-      → ((a : Bool) → told l.agreement j ≡ Some a → true ≡ a) → InodeAfter W k l G j
+      → ((a : Bool) → known_agreement l.agreement j ≡ Some a → true ≡ a) → InodeAfter W k l G j
   WasLeft : is_some (G j) ≡ is_some (W.files j) → (1 ≤ j → is_set l.free_inodes (j - 1) ≡ is_set k.free_inodes (j - 1))
-      → told l.agreement j ≡ told k.agreement j → InodeAfter W k l G j
+      → known_agreement l.agreement j ≡ known_agreement k.agreement j → InodeAfter W k l G j
 
 module _ (X : Image) (k l : Books) (W : World) (s : Step) (c : Claims) (n : ℕ) (G : Files) (at : Home) (says : Says k W) (match : FilesMatch W.files X)
     (homes : HomesMatch W X) (past : (b : ℕ) → W.blocks ≤ b → W.homes b ≡ None)
@@ -155,8 +155,8 @@ module _ (X : Image) (k l : Books) (W : World) (s : Step) (c : Claims) (n : ℕ)
   }
     where
       changes : (j : ℕ) → uses_inode V j ≢ uses_inode W j → InodeAfter W k l G j → knows_inode l j ≡ true
-      changes j ne (WasMade known made free told) = sym (inode-known j) ∙ known
-      changes j ne (WasLeft used free told) = absurd (ne (V-left j used))
+      changes j ne (WasMade known made free known_agreement) = sym (inode-known j) ∙ known
+      changes j ne (WasLeft used free known_agreement) = absurd (ne (V-left j used))
 
   said : Says l V
   said = record {
@@ -179,12 +179,12 @@ module _ (X : Image) (k l : Books) (W : World) (s : Step) (c : Claims) (n : ℕ)
   }
     where
       free-inode : (j : ℕ) → 1 ≤ j → j ≤ k.at.inodes → InodeAfter W k l G j → is_set l.free_inodes (j - 1) ≡ is_free_inode V j
-      free-inode j low high (WasMade known made free told) = free
+      free-inode j low high (WasMade known made free known_agreement) = free
           ∙ sym (ap (λ (t : Bool). knows_inode l j && not t) (V-made j made) ∙ and-false (knows_inode l j))
-      free-inode j low high (WasLeft used free told) = free low ∙ says.free_inodes j low high
+      free-inode j low high (WasLeft used free known_agreement) = free low ∙ says.free_inodes j low high
           ∙ (λ q. inode-known j q && not (sym (V-left j used) q))
 
-      agrees : (j : ℕ) (a : Bool) → told l.agreement j ≡ Some a → InodeAfter W k l G j → is_some (V.files j) ≡ a
+      agrees : (j : ℕ) (a : Bool) → known_agreement l.agreement j ≡ Some a → InodeAfter W k l G j → is_some (V.files j) ≡ a
       agrees j a t (WasMade known made free is) = V-file j ∙ made ∙ is a t
       agrees j a t (WasLeft used free is) = V-file j ∙ used ∙ says.agreement j a (sym is ∙ t)
 
@@ -197,8 +197,8 @@ module _ (X : Image) (k l : Books) (W : World) (s : Step) (c : Claims) (n : ℕ)
 pub record TakenInode (k : Books) (free : List Bool) (agreement : List (Option Bool)) (i : ℕ) : Type 0 where
   pub here : is_set free (i - 1) ≡ false
   pub others : (j : ℕ) → 1 ≤ j → j ≢ i → is_set free (j - 1) ≡ is_set k.free_inodes (j - 1)
-  pub agreed : (a : Bool) → told agreement i ≡ Some a → Some true ≡ Some a
-  pub told_as : (j : ℕ) → j ≢ i → told agreement j ≡ told k.agreement j
+  pub agreed : (a : Bool) → known_agreement agreement i ≡ Some a → Some true ≡ Some a
+  pub told_as : (j : ℕ) → j ≢ i → known_agreement agreement j ≡ known_agreement k.agreement j
 
 -- the books after it, with m blocks claimed
 pub record TakenBoth (k l : Books) (c : Claims) (m : ℕ) : Type 0 where
@@ -222,4 +222,4 @@ made-inode W k l c G was taken made used j = elim (cases_eq j c.inode) [
 pub left-inode : (W : World) (k l : Books) (c : Claims) (n : ℕ) (G : Files) → Takes k l c n → ((j : ℕ) → is_some (G j) ≡ is_some (W.files j)) → (j : ℕ)
     → InodeAfter W k l G j
 left-inode W k l c n G takes used j = WasLeft (used j) (λ low. ap (λ (b : Books). is_set b.free_inodes (j - 1)) takes.same)
-    (ap (λ (b : Books). told b.agreement j) takes.same)
+    (ap (λ (b : Books). known_agreement b.agreement j) takes.same)

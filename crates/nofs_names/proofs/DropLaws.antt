@@ -22,7 +22,7 @@ use Rattle.nofs_crashlaw.specs.Moments.{during}
 use Rattle.nofs_history.specs.Meta.{Meta, Gone, Is, is_bytes, is_gone}
 use Rattle.nofs_history.specs.Marks.{Mark}
 use Rattle.nofs_history.specs.Machine as machine
-use Rattle.nofs_history.specs.Machine.{Given, gives, drop_given, drop_meta, entry_given, meta_given, is_at, without_link, link_to, zeros, at_place}
+use Rattle.nofs_history.specs.Machine.{Given, gives, drop_given, drop_meta, entry_given, meta_given, is_at, without_link, link_to, zero_bytes, at_place}
 use Rattle.nofs_history.specs.Machine.{files_after, value_of, with_entry, found, is_paired, nothing}
 use Rattle.nofs_history.specs.World.{World, is_fixed}
 use Rattle.nofs_history.specs.Claims.{no_claims, next_stamp, IsClaim, has_block}
@@ -83,7 +83,7 @@ keeps-else i g m j ne h = subst KeepsFile (sym (meta-else i g m j ne h)) tt
 abbrev given_for : Files → ℕ → ℕ → ℕ → Option Entry → Given
 given_for F d g e o = elim o [
   | None ↦ nothing
-  | Some entry ↦ entry_given F d g e (zeros 64)
+  | Some entry ↦ entry_given F d g e (zero_bytes 64)
       (meta_given entry.inode entry.generation (drop_meta F entry.inode (link_to d e g)))
 ]
 
@@ -171,7 +171,7 @@ module _ (old : DiskState) (k : Books) (H : List Entry1) (p : Past) (d g : ℕ) 
     whole = drops.whole;
     content = ap (λ (z : Cell). Bytes z.payload) in-slot ∙ ap Bytes
         (drops.payload ∙ ap (λ (z : List ℕ). put_bytes (64 * (q.entry % 16)) z (cell_at X x.block).payload) (sym (zeros-are 64)))
-        ∙ sym (with-entry-put (Bytes (cell_at X x.block).payload) q.entry (zeros 64) refl);
+        ∙ sym (with-entry-put (Bytes (cell_at X x.block).payload) q.entry (zero_bytes 64) refl);
     writes = in-place;
     old = λ j some. on.pointers j (matched-file W.files X j on.match some).live;
   }
@@ -185,7 +185,7 @@ module _ (old : DiskState) (k : Books) (H : List Entry1) (p : Past) (d g : ℕ) 
   after-files : files_after W.files (gives W.files (step.Drop d g name) no_claims) ≡ files_after W.files (drop_given W.files d g q.entry)
   after-files = ap (files_after W.files) (gives-it W.files refl)
 
-  cell-is : drop_given W.files d g q.entry ≡ machine.cell_given d g (q.entry / 16) (with_entry (value_of W.files d (q.entry / 16)) q.entry (zeros 64))
+  cell-is : drop_given W.files d g q.entry ≡ machine.cell_given d g (q.entry / 16) (with_entry (value_of W.files d (q.entry / 16)) q.entry (zero_bytes 64))
       (meta_given it.inode it.generation (drop_meta W.files it.inode (link_to d q.entry g)))
   cell-is = ap (given_for W.files d g q.entry) drops.pair.pair.at
 
@@ -240,7 +240,7 @@ module _ (old : DiskState) (k : Books) (H : List Entry1) (p : Past) (d g : ℕ) 
 
     nothing-else : (j : ℕ) → j ≢ d → j ≢ it.inode → GivesNothing (drop_given W.files d g q.entry) j
     nothing-else j nd ni = subst (λ (z : Given). GivesNothing z j) (sym cell-is)
-        (cell-elsewhere d g (q.entry / 16) (with_entry (value_of W.files d (q.entry / 16)) q.entry (zeros 64))
+        (cell-elsewhere d g (q.entry / 16) (with_entry (value_of W.files d (q.entry / 16)) q.entry (zero_bytes 64))
         (meta_given it.inode it.generation (drop_meta W.files it.inode (link_to d q.entry g))) j nd
         (λ h. meta-else it.inode it.generation (drop_meta W.files it.inode (link_to d q.entry g)) j ni h))
 
@@ -285,24 +285,24 @@ module _ (old : DiskState) (k : Books) (H : List Entry1) (p : Past) (d g : ℕ) 
   to-table P h = subst (λ (z : Cell). P (table_block q.inode) z) in-table (subst (λ (i : ℕ). P (1 + (i - 1) / 4) (cell_at Y (1 + (i - 1) / 4))) same h)
 
   after-as : (meta : Meta) → drop_meta W.files it.inode (link_to d q.entry g) ≡ meta
-      → drop_given W.files d g q.entry ≡ machine.cell_given d g (q.entry / 16) (with_entry (value_of W.files d (q.entry / 16)) q.entry (zeros 64))
+      → drop_given W.files d g q.entry ≡ machine.cell_given d g (q.entry / 16) (with_entry (value_of W.files d (q.entry / 16)) q.entry (zero_bytes 64))
       (meta_given it.inode it.generation meta)
-  after-as meta e = cell-is ∙ (λ j. machine.cell_given d g (q.entry / 16) (with_entry (value_of W.files d (q.entry / 16)) q.entry (zeros 64))
+  after-as meta e = cell-is ∙ (λ j. machine.cell_given d g (q.entry / 16) (with_entry (value_of W.files d (q.entry / 16)) q.entry (zero_bytes 64))
       (meta_given it.inode it.generation (e j)))
 
   used-as : (meta : Meta) → drop_meta W.files it.inode (link_to d q.entry g) ≡ meta → (j : ℕ)
       → ((h : ℕ) → KeepsFile (meta_given it.inode it.generation meta j h))
       → is_some (files_after W.files (drop_given W.files d g q.entry) j) ≡ is_some (W.files j)
   used-as meta e j keeps = (λ z. is_some (files_after W.files (after-as meta e z) j))
-      ∙ file-used W.files d g (q.entry / 16) (with_entry (value_of W.files d (q.entry / 16)) q.entry (zeros 64)) (meta_given it.inode it.generation meta)
+      ∙ file-used W.files d g (q.entry / 16) (with_entry (value_of W.files d (q.entry / 16)) q.entry (zero_bytes 64)) (meta_given it.inode it.generation meta)
       j keeps
 
   blocks-as : (meta : Meta) → drop_meta W.files it.inode (link_to d q.entry g) ≡ meta → (home : Home)
       → ((h : ℕ) → KeepsFile (meta_given it.inode it.generation meta home.inode h)) → has_block W.files home ≡ true
       → has_block (files_after W.files (drop_given W.files d g q.entry)) home ≡ true
   blocks-as meta e home keeps h = subst (λ (z : Given). has_block (files_after W.files z) home ≡ true) (sym (after-as meta e))
-      (file-blocks W.files d g (q.entry / 16) (with_entry (value_of W.files d (q.entry / 16)) q.entry (zeros 64)) (meta_given it.inode it.generation meta)
-      home.inode keeps home.slot (entry-bytes (value_of W.files d (q.entry / 16)) q.entry (zeros 64)) h)
+      (file-blocks W.files d g (q.entry / 16) (with_entry (value_of W.files d (q.entry / 16)) q.entry (zero_bytes 64)) (meta_given it.inode it.generation meta)
+      home.inode keeps home.slot (entry-bytes (value_of W.files d (q.entry / 16)) q.entry (zero_bytes 64)) h)
 
   module _ (rec-q : inode old.now q.inode ≡ q.record) where
     module _ (keep : drop_meta W.files it.inode (link_to d q.entry g) ≡ Is its.file.kind its.file.size (without_link (link_to d q.entry g) its.file.links))
@@ -404,7 +404,7 @@ module _ (old : DiskState) (k : Books) (H : List Entry1) (p : Past) (d g : ℕ) 
       gone-file-is : files_after W.files (drop_given W.files d g q.entry) it.inode ≡ None
       gone-file-is = (λ z. files_after W.files (after-as Gone goes z) it.inode)
           ∙ ap (λ (z : Option FileState). machine.file_after
-          (machine.cell_given d g (q.entry / 16) (with_entry (value_of W.files d (q.entry / 16)) q.entry (zeros 64))
+          (machine.cell_given d g (q.entry / 16) (with_entry (value_of W.files d (q.entry / 16)) q.entry (zero_bytes 64))
           (meta_given it.inode it.generation Gone)) it.inode z) named
           ∙ (let a = eq-eqb it.inode it.inode refl in let b = eq-eqb it.generation its.file.generation generation-is in rw (a, b) refl)
 

@@ -1,7 +1,7 @@
 -- A step with which one inode goes: what it used is free, and known to be.
 use Rattle.std.proofs.Common.{◌≡◌, ◌≢◌, ℕ, ◌+◌, ◌-◌, ◌<◌, ◌≤◌, ◌⊎◌, Bool, true, false, cond, ltb, eqb, eq-eqb, ◌&&◌, ◌||◌, not, Option, Some, None, is_some}
 use Rattle.std.proofs.Common.{inl, inr, refl, sym, ap, ◌∙◌, subst, arith}
-use Rattle.nofs_agree.specs.Chains.{told}
+use Rattle.nofs_agree.specs.Chains.{known_agreement}
 use Rattle.std.proofs.lemmas.Bool.{cases_eq, ne_eqb}
 use Rattle.std.proofs.Math.Bool.{or-false, or-true}
 use Rattle.nofs_ptrs.specs.Paths.{slot_limit}
@@ -49,7 +49,7 @@ pub record Freed (k l : Books) (i : ℕ) (owned : ℕ → Bool) : Type 0 where
   pub known_blocks : (q : ℕ) → knows_block l q ≡ (knows_block k q || owned q)
   pub free_inodes : (j : ℕ) → 1 ≤ j → j ≤ k.at.inodes → is_set l.free_inodes (j - 1) ≡ (is_set k.free_inodes (j - 1) || eqb j i)
   pub free_blocks : (q : ℕ) → q < k.at.blocks → is_set l.free_blocks q ≡ (is_set k.free_blocks q || owned q)
-  pub agreement : (j : ℕ) (a : Bool) → told l.agreement j ≡ Some a → (j ≢ i) × (told k.agreement j ≡ Some a)
+  pub agreement : (j : ℕ) (a : Bool) → known_agreement l.agreement j ≡ Some a → (j ≢ i) × (known_agreement k.agreement j ≡ Some a)
 
 pub leaving-claim : (W : World) (s : Step) (G : Files) (i : ℕ) → IsLeaving W s G i → IsClaim W s no_claims
 leaving-claim W s G i leaving = record {

@@ -2,7 +2,7 @@
 use Rattle.std.proofs.Common.{◌≡◌, ◌≢◌, ℕ, ◌-◌, ◌<◌, ◌≤◌, ◌⊎◌, inl, inr, Bool, true, false, leb, ltb, eqb, eq-eqb, lt-ltb, ◌&&◌, ◌||◌, not, List, length, refl}
 use Rattle.std.proofs.Common.{sym, ap, ◌∙◌, arith, Option, None, Some, subst}
 use Rattle.nofs_agree.proofs.Learning.{told-other, told-set}
-use Rattle.nofs_agree.specs.Chains.{told}
+use Rattle.nofs_agree.specs.Chains.{known_agreement}
 use Rattle.std.specs.Prelude.{slice_set}
 use Rattle.std.proofs.lemmas.Bool.{cases_lt, cases_eq, ne_eqb}
 use Rattle.std.proofs.Math.Bool.{or-false, or-true}
@@ -99,8 +99,8 @@ module _ (k l : Books) (i : ℕ) (freed : List Bool) (owned : ℕ → Bool) (siz
     free_blocks = λ q low. a.blocks.freeing q low ∙ (λ z. is_set k.free_blocks q || same q low z);
     agreement = λ j v t. elim (cases_eq j i) [
       | inl here ↦
-          let set : told (slice_set k.agreement (i - 1) None) j ≡ Some v = sym (ap (λ (known : List (Option Bool)). told known j) a.agreement) ∙ t in
-          absurd (cc (told-set k.agreement i None v above (subst (λ (n : ℕ). told (slice_set k.agreement (i - 1) None) n ≡ Some v) here set)))
-      | inr other ↦ (other, sym (ap (λ (known : List (Option Bool)). told known j) a.agreement ∙ told-other k.agreement i j None above other) ∙ t)
+          let set : known_agreement (slice_set k.agreement (i - 1) None) j ≡ Some v = sym (ap (λ (known : List (Option Bool)). known_agreement known j) a.agreement) ∙ t in
+          absurd (cc (told-set k.agreement i None v above (subst (λ (n : ℕ). known_agreement (slice_set k.agreement (i - 1) None) n ≡ Some v) here set)))
+      | inr other ↦ (other, sym (ap (λ (known : List (Option Bool)). known_agreement known j) a.agreement ∙ told-other k.agreement i j None above other) ∙ t)
     ];
   }

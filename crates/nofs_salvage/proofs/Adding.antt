@@ -12,22 +12,22 @@ use Rattle.nofs_salvage.specs.declared.lost.report.Loss.TheVariants as loss
 use Rattle.nofs_salvage.specs.declared.lost.findings.Findings.{Findings}
 use Rattle.nofs_salvage.specs.declared.lost.seen.SeenNames.{SeenNames}
 use Rattle.nofs_salvage.specs.Report.{if_so, inode_found, file_losses, is_doubled, pair_losses, pair_folders, line_losses, line_folders, lines_losses}
-use Rattle.nofs_salvage.specs.Report.{lines_folders, with_one, with_all}
-use Rattle.nofs_salvage.specs.Trees.{inodes_in, is_seen, AreSeen, Adds}
+use Rattle.nofs_salvage.specs.Report.{lines_folders, with_one, with_directories}
+use Rattle.nofs_salvage.specs.Trees.{inodes_in, is_seen, AreSeen, AddsFindings}
 
-with-append : (ds f h : List ℕ) → with_all ds (f ++ h) ≡ with_all (with_all ds f) h
+with-append : (ds f h : List ℕ) → with_directories ds (f ++ h) ≡ with_directories (with_directories ds f) h
 with-append ds [] h = refl
 with-append ds (d ∷ f) h = with-append (with_one ds d) f h
 
 -- nothing is added
-pub adds-none : (now : Findings) → Adds [] [] now now
+pub adds-none : (now : Findings) → AddsFindings [] [] now now
 adds-none now = record { report = sym (append-nil now.report); tree = refl }
 
 -- more is added
-pub adds-on : (l m : List Loss) (f h : List ℕ) (old mid new : Findings) → Adds l f old mid → Adds m h mid new → Adds (l ++ m) (f ++ h) old new
+pub adds-on : (l m : List Loss) (f h : List ℕ) (old mid new : Findings) → AddsFindings l f old mid → AddsFindings m h mid new → AddsFindings (l ++ m) (f ++ h) old new
 adds-on l m f h old mid new a b = record {
   report = b.report ∙ ap (λ x. x ++ m) a.report ∙ append_assoc old.report l m;
-  tree = b.tree ∙ ap (λ t. with_all t h) a.tree ∙ sym (with-append (inodes_in old.tree) f h);
+  tree = b.tree ∙ ap (λ t. with_directories t h) a.tree ∙ sym (with-append (inodes_in old.tree) f h);
 }
 
 -- What a pair leads to
@@ -37,17 +37,17 @@ pub found-losses : (W : World) (d i : ℕ) (name : List ℕ) (old new : List Los
 found-losses W d i name old new e h = h ∙ ap (λ j. old ++ file_losses W j) (sym e)
 
 pub pair-directory : (W : World) (wanted : Bool) (d : ℕ) (line : NameLine) (old new : Findings) → line.kind ≡ kind.Directory
-    → Adds [] (inode_found W.files d line.name ∷ []) old new
-    → Adds (pair_losses W wanted d line) (pair_folders W.files d line) old new
+    → AddsFindings [] (inode_found W.files d line.name ∷ []) old new
+    → AddsFindings (pair_losses W wanted d line) (pair_folders W.files d line) old new
 pair-directory W wanted d line old new is h = rw is h
 
 pub pair-file : (W : World) (wanted : Bool) (d : ℕ) (line : NameLine) (old new : Findings) → line.kind ≡ kind.File → wanted ≡ true
-    → Adds (file_losses W (inode_found W.files d line.name)) [] old new
-    → Adds (pair_losses W wanted d line) (pair_folders W.files d line) old new
+    → AddsFindings (file_losses W (inode_found W.files d line.name)) [] old new
+    → AddsFindings (pair_losses W wanted d line) (pair_folders W.files d line) old new
 pair-file W wanted d line old new is want h = rw (is, want) h
 
 pub pair-unwanted : (W : World) (wanted : Bool) (d : ℕ) (line : NameLine) (now : Findings) → line.kind ≡ kind.File → wanted ≡ false
-    → Adds (pair_losses W wanted d line) (pair_folders W.files d line) now now
+    → AddsFindings (pair_losses W wanted d line) (pair_folders W.files d line) now now
 pair-unwanted W wanted d line now is want = rw (is, want) (adds-none now)
 
 -- Names
@@ -88,19 +88,19 @@ seen-live old new earlier line live more h = λ name.
 
 pub line-dead : (W : World) (picks : List ℕ → Bool) (d : ℕ) (earlier : List NameLine) (line : NameLine) (old new : Findings) → line.dead ≡ true
     → new.report ≡ old.report ++ if_so (picks line.name) (loss.Dead d line.name) → inodes_in new.tree ≡ inodes_in old.tree
-    → Adds (line_losses W picks d earlier line) (line_folders W.files d earlier line) old new
+    → AddsFindings (line_losses W picks d earlier line) (line_folders W.files d earlier line) old new
 line-dead W picks d earlier line old new dead report tree = record { report = rw dead report; tree = rw dead tree }
 
 pub line-twice : (W : World) (picks : List ℕ → Bool) (d : ℕ) (earlier : List NameLine) (line : NameLine) (old new : Findings) → line.dead ≡ false
     → is_doubled earlier line.name ≡ true
     → new.report ≡ old.report ++ if_so (picks line.name) (loss.Twice d line.name) → inodes_in new.tree ≡ inodes_in old.tree
-    → Adds (line_losses W picks d earlier line) (line_folders W.files d earlier line) old new
+    → AddsFindings (line_losses W picks d earlier line) (line_folders W.files d earlier line) old new
 line-twice W picks d earlier line old new live twice report tree = record { report = rw (live, twice) report; tree = rw (live, twice) tree }
 
 pub line-pair : (W : World) (picks : List ℕ → Bool) (d : ℕ) (earlier : List NameLine) (line : NameLine) (old new : Findings) → line.dead ≡ false
     → is_doubled earlier line.name ≡ false
-    → Adds (pair_losses W (picks line.name) d line) (pair_folders W.files d line) old new
-    → Adds (line_losses W picks d earlier line) (line_folders W.files d earlier line) old new
+    → AddsFindings (pair_losses W (picks line.name) d line) (pair_folders W.files d line) old new
+    → AddsFindings (line_losses W picks d earlier line) (line_folders W.files d earlier line) old new
 line-pair W picks d earlier line old new live fresh h = rw (live, fresh) h
 
 -- Several lines
@@ -139,22 +139,22 @@ folders-more F d earlier (l ∷ lines) line =
 
 -- no line
 pub lines-none : (W : World) (picks : List ℕ → Bool) (d : ℕ) (earlier : List NameLine) (now : Findings)
-    → Adds (lines_losses W picks d earlier []) (lines_folders W.files d earlier []) now now
+    → AddsFindings (lines_losses W picks d earlier []) (lines_folders W.files d earlier []) now now
 unfolding lines_losses lines_folders
 lines-none W picks d earlier now = adds-none now
 
 -- one line more
 pub lines-on : (W : World) (picks : List ℕ → Bool) (d : ℕ) (earlier lines all : List NameLine) (line : NameLine) (old mid new : Findings)
     → all ≡ lines ++ line ∷ []
-    → Adds (lines_losses W picks d earlier lines) (lines_folders W.files d earlier lines) old mid
-    → Adds (line_losses W picks d (earlier ++ lines) line) (line_folders W.files d (earlier ++ lines) line) mid new
-    → Adds (lines_losses W picks d earlier all) (lines_folders W.files d earlier all) old new
+    → AddsFindings (lines_losses W picks d earlier lines) (lines_folders W.files d earlier lines) old mid
+    → AddsFindings (line_losses W picks d (earlier ++ lines) line) (line_folders W.files d (earlier ++ lines) line) mid new
+    → AddsFindings (lines_losses W picks d earlier all) (lines_folders W.files d earlier all) old new
 lines-on W picks d earlier lines all line old mid new is a b =
     let both = adds-on _ _ _ _ old mid new a b in
     let losses = ap (lines_losses W picks d earlier) is ∙ losses-more W picks d earlier lines line in
     let folders = ap (lines_folders W.files d earlier) is ∙ folders-more W.files d earlier lines line in record {
       report = both.report ∙ ap (λ x. old.report ++ x) (sym losses);
-      tree = both.tree ∙ ap (λ x. with_all (inodes_in old.tree) x) (sym folders);
+      tree = both.tree ∙ ap (λ x. with_directories (inodes_in old.tree) x) (sym folders);
     }
 
 -- the names of one line more

@@ -26,7 +26,7 @@ use Rattle.nofs_history.specs.declared.machine.replies.Refusal.{Refusal}
 use Rattle.nofs_history.specs.declared.machine.replies.Refusal.TheVariants as refusal
 use Rattle.nofs_salvage.specs.Reads.{IsAccepted, found_by, size_by, listed_by, got_by}
 use Rattle.nofs_salvage.specs.Report.{inode_in, inode_at, inode_found}
-use Rattle.nofs_salvage.specs.Answered.{IsAnswered, AreAnswered, first_held, IsListedFrom, IsGot}
+use Rattle.nofs_salvage.specs.Answered.{IsAnswered, AreAnswered, first_data_slot, IsListedFrom, IsGot}
 use Rattle.nofs_salvage.proofs.Reading.{answered-one}
 
 pub clash : (b : Bool) → b ≡ true → b ≡ false → ⊥
@@ -99,40 +99,40 @@ size-is old new i g _ is = tt
 
 -- List
 
-names-are : (F : Files) (d k l : ℕ) (names : _) (o : Option ℕ) → first_held F d k ≡ o → reply.Names l names ≡ listed_reply F d o
-    → (first_held F d k ≡ Some l) × (is_lost (value_of F d l) ≡ false) × (names ≡ lines_in_slot F d l)
+names-are : (F : Files) (d k l : ℕ) (names : _) (o : Option ℕ) → first_data_slot F d k ≡ o → reply.Names l names ≡ listed_reply F d o
+    → (first_data_slot F d k ≡ Some l) × (is_lost (value_of F d l) ≡ false) × (names ≡ lines_in_slot F d l)
 names-are F d k l names None e h = absurd (cc h)
 names-are F d k l names (Some j) e h = go (is_lost (value_of F d j)) refl h
   where
     go : (b : Bool) → is_lost (value_of F d j) ≡ b → reply.Names l names ≡ (if b then reply.LostNames j else reply.Names j (lines_in_slot F d j))
-        → (first_held F d k ≡ Some l) × (is_lost (value_of F d l) ≡ false) × (names ≡ lines_in_slot F d l)
+        → (first_data_slot F d k ≡ Some l) × (is_lost (value_of F d l) ≡ false) × (names ≡ lines_in_slot F d l)
     go true t h = absurd (cc h)
     go false t h = let same : l ≡ j = cc h in let lines : names ≡ lines_in_slot F d j = cc h in
-        subst (λ (x : ℕ). (first_held F d k ≡ Some x) × (is_lost (value_of F d x) ≡ false) × (names ≡ lines_in_slot F d x)) (sym same) (e, t, lines)
+        subst (λ (x : ℕ). (first_data_slot F d k ≡ Some x) × (is_lost (value_of F d x) ≡ false) × (names ≡ lines_in_slot F d x)) (sym same) (e, t, lines)
 
-lost-are : (F : Files) (d k l : ℕ) (o : Option ℕ) → first_held F d k ≡ o → reply.LostNames l ≡ listed_reply F d o
-    → (first_held F d k ≡ Some l) × (is_lost (value_of F d l) ≡ true)
+lost-are : (F : Files) (d k l : ℕ) (o : Option ℕ) → first_data_slot F d k ≡ o → reply.LostNames l ≡ listed_reply F d o
+    → (first_data_slot F d k ≡ Some l) × (is_lost (value_of F d l) ≡ true)
 lost-are F d k l None e h = absurd (cc h)
 lost-are F d k l (Some j) e h = go (is_lost (value_of F d j)) refl h
   where
     go : (b : Bool) → is_lost (value_of F d j) ≡ b → reply.LostNames l ≡ (if b then reply.LostNames j else reply.Names j (lines_in_slot F d j))
-        → (first_held F d k ≡ Some l) × (is_lost (value_of F d l) ≡ true)
-    go true t h = let same : l ≡ j = cc h in subst (λ (x : ℕ). (first_held F d k ≡ Some x) × (is_lost (value_of F d x) ≡ true)) (sym same) (e, t)
+        → (first_data_slot F d k ≡ Some l) × (is_lost (value_of F d l) ≡ true)
+    go true t h = let same : l ≡ j = cc h in subst (λ (x : ℕ). (first_data_slot F d k ≡ Some x) × (is_lost (value_of F d x) ≡ true)) (sym same) (e, t)
     go false t h = absurd (cc h)
 
-none-are : (F : Files) (d k : ℕ) (o : Option ℕ) → first_held F d k ≡ o → reply.NoMore ≡ listed_reply F d o → first_held F d k ≡ None
+none-are : (F : Files) (d k : ℕ) (o : Option ℕ) → first_data_slot F d k ≡ o → reply.NoMore ≡ listed_reply F d o → first_data_slot F d k ≡ None
 none-are F d k None e h = e
 none-are F d k (Some j) e h = go (is_lost (value_of F d j)) h
   where
-    go : (b : Bool) → reply.NoMore ≡ (if b then reply.LostNames j else reply.Names j (lines_in_slot F d j)) → first_held F d k ≡ None
+    go : (b : Bool) → reply.NoMore ≡ (if b then reply.LostNames j else reply.Names j (lines_in_slot F d j)) → first_data_slot F d k ≡ None
     go true h = absurd (cc h)
     go false h = absurd (cc h)
 
 listed-reply : (W : World) (old new : List Made) (d g k : ℕ) (r : Reply) → IsAccepted old new (step.List d g k) r → AreAnswered W old new
-    → r ≡ listed_reply W.files d (first_held W.files d k)
+    → r ≡ listed_reply W.files d (first_data_slot W.files d k)
 listed-reply W old new d g k r is a =
     let x = accepted-done W old new (step.List d g k) r is a in
-    subst (λ (F : Files). r ≡ listed_reply F d (first_held F d k)) x.files x.reply
+    subst (λ (F : Files). r ≡ listed_reply F d (first_data_slot F d k)) x.files x.reply
 
 pub listed-is : (old new : List Made) (d g k : ℕ) (r : Reply) → IsAccepted old new (step.List d g k) r
     → IfOk (listed_by r) (λ listed. (W : World) → AreAnswered W old new → IsListedFrom W.files d k listed)

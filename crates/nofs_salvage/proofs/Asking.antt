@@ -14,9 +14,9 @@ use Rattle.nofs_history.specs.declared.machine.replies.Reply.TheVariants as repl
 use Rattle.nofs_history.specs.declared.machine.replies.Refusal.{Refusal}
 use Rattle.nofs_history.specs.declared.machine.replies.Refusal.TheVariants as refusal
 use Rattle.nofs_history.specs.declared.machine.replies.NameLine.{NameLine}
-use Rattle.nofs_salvage.specs.declared.lost.answers.Handle.{Handle}
+use Rattle.nofs_salvage.specs.declared.lost.answers.InodeHandle.{InodeHandle}
 use Rattle.nofs_salvage.specs.declared.lost.tree.Tree.{Tree}
-use Rattle.nofs_salvage.specs.Reads.{Reads, IsAccepted, found_by, size_by, listed_by, got_by}
+use Rattle.nofs_salvage.specs.Reads.{MakesReads, IsAccepted, found_by, size_by, listed_by, got_by}
 use Rattle.nofs_salvage.specs.Refusing.{MakesOne}
 use Rattle.nofs_salvage.specs.Handles.{root_handle, label_handle, with_handle}
 use Rattle.nofs_salvage.specs.InHand.{handles_in}
@@ -46,14 +46,14 @@ given-more before more d g name h = record {
 further : (old mid new made more : List Made) → mid ≡ old ++ made → new ≡ mid ++ more → new ≡ old ++ (made ++ more)
 further old mid new made more a b = b ∙ ap (λ l. l ++ more) a ∙ append_assoc old made more
 
-pub met-on : (old mid new : List Made) (why : Option Refusal) (at : Handle) → Reads mid new why → HasReached old mid at → HasReached old new at
+pub met-on : (old mid new : List Made) (why : Option Refusal) (at : InodeHandle) → MakesReads mid new why → HasReached old mid at → HasReached old new at
 met-on old mid new why at reads h = record {
   made = h.made ++ reads.made;
   more = further old mid new h.made reads.made h.more reads.more;
   met = met-more h.made reads.made at.inode at.generation h.met;
 }
 
-given-on : (old mid new : List Made) (why : Option Refusal) (at : Handle) (name : List ℕ) → Reads mid new why → HasGiven old mid at name
+given-on : (old mid new : List Made) (why : Option Refusal) (at : InodeHandle) (name : List ℕ) → MakesReads mid new why → HasGiven old mid at name
     → HasGiven old new at name
 given-on old mid new why at name reads h = record {
   made = h.made ++ reads.made;
@@ -61,7 +61,7 @@ given-on old mid new why at name reads h = record {
   given = given-more h.made reads.made at.inode at.generation name h.given;
 }
 
-pub all-met-on : (old mid new : List Made) (why : Option Refusal) (tree : Tree) → Reads mid new why → AreReached old mid tree → AreReached old new tree
+pub all-met-on : (old mid new : List Made) (why : Option Refusal) (tree : Tree) → MakesReads mid new why → AreReached old mid tree → AreReached old new tree
 all-met-on old mid new why tree reads h = All-weaker (HasReached old mid) (HasReached old new) (λ at. met-on old mid new why at reads) (handles_in tree) h
 
 -- One step
@@ -109,7 +109,7 @@ asks-one old mid new s asks one asked = go (is_out_of_memory one.reply) one.more
 known : (old mid made also : List Made) (P : List Made → Type 0) → mid ≡ old ++ made → mid ≡ old ++ also → P made → P also
 known old mid made also P a b h = subst P (append_cancel_left old made also (sym a ∙ b)) h
 
-module _ (old mid new : List Made) (at : Handle) (asks : Asks old mid) where
+module _ (old mid new : List Made) (at : InodeHandle) (asks : Asks old mid) where
   pub asks-look : (name : List ℕ) → HasGiven old mid at name → MakesOne mid new (step.Look at.inode at.generation name) → Asks old new
   asks-look name h one = asks-one old mid new (step.Look at.inode at.generation name) asks one
       (λ made more. known old mid h.made made (λ l. IsGiven l at.inode at.generation name) h.more more h.given)
@@ -144,7 +144,7 @@ look-met mid new d g name (reply.Found found) is = λ old asks.
     }
 look-met mid new d g name _ is = tt
 
-pub stat-told : (mid new : List Made) (at : Handle) (r : Reply) → IsAccepted mid new (step.Stat at.inode at.generation) r
+pub stat-told : (mid new : List Made) (at : InodeHandle) (r : Reply) → IsAccepted mid new (step.Stat at.inode at.generation) r
     → IfOk (size_by r) (λ size. (old : List Made) → Asks old mid → HasTold old new at size)
 stat-told mid new at (reply.Stat told) is = λ old asks.
     let x : Made = (step.Stat at.inode at.generation, reply.Stat told) in record {
@@ -154,7 +154,7 @@ stat-told mid new at (reply.Stat told) is = λ old asks.
     }
 stat-told mid new at _ is = tt
 
-pub list-gives : (mid new : List Made) (at : Handle) (k : ℕ) (r : Reply) → IsAccepted mid new (step.List at.inode at.generation k) r
+pub list-gives : (mid new : List Made) (at : InodeHandle) (k : ℕ) (r : Reply) → IsAccepted mid new (step.List at.inode at.generation k) r
     → IfOk (listed_by r) (λ listed. (old : List Made) → Asks old mid → ListGives old new at listed)
 list-gives mid new at k (reply.Names l lines) is = λ old asks.
     let x : Made = (step.List at.inode at.generation k, reply.Names l lines) in
@@ -168,7 +168,7 @@ list-gives mid new at k reply.NoMore is = λ old asks. tt
 list-gives mid new at k _ is = tt
 
 -- a get that was not refused
-told-on : (old mid new : List Made) (at : Handle) (size k : ℕ) (r : Reply) → is_refused r ≡ false → new ≡ with_made mid (step.Get at.inode at.generation k) r
+told-on : (old mid new : List Made) (at : InodeHandle) (size k : ℕ) (r : Reply) → is_refused r ≡ false → new ≡ with_made mid (step.Get at.inode at.generation k) r
     → HasTold old mid at size → HasTold old new at size
 told-on old mid new at size k r ok more h = go (is_out_of_memory r) refl more
   where
@@ -191,7 +191,7 @@ told-on old mid new at size k r ok more h = go (is_out_of_memory r) refl more
       };
     }
 
-pub got-told : (mid : List Made) (at : Handle) (k : ℕ) (r : Reply) → IfOk (got_by r) (λ got. (old : List Made) (size : ℕ) → has_slot got ≡ true
+pub got-told : (mid : List Made) (at : InodeHandle) (k : ℕ) (r : Reply) → IfOk (got_by r) (λ got. (old : List Made) (size : ℕ) → has_slot got ≡ true
     → HasTold old mid at size → HasTold old (with_made mid (step.Get at.inode at.generation k) r) at size)
 got-told mid at k (reply.Refused refusal.TooLarge) = λ old size slot h. absurd (cc slot)
 got-told mid at k (reply.Refused why) = tt
@@ -201,14 +201,14 @@ got-told mid at k r = λ old size slot h. told-on old mid _ at size k r refl ref
 -- The lines
 
 -- those that were given stay so
-pub given-at : (old mid new : List Made) (why : Option Refusal) (at : Handle) (lines : List NameLine) (i : ℕ) (line : NameLine) → i < length lines
-    → line ≡ get_or lines i line → Reads mid new why → AreGiven old mid at lines → line.dead ≡ false → HasGiven old new at line.name
+pub given-at : (old mid new : List Made) (why : Option Refusal) (at : InodeHandle) (lines : List NameLine) (i : ℕ) (line : NameLine) → i < length lines
+    → line ≡ get_or lines i line → MakesReads mid new why → AreGiven old mid at lines → line.dead ≡ false → HasGiven old new at line.name
 given-at old mid new why at lines i line low is reads h =
     let here : (get_or lines i line).dead ≡ false → HasGiven old mid at (get_or lines i line).name =
     All-get_or (λ (l : NameLine). l.dead ≡ false → HasGiven old mid at l.name) lines i line low h in
     λ live. given-on old mid new why at line.name reads (subst (λ (l : NameLine). l.dead ≡ false → HasGiven old mid at l.name) (sym is) here live)
 
-pub given-copied : (old now : List Made) (at : Handle) (name copied : List ℕ) → copied ≡ name → HasGiven old now at name → HasGiven old now at copied
+pub given-copied : (old now : List Made) (at : InodeHandle) (name copied : List ℕ) → copied ≡ name → HasGiven old now at name → HasGiven old now at copied
 given-copied old now at name copied same h = subst (HasGiven old now at) (sym same) h
 
 -- The directories
@@ -220,17 +220,17 @@ met-root old now tree asks is = subst (All (HasReached old now)) (sym is)
 pub met-label : (old : List Made) → HasReached old old label_handle
 met-label old = record { made = []; more = sym (append-nil old); met = Label refl refl }
 
-with-met : (old now : List Made) (handles : List Handle) (at : Handle) (b : Bool) → All (HasReached old now) handles → HasReached old now at
+with-met : (old now : List Made) (handles : List InodeHandle) (at : InodeHandle) (b : Bool) → All (HasReached old now) handles → HasReached old now at
     → All (HasReached old now) (if b then handles else handles ++ at ∷ [])
 with-met old now handles at true h one = h
 with-met old now handles at false h one = All-append (HasReached old now) handles (at ∷ []) h
     (All-cons (HasReached old now) at [] one (All-nil (HasReached old now)))
 
-pub met-with : (old now : List Made) (at : Handle) (before after : Tree) → handles_in after ≡ with_handle (handles_in before) at → HasReached old now at
+pub met-with : (old now : List Made) (at : InodeHandle) (before after : Tree) → handles_in after ≡ with_handle (handles_in before) at → HasReached old now at
     → AreReached old now before → AreReached old now after
 met-with old now at before after is one h = subst (All (HasReached old now)) (sym is) (with-met old now (handles_in before) at _ h one)
 
-pub met-at : (old now : List Made) (tree : Tree) (n : ℕ) (at : Handle) → slice_get (handles_in tree) n ≡ Some at → AreReached old now tree
+pub met-at : (old now : List Made) (tree : Tree) (n : ℕ) (at : InodeHandle) → slice_get (handles_in tree) n ≡ Some at → AreReached old now tree
     → HasReached old now at
 met-at old now tree n at is h = subst (HasReached old now) (get_or_from_slice_get (handles_in tree) n at at is)
     (All-get_or (HasReached old now) (handles_in tree) n at (slice_get_within (handles_in tree) n at is) h)

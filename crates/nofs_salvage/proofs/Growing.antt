@@ -10,9 +10,9 @@ use Rattle.nofs_model.specs.Image.{Files}
 use Rattle.nofs_history.specs.World.{World}
 use Rattle.nofs_salvage.specs.declared.lost.report.Loss.{Loss}
 use Rattle.nofs_salvage.specs.declared.lost.findings.Findings.{Findings}
-use Rattle.nofs_salvage.specs.Report.{folder_slots, file_losses, report_of, losses_below, folders_below, with_one, with_all, folders_of, tree_after}
+use Rattle.nofs_salvage.specs.Report.{folder_slots, file_losses, report_of, losses_below, folders_below, with_one, with_directories, folders_of, tree_after}
 use Rattle.nofs_salvage.specs.Report.{tree_of, tree_losses}
-use Rattle.nofs_salvage.specs.Trees.{inodes_in, Adds}
+use Rattle.nofs_salvage.specs.Trees.{inodes_in, AddsFindings}
 
 -- a list that begins with ds
 abbrev Begins : List ℕ → List ℕ → Type 0
@@ -25,7 +25,7 @@ one-begins ds d = go (list_any (λ x. x == d) ds)
     go true = ([], sym (append-nil ds))
     go false = (d ∷ [], refl)
 
-all-begins : (ds f : List ℕ) → Begins ds (with_all ds f)
+all-begins : (ds f : List ℕ) → Begins ds (with_directories ds f)
 all-begins ds [] = ([], sym (append-nil ds))
 all-begins ds (d ∷ f) =
     let one = one-begins ds d in
@@ -52,34 +52,34 @@ grown-none W picks now root = record { tree = root; report = sym (append-nil now
 -- the directory at place n is gone through
 grown-one : (W : World) (picks : List ℕ → Bool) (n d : ℕ) (old : List Loss) (mid new : Findings) (T : List ℕ) → inodes_in mid.tree ≡ T
     → mid.report ≡ old ++ tree_losses W picks (take n T)
-    → slice_get T n ≡ Some d → Adds (losses_below W picks d folder_slots) (folders_below W.files d folder_slots) mid new
-    → (inodes_in new.tree ≡ with_all T (folders_below W.files d folder_slots))
-    × (new.report ≡ old ++ tree_losses W picks (take (n + 1) (with_all T (folders_below W.files d folder_slots))))
-    × (n + 1 ≤ length (with_all T (folders_below W.files d folder_slots)))
+    → slice_get T n ≡ Some d → AddsFindings (losses_below W picks d folder_slots) (folders_below W.files d folder_slots) mid new
+    → (inodes_in new.tree ≡ with_directories T (folders_below W.files d folder_slots))
+    × (new.report ≡ old ++ tree_losses W picks (take (n + 1) (with_directories T (folders_below W.files d folder_slots))))
+    × (n + 1 ≤ length (with_directories T (folders_below W.files d folder_slots)))
 grown-one W picks n d old mid new T tree report at adds =
     let F = folders_below W.files d folder_slots in
     let L = losses_below W picks d folder_slots in
     let lt : n < length T = slice_get_within T n d at in
     let begins = all-begins T F in
-    let size : length (with_all T F) ≡ length T + length begins.0 = ap length begins.1 ∙ length-append T begins.0 in
-    let front : take (n + 1) (with_all T F) ≡ take n T ++ d ∷ [] = ap (take (n + 1)) begins.1 ∙ take-append-le (n + 1) T begins.0 (omega arith)
+    let size : length (with_directories T F) ≡ length T + length begins.0 = ap length begins.1 ∙ length-append T begins.0 in
+    let front : take (n + 1) (with_directories T F) ≡ take n T ++ d ∷ [] = ap (take (n + 1)) begins.1 ∙ take-append-le (n + 1) T begins.0 (omega arith)
     ∙ take_more T n d lt ∙ ap (λ x. take n T ++ x ∷ []) (get_or_from_slice_get T n d d at) in (
-      adds.tree ∙ ap (λ t. with_all t F) tree,
+      adds.tree ∙ ap (λ t. with_directories t F) tree,
       adds.report ∙ ap (λ l. l ++ L) report ∙ append_assoc old (tree_losses W picks (take n T)) L
           ∙ ap (λ l. old ++ l) (sym (losses-on W picks (take n T) d) ∙ ap (tree_losses W picks) (sym front)),
       omega arith,
     )
 
-next-tree : (F : Files) (n d : ℕ) → slice_get (tree_after F n) n ≡ Some d → tree_after F (n + 1) ≡ with_all (tree_after F n) (folders_below F d folder_slots)
+next-tree : (F : Files) (n d : ℕ) → slice_get (tree_after F n) n ≡ Some d → tree_after F (n + 1) ≡ with_directories (tree_after F n) (folders_below F d folder_slots)
 unfolding tree_after
-next-tree F n d at = rw add-one (ap (λ o. with_all (tree_after F n) (folders_of F o)) at)
+next-tree F n d at = rw add-one (ap (λ o. with_directories (tree_after F n) (folders_of F o)) at)
 
 pub grown-on : (W : World) (picks : List ℕ → Bool) (n d : ℕ) (old : List Loss) (mid new : Findings) → IsGrown W picks n old mid
     → slice_get (inodes_in mid.tree) n ≡ Some d
-    → Adds (losses_below W picks d folder_slots) (folders_below W.files d folder_slots) mid new → IsGrown W picks (n + 1) old new
+    → AddsFindings (losses_below W picks d folder_slots) (folders_below W.files d folder_slots) mid new → IsGrown W picks (n + 1) old new
 grown-on W picks n d old mid new g at adds =
     let here : slice_get (tree_after W.files n) n ≡ Some d = ap (λ t. slice_get t n) (sym g.tree) ∙ at in
-    let next : tree_after W.files (n + 1) ≡ with_all (tree_after W.files n) (folders_below W.files d folder_slots) = next-tree W.files n d here in
+    let next : tree_after W.files (n + 1) ≡ with_directories (tree_after W.files n) (folders_below W.files d folder_slots) = next-tree W.files n d here in
     let one = grown-one W picks n d old mid new (tree_after W.files n) g.tree g.report here adds in record {
       tree = one.0 ∙ sym next;
       report = one.1 ∙ ap (λ t. old ++ tree_losses W picks (take (n + 1) t)) (sym next);
@@ -96,7 +96,7 @@ whole F n (suc m) le h = elim (cases_lt m n) [
   | inr high ↦
       let ih = whole F n m high h in
       let past : length (tree_after F m) ≤ m = subst (λ (t : List ℕ). length t ≤ m) (sym ih) (omega arith) in
-      ap (λ o. with_all (tree_after F m) (folders_of F o)) (slice_get_past (tree_after F m) m past) ∙ ih
+      ap (λ o. with_directories (tree_after F m) (folders_of F o)) (slice_get_past (tree_after F m) m past) ∙ ih
 ]
 
 none-past : (T : List ℕ) (n : ℕ) → slice_get T n ≡ None → n ≤ length T → length T ≤ n

@@ -9,7 +9,7 @@ use Rattle.nofs_history.specs.World.{World}
 use Rattle.nofs_salvage.specs.declared.lost.report.Loss.{Loss}
 use Rattle.nofs_salvage.specs.declared.lost.report.Loss.TheVariants as loss
 use Rattle.std.specs.Prelude.{OnOk}
-use Rattle.nofs_salvage.specs.declared.lost.answers.Got.TheVariants as got
+use Rattle.nofs_salvage.specs.declared.lost.answers.SlotState.TheVariants as got
 use Rattle.nofs_salvage.specs.Answered.{IsGot, IsNoted}
 use Rattle.nofs_salvage.specs.Report.{if_so, lost_below, file_losses}
 

@@ -12,7 +12,7 @@ use Rattle.nofs_history.specs.declared.machine.replies.Reply.{Reply}
 use Rattle.nofs_history.specs.declared.machine.replies.Reply.TheVariants as reply
 use Rattle.nofs_history.specs.declared.machine.replies.Refusal.{Refusal}
 use Rattle.nofs_history.specs.declared.machine.replies.Refusal.TheVariants as refusal
-use Rattle.nofs_salvage.specs.Reads.{IsRead, Reads, is_get, refusal_of, first_refusal, refusal_in, refusal_by, fault_by, got_by}
+use Rattle.nofs_salvage.specs.Reads.{IsReadingStep, MakesReads, is_get, refusal_of, first_refusal, refusal_in, refusal_by, fault_by, got_by}
 use Rattle.nofs_salvage.specs.Answered.{IsAnswered, AreAnswered}
 
 -- All of two lists
@@ -45,15 +45,15 @@ first-later (m ∷ ms) ns h =
 -- Steps that read
 
 -- no step was made
-pub reads-none : (old : List Made) → Reads old old None
-reads-none old = record { made = []; more = sym (append-nil old); read = All-nil (λ (m : Made). IsRead m.0); refused = refl }
+pub reads-none : (old : List Made) → MakesReads old old None
+reads-none old = record { made = []; more = sym (append-nil old); read = All-nil (λ (m : Made). IsReadingStep m.0); refused = refl }
 
 -- one step was made
-pub reads-one : (old : List Made) (s : Step) (r : Reply) → IsRead s → Reads old (old ++ (s, r) ∷ []) (refusal_of (s, r))
+pub reads-one : (old : List Made) (s : Step) (r : Reply) → IsReadingStep s → MakesReads old (old ++ (s, r) ∷ []) (refusal_of (s, r))
 reads-one old s r read = record {
   made = (s, r) ∷ [];
   more = refl;
-  read = All-cons (λ (m : Made). IsRead m.0) (s, r) [] read (All-nil (λ (m : Made). IsRead m.0));
+  read = All-cons (λ (m : Made). IsReadingStep m.0) (s, r) [] read (All-nil (λ (m : Made). IsReadingStep m.0));
   refused = only-two (refusal_of (s, r));
 }
   where
@@ -62,22 +62,22 @@ reads-one old s r read = record {
     only-two (Some why) = refl
 
 -- more steps were made behind steps that were not refused
-pub reads-on : (old mid new : List Made) (why : Option Refusal) → Reads old mid None → Reads mid new why → Reads old new why
+pub reads-on : (old mid new : List Made) (why : Option Refusal) → MakesReads old mid None → MakesReads mid new why → MakesReads old new why
 reads-on old mid new why a b = record {
   made = a.made ++ b.made;
   more = b.more ∙ ap (λ l. l ++ b.made) a.more ∙ append_assoc old a.made b.made;
-  read = All-append (λ (m : Made). IsRead m.0) a.made b.made a.read b.read;
+  read = All-append (λ (m : Made). IsReadingStep m.0) a.made b.made a.read b.read;
   refused = first-later a.made b.made a.refused ∙ b.refused;
 }
 
 -- a refused step that is no get
-pub refused-step : (old : List Made) (s : Step) (why : Refusal) → IsRead s → is_get s ≡ false
-    → Reads old (with_made old s (reply.Refused why)) (refusal_in (fault_by why))
+pub refused-step : (old : List Made) (s : Step) (why : Refusal) → IsReadingStep s → is_get s ≡ false
+    → MakesReads old (with_made old s (reply.Refused why)) (refusal_in (fault_by why))
 refused-step old s refusal.OutOfMemory read no-get = reads-none old
 refused-step old s why read no-get = rw no-get at (reads-one old s (reply.Refused why) read)
 
 -- a get
-pub get-reads : (old : List Made) (i g k : ℕ) (r : Reply) → Reads old (with_made old (step.Get i g k) r) (refusal_by (got_by r))
+pub get-reads : (old : List Made) (i g k : ℕ) (r : Reply) → MakesReads old (with_made old (step.Get i g k) r) (refusal_by (got_by r))
 get-reads old i g k (reply.Refused refusal.OutOfMemory) = reads-none old
 get-reads old i g k (reply.Refused why) = reads-one old (step.Get i g k) (reply.Refused why) tt
 get-reads old i g k r = reads-one old (step.Get i g k) r tt
@@ -85,7 +85,7 @@ get-reads old i g k r = reads-one old (step.Get i g k) r tt
 -- What was answered
 
 -- of the steps from old to new, those up to mid and those behind
-pub answered-both : (W : World) (old mid new : List Made) (a b : Option Refusal) → Reads old mid a → Reads mid new b → AreAnswered W old new
+pub answered-both : (W : World) (old mid new : List Made) (a b : Option Refusal) → MakesReads old mid a → MakesReads mid new b → AreAnswered W old new
     → AreAnswered W old mid × AreAnswered W mid new
 answered-both W old mid new a b first last h =
     let parts : h.made ≡ first.made ++ last.made = append_cancel_left old h.made (first.made ++ last.made)

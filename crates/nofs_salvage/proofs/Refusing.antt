@@ -23,8 +23,8 @@ use Rattle.nofs_history.specs.declared.machine.replies.Reply.{Reply}
 use Rattle.nofs_history.specs.declared.machine.replies.Reply.TheVariants as reply
 use Rattle.nofs_history.specs.declared.machine.replies.Refusal.{Refusal}
 use Rattle.nofs_history.specs.declared.machine.replies.Refusal.TheVariants as refusal
-use Rattle.nofs_salvage.specs.declared.lost.answers.Handle.{Handle}
-use Rattle.nofs_salvage.specs.Reads.{Reads, IsAccepted, refusal_of, first_refusal, is_too_large, found_by, size_by, listed_by}
+use Rattle.nofs_salvage.specs.declared.lost.answers.InodeHandle.{InodeHandle}
+use Rattle.nofs_salvage.specs.Reads.{MakesReads, IsAccepted, refusal_of, first_refusal, is_too_large, found_by, size_by, listed_by}
 use Rattle.nofs_salvage.specs.Answered.{IsAnswered, AreAnswered}
 use Rattle.nofs_salvage.specs.Report.{inode_found}
 use Rattle.nofs_salvage.specs.Refusing.{is_there, HasRoots, LacksRoot, MayRefuse, IsFair, AreFair, MakesOne, MayAsk, LeadsTo}
@@ -219,7 +219,7 @@ right-all F old mid new a b = record {
 }
 
 -- behind steps that were right more were made
-pub right-on : (W : World) (old mid new : List Made) (a b : Option Refusal) → Reads old mid a → Reads mid new b → AreAnswered W old new
+pub right-on : (W : World) (old mid new : List Made) (a b : Option Refusal) → MakesReads old mid a → MakesReads mid new b → AreAnswered W old new
     → (AreAnswered W old mid → AreFair W.files old mid) → (AreAnswered W mid new → AreFair W.files mid new) → AreFair W.files old new
 right-on W old mid new a b first last h left right =
     let both = answered-both W old mid new a b first last h in
@@ -237,7 +237,7 @@ one-right W old new s one a right = go (is_out_of_memory one.reply) one.more
       each = All-cons (IsFair W.files) (s, one.reply) [] (right one.reply (answered-one W old new (s, one.reply) is a)) (All-nil (IsFair W.files));
     }
 
-module _ (W : World) (old new : List Made) (at : Handle) where
+module _ (W : World) (old new : List Made) (at : InodeHandle) where
   pub stat-right : (folder : Bool) → MayAsk W.files folder at → MakesOne old new (step.Stat at.inode at.generation) → AreAnswered W old new
       → AreFair W.files old new
   stat-right folder ask one a = one-right W old new (step.Stat at.inode at.generation) one a (λ r. answered-right W (step.Stat at.inode at.generation) r refl
@@ -278,7 +278,7 @@ first-right F (m ∷ ms) h = go (refusal_of m) (All-head (IsFair F) m ms h) (fir
     go (Some why) x rest = x
 
 -- what the walk ends with
-pub refused-right : (F : Files) (old new : List Made) (why : Option Refusal) → Reads old new why → AreFair F old new → IfSome why (MayRefuse F)
+pub refused-right : (F : Files) (old new : List Made) (why : Option Refusal) → MakesReads old new why → AreFair F old new → IfSome why (MayRefuse F)
 refused-right F old new why reads right =
     let same : right.made ≡ reads.made = append_cancel_left old right.made reads.made (sym right.more ∙ reads.more) in
     subst (λ (o : Option Refusal). IfSome o (MayRefuse F)) (ap first_refusal same ∙ reads.refused) (first-right F right.made right.each)
@@ -345,7 +345,7 @@ listed-part k d g _ fits = tt
 
 -- What may be asked
 
-pub ask-there : (F : Files) (folder : Bool) (at : Handle) → is_there F at.inode at.generation ≡ true → is_folder_at F at.inode ≡ folder → MayAsk F folder at
+pub ask-there : (F : Files) (folder : Bool) (at : InodeHandle) → is_there F at.inode at.generation ≡ true → is_folder_at F at.inode ≡ folder → MayAsk F folder at
 ask-there F folder at there kind = record { lacking = λ lack. absurd (clash (is_there F at.inode at.generation) there lack); kind = λ _. kind }
 
 pub ask-root : (F : Files) → HasRoots F → MayAsk F true root_handle
@@ -358,7 +358,7 @@ pub leads-copied : (F : Files) (d : ℕ) (name copied : List ℕ) (folder : Bool
 leads-copied F d name copied folder same leads = subst (λ (n : List ℕ). LeadsTo F d n folder) (sym same) leads
 
 -- what a look found
-pub ask-found : (F : Files) (d : ℕ) (name copied : List ℕ) (folder : Bool) (at : Handle) → copied ≡ name → LeadsTo F d name folder
+pub ask-found : (F : Files) (d : ℕ) (name copied : List ℕ) (folder : Bool) (at : InodeHandle) → copied ≡ name → LeadsTo F d name folder
     → inode_found F d copied ≡ at.inode → is_there F at.inode at.generation ≡ true → MayAsk F folder at
 ask-found F d name copied folder at same leads is there =
     ask-there F folder at there (ap (is_folder_at F) (sym is ∙ ap (inode_found F d) same) ∙ leads.kind)

@@ -19,14 +19,14 @@ use Rattle.nofs_history.specs.Steps.{Made}
 use Rattle.nofs_history.specs.declared.machine.replies.NameLine.{NameLine}
 use Rattle.nofs_history.specs.declared.machine.replies.Refusal.{Refusal}
 use Rattle.nofs_salvage.specs.Report.{inode_in, inode_at, inode_found, is_doubled, lines_below}
-use Rattle.nofs_salvage.specs.Answered.{first_held, AreAnswered, IsListedFrom}
+use Rattle.nofs_salvage.specs.Answered.{first_data_slot, AreAnswered, IsListedFrom}
 use Rattle.nofs_salvage.specs.declared.lost.findings.Findings.{Findings}
 use Rattle.nofs_salvage.specs.declared.lost.seen.SeenNames.{SeenNames}
-use Rattle.nofs_salvage.specs.declared.lost.answers.Listed.{Listed}
-use Rattle.nofs_salvage.specs.declared.lost.answers.Listed.TheVariants as list
+use Rattle.nofs_salvage.specs.declared.lost.answers.NextSlot.{NextSlot}
+use Rattle.nofs_salvage.specs.declared.lost.answers.NextSlot.TheVariants as list
 use Rattle.nofs_salvage.specs.Trees.{AreSeen, IsWalked}
 use Rattle.nofs_salvage.specs.Refusing.{LeadsTo, AreFair}
-use Rattle.nofs_salvage.specs.Reads.{Reads}
+use Rattle.nofs_salvage.specs.Reads.{MakesReads}
 use Rattle.nofs_salvage.specs.Told.{IsTold, AreTold, IsFolderPart}
 use Rattle.nofs_salvage.proofs.Reading.{all-last, answered-both}
 use Rattle.nofs_salvage.proofs.Refusing.{right-on}
@@ -258,7 +258,7 @@ told-at F d i earlier lines line front told =
 -- what a list gives of a directory that was walked up to a slot
 pub listed-told : (W : World) (picks : List ℕ → Bool) (d : ℕ) (start : Findings) (k l : ℕ) (lines : List NameLine) (now : Findings) (seen : SeenNames)
     → l < 72 → All (λ line. IsTrue (is_name line.name)) lines
-    → (first_held W.files d k ≡ Some l) × (is_lost (value_of W.files d l) ≡ false) × (lines ≡ lines_in_slot W.files d l)
+    → (first_data_slot W.files d k ≡ Some l) × (is_lost (value_of W.files d l) ≡ false) × (lines ≡ lines_in_slot W.files d l)
     → IsWalked W picks d k start now seen → AreSeen seen (lines_below W.files d l) × AreTold W.files d (lines_below W.files d l) lines
 listed-told W picks d start k l lines now seen low names is w = (
   walked-seen W picks d start k l now seen is.0 w,
@@ -267,12 +267,12 @@ listed-told W picks d start k l lines now seen low names is w = (
 
 -- The lines that a list names: each is told, and to go through them is to ask what may be asked
 module _ (W : World) (picks : List ℕ → Bool) (d : ℕ) (start : Findings) (k l : ℕ) (lines : List NameLine) (now : Findings) (seen : SeenNames)
-    (listed : Listed) (is : listed ≡ list.Names l lines) (part : IsFolderPart listed) (walked : IsWalked W picks d k start now seen)
+    (listed : NextSlot) (is : listed ≡ list.Names l lines) (part : IsFolderPart listed) (walked : IsWalked W picks d k start now seen)
   where
     pub names-told : IsListedFrom W.files d k listed → AreSeen seen (lines_below W.files d l) × AreTold W.files d (lines_below W.files d l) lines
     names-told from = listed-told W picks d start k l lines now seen (rw is at part.below) (rw is at part.names) (rw is at from) walked
 
-    pub names-right : (old mid new : List Made) (a b : Option Refusal) → Reads old mid a → Reads mid new b → AreAnswered W old new
+    pub names-right : (old mid new : List Made) (a b : Option Refusal) → MakesReads old mid a → MakesReads mid new b → AreAnswered W old new
         → (AreAnswered W old mid → IsListedFrom W.files d k listed) → (AreAnswered W old mid → AreFair W.files old mid)
         → (AreSeen seen (lines_below W.files d l) → AreTold W.files d (lines_below W.files d l) lines → AreAnswered W mid new → AreFair W.files mid new)
         → AreFair W.files old new

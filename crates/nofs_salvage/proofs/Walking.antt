@@ -17,8 +17,8 @@ use Rattle.nofs_salvage.specs.declared.lost.report.Loss.TheVariants as loss
 use Rattle.nofs_salvage.specs.declared.lost.findings.Findings.{Findings}
 use Rattle.nofs_salvage.specs.declared.lost.seen.SeenNames.{SeenNames}
 use Rattle.nofs_salvage.specs.Report.{lines_losses, lines_folders, lines_below, slot_losses, losses_below, folders_below}
-use Rattle.nofs_salvage.specs.Answered.{first_held}
-use Rattle.nofs_salvage.specs.Trees.{inodes_in, is_seen, AreSeen, Adds, IsWalked}
+use Rattle.nofs_salvage.specs.Answered.{first_data_slot}
+use Rattle.nofs_salvage.specs.Trees.{inodes_in, is_seen, AreSeen, AddsFindings, IsWalked}
 use Rattle.nofs_salvage.proofs.Adding.{adds-none, adds-on, seen-none}
 
 -- A slot without bytes has no lines
@@ -119,19 +119,19 @@ no-losses W picks d earlier = refl
 
 module _ (W : World) (picks : List ℕ → Bool) (d : ℕ) (start : Findings) where
   walked-on : (k : ℕ) (mid new : Findings) (old seen : SeenNames) → IsWalked W picks d k start mid old
-      → Adds (slot_losses W picks d k) (lines_folders W.files d (lines_below W.files d k) (lines_in_slot W.files d k)) mid new
+      → AddsFindings (slot_losses W picks d k) (lines_folders W.files d (lines_below W.files d k) (lines_in_slot W.files d k)) mid new
       → AreSeen seen (lines_below W.files d k ++ lines_in_slot W.files d k) → IsWalked W picks d (suc k) start new seen
   unfolding losses_below folders_below lines_below
   walked-on k mid new old seen w a s = record { adds = adds-on _ _ _ _ start mid new w.adds a; names = s }
 
   -- a slot without lines
   walked-empty : (k : ℕ) (mid new : Findings) (seen : SeenNames) → is_bytes (value_of W.files d k) ≡ false → IsWalked W picks d k start mid seen
-      → Adds (slot_losses W picks d k) [] mid new → IsWalked W picks d (suc k) start new seen
+      → AddsFindings (slot_losses W picks d k) [] mid new → IsWalked W picks d (suc k) start new seen
   walked-empty k mid new seen bare w a =
       let none : lines_in_slot W.files d k ≡ [] = slot-empty W.files d k bare in
       let folders : lines_folders W.files d (lines_below W.files d k) (lines_in_slot W.files d k) ≡ [] = ap
       (lines_folders W.files d (lines_below W.files d k)) none ∙ no-folders W.files d (lines_below W.files d k) in
-      walked-on k mid new seen seen w (subst (λ (f : List ℕ). Adds (slot_losses W picks d k) f mid new) (sym folders) a)
+      walked-on k mid new seen seen w (subst (λ (f : List ℕ). AddsFindings (slot_losses W picks d k) f mid new) (sym folders) a)
       (subst (λ (l : List NameLine). AreSeen seen (lines_below W.files d k ++ l)) (sym none) (seen-none seen (lines_below W.files d k) w.names))
 
   walked-hole : (k : ℕ) (now : Findings) (seen : SeenNames) → is_hole (value_of W.files d k) ≡ true → IsWalked W picks d k start now seen
@@ -141,7 +141,7 @@ module _ (W : World) (picks : List ℕ → Bool) (d : ℕ) (start : Findings) wh
       let bare = hole-bytes (value_of W.files d k) hole in
       let none : lines_in_slot W.files d k ≡ [] = slot-empty W.files d k bare in
       let losses : slot_losses W picks d k ≡ [] = rw (kept, none) (no-losses W picks d (lines_below W.files d k)) in
-      walked-empty k now now seen bare w (subst (λ (l : List Loss). Adds l [] now now) (sym losses) (adds-none now))
+      walked-empty k now now seen bare w (subst (λ (l : List Loss). AddsFindings l [] now now) (sym losses) (adds-none now))
 
   -- several holes
   pub walked-holes : (k l : ℕ) (now : Findings) (seen : SeenNames) → IsLeast (λ j. not (is_hole (value_of W.files d j))) k l
@@ -156,21 +156,21 @@ module _ (W : World) (picks : List ℕ → Bool) (d : ℕ) (start : Findings) wh
   ]
 
   -- the names that were seen below the slot that is listed
-  pub walked-seen : (k l : ℕ) (now : Findings) (seen : SeenNames) → first_held W.files d k ≡ Some l → IsWalked W picks d k start now seen
+  pub walked-seen : (k l : ℕ) (now : Findings) (seen : SeenNames) → first_data_slot W.files d k ≡ Some l → IsWalked W picks d k start now seen
       → AreSeen seen (lines_below W.files d l)
   walked-seen k l now seen h w = (walked-holes k l now seen (least-found (λ j. not (is_hole (value_of W.files d j))) k (72 - k) l h) w).names
 
   -- a slot with names
   pub walked-names : (k l next : ℕ) (names : List NameLine) (mid new : Findings) (old seen : SeenNames) → (k ≤ l → next ≡ l + 1)
-      → (first_held W.files d k ≡ Some l) × (is_lost (value_of W.files d l) ≡ false) × (names ≡ lines_in_slot W.files d l) → IsWalked W picks d k start mid old
-      → ((earlier : List NameLine) → AreSeen old earlier → Adds (lines_losses W picks d earlier names) (lines_folders W.files d earlier names) mid new)
+      → (first_data_slot W.files d k ≡ Some l) × (is_lost (value_of W.files d l) ≡ false) × (names ≡ lines_in_slot W.files d l) → IsWalked W picks d k start mid old
+      → ((earlier : List NameLine) → AreSeen old earlier → AddsFindings (lines_losses W picks d earlier names) (lines_folders W.files d earlier names) mid new)
       → ((earlier : List NameLine) → AreSeen old earlier → AreSeen seen (earlier ++ names)) → IsWalked W picks d next start new seen
   walked-names k l next names mid new old seen behind h w adds sees =
       let least = least-found (λ j. not (is_hole (value_of W.files d j))) k (72 - k) l h.0 in
       let here = walked-holes k l mid old least w in
       let earlier = lines_below W.files d l in
-      let a : Adds (lines_losses W picks d earlier (lines_in_slot W.files d l)) (lines_folders W.files d earlier (lines_in_slot W.files d l)) mid new
-      = subst (λ (n : List NameLine). Adds (lines_losses W picks d earlier n) (lines_folders W.files d earlier n) mid new) h.2 (adds earlier here.names) in
+      let a : AddsFindings (lines_losses W picks d earlier (lines_in_slot W.files d l)) (lines_folders W.files d earlier (lines_in_slot W.files d l)) mid new
+      = subst (λ (n : List NameLine). AddsFindings (lines_losses W picks d earlier n) (lines_folders W.files d earlier n) mid new) h.2 (adds earlier here.names) in
       let s = subst (λ (n : List NameLine). AreSeen seen (earlier ++ n)) h.2 (sees earlier here.names) in
       let at : next ≡ l + 1 = behind least.late in
       let on : suc l ≡ next = omega arith in
@@ -178,7 +178,7 @@ module _ (W : World) (picks : List ℕ → Bool) (d : ℕ) (start : Findings) wh
 
   -- a lost slot
   pub walked-lost : (k l next : ℕ) (mid new : Findings) (seen : SeenNames) → (k ≤ l → next ≡ l + 1)
-      → (first_held W.files d k ≡ Some l) × (is_lost (value_of W.files d l) ≡ true) → IsWalked W picks d k start mid seen
+      → (first_data_slot W.files d k ≡ Some l) × (is_lost (value_of W.files d l) ≡ true) → IsWalked W picks d k start mid seen
       → new.report ≡ mid.report ++ loss.Slot d l ∷ [] → inodes_in new.tree ≡ inodes_in mid.tree → IsWalked W picks d next start new seen
   walked-lost k l next mid new seen behind h w report tree =
       let least = least-found (λ j. not (is_hole (value_of W.files d j))) k (72 - k) l h.0 in
@@ -189,7 +189,7 @@ module _ (W : World) (picks : List ℕ → Bool) (d : ℕ) (start : Findings) wh
       (walked-empty l mid new seen (lost-bytes (value_of W.files d l) h.1) here (record { report = rw h.1 report; tree = tree }))
 
   -- no more slots
-  pub walked-end : (k : ℕ) (now : Findings) (seen : SeenNames) → k ≤ 72 → first_held W.files d k ≡ None → IsWalked W picks d k start now seen
+  pub walked-end : (k : ℕ) (now : Findings) (seen : SeenNames) → k ≤ 72 → first_data_slot W.files d k ≡ None → IsWalked W picks d k start now seen
       → IsWalked W picks d 72 start now seen
   walked-end k now seen low h w =
       let all : k + (72 - k) ≡ 72 = omega arith in

@@ -11,10 +11,10 @@ use Rattle.nofs_history.specs.Steps.{Made}
 use Rattle.nofs_history.specs.declared.machine.history.Entry1.{Entry1}
 use Rattle.nofs_salvage.specs.declared.lost.report.Loss.{Loss}
 use Rattle.nofs_salvage.specs.declared.lost.report.Loss.TheVariants as loss
-use Rattle.nofs_salvage.specs.declared.lost.answers.Got.{Got}
-use Rattle.nofs_salvage.specs.declared.lost.answers.Got.TheVariants as got
-use Rattle.nofs_salvage.specs.declared.lost.answers.Listed.{Listed}
-use Rattle.nofs_salvage.specs.declared.lost.answers.Listed.TheVariants as listed
+use Rattle.nofs_salvage.specs.declared.lost.answers.SlotState.{SlotState}
+use Rattle.nofs_salvage.specs.declared.lost.answers.SlotState.TheVariants as got
+use Rattle.nofs_salvage.specs.declared.lost.answers.NextSlot.{NextSlot}
+use Rattle.nofs_salvage.specs.declared.lost.answers.NextSlot.TheVariants as listed
 use Rattle.nofs_salvage.specs.Report.{if_so}
 
 -- the machine answers a step so in a world with the files of W
@@ -35,23 +35,23 @@ pub record AreAnswered (W : World) (old new : List Made) : Type 0 where
   pub each : All (IsAnswered W) made
 
 -- the least slot of directory d, from k on, that is no hole
-abbrev pub first_held : Files → ℕ → ℕ → Option ℕ
-first_held F d k = least_from (λ l. not (is_hole (value_of F d l))) k (72 - k)
+abbrev pub first_data_slot : Files → ℕ → ℕ → Option ℕ
+first_data_slot F d k = least_from (λ l. not (is_hole (value_of F d l))) k (72 - k)
 
 -- what is listed from slot k on
-abbrev pub IsListedFrom : Files → ℕ → ℕ → Listed → Type 0
-IsListedFrom F d k (listed.Names l names) = (first_held F d k ≡ Some l) × (is_lost (value_of F d l) ≡ false) × (names ≡ lines_in_slot F d l)
-IsListedFrom F d k (listed.LostNames l) = (first_held F d k ≡ Some l) × (is_lost (value_of F d l) ≡ true)
-IsListedFrom F d k listed.NoMore = first_held F d k ≡ None
+abbrev pub IsListedFrom : Files → ℕ → ℕ → NextSlot → Type 0
+IsListedFrom F d k (listed.Names l names) = (first_data_slot F d k ≡ Some l) × (is_lost (value_of F d l) ≡ false) × (names ≡ lines_in_slot F d l)
+IsListedFrom F d k (listed.LostNames l) = (first_data_slot F d k ≡ Some l) × (is_lost (value_of F d l) ≡ true)
+IsListedFrom F d k listed.NoMore = first_data_slot F d k ≡ None
 
 -- a list gives slots of a directory
-abbrev pub IsInFolder : Listed → Type 0
+abbrev pub IsInFolder : NextSlot → Type 0
 IsInFolder (listed.Names l names) = l < 72
 IsInFolder (listed.LostNames l) = l < 72
 IsInFolder listed.NoMore = Unit {0}
 
 -- what is got of slot k
-abbrev pub IsGot : World → ℕ → ℕ → Got → Type 0
+abbrev pub IsGot : World → ℕ → ℕ → SlotState → Type 0
 IsGot W i k got.Kept = (k < slots W) × (is_lost (value_of W.files i k) ≡ false)
 IsGot W i k got.Lost = (k < slots W) × (is_lost (value_of W.files i k) ≡ true)
 IsGot W i k got.NoSlot = slots W ≤ k

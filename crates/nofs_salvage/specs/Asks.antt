@@ -8,11 +8,11 @@ use Rattle.nofs_history.specs.declared.machine.replies.Reply.TheVariants as repl
 use Rattle.nofs_history.specs.declared.machine.replies.NameLine.{NameLine}
 use Rattle.nofs_history.specs.declared.machine.replies.Found.{Found}
 use Rattle.nofs_history.specs.declared.machine.replies.Stat.{Stat}
-use Rattle.nofs_salvage.specs.declared.lost.answers.Handle.{Handle}
-use Rattle.nofs_salvage.specs.declared.lost.answers.Got.{Got}
-use Rattle.nofs_salvage.specs.declared.lost.answers.Got.TheVariants as got
-use Rattle.nofs_salvage.specs.declared.lost.answers.Listed.{Listed}
-use Rattle.nofs_salvage.specs.declared.lost.answers.Listed.TheVariants as listed
+use Rattle.nofs_salvage.specs.declared.lost.answers.InodeHandle.{InodeHandle}
+use Rattle.nofs_salvage.specs.declared.lost.answers.SlotState.{SlotState}
+use Rattle.nofs_salvage.specs.declared.lost.answers.SlotState.TheVariants as got
+use Rattle.nofs_salvage.specs.declared.lost.answers.NextSlot.{NextSlot}
+use Rattle.nofs_salvage.specs.declared.lost.answers.NextSlot.TheVariants as listed
 use Rattle.nofs_salvage.specs.declared.lost.tree.Tree.{Tree}
 use Rattle.nofs_salvage.specs.InHand.{handles_in}
 
@@ -65,39 +65,39 @@ pub record Asks (old new : List Made) : Type 0 where
 -- Among the steps from old to now
 
 -- this inode was reached
-pub record HasReached (old now : List Made) (at : Handle) : Type 0 where
+pub record HasReached (old now : List Made) (at : InodeHandle) : Type 0 where
   pub made : List Made
   pub more : now ≡ old ++ made
   pub met : IsReached made at.inode at.generation
 
 -- where it was, these steps ask on as a walk may
-abbrev pub AsksOn : List Made → List Made → Handle → Type 0
+abbrev pub AsksOn : List Made → List Made → InodeHandle → Type 0
 AsksOn old new at = (first : List Made) → Asks first old → HasReached first old at → Asks first new
 
 -- this name of a directory was given
-pub record HasGiven (old now : List Made) (at : Handle) (name : List ℕ) : Type 0 where
+pub record HasGiven (old now : List Made) (at : InodeHandle) (name : List ℕ) : Type 0 where
   pub made : List Made
   pub more : now ≡ old ++ made
   pub given : IsGiven made at.inode at.generation name
 
 -- the slots of this file below a size may be got
-pub record HasTold (old now : List Made) (at : Handle) (size : ℕ) : Type 0 where
+pub record HasTold (old now : List Made) (at : InodeHandle) (size : ℕ) : Type 0 where
   pub made : List Made
   pub more : now ≡ old ++ made
   pub below : (k : ℕ) → k < slots_in size → IsBelowSize made at.inode at.generation k
 
 -- the lines that aren't dead were given
-abbrev pub AreGiven : List Made → List Made → Handle → List NameLine → Type 0
+abbrev pub AreGiven : List Made → List Made → InodeHandle → List NameLine → Type 0
 AreGiven old now at lines = All (λ line. line.dead ≡ false → HasGiven old now at line.name) lines
 
 -- the names of a list were
-abbrev pub ListGives : List Made → List Made → Handle → Listed → Type 0
+abbrev pub ListGives : List Made → List Made → InodeHandle → NextSlot → Type 0
 ListGives old now at (listed.Names l lines) = AreGiven old now at lines
 ListGives old now at (listed.LostNames l) = Unit {0}
 ListGives old now at listed.NoMore = Unit {0}
 
 -- files have such a slot
-abbrev pub has_slot : Got → Bool
+abbrev pub has_slot : SlotState → Bool
 has_slot got.Kept = true
 has_slot got.Lost = true
 has_slot got.NoSlot = false

@@ -4,25 +4,25 @@ use Rattle.std.specs.Prelude.{◌≡◌, ℕ, ◌<◌, ◌≤◌, Bool, true, Li
 use Rattle.nofs_history.specs.World.{World}
 use Rattle.nofs_history.specs.Steps.{Made}
 use Rattle.nofs_history.specs.declared.machine.replies.NameLine.{NameLine}
-use Rattle.nofs_salvage.specs.declared.lost.answers.Handle.{Handle}
+use Rattle.nofs_salvage.specs.declared.lost.answers.InodeHandle.{InodeHandle}
 use Rattle.nofs_salvage.specs.declared.lost.report.Loss.{Loss}
 use Rattle.nofs_salvage.specs.declared.lost.findings.Findings.{Findings}
 use Rattle.nofs_salvage.specs.declared.lost.seen.SeenNames.{SeenNames}
 use Rattle.nofs_salvage.specs.Report.{lines_losses, lines_folders, losses_below, folders_below, tree_of, tree_losses}
 use Rattle.nofs_salvage.specs.Answered.{AreAnswered}
-use Rattle.nofs_salvage.specs.Trees.{AreSeen, Adds, IsWalked}
+use Rattle.nofs_salvage.specs.Trees.{AreSeen, AddsFindings, IsWalked}
 use Rattle.nofs_salvage.specs.Refusing.{is_there}
 use Rattle.nofs_salvage.specs.Told.{AreTold, AreFolders}
 use Rattle.nofs_salvage.specs.Asks.{Asks, HasReached, AreGiven, AreReached}
 
 -- these lines of directory `at`, behind earlier ones of it
-pub record LinesNoted (picks : List ℕ → Bool) (at : Handle) (lines : List NameLine) (made new_made : List Made) (old new : Findings)
+pub record LinesNoted (picks : List ℕ → Bool) (at : InodeHandle) (lines : List NameLine) (made new_made : List Made) (old new : Findings)
     (seen new_seen : SeenNames) : Type 0 where
   -- their names were met
   pub names : (earlier : List NameLine) → AreSeen seen earlier → AreSeen new_seen (earlier ++ lines)
   -- their losses and the directories that they name were added
   pub noted : (W : World) (earlier : List NameLine) → AreSeen seen earlier → AreAnswered W made new_made
-      → Adds (lines_losses W picks at.inode earlier lines) (lines_folders W.files at.inode earlier lines) old new
+      → AddsFindings (lines_losses W picks at.inode earlier lines) (lines_folders W.files at.inode earlier lines) old new
   -- where the lines lead to what they say, and all on the old list are directories, all on the new one are
   pub folders : (W : World) (earlier : List NameLine) → AreSeen seen earlier → AreAnswered W made new_made
       → AreTold W.files at.inode earlier lines → AreFolders W.files old.tree → AreFolders W.files new.tree
@@ -31,7 +31,7 @@ pub record LinesNoted (picks : List ℕ → Bool) (at : Handle) (lines : List Na
       → AreReached first new_made new.tree
 
 -- the slots of directory `at` from a slot up to the next one, behind those below it
-pub record SlotsNoted (picks : List ℕ → Bool) (at : Handle) (slot next : ℕ) (made new_made : List Made) (old new : Findings)
+pub record SlotsNoted (picks : List ℕ → Bool) (at : InodeHandle) (slot next : ℕ) (made new_made : List Made) (old new : Findings)
     (seen new_seen : SeenNames) : Type 0 where
   -- the next one lies behind it, at most at the end of the directory
   pub later : (slot < next) × (next ≤ 72)
@@ -48,9 +48,9 @@ pub record SlotsNoted (picks : List ℕ → Bool) (at : Handle) (slot next : ℕ
       → AreReached first new_made new.tree
 
 -- directory `at`
-pub record FolderNoted (picks : List ℕ → Bool) (at : Handle) (made new_made : List Made) (old new : Findings) : Type 0 where
+pub record FolderNoted (picks : List ℕ → Bool) (at : InodeHandle) (made new_made : List Made) (old new : Findings) : Type 0 where
   -- its losses and the directories that it names were added
-  pub noted : (W : World) → AreAnswered W made new_made → Adds (losses_below W picks at.inode 72) (folders_below W.files at.inode 72) old new
+  pub noted : (W : World) → AreAnswered W made new_made → AddsFindings (losses_below W picks at.inode 72) (folders_below W.files at.inode 72) old new
   -- it is there with its generation
   pub there : (W : World) → AreAnswered W made new_made → is_there W.files at.inode at.generation ≡ true
   -- where all on the old list are directories, all on the new one are

@@ -9,11 +9,11 @@ use Rattle.nofs_history.specs.declared.machine.replies.Reply.{Reply}
 use Rattle.nofs_history.specs.declared.machine.replies.Reply.TheVariants as reply
 use Rattle.nofs_history.specs.declared.machine.replies.Refusal.{Refusal}
 use Rattle.nofs_history.specs.declared.machine.replies.Refusal.TheVariants as refusal
-use Rattle.nofs_salvage.specs.declared.lost.answers.Handle.{Handle}
-use Rattle.nofs_salvage.specs.declared.lost.answers.Listed.{Listed}
-use Rattle.nofs_salvage.specs.declared.lost.answers.Listed.TheVariants as listed
-use Rattle.nofs_salvage.specs.declared.lost.answers.Got.{Got}
-use Rattle.nofs_salvage.specs.declared.lost.answers.Got.TheVariants as got
+use Rattle.nofs_salvage.specs.declared.lost.answers.InodeHandle.{InodeHandle}
+use Rattle.nofs_salvage.specs.declared.lost.answers.NextSlot.{NextSlot}
+use Rattle.nofs_salvage.specs.declared.lost.answers.NextSlot.TheVariants as listed
+use Rattle.nofs_salvage.specs.declared.lost.answers.SlotState.{SlotState}
+use Rattle.nofs_salvage.specs.declared.lost.answers.SlotState.TheVariants as got
 use Rattle.nofs_salvage.specs.declared.lost.fault.SalvageFault.{SalvageFault}
 use Rattle.nofs_salvage.specs.declared.lost.fault.SalvageFault.TheVariants as fault
 
@@ -33,12 +33,12 @@ refusal_by (Ok x) = None
 refusal_by (Err e) = refusal_in e
 
 -- a step that only reads files and names
-abbrev pub IsRead : Step → Type 0
-IsRead (step.Look d g name) = Unit {0}
-IsRead (step.List d g slot) = Unit {0}
-IsRead (step.Stat i g) = Unit {0}
-IsRead (step.Get i g slot) = Unit {0}
-IsRead _ = ⊥
+abbrev pub IsReadingStep : Step → Type 0
+IsReadingStep (step.Look d g name) = Unit {0}
+IsReadingStep (step.List d g slot) = Unit {0}
+IsReadingStep (step.Stat i g) = Unit {0}
+IsReadingStep (step.Get i g slot) = Unit {0}
+IsReadingStep _ = ⊥
 
 -- the step reads a slot
 abbrev pub is_get : Step → Bool
@@ -61,10 +61,10 @@ first_refusal [] = None
 first_refusal (m ∷ ms) = first_of (refusal_of m ∷ first_refusal ms ∷ [])
 
 -- from old to new just steps were made that read, and this is their first refusal
-pub record Reads (old new : List Made) (why : Option Refusal) : Type 0 where
+pub record MakesReads (old new : List Made) (why : Option Refusal) : Type 0 where
   pub made : List Made
   pub more : new ≡ old ++ made
-  pub read : All (λ m. IsRead m.0) made
+  pub read : All (λ m. IsReadingStep m.0) made
   pub refused : first_refusal made ≡ why
 
 -- this one step was made, and not refused
@@ -75,7 +75,7 @@ pub record IsAccepted (old new : List Made) (s : Step) (r : Reply) : Type 0 wher
 
 -- What the reply to each of them says
 
-abbrev pub found_by : Reply → Result Handle SalvageFault
+abbrev pub found_by : Reply → Result InodeHandle SalvageFault
 found_by (reply.Found found) = Ok (record { inode = found.inode; generation = found.generation })
 found_by _ = Err fault.OutOfMemory
 
@@ -83,13 +83,13 @@ abbrev pub size_by : Reply → Result ℕ SalvageFault
 size_by (reply.Stat stat) = Ok stat.size
 size_by _ = Err fault.OutOfMemory
 
-abbrev pub listed_by : Reply → Result Listed SalvageFault
+abbrev pub listed_by : Reply → Result NextSlot SalvageFault
 listed_by (reply.Names slot names) = Ok (listed.Names slot names)
 listed_by (reply.LostNames slot) = Ok (listed.LostNames slot)
 listed_by reply.NoMore = Ok listed.NoMore
 listed_by _ = Err fault.OutOfMemory
 
-abbrev pub got_by : Reply → Result Got SalvageFault
+abbrev pub got_by : Reply → Result SlotState SalvageFault
 got_by (reply.Refused why) = if is_too_large why then Ok got.NoSlot else Err (fault_by why)
 got_by reply.Lost = Ok got.Lost
 got_by _ = Ok got.Kept

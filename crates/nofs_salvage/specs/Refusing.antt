@@ -8,7 +8,7 @@ use Rattle.nofs_history.specs.declared.machine.steps.Step.{Step}
 use Rattle.nofs_history.specs.declared.machine.replies.Reply.{Reply}
 use Rattle.nofs_history.specs.declared.machine.replies.Refusal.{Refusal}
 use Rattle.nofs_history.specs.declared.machine.replies.Refusal.TheVariants as refusal
-use Rattle.nofs_salvage.specs.declared.lost.answers.Handle.{Handle}
+use Rattle.nofs_salvage.specs.declared.lost.answers.InodeHandle.{InodeHandle}
 use Rattle.nofs_salvage.specs.Reads.{refusal_of}
 use Rattle.nofs_salvage.specs.Report.{inode_found}
 
@@ -49,7 +49,7 @@ pub record MakesOne (old new : List Made) (s : Step) : Type 0 where
 -- What a walk asks for
 
 -- this inode is there with its generation, or else a root isn't; and it is a directory or not as told
-pub record MayAsk (F : Files) (folder : Bool) (at : Handle) : Type 0 where
+pub record MayAsk (F : Files) (folder : Bool) (at : InodeHandle) : Type 0 where
   pub lacking : is_there F at.inode at.generation ≡ false → LacksRoot F
   pub kind : is_there F at.inode at.generation ≡ true → is_folder_at F at.inode ≡ folder
 

@@ -110,9 +110,9 @@ abbrev pub with_one : List ℕ → ℕ → List ℕ
 with_one ds d = if list_any (λ x. x == d) ds then ds else ds ++ d ∷ []
 
 -- several
-abbrev pub with_all : List ℕ → List ℕ → List ℕ
-with_all ds [] = ds
-with_all ds (d ∷ more) = with_all (with_one ds d) more
+abbrev pub with_directories : List ℕ → List ℕ → List ℕ
+with_directories ds [] = ds
+with_directories ds (d ∷ more) = with_directories (with_one ds d) more
 
 -- the directories that the one at some place names
 abbrev pub folders_of : Files → Option ℕ → List ℕ
@@ -122,7 +122,7 @@ folders_of F (Some d) = folders_below F d folder_slots
 -- the root, and behind it the directories that those at the first n places of this list name
 unfoldable pub tree_after : Files → ℕ → List ℕ
 tree_after F zero = 1 ∷ []
-tree_after F (suc n) = with_all (tree_after F n) (folders_of F (slice_get (tree_after F n) n))
+tree_after F (suc n) = with_directories (tree_after F n) (folders_of F (slice_get (tree_after F n) n))
 
 -- all of them: no list is so long
 unfoldable pub tree_of : Files → List ℕ

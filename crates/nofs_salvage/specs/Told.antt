@@ -3,8 +3,8 @@ use Rattle.std.specs.Prelude.{◌≡◌, ℕ, ◌⊎◌, true, false, List, [], 
 use Rattle.nofs_model.specs.Cells.{is_name}
 use Rattle.nofs_model.specs.Image.{Files, is_folder}
 use Rattle.nofs_history.specs.declared.machine.replies.NameLine.{NameLine}
-use Rattle.nofs_salvage.specs.declared.lost.answers.Listed.{Listed}
-use Rattle.nofs_salvage.specs.declared.lost.answers.Listed.TheVariants as listed
+use Rattle.nofs_salvage.specs.declared.lost.answers.NextSlot.{NextSlot}
+use Rattle.nofs_salvage.specs.declared.lost.answers.NextSlot.TheVariants as listed
 use Rattle.nofs_salvage.specs.declared.lost.tree.Tree.{Tree}
 use Rattle.nofs_salvage.specs.Handles.{root_handle}
 use Rattle.nofs_salvage.specs.Report.{is_doubled}
@@ -21,13 +21,13 @@ abbrev pub AreTold : Files → ℕ → List NameLine → List NameLine → Type 
 AreTold F d earlier lines = (before after : List NameLine) (line : NameLine) → lines ≡ before ++ line ∷ after → IsTold F d (earlier ++ before) line
 
 -- the names of a list are names
-abbrev pub AreNames : Listed → Type 0
+abbrev pub AreNames : NextSlot → Type 0
 AreNames (listed.Names l names) = All (λ line. IsTrue (is_name line.name)) names
 AreNames (listed.LostNames l) = Unit {0}
 AreNames listed.NoMore = Unit {0}
 
 -- what a list gives is a part of a directory
-pub record IsFolderPart (listed : Listed) : Type 0 where
+pub record IsFolderPart (listed : NextSlot) : Type 0 where
   -- a slot that directories have, if any
   pub below : IsInFolder listed
   -- and its names are names

@@ -3,7 +3,7 @@ use Rattle.std.specs.Prelude.{◌≡◌, ℕ, Bool, List, ◌++◌, map, bytes_e
 use Rattle.std.specs.List.{list_any}
 use Rattle.nofs_history.specs.declared.machine.replies.NameLine.{NameLine}
 use Rattle.nofs_history.specs.World.{World}
-use Rattle.nofs_salvage.specs.Report.{is_doubled, with_all, lines_below, losses_below, folders_below}
+use Rattle.nofs_salvage.specs.Report.{is_doubled, with_directories, lines_below, losses_below, folders_below}
 use Rattle.nofs_salvage.specs.declared.lost.report.Loss.{Loss}
 use Rattle.nofs_salvage.specs.declared.lost.findings.Findings.{Findings}
 use Rattle.nofs_salvage.specs.Handles.{inode_of}
@@ -23,11 +23,11 @@ abbrev pub AreSeen : SeenNames → List NameLine → Type 0
 AreSeen seen lines = (name : List ℕ) → is_seen seen name ≡ is_doubled lines name
 
 -- new is old with these losses, and with the directories of these that weren't there yet
-pub record Adds (losses : List Loss) (folders : List ℕ) (old new : Findings) : Type 0 where
+pub record AddsFindings (losses : List Loss) (folders : List ℕ) (old new : Findings) : Type 0 where
   pub report : new.report ≡ old.report ++ losses
-  pub tree : inodes_in new.tree ≡ with_all (inodes_in old.tree) folders
+  pub tree : inodes_in new.tree ≡ with_directories (inodes_in old.tree) folders
 
 -- so far as the first k slots of directory d go
 pub record IsWalked (W : World) (picks : List ℕ → Bool) (d k : ℕ) (old new : Findings) (seen : SeenNames) : Type 0 where
-  pub adds : Adds (losses_below W picks d k) (folders_below W.files d k) old new
+  pub adds : AddsFindings (losses_below W picks d k) (folders_below W.files d k) old new
   pub names : AreSeen seen (lines_below W.files d k)

@@ -5,7 +5,7 @@ ghost use Rattle.std.specs.Prelude.{◌≡◌, ◌+◌, ◌<◌, ◌≤◌, ℕ,
 ghost use Rattle.std.specs.Fn.{FnReturnsAt};
 ghost use Rattle.nofs_history.specs.World.{World};
 ghost use Rattle.nofs_salvage.specs.declared.lost.findings.Findings.{Findings as Found};
-ghost use Rattle.nofs_salvage.specs.Reads.{Reads, refusal_by};
+ghost use Rattle.nofs_salvage.specs.Reads.{MakesReads, refusal_by};
 ghost use Rattle.nofs_salvage.specs.Answered.{AreAnswered};
 ghost use Rattle.nofs_salvage.specs.Trees.{IsWalked};
 ghost use Rattle.nofs_salvage.specs.Refusing.{AreFair, MayAsk};
@@ -13,7 +13,7 @@ ghost use Rattle.nofs_salvage.specs.Noted.{SlotsNoted, FolderNoted};
 ghost use Rattle.nofs_salvage.specs.Asks.{AsksOn};
 
 use crate::lines::note_lines;
-use crate::lost::answers::{Handle, Listed};
+use crate::lost::answers::{InodeHandle, NextSlot};
 use crate::lost::fault::SalvageFault;
 use crate::lost::filter::{NameFilter, NameRule};
 use crate::lost::findings::Findings;
@@ -41,7 +41,7 @@ fn note_next<S: Steps, P: Fn(&[u8]) -> bool, R: NameRule>(
     alloc: Global,
     steps: &mut S,
     filter: &NameFilter<P, R>,
-    at: Handle,
+    at: InodeHandle,
     slot: u64,
     seen: &mut SeenNames,
     findings: &mut Findings,
@@ -49,7 +49,7 @@ fn note_next<S: Steps, P: Fn(&[u8]) -> bool, R: NameRule>(
     requires may { P.IsAlwaysCallable filter.now.keep }
     requires decides { (name : List ℕ) (yes : Bool) → FnReturnsAt P.Fn filter.now.keep name yes → yes ≡ R.picks filter.now.rule name }
     requires slot { slot < 72 }
-    ensures reads { Reads (S.made steps.old) (S.made steps.new) (refusal_by result) }
+    ensures reads { MakesReads (S.made steps.old) (S.made steps.new) (refusal_by result) }
     ensures slots { IfOk result (λ next. SlotsNoted (R.picks filter.now.rule) at slot next (S.made steps.old) (S.made steps.new)
         findings.old findings.new seen.old seen.new) }
     ensures right { (W : World) (start : Found) → IsWalked W (R.picks filter.now.rule) at.inode slot start findings.old seen.old
@@ -59,18 +59,18 @@ fn note_next<S: Steps, P: Fn(&[u8]) -> bool, R: NameRule>(
 {
     let listed = list(steps, at, slot)?;
     match listed {
-        Listed::Names(held, lines) => {
+        NextSlot::Names(held, lines) => {
             note_lines(alloc, steps, filter, at, &lines, seen, findings)?;
             Ok(slot_behind(slot, held))
         }
-        Listed::LostNames(held) => {
+        NextSlot::LostNames(held) => {
             findings.report.push(Loss::Slot {
                 inode: at.inode,
                 slot: held,
             })?;
             Ok(slot_behind(slot, held))
         }
-        Listed::NoMore => Ok(SLOTS),
+        NextSlot::NoMore => Ok(SLOTS),
     }
 }
 
@@ -79,12 +79,12 @@ pub(crate) fn note_folder<S: Steps, P: Fn(&[u8]) -> bool, R: NameRule>(
     alloc: Global,
     steps: &mut S,
     filter: &NameFilter<P, R>,
-    at: Handle,
+    at: InodeHandle,
     findings: &mut Findings,
 ) -> Result<(), SalvageFault>
     requires may { P.IsAlwaysCallable filter.now.keep }
     requires decides { (name : List ℕ) (yes : Bool) → FnReturnsAt P.Fn filter.now.keep name yes → yes ≡ R.picks filter.now.rule name }
-    ensures reads { Reads (S.made steps.old) (S.made steps.new) (refusal_by result) }
+    ensures reads { MakesReads (S.made steps.old) (S.made steps.new) (refusal_by result) }
     ensures folder { OnOk result (FolderNoted (R.picks filter.now.rule) at (S.made steps.old) (S.made steps.new) findings.old findings.new) }
     ensures right { (W : World) → AreAnswered W (S.made steps.old) (S.made steps.new) → MayAsk W.files true at
         → AreFair W.files (S.made steps.old) (S.made steps.new) }

@@ -7,16 +7,16 @@ ghost use Rattle.std.specs.Fn.{FnReturnsAt};
 ghost use Rattle.nofs_history.specs.World.{World};
 ghost use Rattle.nofs_history.specs.Steps.{Made};
 ghost use Rattle.nofs_history.specs.declared.machine.replies.NameLine.{NameLine as Line};
-ghost use Rattle.nofs_salvage.specs.Reads.{Reads, refusal_by};
+ghost use Rattle.nofs_salvage.specs.Reads.{MakesReads, refusal_by};
 ghost use Rattle.nofs_salvage.specs.Report.{pair_losses, pair_folders, line_losses, line_folders};
 ghost use Rattle.nofs_salvage.specs.Answered.{AreAnswered};
-ghost use Rattle.nofs_salvage.specs.Trees.{AreSeen, Adds};
+ghost use Rattle.nofs_salvage.specs.Trees.{AreSeen, AddsFindings};
 ghost use Rattle.nofs_salvage.specs.Refusing.{AreFair, MayAsk, LeadsTo};
 ghost use Rattle.nofs_salvage.specs.Told.{IsTold, AreTold, AreFolders};
 ghost use Rattle.nofs_salvage.specs.Asks.{Asks, HasGiven, AreGiven, AreReached};
 ghost use Rattle.nofs_salvage.specs.Noted.{LinesNoted};
 
-use crate::lost::answers::Handle;
+use crate::lost::answers::InodeHandle;
 use crate::lost::fault::SalvageFault;
 use crate::lost::filter::{NameFilter, NameRule};
 use crate::lost::findings::{Findings, NameFlaw, note_name};
@@ -32,13 +32,13 @@ fn note_pair<S: Steps>(
     alloc: Global,
     steps: &mut S,
     wanted: bool,
-    at: Handle,
+    at: InodeHandle,
     line: &NameLine,
     findings: &mut Findings,
 ) -> Result<(), SalvageFault>
-    ensures reads { Reads (S.made steps.old) (S.made steps.new) (refusal_by result) }
+    ensures reads { MakesReads (S.made steps.old) (S.made steps.new) (refusal_by result) }
     ensures noted { OnOk result ((W : World) → AreAnswered W (S.made steps.old) (S.made steps.new)
-        → Adds (pair_losses W wanted at.inode line.now) (pair_folders W.files at.inode line.now) findings.old findings.new) }
+        → AddsFindings (pair_losses W wanted at.inode line.now) (pair_folders W.files at.inode line.now) findings.old findings.new) }
     ensures right { (W : World) → AreAnswered W (S.made steps.old) (S.made steps.new) → MayAsk W.files true at
         → LeadsTo W.files at.inode line.now.name (is_folder line.now.kind) → AreFair W.files (S.made steps.old) (S.made steps.new) }
     ensures folders { OnOk result ((W : World) → AreAnswered W (S.made steps.old) (S.made steps.new)
@@ -70,16 +70,16 @@ fn note_line<S: Steps>(
     alloc: Global,
     steps: &mut S,
     wanted: bool,
-    at: Handle,
+    at: InodeHandle,
     line: &NameLine,
     seen: &mut SeenNames,
     findings: &mut Findings,
 ) -> Result<(), SalvageFault>
-    ensures reads { Reads (S.made steps.old) (S.made steps.new) (refusal_by result) }
+    ensures reads { MakesReads (S.made steps.old) (S.made steps.new) (refusal_by result) }
     ensures names { OnOk result ((earlier : List Line) → AreSeen seen.old earlier → AreSeen seen.new (earlier ++ line.now ∷ [])) }
     ensures noted { OnOk result ((W : World) (picks : List ℕ → Bool) (earlier : List Line) → wanted ≡ picks line.now.name → AreSeen seen.old earlier
         → AreAnswered W (S.made steps.old) (S.made steps.new)
-        → Adds (line_losses W picks at.inode earlier line.now) (line_folders W.files at.inode earlier line.now) findings.old findings.new) }
+        → AddsFindings (line_losses W picks at.inode earlier line.now) (line_folders W.files at.inode earlier line.now) findings.old findings.new) }
     ensures right { (W : World) (earlier : List Line) → AreSeen seen.old earlier → AreAnswered W (S.made steps.old) (S.made steps.new) → MayAsk W.files true at
         → IsTold W.files at.inode earlier line.now → AreFair W.files (S.made steps.old) (S.made steps.new) }
     ensures folders { OnOk result ((W : World) (earlier : List Line) → AreSeen seen.old earlier → AreAnswered W (S.made steps.old) (S.made steps.new)
@@ -120,14 +120,14 @@ pub(crate) fn note_lines<S: Steps, P: Fn(&[u8]) -> bool, R: NameRule>(
     alloc: Global,
     steps: &mut S,
     filter: &NameFilter<P, R>,
-    at: Handle,
+    at: InodeHandle,
     lines: &NameList,
     seen: &mut SeenNames,
     findings: &mut Findings,
 ) -> Result<(), SalvageFault>
     requires may { P.IsAlwaysCallable filter.now.keep }
     requires decides { (name : List ℕ) (yes : Bool) → FnReturnsAt P.Fn filter.now.keep name yes → yes ≡ R.picks filter.now.rule name }
-    ensures reads { Reads (S.made steps.old) (S.made steps.new) (refusal_by result) }
+    ensures reads { MakesReads (S.made steps.old) (S.made steps.new) (refusal_by result) }
     ensures lines { OnOk result (LinesNoted (R.picks filter.now.rule) at lines.now (S.made steps.old) (S.made steps.new)
         findings.old findings.new seen.old seen.new) }
     ensures right { (W : World) (earlier : List Line) → AreSeen seen.old earlier → AreAnswered W (S.made steps.old) (S.made steps.new) → MayAsk W.files true at

@@ -6,13 +6,13 @@ ghost use Rattle.nofs_history.specs.Steps.{Made};
 ghost use Rattle.nofs_history.specs.Machine.{slots_in as slots_of_size};
 ghost use Rattle.nofs_history.specs.Refusals.{slots as slots_of};
 ghost use Rattle.nofs_history.specs.World.{World};
-ghost use Rattle.nofs_salvage.specs.Reads.{Reads, refusal_by};
+ghost use Rattle.nofs_salvage.specs.Reads.{MakesReads, refusal_by};
 ghost use Rattle.nofs_salvage.specs.Report.{lost_below, file_losses};
 ghost use Rattle.nofs_salvage.specs.Answered.{AreAnswered, IsNoted};
 ghost use Rattle.nofs_salvage.specs.Refusing.{is_there, AreFair, MayAsk};
 ghost use Rattle.nofs_salvage.specs.Asks.{Asks, AsksOn, HasReached, HasTold};
 
-use crate::lost::answers::{Got, Handle};
+use crate::lost::answers::{SlotState, InodeHandle};
 use crate::lost::fault::SalvageFault;
 use crate::lost::report::{Loss, Report};
 use crate::steps::{get, size_of};
@@ -28,11 +28,11 @@ fn slots_in(size: u64) -> u64
 // Notes a slot where it is lost. Whether files have such a slot.
 fn note_slot<S: Steps>(
     steps: &mut S,
-    at: Handle,
+    at: InodeHandle,
     slot: u64,
     report: &mut Report,
 ) -> Result<bool, SalvageFault>
-    ensures reads { Reads (S.made steps.old) (S.made steps.new) (refusal_by result) }
+    ensures reads { MakesReads (S.made steps.old) (S.made steps.new) (refusal_by result) }
     ensures noted { IfOk result (λ more. (W : World) → AreAnswered W (S.made steps.old) (S.made steps.new)
         → IsNoted W at.inode slot more report.old report.new) }
     ensures right { (W : World) → AreAnswered W (S.made steps.old) (S.made steps.new) → MayAsk W.files false at
@@ -44,26 +44,26 @@ fn note_slot<S: Steps>(
     ensures goes { S.goes steps.old steps.new }
 {
     match get(steps, at, slot)? {
-        Got::Kept => Ok(true),
-        Got::Lost => {
+        SlotState::Kept => Ok(true),
+        SlotState::Lost => {
             report.push(Loss::Slot {
                 inode: at.inode,
                 slot,
             })?;
             Ok(true)
         }
-        Got::NoSlot => Ok(false),
+        SlotState::NoSlot => Ok(false),
     }
 }
 
 // Notes the lost slots below a size.
 fn note_slots<S: Steps>(
     steps: &mut S,
-    at: Handle,
+    at: InodeHandle,
     report: &mut Report,
     size: u64,
 ) -> Result<(), SalvageFault>
-    ensures reads { Reads (S.made steps.old) (S.made steps.new) (refusal_by result) }
+    ensures reads { MakesReads (S.made steps.old) (S.made steps.new) (refusal_by result) }
     ensures noted { OnOk result ((W : World) → AreAnswered W (S.made steps.old) (S.made steps.new)
         → report.new ≡ report.old ++ lost_below W.files at.inode (min (slots_of_size size) (slots_of W))) }
     ensures right { (W : World) → AreAnswered W (S.made steps.old) (S.made steps.new) → MayAsk W.files false at
@@ -83,10 +83,10 @@ fn note_slots<S: Steps>(
 /// Notes the lost slots of a file.
 pub(crate) fn note_file<S: Steps>(
     steps: &mut S,
-    at: Handle,
+    at: InodeHandle,
     report: &mut Report,
 ) -> Result<(), SalvageFault>
-    ensures reads { Reads (S.made steps.old) (S.made steps.new) (refusal_by result) }
+    ensures reads { MakesReads (S.made steps.old) (S.made steps.new) (refusal_by result) }
     ensures noted { OnOk result ((W : World) → AreAnswered W (S.made steps.old) (S.made steps.new) → report.new ≡ report.old ++ file_losses W at.inode) }
     ensures there { OnOk result ((W : World) → AreAnswered W (S.made steps.old) (S.made steps.new) → is_there W.files at.inode at.generation ≡ true) }
     ensures right { (W : World) → AreAnswered W (S.made steps.old) (S.made steps.new) → MayAsk W.files false at

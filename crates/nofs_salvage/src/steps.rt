@@ -6,7 +6,7 @@ ghost use Rattle.std.specs.Prelude.{◌≡◌, ◌<◌, ℕ, IfOk, Bool, List, N
 ghost use Rattle.nofs_history.specs.Machine.{size_of as size_of_file, slots_in as slots_of_size};
 ghost use Rattle.nofs_history.specs.Steps.{Made};
 ghost use Rattle.nofs_history.specs.World.{World};
-ghost use Rattle.nofs_salvage.specs.Reads.{IsRead, is_get, Reads, IsAccepted, refusal_by, found_by, size_by, listed_by, got_by};
+ghost use Rattle.nofs_salvage.specs.Reads.{IsReadingStep, is_get, MakesReads, IsAccepted, refusal_by, found_by, size_by, listed_by, got_by};
 ghost use Rattle.nofs_salvage.specs.Reads.{is_too_large as too_large_by};
 ghost use Rattle.nofs_salvage.specs.Report.{inode_found};
 ghost use Rattle.nofs_salvage.specs.Answered.{AreAnswered, IsListedFrom, IsGot};
@@ -14,7 +14,7 @@ ghost use Rattle.nofs_salvage.specs.Refusing.{is_there, AreFair, MakesOne, MayAs
 ghost use Rattle.nofs_salvage.specs.Told.{IsFolderPart};
 ghost use Rattle.nofs_salvage.specs.Asks.{Asks, AsksOn, HasReached, HasGiven, HasTold, ListGives, has_slot};
 
-use crate::lost::answers::{Got, Handle, Listed};
+use crate::lost::answers::{SlotState, InodeHandle, NextSlot};
 use crate::lost::fault::{SalvageFault, fault_of};
 use nofs_dirent::Name;
 use nofs_history::{Refusal, Reply, Step, Steps};
@@ -22,9 +22,9 @@ use std::alloc::Global;
 
 // Makes a step that reads.
 fn ask<S: Steps>(steps: &mut S, step: Step) -> Result<Reply, SalvageFault>
-    requires read { IsRead step }
+    requires read { IsReadingStep step }
     requires no_get { is_get step ≡ false }
-    ensures reads { Reads (S.made steps.old) (S.made steps.new) (refusal_by result) }
+    ensures reads { MakesReads (S.made steps.old) (S.made steps.new) (refusal_by result) }
     ensures accepted { IfOk result (λ reply. IsAccepted (S.made steps.old) (S.made steps.new) step reply) }
     ensures one { MakesOne (S.made steps.old) (S.made steps.new) step }
     ensures goes { S.goes steps.old steps.new }
@@ -36,12 +36,12 @@ fn ask<S: Steps>(steps: &mut S, step: Step) -> Result<Reply, SalvageFault>
 }
 
 // What the reply to a look says.
-fn found_in(reply: Reply) -> Result<Handle, SalvageFault>
+fn found_in(reply: Reply) -> Result<InodeHandle, SalvageFault>
     ensures is { result ≡ found_by reply }
     ensures no_refusal { refusal_by result ≡ None }
 {
     match reply {
-        Reply::Found(found) => Ok(Handle {
+        Reply::Found(found) => Ok(InodeHandle {
             inode: found.inode,
             generation: found.generation,
         }),
@@ -50,8 +50,8 @@ fn found_in(reply: Reply) -> Result<Handle, SalvageFault>
 }
 
 // The file or directory that a name finds.
-fn look<S: Steps>(steps: &mut S, at: Handle, name: Name) -> Result<Handle, SalvageFault>
-    ensures reads { Reads (S.made steps.old) (S.made steps.new) (refusal_by result) }
+fn look<S: Steps>(steps: &mut S, at: InodeHandle, name: Name) -> Result<InodeHandle, SalvageFault>
+    ensures reads { MakesReads (S.made steps.old) (S.made steps.new) (refusal_by result) }
     ensures goes { S.goes steps.old steps.new }
     ensures right { (W : World) (folder : Bool) → AreAnswered W (S.made steps.old) (S.made steps.new) → MayAsk W.files true at
         → LeadsTo W.files at.inode name folder → AreFair W.files (S.made steps.old) (S.made steps.new) }
@@ -73,10 +73,10 @@ fn look<S: Steps>(steps: &mut S, at: Handle, name: Name) -> Result<Handle, Salva
 pub(crate) fn find<S: Steps>(
     alloc: Global,
     steps: &mut S,
-    at: Handle,
+    at: InodeHandle,
     name: &Name,
-) -> Result<Handle, SalvageFault>
-    ensures reads { Reads (S.made steps.old) (S.made steps.new) (refusal_by result) }
+) -> Result<InodeHandle, SalvageFault>
+    ensures reads { MakesReads (S.made steps.old) (S.made steps.new) (refusal_by result) }
     ensures goes { S.goes steps.old steps.new }
     ensures right { (W : World) (folder : Bool) → AreAnswered W (S.made steps.old) (S.made steps.new) → MayAsk W.files true at
         → LeadsTo W.files at.inode name.now folder → AreFair W.files (S.made steps.old) (S.made steps.new) }
@@ -103,8 +103,8 @@ fn size_in(reply: Reply) -> Result<u64, SalvageFault>
 }
 
 /// The size of a file in bytes.
-pub(crate) fn size_of<S: Steps>(steps: &mut S, at: Handle) -> Result<u64, SalvageFault>
-    ensures reads { Reads (S.made steps.old) (S.made steps.new) (refusal_by result) }
+pub(crate) fn size_of<S: Steps>(steps: &mut S, at: InodeHandle) -> Result<u64, SalvageFault>
+    ensures reads { MakesReads (S.made steps.old) (S.made steps.new) (refusal_by result) }
     ensures goes { S.goes steps.old steps.new }
     ensures right { (W : World) (folder : Bool) → AreAnswered W (S.made steps.old) (S.made steps.new) → MayAsk W.files folder at
         → AreFair W.files (S.made steps.old) (S.made steps.new) }
@@ -121,21 +121,21 @@ pub(crate) fn size_of<S: Steps>(steps: &mut S, at: Handle) -> Result<u64, Salvag
 }
 
 // What the reply to a list says.
-fn listed_in(reply: Reply) -> Result<Listed, SalvageFault>
+fn listed_in(reply: Reply) -> Result<NextSlot, SalvageFault>
     ensures is { result ≡ listed_by reply }
     ensures no_refusal { refusal_by result ≡ None }
 {
     match reply {
-        Reply::Names(slot, names) => Ok(Listed::Names(slot, names)),
-        Reply::LostNames(slot) => Ok(Listed::LostNames(slot)),
-        Reply::NoMore => Ok(Listed::NoMore),
+        Reply::Names(slot, names) => Ok(NextSlot::Names(slot, names)),
+        Reply::LostNames(slot) => Ok(NextSlot::LostNames(slot)),
+        Reply::NoMore => Ok(NextSlot::NoMore),
         _ => Err(SalvageFault::OutOfMemory),
     }
 }
 
 /// The first slot of a directory, from the given one on, that isn't a hole.
-pub(crate) fn list<S: Steps>(steps: &mut S, at: Handle, slot: u64) -> Result<Listed, SalvageFault>
-    ensures reads { Reads (S.made steps.old) (S.made steps.new) (refusal_by result) }
+pub(crate) fn list<S: Steps>(steps: &mut S, at: InodeHandle, slot: u64) -> Result<NextSlot, SalvageFault>
+    ensures reads { MakesReads (S.made steps.old) (S.made steps.new) (refusal_by result) }
     ensures goes { S.goes steps.old steps.new }
     ensures right { (W : World) → AreAnswered W (S.made steps.old) (S.made steps.new) → MayAsk W.files true at
         → AreFair W.files (S.made steps.old) (S.made steps.new) }
@@ -160,25 +160,25 @@ fn is_too_large(why: Refusal) -> bool
 }
 
 // What the reply to a get says.
-fn told(reply: Reply) -> Result<Got, SalvageFault>
+fn told(reply: Reply) -> Result<SlotState, SalvageFault>
     ensures { result ≡ got_by reply }
 {
     match reply {
         Reply::Refused(why) => {
             if is_too_large(why) {
-                Ok(Got::NoSlot)
+                Ok(SlotState::NoSlot)
             } else {
                 Err(fault_of(why))
             }
         }
-        Reply::Lost => Ok(Got::Lost),
-        _ => Ok(Got::Kept),
+        Reply::Lost => Ok(SlotState::Lost),
+        _ => Ok(SlotState::Kept),
     }
 }
 
 /// What a slot of a file has.
-pub(crate) fn get<S: Steps>(steps: &mut S, at: Handle, slot: u64) -> Result<Got, SalvageFault>
-    ensures reads { Reads (S.made steps.old) (S.made steps.new) (refusal_by result) }
+pub(crate) fn get<S: Steps>(steps: &mut S, at: InodeHandle, slot: u64) -> Result<SlotState, SalvageFault>
+    ensures reads { MakesReads (S.made steps.old) (S.made steps.new) (refusal_by result) }
     ensures goes { S.goes steps.old steps.new }
     ensures asks { (first : List Made) (size : ℕ) → slot < slots_of_size size → Asks first (S.made steps.old) → HasReached first (S.made steps.old) at
         → HasTold first (S.made steps.old) at size → Asks first (S.made steps.new) }

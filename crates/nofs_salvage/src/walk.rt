@@ -6,7 +6,7 @@ ghost use Rattle.std.specs.Prelude.{◌≡◌, ℕ, Bool, true, List, [], ◌∷
 ghost use Rattle.std.specs.Fn.{FnReturnsAt};
 ghost use Rattle.nofs_history.specs.World.{World};
 ghost use Rattle.nofs_history.specs.Steps.{Made};
-ghost use Rattle.nofs_salvage.specs.Reads.{Reads, refusal_by};
+ghost use Rattle.nofs_salvage.specs.Reads.{MakesReads, refusal_by};
 ghost use Rattle.nofs_salvage.specs.Report.{report_of};
 ghost use Rattle.nofs_salvage.specs.Answered.{AreAnswered};
 ghost use Rattle.nofs_salvage.specs.Refusing.{is_there, HasRoots, MayRefuse, AreFair};
@@ -16,7 +16,7 @@ ghost use Rattle.nofs_salvage.specs.Noted.{TreeNoted};
 ghost use Rattle.nofs_salvage.specs.Asks.{Asks};
 
 use crate::folders::note_folder;
-use crate::lost::answers::Handle;
+use crate::lost::answers::InodeHandle;
 use crate::lost::fault::SalvageFault;
 use crate::lost::filter::{NameFilter, NameRule};
 use crate::lost::findings::Findings;
@@ -35,7 +35,7 @@ fn note_tree<S: Steps, P: Fn(&[u8]) -> bool, R: NameRule>(
     requires may { P.IsAlwaysCallable filter.now.keep }
     requires decides { (name : List ℕ) (yes : Bool) → FnReturnsAt P.Fn filter.now.keep name yes → yes ≡ R.picks filter.now.rule name }
     requires root { handles_in findings.old.tree ≡ root_handle ∷ [] }
-    ensures reads { Reads (S.made steps.old) (S.made steps.new) (refusal_by result) }
+    ensures reads { MakesReads (S.made steps.old) (S.made steps.new) (refusal_by result) }
     ensures tree { OnOk result (TreeNoted (R.picks filter.now.rule) (S.made steps.old) (S.made steps.new) findings.old.report findings.new.report) }
     ensures right { (W : World) → HasRoots W.files → AreAnswered W (S.made steps.old) (S.made steps.new)
         → AreFair W.files (S.made steps.old) (S.made steps.new) }
@@ -68,7 +68,7 @@ pub fn salvage<S: Steps, P: Fn(&[u8]) -> bool, R: NameRule>(
 ) -> Result<Report, SalvageFault>
     requires may { P.IsAlwaysCallable filter.now.keep }
     requires decides { (name : List ℕ) (yes : Bool) → FnReturnsAt P.Fn filter.now.keep name yes → yes ≡ R.picks filter.now.rule name }
-    ensures reads { Reads (S.made steps.old) (S.made steps.new) (refusal_by result) }
+    ensures reads { MakesReads (S.made steps.old) (S.made steps.new) (refusal_by result) }
     ensures report { IfOk result (λ report. (W : World) → AreAnswered W (S.made steps.old) (S.made steps.new)
         → report ≡ report_of W (R.picks filter.now.rule)) }
     ensures refused { (W : World) → HasRoots W.files → AreAnswered W (S.made steps.old) (S.made steps.new) → IfSome (refusal_by result) (MayRefuse W.files) }
@@ -78,7 +78,7 @@ pub fn salvage<S: Steps, P: Fn(&[u8]) -> bool, R: NameRule>(
     ensures goes { S.goes steps.old steps.new }
 {
     let mut findings = Findings::new(alloc)?;
-    let label = Handle {
+    let label = InodeHandle {
         inode: 2,
         generation: 2,
     };

@@ -14,7 +14,7 @@ use Rattle.nofs_history.specs.declared.machine.steps.ElementKind.TheVariants as 
 use Rattle.nofs_racelaw.proofs.OneRun.{law-late}
 use Rattle.nofs_state.specs.Books.{IsSafe}
 use Rattle.nofs_state.specs.Standing.{IsOpen, Past}
-use Rattle.nofs_state.specs.Verdicts.{Settles, StaysSo, LearnsIt}
+use Rattle.nofs_state.specs.Verdicts.{OffersVerdict, StaysSo, LearnsIt}
 use Rattle.nofs_state.specs.declared.books.Books.{Books}
 use Rattle.nofs_state.proofs.Machine.{are-agreed}
 use Rattle.nofs_state.proofs.Seeing.{machine-block, machine-inode, seen-causes}
@@ -86,7 +86,7 @@ module _ (early : DiskState) (before : Books) (d : DiskState) (k : Books) (kind 
   here : IsElement d k (see_step kind v.item) (verdict_of kind k v.item) (learned kind k v.item) (λ X. is_used kind X v.item) (MayLearn kind k v.item)
   here = element-of d k kind v.item is safe going range-now
 
-  pub commits : (l : Books) (result : Bool) → Settles k l (verdict_of kind k v.item) (learned kind k v.item) used result
+  pub commits : (l : Books) (result : Bool) → OffersVerdict k l (verdict_of kind k v.item) (learned kind k v.item) used result
       → Commits early before d k l kind v.item used result
   commits l result (StaysSo stood e) = subst (λ (m : Books). Commits early before d k m kind v.item used result) (sym e) (record {
     settles = StaysSo stood refl;

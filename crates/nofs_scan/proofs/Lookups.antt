@@ -14,11 +14,11 @@ use Rattle.nofs_history.specs.declared.machine.steps.ElementKind.{ElementKind}
 use Rattle.nofs_history.specs.declared.machine.steps.ElementKind.TheVariants as element
 use Rattle.nofs_history.specs.declared.machine.replies.Refusal.{Refusal}
 use Rattle.nofs_history.specs.declared.machine.replies.Refusal.TheVariants as refusal
-use Rattle.nofs_agree.specs.Chains.{AreTrue, Learns}
+use Rattle.nofs_agree.specs.Chains.{AreTrue, LearnsAgreement}
 use Rattle.nofs_agree.specs.Reading.{IsAt}
 use Rattle.nofs_agree.proofs.Climbs.{told-on}
 use Rattle.nofs_agree.proofs.Learning.{learns-more, learns-none}
-use Rattle.nofs_scan.specs.Elements.{HasElement, IsSeen, is_used, items_of, least_free}
+use Rattle.nofs_scan.specs.Elements.{HasElement, IsScanVerdict, is_used, items_of, least_free}
 use Rattle.nofs_scan.specs.Looking.{LooksAll, LooksAt, LooksFail}
 use Rattle.nofs_scan.specs.Seeing.{Sees}
 use Rattle.nofs_scan.specs.Sights.{block_sight, inode_sight, item_of, sight_verdict, sight_in, verdict_by}
@@ -33,9 +33,9 @@ use Rattle.nofs_scan.proofs.Sighted.{judged-is}
 right-of : (old new : DiskState) (at : SuperBlock) (known more : List (Option Bool)) (kind : ElementKind) (item : ℕ) (s : Sight) → IsAt old at
     → HasElement kind at item
     → Sees old new known more (λ X. sight_in kind X item) (Ok s) → item_of s ≡ item → (sight_verdict s ≡ false → least_free kind at ≤ item)
-    → IsSeen old at known kind (verdict_by s)
+    → IsScanVerdict old at known kind (verdict_by s)
 right-of old new at known more kind item s is range sees same may =
-    subst (λ (i : ℕ). IsSeen old at known kind (record { item = i; used = sight_verdict s })) (sym same) (record {
+    subst (λ (i : ℕ). IsScanVerdict old at known kind (record { item = i; used = sight_verdict s })) (sym same) (record {
       range = range;
       may = may;
       scan = λ tells agreed. ap sight_verdict (sees.found tells agreed)
@@ -101,10 +101,10 @@ block-looked old new at known more b s is range high sees same =
 pub record Looked (old : DiskState) (at : SuperBlock) (known more : List (Option Bool)) (now : DiskState) (kind : ElementKind) (asked : List ℕ) (place : ℕ)
     (ss : List Sight) : Type 0 where
   pub stays : StaysButFaults old now
-  pub learns : Learns old known more
+  pub learns : LearnsAgreement old known more
   pub sees : IsTrue old.tells → AreTrue old.now known → ss ≡ map (sight_in kind old.now) (take place asked)
   pub items : items_of (map verdict_by ss) ≡ take place asked
-  pub right : All (IsSeen old at known kind) (map verdict_by ss)
+  pub right : All (IsScanVerdict old at known kind) (map verdict_by ss)
 
 pub looked-begins : (old : DiskState) (at : SuperBlock) (known : List (Option Bool)) (kind : ElementKind) (items : List ℕ)
     → Looked old at known known old kind items 0 []
@@ -113,15 +113,15 @@ looked-begins old at known kind items = record {
   learns = learns-none old known;
   sees = λ tells agreed. refl;
   items = refl;
-  right = All-nil (IsSeen old at known kind);
+  right = All-nil (IsScanVerdict old at known kind);
 }
 
 -- What is right of a disk that stayed, with more known of it, is right of it before, and so is what was seen
-module _ (old now : DiskState) (known more : List (Option Bool)) (stays : StaysButFaults old now) (learns : Learns old known more) where
+module _ (old now : DiskState) (known more : List (Option Bool)) (stays : StaysButFaults old now) (learns : LearnsAgreement old known more) where
   true-now : IsTrue old.tells → AreTrue old.now known → AreTrue now.now more
   true-now tells agreed = subst (λ (X : Image). AreTrue X more) (sym stays.cells.now) (learns.still tells agreed)
 
-  right-before : (at : SuperBlock) (kind : ElementKind) (v : Verdict) → IsSeen now at more kind v → IsSeen old at known kind v
+  right-before : (at : SuperBlock) (kind : ElementKind) (v : Verdict) → IsScanVerdict now at more kind v → IsScanVerdict old at known kind v
   right-before at kind v r = record {
     range = r.range;
     may = r.may;
@@ -151,8 +151,8 @@ looked-goes old now new at known more most kind items place d ss ts s l low look
           ∙ ap (map (sight_in kind old.now)) (sym next);
       items = ap items_of all ∙ map-append (λ (v : Verdict). v.item) (map verdict_by ss) (verdict_by s ∷ []) ∙ (λ j. l.items j ++ looks.number j ∷ [])
           ∙ sym next;
-      right = subst (All (IsSeen old at known kind)) (sym all)
-          (All-push (IsSeen old at known kind) (map verdict_by ss) (verdict_by s) l.right
+      right = subst (All (IsScanVerdict old at known kind)) (sym all)
+          (All-push (IsScanVerdict old at known kind) (map verdict_by ss) (verdict_by s) l.right
           (right-before old now known more l.stays l.learns at kind (verdict_by s) looks.right));
     }
 

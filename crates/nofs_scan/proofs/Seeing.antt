@@ -5,7 +5,7 @@ use Rattle.nofs_disk.specs.Chains.{Rose-within, StaysButFaults-trans}
 use Rattle.nofs_disk.specs.declared.Failed.{Failed}
 use Rattle.nofs_model.specs.Image.{Image}
 use Rattle.nofs_model.specs.Files.{agreed, files_in}
-use Rattle.nofs_agree.specs.Chains.{AreTrue, Learns}
+use Rattle.nofs_agree.specs.Chains.{AreTrue, LearnsAgreement}
 use Rattle.nofs_agree.proofs.Climbs.{told-on}
 use Rattle.nofs_agree.proofs.Learning.{learns-more, learns-none}
 use Rattle.nofs_scan.specs.Seeing.{ReadsAnswer, Sees}
@@ -23,11 +23,11 @@ reads-sees old new known f (Ok a) r = record { stays = r.stays; learns = learns-
 reads-sees old new known f (Err e) r = record { stays = r.stays; learns = learns-none old known; found = tt; cause = r.cause }
 
 -- whether an inode is agreed, as the check of its chain learns it
-pub agreed-sees : (old new : DiskState) (known more : List (Option Bool)) (i : ℕ) (a : Bool) → StaysButFaults old new → Learns old known more
+pub agreed-sees : (old new : DiskState) (known more : List (Option Bool)) (i : ℕ) (a : Bool) → StaysButFaults old new → LearnsAgreement old known more
     → (IsTrue old.tells → AreTrue old.now known → a ≡ agreed (files_in old.now) i) → Sees old new known more (λ X. agreed (files_in X) i) (Ok a)
 agreed-sees old new known more i a stays learns found = record { stays = stays; learns = learns; found = found; cause = tt }
 
-pub agreed-fails : (old new : DiskState) (known more : List (Option Bool)) (i : ℕ) (e : Failed) → StaysButFaults old new → Learns old known more
+pub agreed-fails : (old new : DiskState) (known more : List (Option Bool)) (i : ℕ) (e : Failed) → StaysButFaults old new → LearnsAgreement old known more
     → Rose old.faults new.faults → Sees old new known more (λ X. agreed (files_in X) i) (Err e)
 agreed-fails old new known more i e stays learns rose = record { stays = stays; learns = learns; found = tt; cause = rose }
 

@@ -17,13 +17,13 @@ abbrev pub least : ElementKind → ℕ
 least element.Inode = 1
 least element.Block = 0
 
-abbrev pub end_of : ElementKind → SuperBlock → ℕ
-end_of element.Inode at = at.inodes + 1
-end_of element.Block at = at.blocks
+abbrev pub element_end : ElementKind → SuperBlock → ℕ
+element_end element.Inode at = at.inodes + 1
+element_end element.Block at = at.blocks
 
 -- the disk has this element
 abbrev pub HasElement : ElementKind → SuperBlock → ℕ → Type 0
-HasElement kind at item = (least kind ≤ item) × (item < end_of kind at)
+HasElement kind at item = (least kind ≤ item) × (item < element_end kind at)
 
 -- the step that examines it
 abbrev pub see_step : ElementKind → ℕ → Step
@@ -55,14 +55,14 @@ abbrev pub MayLearn : ElementKind → Books → ℕ → Bool → Type 0
 MayLearn kind k item used = used ≡ false → least_free kind k.at ≤ item
 
 -- a verdict is the scan's, where the disk tells and what is known of inodes is true
-pub record IsSeen (d : DiskState) (at : SuperBlock) (known : List (Option Bool)) (kind : ElementKind) (v : Verdict) : Type 0 where
+pub record IsScanVerdict (d : DiskState) (at : SuperBlock) (known : List (Option Bool)) (kind : ElementKind) (v : Verdict) : Type 0 where
   pub range : HasElement kind at v.item
   pub may : v.used ≡ false → least_free kind at ≤ v.item
   pub scan : IsTrue d.tells → AreTrue d.now known → v.used ≡ is_used kind d.now v.item
 
 -- so it is where what these books know is
 abbrev pub IsRight : DiskState → Books → ElementKind → Verdict → Type 0
-IsRight d k kind v = IsSeen d k.at k.agreement kind v
+IsRight d k kind v = IsScanVerdict d k.at k.agreement kind v
 
 -- the verdict at a place
 abbrev pub verdict_at : List Verdict → ℕ → Verdict

@@ -8,7 +8,7 @@ use Rattle.nofs_history.specs.declared.machine.replies.Reply.TheVariants as repl
 use Rattle.nofs_state.specs.Books.{IsSafe}
 use Rattle.nofs_state.specs.Standing.{IsOpen, Past}
 use Rattle.nofs_state.specs.Steps.{Causes, Follows, SameMount, entry}
-use Rattle.nofs_state.specs.Verdicts.{Settles}
+use Rattle.nofs_state.specs.Verdicts.{OffersVerdict}
 use Rattle.nofs_state.specs.declared.books.Books.{Books}
 use Rattle.nofs_scan.specs.Elements.{is_used, learned, see_step, verdict_at, verdict_of}
 use Rattle.nofs_scan.specs.declared.sights.evidence.Verdict.{Verdict}
@@ -35,7 +35,7 @@ pub record MayCommit (d : DiskState) (k before : Books) (vs : List Verdict) (pla
 -- A verdict that was right in an earlier state is committed now. The disk `d` stays: a commit makes no call
 pub record Commits (early : DiskState) (before : Books) (d : DiskState) (k l : Books) (kind : ElementKind) (item : ℕ) (used result : Bool) : Type 0 where
   -- over any disk: a verdict that stood stays, and is the answer
-  pub settles : Settles k l (verdict_of kind k item) (learned kind k item) used result
+  pub settles : OffersVerdict k l (verdict_of kind k item) (learned kind k item) used result
   pub cause : Causes d d k l (reply.Seen result)
   pub safe : IsSafe d l
   pub at : l.at ≡ k.at

@@ -8,8 +8,8 @@ use Rattle.nofs_history.specs.declared.machine.replies.Refusal.{Refusal}
 use Rattle.nofs_history.specs.declared.machine.replies.Refusal.TheVariants as refusal
 use Rattle.nofs_state.specs.Knowing.{with_agreement}
 use Rattle.nofs_state.specs.declared.books.Books.{Books}
-use Rattle.nofs_agree.specs.Chains.{AreTrue, Learns}
-use Rattle.nofs_scan.specs.Elements.{HasElement, IsSeen, items_of}
+use Rattle.nofs_agree.specs.Chains.{AreTrue, LearnsAgreement}
+use Rattle.nofs_scan.specs.Elements.{HasElement, IsScanVerdict, items_of}
 use Rattle.nofs_scan.specs.Seeing.{Sees}
 use Rattle.nofs_scan.specs.Sights.{item_of, sight_in, verdict_by}
 use Rattle.nofs_scan.specs.declared.sights.sights.Sight.{Sight}
@@ -19,7 +19,7 @@ pub record LooksAt (old : DiskState) (at : SuperBlock) (known more : List (Optio
     (result : Result Sight Failed) : Type 0 where
   pub sees : Sees old new known more (λ X. sight_in kind X item) result
   pub number : IfOk result (λ s. item_of s ≡ item)
-  pub right : IfOk result (λ s. IsSeen old at known kind (verdict_by s))
+  pub right : IfOk result (λ s. IsScanVerdict old at known kind (verdict_by s))
 
 -- 1 to 64 elements of the disk
 pub record IsBatch (kind : ElementKind) (at : SuperBlock) (items : List ℕ) : Type 0 where
@@ -30,7 +30,7 @@ pub record IsBatch (kind : ElementKind) (at : SuperBlock) (items : List ℕ) : T
 -- a look changes nothing but the device's count of faults, and what is known of inodes
 pub record OnlyLearns (old : DiskState) (k : Books) (new : DiskState) (l : Books) : Type 0 where
   pub books : l ≡ with_agreement k l.agreement
-  pub learns : Learns old k.agreement l.agreement
+  pub learns : LearnsAgreement old k.agreement l.agreement
   pub stays : StaysButFaults old new
 
 -- why a look is refused
@@ -50,8 +50,8 @@ LooksFail old new _ = ⊥
 pub record LooksAll (old : DiskState) (at : SuperBlock) (known more : List (Option Bool)) (new : DiskState) (kind : ElementKind) (asked : List ℕ)
     (result : Result (List Sight) Refusal) : Type 0 where
   pub stays : StaysButFaults old new
-  pub learns : Learns old known more
+  pub learns : LearnsAgreement old known more
   pub sees : IfOk result (λ ss. IsTrue old.tells → AreTrue old.now known → ss ≡ map (sight_in kind old.now) asked)
   pub items : IfOk result (λ ss. items_of (map verdict_by ss) ≡ asked)
-  pub right : IfOk result (λ ss. All (IsSeen old at known kind) (map verdict_by ss))
+  pub right : IfOk result (λ ss. All (IsScanVerdict old at known kind) (map verdict_by ss))
   pub refused : IfErr result (LooksFail old new)

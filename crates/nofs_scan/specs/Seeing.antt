@@ -3,7 +3,7 @@ use Rattle.std.specs.Prelude.{◌≡◌, Bool, List, Option, IsTrue, Result, IfO
 use Rattle.nofs_disk.specs.declared.Failed.{Failed}
 use Rattle.nofs_disk.specs.Disk.{DiskState, StaysButFaults, Rose}
 use Rattle.nofs_model.specs.Image.{Image}
-use Rattle.nofs_agree.specs.Chains.{AreTrue, Learns}
+use Rattle.nofs_agree.specs.Chains.{AreTrue, LearnsAgreement}
 
 -- what was read is this of the image, where the disk tells
 pub record ReadsAnswer {T : Type 0} (old new : DiskState) (answer : Image → T) (result : Result T Failed) : Type 0 where
@@ -14,6 +14,6 @@ pub record ReadsAnswer {T : Type 0} (old new : DiskState) (answer : Image → T)
 -- so it is where what was known of inodes is true, and more is known of them then
 pub record Sees {T : Type 0} (old new : DiskState) (known more : List (Option Bool)) (answer : Image → T) (result : Result T Failed) : Type 0 where
   pub stays : StaysButFaults old new
-  pub learns : Learns old known more
+  pub learns : LearnsAgreement old known more
   pub found : IfOk result (λ a. IsTrue old.tells → AreTrue old.now known → a ≡ answer old.now)
   pub cause : OnErr result (Rose old.faults new.faults)

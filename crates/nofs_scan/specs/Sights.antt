@@ -6,7 +6,7 @@ use Rattle.nofs_model.specs.Image.{Image, cell_at, inode, is_data_block, is_fixe
 use Rattle.nofs_model.specs.Image.{record_pointer, kind_in, is_tag, Files, files_in, entry_at, is_a, is_special, agreed}
 use Rattle.nofs_history.specs.declared.machine.steps.ElementKind.{ElementKind}
 use Rattle.nofs_history.specs.declared.machine.steps.ElementKind.TheVariants as element
-use Rattle.nofs_scan.specs.declared.sights.sights.Named.{Named}
+use Rattle.nofs_scan.specs.declared.sights.sights.EntryTarget.{EntryTarget}
 use Rattle.nofs_scan.specs.declared.sights.sights.LinkSight.{LinkSight}
 use Rattle.nofs_scan.specs.declared.sights.sights.InodeSight.{InodeSight}
 use Rattle.nofs_scan.specs.declared.sights.sights.Above.{Above}
@@ -20,12 +20,12 @@ use Rattle.nofs_scan.specs.declared.sights.evidence.Verdict.{Verdict}
 -- What is read of an image
 
 -- whom an entry names
-abbrev pub named_inode : Option Entry → Option Named
+abbrev pub named_inode : Option Entry → Option EntryTarget
 named_inode None = None
 named_inode (Some e) = Some (record { inode = e.inode; generation = e.generation })
 
 -- the entry that a back link names, in a directory of its generation
-abbrev pub entry_linked : Files → BackLink → Option Named
+abbrev pub entry_linked : Files → BackLink → Option EntryTarget
 entry_linked F l = if is_a file.Directory l.generation (F l.directory) then named_inode (entry_at F l.directory l.entry) else None
 
 abbrev pub link_sight : Image → BackLink → LinkSight
@@ -94,7 +94,7 @@ sight_in element.Block X p = if is_fixed_block X p then sight.Fixed p else sight
 -- The verdict of what was read
 
 -- the entry names this generation of the inode
-abbrev pub names_it : Option Named → ℕ → ℕ → Bool
+abbrev pub names_it : Option EntryTarget → ℕ → ℕ → Bool
 names_it None i g = false
 names_it (Some n) i g = (n.inode == i) && (n.generation == g)
 

@@ -1,6 +1,6 @@
 //! A verdict that was found before is committed.
 ghost use Rattle.std.specs.Prelude.{◌≡◌, ◌<◌, ◌^◌, length};
-ghost use Rattle.nofs_state.specs.Verdicts.{Settles};
+ghost use Rattle.nofs_state.specs.Verdicts.{OffersVerdict};
 ghost use Rattle.nofs_scan.specs.Elements.{HasElement, learned, verdict_at, verdict_of};
 ghost use Rattle.nofs_scan.specs.Late.{Commits, MayCommit};
 
@@ -36,7 +36,7 @@ fn settle(books: &mut Books, kind: ElementKind, item: u64, used: bool) -> bool
     requires blocks { length books.old.unknown_blocks ≡ books.old.at.blocks }
     requires free_blocks { length books.old.free_blocks ≡ books.old.at.blocks }
     requires small { books.old.at.inodes < 2 ^ 32 }
-    ensures { Settles books.old books.new (verdict_of kind books.old item) (learned kind books.old item) used result }
+    ensures { OffersVerdict books.old books.new (verdict_of kind books.old item) (learned kind books.old item) used result }
 {
     match kind {
         ElementKind::Inode => books.settle_inode(item as u32, used),

@@ -18,7 +18,7 @@ ghost use Rattle.nofs_scan.specs.Sights as sights;
 
 use crate::sights::judging::is_slot;
 use crate::sights::sights::{
-    Above, BlockSight, BlocksAbove, InodeSight, LinkSight, Named, Sight, TagSight,
+    Above, BlockSight, BlocksAbove, InodeSight, LinkSight, EntryTarget, Sight, TagSight,
 };
 use nofs_agree::{Known, LastRead, PathAnswer, find_slot, learn_chain, read_block, read_inode};
 use nofs_dirent::bytes_of;
@@ -134,7 +134,7 @@ fn read_link_entry<D: Disk>(
     disk: &mut D,
     at: &SuperBlock,
     link: &BackLink,
-) -> Result<Option<Named>, Failed>
+) -> Result<Option<EntryTarget>, Failed>
     requires { IsAt (D.state disk.old) at.now }
     ensures { ReadsAnswer (D.state disk.old) (D.state disk.new) (λ X. sights.entry_linked (files.files_in X) link.now) result }
 {
@@ -160,7 +160,7 @@ fn read_entry_of<D: Disk>(
     link: &BackLink,
     directory: &Record,
     last: &mut LastRead,
-) -> Result<Option<Named>, Failed>
+) -> Result<Option<EntryTarget>, Failed>
     requires directory { KnowsDirectory (D.state disk.old) at.now link.now.directory link.now.generation directory.now }
     requires last { IsLast (D.state disk.old) last.old }
     ensures { ReadsAnswer (D.state disk.old) (D.state disk.new)
@@ -178,7 +178,7 @@ fn read_entry_of<D: Disk>(
 }
 
 // Whom the entry at a place of a directory cell names.
-fn named_at(payload: &[u8; 1024], at: u32) -> Option<Named>
+fn named_at(payload: &[u8; 1024], at: u32) -> Option<EntryTarget>
     requires { at < 16 }
     ensures { result ≡ sights.named_inode (entry_in payload.now at) }
 {
@@ -186,7 +186,7 @@ fn named_at(payload: &[u8; 1024], at: u32) -> Option<Named>
     let inode = read_u32_at(bytes, 0);
     let generation = read_u64_at(bytes, 8);
     if names_inode(payload, at, inode, generation) {
-        Some(Named { inode, generation })
+        Some(EntryTarget { inode, generation })
     } else {
         None
     }

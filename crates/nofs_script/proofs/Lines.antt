@@ -8,7 +8,7 @@ use Rattle.nofs_script.specs.declared.faults.ScriptFault.{ScriptFault}
 use Rattle.nofs_script.specs.declared.faults.TextFault.{TextFault}
 use Rattle.nofs_script.specs.declared.faults.TextFault.TheVariants.{Wrong, OutOfMemory}
 use Rattle.nofs_script.specs.Words.{text_lines}
-use Rattle.nofs_script.specs.Grammar.{◌>>=◌, Fails, Gives}
+use Rattle.nofs_script.specs.Grammar.{◌>>=◌, MatchesFault, MatchesReading}
 use Rattle.nofs_script.proofs.Cuts.{Lacks, after, one_part, first_part}
 use Rattle.nofs_script.specs.Sessions.{at_line, line_to_break, read_line, read_from}
 
@@ -41,7 +41,7 @@ module _ (n : ℕ) (r : Reading) (text line rest : List ℕ) (end : ℕ) (total 
       ∙ sym (step n r text end feed none ∙ ap (λ x. x >>= λ next. read_from (n + 1) next (text_lines (after end text))) (read ∙ good)) ∙ so_far
 
   -- where it is bad, so is the text
-  pub ends : (e : TextFault ScriptFault) → Fails e (at_line n (read_line r line)) → Fails e total
+  pub ends : (e : TextFault ScriptFault) → MatchesFault e (at_line n (read_line r line)) → MatchesFault e total
   ends OutOfMemory bad = tt
   ends (Wrong fault) bad =
       sym so_far ∙ step n r text end feed none ∙ ap (λ x. x >>= λ next. read_from (n + 1) next (text_lines (after end text))) (read ∙ bad)
@@ -57,6 +57,6 @@ unfolding read_from
 all_read n r text none = ap (read_from n r) (one_part 10 text none) ∙ last (at_line n (read_line r text)) (n + 1)
 
 pub gives_last : (result : Result Reading (TextFault ScriptFault)) (n : ℕ) (r : Reading) (text : List ℕ) (total : Result Reading ScriptFault) → Lacks 10 text
-    → Gives (λ r. r) result (at_line n (read_line r text)) → read_from n r (text_lines text) ≡ total → Gives (λ r. r) result total
+    → MatchesReading (λ r. r) result (at_line n (read_line r text)) → read_from n r (text_lines text) ≡ total → MatchesReading (λ r. r) result total
 gives_last result n r text total none gives so_far =
-    subst (Gives (λ r. r) result) (sym (all_read n r text none) ∙ so_far) gives
+    subst (MatchesReading (λ r. r) result) (sym (all_read n r text none) ∙ so_far) gives

@@ -24,14 +24,14 @@ abbrev pub ◌>>=◌ : {A B E : Type 0} → Result A E → (A → Result B E) �
 (Err e) >>= f = Err e
 
 -- the fault of a text, or of a line of it, is the one that its reading has, unless memory ran out
-abbrev pub Fails : {W Y : Type 0} → TextFault W → Result Y W → Type 0
-Fails OutOfMemory read = Unit {0}
-Fails (Wrong what) read = read ≡ Err what
+abbrev pub MatchesFault : {W Y : Type 0} → TextFault W → Result Y W → Type 0
+MatchesFault OutOfMemory read = Unit {0}
+MatchesFault (Wrong what) read = read ≡ Err what
 
 -- a result is what a reading has, unless memory ran out
-abbrev pub Gives : {W X Y : Type 0} → (X → Y) → Result X (TextFault W) → Result Y W → Type 0
-Gives view (Ok x) read = read ≡ Ok (view x)
-Gives view (Err e) read = Fails e read
+abbrev pub MatchesReading : {W X Y : Type 0} → (X → Y) → Result X (TextFault W) → Result Y W → Type 0
+MatchesReading view (Ok x) read = read ≡ Ok (view x)
+MatchesReading view (Err e) read = MatchesFault e read
 
 -- what is there, or a fault
 abbrev pub or_fault : {A E : Type 0} → E → Option A → Result A E

@@ -3,7 +3,7 @@
 ghost use Rattle.std.specs.Prelude.{◌≡◌, ◌∷◌, ◌==◌, map, IfOk};
 ghost use Rattle.std.specs.List.{list_all, slice_split};
 ghost use Rattle.nofs_script.specs.Words.{piece_of, is_word};
-ghost use Rattle.nofs_script.specs.Grammar.{Gives, path_word, new_path_word, number_word, hex_word, verb_in, one_path as one_path_in, on_path as on_path_in, one_word as one_word_in, two_words as two_words_in, three_words as three_words_in, command_of, spelled_path, path_of_parts};
+ghost use Rattle.nofs_script.specs.Grammar.{MatchesReading, path_word, new_path_word, number_word, hex_word, verb_in, one_path as one_path_in, on_path as on_path_in, one_word as one_word_in, two_words as two_words_in, three_words as three_words_in, command_of, spelled_path, path_of_parts};
 
 use crate::faults::{LineFault, ScriptKind};
 use crate::words::number_of;
@@ -120,7 +120,7 @@ fn path_of(alloc: Global, word: &[u8]) -> Result<Option<Path>, AllocError>
 
 #[tactic(auto, unfolding(crate::specs::Grammar::path_word))]
 fn path(alloc: Global, word: &[u8]) -> Result<Path, LineFault>
-    ensures { Gives (λ path. path) result (path_word word.now) }
+    ensures { MatchesReading (λ path. path) result (path_word word.now) }
 {
     match path_of(alloc, word)? {
         Some(path) => Ok(path),
@@ -130,7 +130,7 @@ fn path(alloc: Global, word: &[u8]) -> Result<Path, LineFault>
 
 #[tactic(auto, unfolding(crate::specs::Grammar::new_path_word))]
 fn new_path(alloc: Global, word: &[u8]) -> Result<Path, LineFault>
-    ensures { Gives (λ path. path) result (new_path_word word.now) }
+    ensures { MatchesReading (λ path. path) result (new_path_word word.now) }
 {
     let path = path(alloc, word)?;
     if path.has_name() {
@@ -142,7 +142,7 @@ fn new_path(alloc: Global, word: &[u8]) -> Result<Path, LineFault>
 
 #[tactic(auto, unfolding(crate::specs::Grammar::number_word))]
 fn number(word: &[u8]) -> Result<u64, LineFault>
-    ensures { Gives (λ n. n) result (number_word word.now) }
+    ensures { MatchesReading (λ n. n) result (number_word word.now) }
 {
     match number_of(word) {
         Some(number) => Ok(number),
@@ -152,7 +152,7 @@ fn number(word: &[u8]) -> Result<u64, LineFault>
 
 #[tactic(auto, unfolding(crate::specs::Grammar::hex_word))]
 fn hex_bytes(alloc: Global, word: &[u8]) -> Result<Content, LineFault>
-    ensures { Gives (λ bytes. bytes) result (hex_word word.now) }
+    ensures { MatchesReading (λ bytes. bytes) result (hex_word word.now) }
 {
     if word.is_empty() {
         return Err(LineFault::Wrong(ScriptKind::BadHex));
@@ -166,7 +166,7 @@ fn hex_bytes(alloc: Global, word: &[u8]) -> Result<Content, LineFault>
 
 // PATH, or NEWPATH where a name is made or dropped.
 fn one_path(alloc: Global, verb: Verb, a: &[u8]) -> Result<Path, LineFault>
-    ensures { Gives (λ path. path) result (one_path_in verb a.now) }
+    ensures { MatchesReading (λ path. path) result (one_path_in verb a.now) }
 {
     match verb {
         Verb::Make | Verb::MakeDirectory | Verb::Drop => new_path(alloc, a),
@@ -178,7 +178,7 @@ fn one_path(alloc: Global, verb: Verb, a: &[u8]) -> Result<Path, LineFault>
 }
 
 fn on_path(verb: Verb, path: Path) -> Result<Command, LineFault>
-    ensures { Gives (λ command. command) result (on_path_in verb path) }
+    ensures { MatchesReading (λ command. command) result (on_path_in verb path) }
 {
     match verb {
         Verb::Make => Ok(Command::Make { path }),
@@ -195,7 +195,7 @@ fn on_path(verb: Verb, path: Path) -> Result<Command, LineFault>
 
 #[tactic(auto, unfolding(crate::specs::Grammar::one_word))]
 fn one_word(alloc: Global, verb: Verb, a: &[u8]) -> Result<Command, LineFault>
-    ensures { Gives (λ command. command) result (one_word_in verb a.now) }
+    ensures { MatchesReading (λ command. command) result (one_word_in verb a.now) }
 {
     let path = one_path(alloc, verb, a)?;
     on_path(verb, path)
@@ -203,7 +203,7 @@ fn one_word(alloc: Global, verb: Verb, a: &[u8]) -> Result<Command, LineFault>
 
 #[tactic(auto, unfolding(crate::specs::Grammar::two_words))]
 fn two_words(alloc: Global, verb: Verb, a: &[u8], b: &[u8]) -> Result<Command, LineFault>
-    ensures { Gives (λ command. command) result (two_words_in verb a.now b.now) }
+    ensures { MatchesReading (λ command. command) result (two_words_in verb a.now b.now) }
 {
     match verb {
         Verb::Size => Ok(Command::Size {
@@ -241,7 +241,7 @@ fn three_words(
     b: &[u8],
     c: &[u8],
 ) -> Result<Command, LineFault>
-    ensures { Gives (λ command. command) result (three_words_in verb a.now b.now c.now) }
+    ensures { MatchesReading (λ command. command) result (three_words_in verb a.now b.now c.now) }
 {
     match verb {
         Verb::Put => Ok(Command::Put {
@@ -269,7 +269,7 @@ fn three_words(
 
 /// The command of a verb with the words after it.
 pub(crate) fn command(alloc: Global, verb: Verb, args: &[&[u8]]) -> Result<Command, LineFault>
-    ensures { Gives (λ command. command) result (command_of verb (map piece_of args.now)) }
+    ensures { MatchesReading (λ command. command) result (command_of verb (map piece_of args.now)) }
 {
     match args {
         [a] => one_word(alloc, verb, a),

@@ -3,7 +3,7 @@
 ghost use Rattle.std.specs.Prelude.{◌≡◌, ◌≢◌, ◌<◌, All, Some, [], map, length, ◌∷◌, MatchOption, IfOk, IfSome, slice_get, take};
 ghost use Rattle.std.specs.Str.Lines.{strip_carriage_return};
 ghost use Rattle.nofs_script.specs.Words.{piece_of, text_lines};
-ghost use Rattle.nofs_script.specs.Grammar.{Gives};
+ghost use Rattle.nofs_script.specs.Grammar.{MatchesReading};
 ghost use Rattle.nofs_script.specs.Sessions.{IsSession, asked_by as asked_in, with_command as command_added, user_of, read_verb as verb_read, read_words as words_read, read_line as line_read, at_line, is_skipped as is_skipped_in, read_from, empty_reading, session_of};
 
 use crate::commands::{Verb, command, verb_of};
@@ -55,7 +55,7 @@ fn asked_by(command: &Command) -> u64
 }
 
 fn with_command(reading: Reading, command: Command) -> Result<Reading, LineFault>
-    ensures { Gives (λ r. r) result (command_added reading command) }
+    ensures { MatchesReading (λ r. r) result (command_added reading command) }
 {
     let Reading {
         done,
@@ -80,7 +80,7 @@ fn with_command(reading: Reading, command: Command) -> Result<Reading, LineFault
 }
 
 fn next_user(alloc: Global, reading: Reading) -> Result<Reading, LineFault>
-    ensures { Gives (λ r. r) result (user_of reading []) }
+    ensures { MatchesReading (λ r. r) result (user_of reading []) }
 {
     let Reading {
         mut done,
@@ -101,7 +101,7 @@ fn next_user(alloc: Global, reading: Reading) -> Result<Reading, LineFault>
 }
 
 fn user(alloc: Global, reading: Reading, args: &[&[u8]]) -> Result<Reading, LineFault>
-    ensures { Gives (λ r. r) result (user_of reading (map piece_of args.now)) }
+    ensures { MatchesReading (λ r. r) result (user_of reading (map piece_of args.now)) }
 {
     match args {
         [] => next_user(alloc, reading),
@@ -115,7 +115,7 @@ fn read_verb(
     verb: Option<Verb>,
     args: &[&[u8]],
 ) -> Result<Reading, LineFault>
-    ensures { Gives (λ r. r) result (verb_read reading verb (map piece_of args.now)) }
+    ensures { MatchesReading (λ r. r) result (verb_read reading verb (map piece_of args.now)) }
 {
     match verb {
         None => Err(LineFault::Wrong(ScriptKind::UnknownCommand)),
@@ -132,7 +132,7 @@ fn read_named(
     word: &[u8],
     args: &[&[u8]],
 ) -> Result<Reading, LineFault>
-    ensures { Gives (λ r. r) result (words_read reading (word.now ∷ map piece_of args.now)) }
+    ensures { MatchesReading (λ r. r) result (words_read reading (word.now ∷ map piece_of args.now)) }
 {
     if word == b"user".as_slice() {
         user(alloc, reading, args)
@@ -142,7 +142,7 @@ fn read_named(
 }
 
 fn read_words(alloc: Global, reading: Reading, words: &[&[u8]]) -> Result<Reading, LineFault>
-    ensures { Gives (λ r. r) result (words_read reading (map piece_of words.now)) }
+    ensures { MatchesReading (λ r. r) result (words_read reading (map piece_of words.now)) }
 {
     match words {
         [] => Ok(reading),
@@ -158,7 +158,7 @@ fn is_skipped(line: &[u8]) -> bool
 
 #[tactic(auto, unfolding(crate::specs::Sessions::read_line), using(crate::proofs::Five::read_five))]
 fn read_line(alloc: Global, reading: Reading, line: &[u8]) -> Result<Reading, LineFault>
-    ensures { Gives (λ r. r) result (line_read reading line.now) }
+    ensures { MatchesReading (λ r. r) result (line_read reading line.now) }
 {
     if is_skipped(line) {
         return Ok(reading);
@@ -196,7 +196,7 @@ fn line_before(text: &[u8], end: usize) -> &[u8]
 }
 
 fn read_at(alloc: Global, number: u64, reading: Reading, line: &[u8]) -> Result<Reading, ParseFault>
-    ensures { Gives (λ r. r) result (at_line number (line_read reading line.now)) }
+    ensures { MatchesReading (λ r. r) result (at_line number (line_read reading line.now)) }
 {
     match read_line(alloc, reading, line) {
         Ok(reading) => Ok(reading),
@@ -207,7 +207,7 @@ fn read_at(alloc: Global, number: u64, reading: Reading, line: &[u8]) -> Result<
 
 // Reads line after line, each in its turn: nothing is kept of a text but its commands.
 fn read_lines(alloc: Global, text: &[u8]) -> Result<Reading, ParseFault>
-    ensures { Gives (λ r. r) result (read_from 1 empty_reading (text_lines text.now)) }
+    ensures { MatchesReading (λ r. r) result (read_from 1 empty_reading (text_lines text.now)) }
 {
     let mut reading = Reading {
         done: Session::new(alloc),
@@ -232,7 +232,7 @@ fn read_lines(alloc: Global, text: &[u8]) -> Result<Reading, ParseFault>
 /// it otherwise. A session has 1 to 8 scripts, and each of its commands is well formed.
 #[tactic(auto, unfolding(crate::specs::Sessions::session_of))]
 pub fn parse(alloc: Global, text: &[u8]) -> Result<Session, ParseFault>
-    ensures exact { Gives (λ session. session) result (session_of text.now) }
+    ensures exact { MatchesReading (λ session. session) result (session_of text.now) }
     ensures session { IfOk result IsSession }
 {
     let Reading {

@@ -19,7 +19,7 @@ use Rattle.nofs_state.specs.Books.{with_history}
 use Rattle.nofs_state.specs.Standing.{IsOpen, IsStopped, Past}
 use Rattle.nofs_state.specs.Steps.{IsSafeStep, LeavesDisk, entry}
 use Rattle.nofs_state.specs.declared.books.Books.{Books}
-use Rattle.nofs_state.specs.Verdicts.{LearnsIt, Settles, StaysSo}
+use Rattle.nofs_state.specs.Verdicts.{LearnsIt, OffersVerdict, StaysSo}
 use Rattle.nofs_scan.specs.Elements.{HasElement, is_used, learned, see_step, verdict_of}
 use Rattle.nofs_scan.specs.Late.{Commits, WasOpen}
 use Rattle.nofs_shared.specs.Commits.{IsCommit, SeesVerdict}
@@ -147,7 +147,7 @@ sees-beside : (k l : Books) (h : HistoryState) (kind : ElementKind) (item : ℕ)
     → SeesVerdict k l kind item used r
 sees-beside k l h kind item used r s = go s.settles
   where
-    go : Settles (with_history k h) s.settled (verdict_of kind (with_history k h) item) (learned kind (with_history k h) item) used s.verdict
+    go : OffersVerdict (with_history k h) s.settled (verdict_of kind (with_history k h) item) (learned kind (with_history k h) item) used s.verdict
         → SeesVerdict k l kind item used r
     go (StaysSo stood e) = record {
       verdict = s.verdict;

@@ -4,7 +4,7 @@ use Rattle.std.proofs.lemmas.List.{get_or-map, length-map}
 use Rattle.std.specs.Prelude.{Result, Ok, Err, IfOk}
 use mathlib.Core.List.{IsPrefix}
 use Rattle.nofs_disk.specs.Disk.{DiskState, StaysButFaults}
-use Rattle.nofs_agree.specs.Chains.{Learns}
+use Rattle.nofs_agree.specs.Chains.{LearnsAgreement}
 use Rattle.nofs_state.specs.Books.{IsSafe}
 use Rattle.nofs_state.specs.Knowing.{with_agreement}
 use Rattle.nofs_state.specs.declared.books.Books.{Books}
@@ -17,14 +17,14 @@ use Rattle.nofs_shared.specs.Earlier.{IsEarlier}
 use Rattle.nofs_shared.specs.Mounts.{IsMount, IsSoundDisk, MountStands}
 use Rattle.nofs_shared.proofs.Mounting.{mount-still}
 
-pub safe-looked : (old new : DiskState) (k l : Books) → StaysButFaults old new → l ≡ with_agreement k l.agreement → Learns old k.agreement l.agreement
+pub safe-looked : (old new : DiskState) (k l : Books) → StaysButFaults old new → l ≡ with_agreement k l.agreement → LearnsAgreement old k.agreement l.agreement
     → IsSafe old k → IsSafe new l
 safe-looked old new k l stays same learns safe =
     subst (λ (b : Books). IsSafe new b) (sym same) (safe-keeps old new (reads-keep old new stays) (with_agreement k l.agreement)
     (safe-knows old k l.agreement learns safe))
 
 -- a mount whose books know more of inodes
-mount-knows : (found d : DiskState) (first : ℕ) (k : Books) (known : List (Option Bool)) → Learns d k.agreement known → IsMount found d first k
+mount-knows : (found d : DiskState) (first : ℕ) (k : Books) (known : List (Option Bool)) → LearnsAgreement d k.agreement known → IsMount found d first k
     → IsMount found d first (with_agreement k known)
 mount-knows found d first k known learns m = record {
   safe = safe-knows d k known learns m.safe;
@@ -50,7 +50,7 @@ mount-knows found d first k known learns m = record {
     }
 
 pub mount-looked : (found old new : DiskState) (first : ℕ) (k l : Books) → StaysButFaults old new → l ≡ with_agreement k l.agreement
-    → Learns old k.agreement l.agreement → IsMount found old first k
+    → LearnsAgreement old k.agreement l.agreement → IsMount found old first k
     → IsMount found new first l
 mount-looked found old new first k l stays same learns m =
     let more = mount-knows found old first k l.agreement learns m in

@@ -10,7 +10,7 @@ use Rattle.nofs_history.specs.declared.machine.replies.Reply.{Reply}
 use Rattle.nofs_history.specs.declared.machine.replies.Reply.TheVariants as reply
 use Rattle.nofs_history.specs.declared.machine.replies.Refusal.TheVariants as refusal
 use Rattle.nofs_state.specs.Books.{with_history}
-use Rattle.nofs_state.specs.Verdicts.{Settles}
+use Rattle.nofs_state.specs.Verdicts.{OffersVerdict}
 use Rattle.nofs_state.specs.declared.books.Books.{Books}
 use Rattle.nofs_scan.specs.Elements.{is_used, learned, verdict_at, verdict_of}
 use Rattle.nofs_scan.specs.declared.sights.evidence.Verdict.{Verdict}
@@ -28,7 +28,7 @@ pub record SeesVerdict (k l : Books) (kind : ElementKind) (item : ℕ) (used : B
   pub verdict : Bool
   pub is : r ≡ reply.Seen verdict
   pub settled : Books
-  pub settles : Settles k settled (verdict_of kind k item) (learned kind k item) used verdict
+  pub settles : OffersVerdict k settled (verdict_of kind k item) (learned kind k item) used verdict
   pub books : l ≡ with_history settled l.history
 
 -- A verdict of an earlier state of the mount over the disk `found` is committed. `d` is the disk at the commit

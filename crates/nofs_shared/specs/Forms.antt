@@ -41,9 +41,9 @@ faults_in [] = 0
 faults_in (e ∷ es) = (if is_fault e.reply then 1 else 0) + faults_in es
 
 -- in all of them so many cells were written
-abbrev pub WroteAll : List Entry1 → ℕ → Type 0
-WroteAll [] n = n ≡ 0
-WroteAll (e ∷ es) n = (first : ℕ) × (rest : ℕ) × Wrote e first × WroteAll es rest × (n ≡ first + rest)
+abbrev pub WroteTotal : List Entry1 → ℕ → Type 0
+WroteTotal [] n = n ≡ 0
+WroteTotal (e ∷ es) n = (first : ℕ) × (rest : ℕ) × Wrote e first × WroteTotal es rest × (n ≡ first + rest)
 
 -- and so many flushes were made
 abbrev pub flushes_in : List Entry1 → ℕ
@@ -53,5 +53,5 @@ flushes_in (e ∷ es) = flushes_of e + flushes_in es
 -- NO OTHER CALL. From one moment to another the device wrote the cells of these entries, one call a cell, and made the flushes of their Flush steps
 pub record OnlyCalls (from to : ℕ) (H : List Entry1) : Type 0 where
   pub cells : ℕ
-  pub wrote : WroteAll H cells
+  pub wrote : WroteTotal H cells
   pub moment : to ≡ from + 2 * cells + 2 * flushes_in H

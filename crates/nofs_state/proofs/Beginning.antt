@@ -13,7 +13,7 @@ use Rattle.nofs_history.specs.World.{world_of}
 use Rattle.nofs_history.specs.History.{agreed_files}
 use Rattle.nofs_history.specs.HistoryState.{HistoryState}
 use Rattle.nofs_crashlaw.proofs.FirstStage.{law-first-stage}
-use Rattle.nofs_agree.specs.Chains.{told}
+use Rattle.nofs_agree.specs.Chains.{known_agreement}
 use Rattle.nofs_agree.specs.Reading.{IsAt}
 use Rattle.nofs_agree.proofs.Learning.{told-nothing}
 use Rattle.nofs_state.specs.Books.{IsRoom, Says}
@@ -89,7 +89,7 @@ says-first X at first start room same some table r = record {
       ∙ sym (not-both (is_special i) (is_some (agreed_files X i)));
   free_blocks = λ p low. ap (λ (bits : _). is_set bits p) r.free_blocks ∙ set-none at.blocks p
       ∙ sym (not-both (leb p ((super_at X).inodes / 4)) (is_some (owner X p)));
-  agreement = λ i a t. absurd (let e : told room.agreement i ≡ None = ap (λ (known : _). told known i) r.agreement ∙ told-nothing at.inodes i in cc (t, e));
+  agreement = λ i a t. absurd (let e : known_agreement room.agreement i ≡ None = ap (λ (known : _). known_agreement known i) r.agreement ∙ told-nothing at.inodes i in cc (t, e));
 }
 
 pub open-first : (d : DiskState) (at : SuperBlock) (first : ℕ) (room : Room) → IsDisk d → IsAt d at → IsRoom at room → IsTrue d.tells → IsSettled d

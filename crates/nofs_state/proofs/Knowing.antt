@@ -3,7 +3,7 @@ use Rattle.std.proofs.Common.{Bool, List, Option, IsTrue, refl, ◌∙◌}
 use Rattle.nofs_disk.specs.Disk.{DiskState}
 use Rattle.nofs_history.specs.declared.machine.history.Entry1.{Entry1}
 use Rattle.nofs_crashlaw.proofs.MapHomes.{uses-inode}
-use Rattle.nofs_agree.specs.Chains.{Learns}
+use Rattle.nofs_agree.specs.Chains.{LearnsAgreement}
 use Rattle.nofs_agree.proofs.Learning.{is-told}
 use Rattle.nofs_state.specs.Books.{IsSafe}
 use Rattle.nofs_state.specs.Knowing.{with_agreement}
@@ -14,12 +14,12 @@ use Rattle.nofs_state.proofs.Replies.{open-files}
 use Rattle.nofs_state.proofs.SafeBooks.{safe-sizes}
 use Rattle.nofs_state.proofs.Saying.{says-maps}
 
-pub safe-knows : (d : DiskState) (k : Books) (known : List (Option Bool)) → Learns d k.agreement known → IsSafe d k → IsSafe d (with_agreement k known)
+pub safe-knows : (d : DiskState) (k : Books) (known : List (Option Bool)) → LearnsAgreement d k.agreement known → IsSafe d k → IsSafe d (with_agreement k known)
 safe-knows d k known learns s = safe-sizes d d k (with_agreement k known) s s.at
     (record { at = refl; serial = refl; unknown_inodes = refl; free_inodes = refl; agreement = learns.len; unknown_blocks = refl; free_blocks = refl })
     s.in_area
 
-pub open-knows : (d : DiskState) (k : Books) (known : List (Option Bool)) (H : List Entry1) (p : Past) → IsTrue d.tells → Learns d k.agreement known
+pub open-knows : (d : DiskState) (k : Books) (known : List (Option Bool)) (H : List Entry1) (p : Past) → IsTrue d.tells → LearnsAgreement d k.agreement known
     → IsSafe d k → IsOpen d k H p
     → IsOpen d (with_agreement k known) H p
 open-knows d k known H p tells learns safe o = record {

@@ -14,7 +14,7 @@ use Rattle.nofs_model.proofs.Chains.{agreed-holds}
 use Rattle.nofs_crashlaw.proofs.Matching.{agreed-files-is, matched-agreed, gen-of}
 use Rattle.nofs_crashlaw.proofs.Alike.{same-of, same-alike, pairs-alike, agreed-some, live-some}
 use Rattle.nofs_crashlaw.proofs.MapHomes.{uses-inode}
-use Rattle.nofs_agree.specs.Chains.{AreTrue, is_agreed_link, told}
+use Rattle.nofs_agree.specs.Chains.{AreTrue, is_agreed_link, known_agreement}
 use Rattle.nofs_agree.proofs.Learning.{if-told}
 use Rattle.nofs_state.specs.Books.{IsSafe}
 use Rattle.nofs_state.specs.Standing.{IsOpen, Past}
@@ -80,5 +80,5 @@ stale-some W X i g match c = stale-is W X i g match ∙ rw c refl
 -- what the books know of inodes is true
 pub are-agreed : (d : DiskState) (k : Books) (H : List Entry1) (p : Past) → IsSafe d k → IsOpen d k H p → AreTrue d.now k.agreement
 are-agreed d k H p safe o i =
-    if-told (told k.agreement i) (λ a. agreed (files_in d.now) i ≡ a)
+    if-told (known_agreement k.agreement i) (λ a. agreed (files_in d.now) i ≡ a)
     (λ a known. sym (uses-inode p.world.files d.now (open-files d k H p o) i) ∙ o.says.agreement i a known)

@@ -16,7 +16,7 @@ use Rattle.nofs_history.specs.Next.{Learns}
 use Rattle.nofs_history.specs.declared.machine.history.Entry1.{Entry1}
 use Rattle.nofs_history.specs.declared.machine.steps.Step.TheVariants as step
 use Rattle.nofs_history.specs.declared.machine.replies.Reply.TheVariants as reply
-use Rattle.nofs_agree.specs.Chains.{told}
+use Rattle.nofs_agree.specs.Chains.{known_agreement}
 use Rattle.nofs_agree.proofs.Learning.{told-here, told-other}
 use Rattle.nofs_state.specs.Books.{IsSafe, Says}
 use Rattle.nofs_state.specs.Standing.{IsOpen, Past}
@@ -75,19 +75,19 @@ module _ (k : Books) (W : World) (i : ℕ) (used : Bool) (s : Says k W) (low : 1
   ]
 
   agreed-is : length k.agreement ≡ k.at.inodes → (j : ℕ) (a : Bool)
-      → told (if ltb 2 i then slice_set k.agreement (i - 1) (Some used) else k.agreement) j ≡ Some a → is_some (W.files j) ≡ a
+      → known_agreement (if ltb 2 i then slice_set k.agreement (i - 1) (Some used) else k.agreement) j ≡ Some a → is_some (W.files j) ≡ a
   agreed-is len j a e = go (ltb 2 i) refl e
     where
       above : (n : ℕ) → ltb 2 n ≡ true → (eqb n 1 || eqb n 2) ≡ false
       above n h = grind (arith, nat_tests)
 
-      go : (b : Bool) → ltb 2 i ≡ b → told (if b then slice_set k.agreement (i - 1) (Some used) else k.agreement) j ≡ Some a → is_some (W.files j) ≡ a
+      go : (b : Bool) → ltb 2 i ≡ b → known_agreement (if b then slice_set k.agreement (i - 1) (Some used) else k.agreement) j ≡ Some a → is_some (W.files j) ≡ a
       go false low-one t = s.agreement j a t
       go true h t = elim (cases_eq j i) [
         | inl same ↦
-            let here : told (slice_set k.agreement (i - 1) (Some used)) i ≡ Some used = told-here k.agreement i (Some used) low (omega (arith, len, high)) in
-            let t-here : told (slice_set k.agreement (i - 1) (Some used)) i ≡ Some a =
-            subst (λ (m : ℕ). told (slice_set k.agreement (i - 1) (Some used)) m ≡ Some a) same t in
+            let here : known_agreement (slice_set k.agreement (i - 1) (Some used)) i ≡ Some used = told-here k.agreement i (Some used) low (omega (arith, len, high)) in
+            let t-here : known_agreement (slice_set k.agreement (i - 1) (Some used)) i ≡ Some a =
+            subst (λ (m : ℕ). known_agreement (slice_set k.agreement (i - 1) (Some used)) m ≡ Some a) same t in
             let is : used ≡ a = cc (here, t-here) in
             let plain : is_special i ≡ false = above i h in
             subst (λ (m : ℕ). is_some (W.files m) ≡ a) (sym same) (ap (λ (b : Bool). b || is_some (W.files i)) (sym plain) ∙ sym right ∙ is)

@@ -6,7 +6,7 @@ use Rattle.nofs_history.specs.HistoryState.{HistoryState}
 use Rattle.nofs_disk.specs.Disk.{DiskState}
 use Rattle.nofs_model.specs.Cells.{Pointer, SuperBlock}
 use Rattle.nofs_history.specs.World.{World, is_free_inode, is_free_block}
-use Rattle.nofs_agree.specs.Chains.{told}
+use Rattle.nofs_agree.specs.Chains.{known_agreement}
 use Rattle.nofs_agree.specs.Reading.{IsAt}
 use Rattle.nofs_state.specs.declared.books.Books.{Books}
 use Rattle.nofs_state.specs.declared.books.InodeClaim.{InodeClaim}
@@ -72,7 +72,7 @@ pub record Says (k : Books) (W : World) : Type 0 where
   pub known_blocks : (p : ℕ) → W.known_blocks p ≡ knows_block k p
   pub free_inodes : (i : ℕ) → 1 ≤ i → i ≤ k.at.inodes → is_set k.free_inodes (i - 1) ≡ is_free_inode W i
   pub free_blocks : (p : ℕ) → p < k.at.blocks → is_set k.free_blocks p ≡ is_free_block W p
-  pub agreement : (i : ℕ) (agreed : Bool) → told k.agreement i ≡ Some agreed → is_some (W.files i) ≡ agreed
+  pub agreement : (i : ℕ) (agreed : Bool) → known_agreement k.agreement i ≡ Some agreed → is_some (W.files i) ≡ agreed
 
 -- what a claim of this block gives
 abbrev pub claimed_pointer : Books → ℕ → Pointer

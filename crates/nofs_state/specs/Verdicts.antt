@@ -69,6 +69,6 @@ abbrev pub VerifiesInode : DiskState → Books → DiskState → Books → ℕ �
 VerifiesInode old k new l i = Verifies old k new l (verdict_of_inode k i) (learned_inode k i) (λ X. is_used_inode X i) (λ used. Unit {0})
 
 -- a verdict is offered: the one that stood stays, and else it is learned
-pub data Settles (k l : Books) (stood : Option Bool) (learned : Bool → Books) (used result : Bool) : Type 0 where
-  StaysSo : stood ≡ Some result → l ≡ k → Settles k l stood learned used result
-  LearnsIt : stood ≡ None → l ≡ learned used → result ≡ used → Settles k l stood learned used result
+pub data OffersVerdict (k l : Books) (stood : Option Bool) (learned : Bool → Books) (used result : Bool) : Type 0 where
+  StaysSo : stood ≡ Some result → l ≡ k → OffersVerdict k l stood learned used result
+  LearnsIt : stood ≡ None → l ≡ learned used → result ≡ used → OffersVerdict k l stood learned used result

@@ -4,13 +4,13 @@ mod answer;
 mod asked;
 mod text;
 
-use crate::commands::answer::Answer::{
+use crate::commands::answer::CommandReply::{
     Bytes, Directory, Dropped, File, Flushed, Folder, Full, Hole, InodesFull, Linked, Lost,
     LostNames, Made, Names, No, NoMore, Renamed, Resized, Seen, Sized, Stored,
 };
-use crate::commands::answer::{Answer, reply};
+use crate::commands::answer::{CommandReply, reply};
 use crate::commands::asked::{Asked, command};
-use crate::commands::text::{AskedSteps, note_line};
+use crate::commands::text::{CommandSteps, note_line};
 use crate::standin::mount::Told;
 use crate::standin::notes::{InTurn, Notepad};
 use nofs_client::{Client, Command, CommandList, Line, LineList, Next, Path, drive};
@@ -21,15 +21,15 @@ use std::process::Abort;
 use std::slice;
 use std::test::Fail;
 
-type StandIn = Told<InTurn<AskedSteps>>;
+type StandIn = Told<InTurn<CommandSteps>>;
 
-fn stand_in(alloc: Global, answers: &[Answer<'_>]) -> Result<StandIn, AllocError> {
+fn stand_in(alloc: Global, answers: &[CommandReply<'_>]) -> Result<StandIn, AllocError> {
     let mut replies = Vec::new(alloc);
     for answer in answers.iter().rev() {
         replies.push(reply(alloc, *answer)?)?;
     }
     let pad = Notepad::new(alloc);
-    let asked = AskedSteps { pad };
+    let asked = CommandSteps { pad };
     Ok(Told::new(InTurn { replies, asked }))
 }
 
@@ -49,7 +49,7 @@ fn with_line(pad: Notepad, ended: Result<Line, AllocError>) -> Result<String, Al
 }
 
 /// The steps and the line of a command to which these replies come.
-fn run(alloc: Global, asked: Asked<'_>, answers: &[Answer<'_>]) -> Result<String, AllocError> {
+fn run(alloc: Global, asked: Asked<'_>, answers: &[CommandReply<'_>]) -> Result<String, AllocError> {
     let command = command(alloc, asked)?;
     if !command.is_well_formed() {
         return String::from_str(alloc, "not well formed");
@@ -60,7 +60,7 @@ fn run(alloc: Global, asked: Asked<'_>, answers: &[Answer<'_>]) -> Result<String
 }
 
 /// A command, the replies that come to its steps, and these steps with the line.
-type Row<'a> = (Asked<'a>, &'a [Answer<'a>], &'a str);
+type Row<'a> = (Asked<'a>, &'a [CommandReply<'a>], &'a str);
 
 fn check(rt: &impl Abort, alloc: Global, table: &[Row<'_>]) -> Result<(), Fail> {
     for (asked, answers, want) in table {

@@ -2,8 +2,8 @@
 
 mod asked;
 
-use crate::moves::Answer::{Dropped, File, Flushed, Folder, Full, Linked, No, Seen};
-use crate::moves::asked::AskedSteps;
+use crate::moves::MoveReply::{Dropped, File, Flushed, Folder, Full, Linked, No, Seen};
+use crate::moves::asked::MoveSteps;
 use crate::standin::mount::Told;
 use crate::standin::notes::{InTurn, Notepad};
 use crate::standin::paths::path_names;
@@ -18,7 +18,7 @@ use std::test::Fail;
 
 /// A reply of a table.
 #[derive(Clone, Copy)]
-enum Answer {
+enum MoveReply {
     /// Inode 3 of generation 7, a file.
     File,
     /// Inode 4 of generation 9, a directory.
@@ -40,7 +40,7 @@ fn found(inode: u32, generation: u64, kind: FileKind) -> Reply {
     })
 }
 
-fn reply(answer: Answer) -> Reply {
+fn reply(answer: MoveReply) -> Reply {
     match answer {
         File => found(3, 7, FileKind::File),
         Folder => found(4, 9, FileKind::Directory),
@@ -53,14 +53,14 @@ fn reply(answer: Answer) -> Reply {
     }
 }
 
-type StandIn = Told<InTurn<AskedSteps>>;
+type StandIn = Told<InTurn<MoveSteps>>;
 
-fn stand_in(alloc: Global, answers: &[Answer]) -> Result<StandIn, AllocError> {
+fn stand_in(alloc: Global, answers: &[MoveReply]) -> Result<StandIn, AllocError> {
     let mut replies = Vec::new(alloc);
     for answer in answers.iter().rev() {
         replies.push(reply(*answer))?;
     }
-    let asked = AskedSteps(Notepad::new(alloc));
+    let asked = MoveSteps(Notepad::new(alloc));
     Ok(Told::new(InTurn { replies, asked }))
 }
 
@@ -85,7 +85,7 @@ fn asked_of(client: Client<StandIn>) -> Notepad {
 }
 
 /// The steps and the line of a move to which these replies come.
-fn run(alloc: Global, from: &str, to: &str, answers: &[Answer]) -> Result<String, AllocError> {
+fn run(alloc: Global, from: &str, to: &str, answers: &[MoveReply]) -> Result<String, AllocError> {
     let (from, to) = (path(alloc, from)?, path(alloc, to)?);
     if !from.has_name() || !to.has_name() {
         return String::from_str(alloc, "no name");
@@ -101,7 +101,7 @@ fn run(alloc: Global, from: &str, to: &str, answers: &[Answer]) -> Result<String
 }
 
 /// The paths of a move, the replies that come to its steps, and these steps with the line.
-type Row<'a> = (&'a str, &'a str, &'a [Answer], &'a str);
+type Row<'a> = (&'a str, &'a str, &'a [MoveReply], &'a str);
 
 fn check(rt: &impl Abort, alloc: Global, table: &[Row<'_>]) -> Result<(), Fail> {
     for (from, to, answers, want) in table {

@@ -5,8 +5,8 @@ ghost use Rattle.std.specs.Prelude.{◌≡◌, true};
 mod answer;
 mod asked;
 
-use crate::salvage::answer::{Answer, Lost, loss, reply};
-use crate::salvage::asked::AskedSteps;
+use crate::salvage::answer::{WalkReply, Lost, loss, reply};
+use crate::salvage::asked::WalkSteps;
 use crate::standin::mount::Told;
 use crate::standin::notes::{InTurn, Notepad};
 use nofs_dirent::Name;
@@ -17,14 +17,14 @@ use std::alloc::{AllocError, Global};
 use std::process::Abort;
 use std::test::Fail;
 
-type StandIn = Told<InTurn<AskedSteps>>;
+type StandIn = Told<InTurn<WalkSteps>>;
 
-fn stand_in(alloc: Global, answers: &[Answer<'_>]) -> Result<StandIn, AllocError> {
+fn stand_in(alloc: Global, answers: &[WalkReply<'_>]) -> Result<StandIn, AllocError> {
     let mut replies = Vec::new(alloc);
     for answer in answers.iter().rev() {
         replies.push(reply(alloc, *answer)?)?;
     }
-    let asked = AskedSteps {
+    let asked = WalkSteps {
         pad: Notepad::new(alloc),
     };
     Ok(Told::new(InTurn { replies, asked }))
@@ -61,7 +61,7 @@ fn names_from_b(alloc: Global, told: &mut StandIn) -> Result<Report, SalvageFaul
 fn check(
     rt: &impl Abort,
     alloc: Global,
-    answers: &[Answer<'_>],
+    answers: &[WalkReply<'_>],
     losses: &[Lost<'_>],
     steps: &str,
 ) -> Result<(), Fail> {
@@ -73,11 +73,11 @@ fn check(
 }
 
 // The label file lost its slot, and the name `a` of the root is dead.
-const LOST_AND_DEAD: [Answer<'static>; 4] = [
-    Answer::Sized(5),
-    Answer::Lost,
-    Answer::Names(0, &[("a", FileKind::File, true)]),
-    Answer::NoMore,
+const LOST_AND_DEAD: [WalkReply<'static>; 4] = [
+    WalkReply::Sized(5),
+    WalkReply::Lost,
+    WalkReply::Names(0, &[("a", FileKind::File, true)]),
+    WalkReply::NoMore,
 ];
 
 #[test]
@@ -104,11 +104,11 @@ fn a_dead_name_that_is_not_picked_is_left_out(rt: HostRuntime) -> Result<(), Fai
 fn the_second_pair_of_a_name_is_reported(rt: HostRuntime) -> Result<(), Fail> {
     let pair = ("a", FileKind::File, false);
     let answers = [
-        Answer::Sized(0),
-        Answer::Names(0, &[pair, pair]),
-        Answer::Found(3, FileKind::File),
-        Answer::Sized(0),
-        Answer::NoMore,
+        WalkReply::Sized(0),
+        WalkReply::Names(0, &[pair, pair]),
+        WalkReply::Found(3, FileKind::File),
+        WalkReply::Sized(0),
+        WalkReply::NoMore,
     ];
     let steps = "stat 2 0; list 1 0; look 1 0; stat 3 0; list 1 1; ";
     check(&rt, rt.alloc(), &answers, &[Lost::Twice(1, "a")], steps)
@@ -122,17 +122,17 @@ fn directories_come_behind_the_one_that_names_them(rt: HostRuntime) -> Result<()
         &rt,
         rt.alloc(),
         &[
-            Answer::Sized(0),
-            Answer::Names(2, &[directory, file]),
-            Answer::Found(4, FileKind::Directory),
-            Answer::Found(5, FileKind::File),
-            Answer::Sized(9000),
-            Answer::Hole,
-            Answer::Lost,
-            Answer::No(Refusal::TooLarge),
-            Answer::NoMore,
-            Answer::LostNames(3),
-            Answer::NoMore,
+            WalkReply::Sized(0),
+            WalkReply::Names(2, &[directory, file]),
+            WalkReply::Found(4, FileKind::Directory),
+            WalkReply::Found(5, FileKind::File),
+            WalkReply::Sized(9000),
+            WalkReply::Hole,
+            WalkReply::Lost,
+            WalkReply::No(Refusal::TooLarge),
+            WalkReply::NoMore,
+            WalkReply::LostNames(3),
+            WalkReply::NoMore,
         ],
         &[Lost::Slot(5, 1), Lost::Slot(4, 3)],
         "stat 2 0; list 1 0; look 1 0; look 1 0; stat 5 0; get 5 0; get 5 1; get 5 2; list 1 3; list 4 0; list 4 4; ",
@@ -141,7 +141,7 @@ fn directories_come_behind_the_one_that_names_them(rt: HostRuntime) -> Result<()
 
 #[test]
 fn a_refused_step_ends_the_walk(rt: HostRuntime) -> Result<(), Fail> {
-    let answers = [Answer::Sized(0), Answer::No(Refusal::Stale)];
+    let answers = [WalkReply::Sized(0), WalkReply::No(Refusal::Stale)];
     let mut told = stand_in(rt.alloc(), &answers)?;
     match all_names(rt.alloc(), &mut told) {
         Ok(_) => assert!(rt; false),

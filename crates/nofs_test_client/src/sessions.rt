@@ -115,7 +115,7 @@ fn names(alloc: Global) -> Result<Line, AllocError> {
 
 /// A line of a table.
 #[derive(Clone, Copy)]
-enum Said {
+enum LineRow {
     Made,
     Put(u64),
     Got,
@@ -130,24 +130,24 @@ enum Said {
     RefusedPut(Refusal),
 }
 
-fn line(alloc: Global, said: Said) -> Result<Line, AllocError> {
+fn line(alloc: Global, said: LineRow) -> Result<Line, AllocError> {
     Ok(match said {
-        Said::Made => Line::Made,
-        Said::Put(count) => Line::Put(count),
-        Said::Got => got(alloc)?,
-        Said::Sized(size) => Line::Sized(size),
-        Said::Stat(kind, size, links) => Line::Stat(Stat { kind, size, links }),
-        Said::Names => names(alloc)?,
-        Said::Linked => Line::Linked,
-        Said::Dropped => Line::Dropped,
-        Said::Renamed => Line::Renamed,
-        Said::Synced => Line::Synced,
-        Said::Moved => Line::Moved,
-        Said::RefusedPut(refusal) => Line::RefusedPut { refusal, stored: 6 },
+        LineRow::Made => Line::Made,
+        LineRow::Put(count) => Line::Put(count),
+        LineRow::Got => got(alloc)?,
+        LineRow::Sized(size) => Line::Sized(size),
+        LineRow::Stat(kind, size, links) => Line::Stat(Stat { kind, size, links }),
+        LineRow::Names => names(alloc)?,
+        LineRow::Linked => Line::Linked,
+        LineRow::Dropped => Line::Dropped,
+        LineRow::Renamed => Line::Renamed,
+        LineRow::Synced => Line::Synced,
+        LineRow::Moved => Line::Moved,
+        LineRow::RefusedPut(refusal) => Line::RefusedPut { refusal, stored: 6 },
     })
 }
 
-fn text_of(alloc: Global, said: Said) -> Result<Vec<u8>, AllocError> {
+fn text_of(alloc: Global, said: LineRow) -> Result<Vec<u8>, AllocError> {
     let line = line(alloc, said)?;
     line_text(alloc, &line)
 }
@@ -155,18 +155,18 @@ fn text_of(alloc: Global, said: Said) -> Result<Vec<u8>, AllocError> {
 #[test]
 fn each_line_has_its_text(rt: HostRuntime) -> Result<(), Fail> {
     for (said, want) in [
-        (Said::Made, "made\n"),
-        (Said::Linked, "linked\n"),
-        (Said::Dropped, "dropped\n"),
-        (Said::Put(4), "put 4\n"),
-        (Said::Got, "got bytes:aa0b hole:1024 lost:3\n"),
-        (Said::Sized(73_728), "sized 73728\n"),
-        (Said::Stat(FileKind::File, 1026, 0), "stat file 1026 0\n"),
-        (Said::Stat(FileKind::Directory, 0, 1), "stat dir 0 1\n"),
-        (Said::Names, "names x x/ /dead:x /lost:7\n"),
-        (Said::Renamed, "renamed\n"),
-        (Said::Synced, "synced\n"),
-        (Said::Moved, "moved\n"),
+        (LineRow::Made, "made\n"),
+        (LineRow::Linked, "linked\n"),
+        (LineRow::Dropped, "dropped\n"),
+        (LineRow::Put(4), "put 4\n"),
+        (LineRow::Got, "got bytes:aa0b hole:1024 lost:3\n"),
+        (LineRow::Sized(73_728), "sized 73728\n"),
+        (LineRow::Stat(FileKind::File, 1026, 0), "stat file 1026 0\n"),
+        (LineRow::Stat(FileKind::Directory, 0, 1), "stat dir 0 1\n"),
+        (LineRow::Names, "names x x/ /dead:x /lost:7\n"),
+        (LineRow::Renamed, "renamed\n"),
+        (LineRow::Synced, "synced\n"),
+        (LineRow::Moved, "moved\n"),
     ] {
         let text = text_of(rt.alloc(), said)?;
         assert_eq!(rt; text.as_slice(), want.as_bytes());
@@ -209,7 +209,7 @@ fn each_refusal_has_its_text(rt: HostRuntime) -> Result<(), Fail> {
         (Refusal::WriteFault, "19 write fault"),
         (Refusal::Stopped, "20 stopped"),
     ] {
-        let text = text_of(alloc, Said::RefusedPut(refusal))?;
+        let text = text_of(alloc, LineRow::RefusedPut(refusal))?;
         let want = format!(in alloc; "refused {want}, stored 6\n")?;
         assert_eq!(rt; text.as_slice(), want.as_bytes());
     }

@@ -1,7 +1,7 @@
 //! Steps on files: what a slot says afterwards, what was claimed, and what is free then.
 use crate::bench::asking::{Bench, answers_over, answers_seeing};
 use crate::bench::disks::{failing, raise_version};
-use crate::bench::steps::{Ask, LABEL, ROOT, S, Said, T};
+use crate::bench::steps::{Ask, LABEL, ROOT, S, StepAnswer, T};
 use nofs_history::Refusal;
 use nofs_inode::FileKind;
 use nofs_test_disks::{blocks_under_the_top, disk_of, empty, formatted, residue_past_the_size};
@@ -29,38 +29,38 @@ fn size(bytes: u64) -> Ask {
 }
 
 /// A slot with one byte.
-fn one(slot: u64) -> (Ask, Said) {
-    (get(slot), Said::Bytes([0x41, 0, 0, 0]))
+fn one(slot: u64) -> (Ask, StepAnswer) {
+    (get(slot), StepAnswer::Bytes([0x41, 0, 0, 0]))
 }
 
-fn hole(slot: u64) -> (Ask, Said) {
-    (get(slot), Said::Hole)
+fn hole(slot: u64) -> (Ask, StepAnswer) {
+    (get(slot), StepAnswer::Hole)
 }
 
-fn sized(bytes: u64) -> (Ask, Said) {
-    (size(bytes), Said::Resized)
+fn sized(bytes: u64) -> (Ask, StepAnswer) {
+    (size(bytes), StepAnswer::Resized)
 }
 
 /// So many blocks are known to be free.
-fn free(blocks: u64) -> (Ask, Said) {
-    (Ask::Free, Said::Free(0, blocks))
+fn free(blocks: u64) -> (Ask, StepAnswer) {
+    (Ask::Free, StepAnswer::Free(0, blocks))
 }
 
-fn too_large(ask: Ask) -> (Ask, Said) {
+fn too_large(ask: Ask) -> (Ask, StepAnswer) {
     (ask, refused(Refusal::TooLarge))
 }
 
 /// No file has this slot.
-fn no_put(slot: u64) -> (Ask, Said) {
+fn no_put(slot: u64) -> (Ask, StepAnswer) {
     too_large(put(slot))
 }
 
-fn no_get(slot: u64) -> (Ask, Said) {
+fn no_get(slot: u64) -> (Ask, StepAnswer) {
     too_large(get(slot))
 }
 
 /// A put finds no block.
-fn full(ask: Ask, unverified: u64, next: u64) -> (Ask, Said) {
+fn full(ask: Ask, unverified: u64, next: u64) -> (Ask, StepAnswer) {
     let full = Refusal::Full {
         needed: 1,
         free: 0,
@@ -70,21 +70,21 @@ fn full(ask: Ask, unverified: u64, next: u64) -> (Ask, Said) {
     (ask, refused(full))
 }
 
-fn refused(why: Refusal) -> Said {
-    Said::Refused(why)
+fn refused(why: Refusal) -> StepAnswer {
+    StepAnswer::Refused(why)
 }
 
 const STAT: Ask = Ask::Stat(LABEL);
 
-fn file_of(size: u64) -> Said {
-    Said::Stat(FileKind::File, size, 0)
+fn file_of(size: u64) -> StepAnswer {
+    StepAnswer::Stat(FileKind::File, size, 0)
 }
 
 /// A full slot.
-const ALL: Said = Said::Bytes([0x41; 4]);
+const ALL: StepAnswer = StepAnswer::Bytes([0x41; 4]);
 
 /// Steps at a new disk of 64 blocks and 16 inodes, all examined, each of which is to be answered so.
-fn answers_examined(alloc: Global, cases: &[(Ask, Said)]) -> Result<(), Fail> {
+fn answers_examined(alloc: Global, cases: &[(Ask, StepAnswer)]) -> Result<(), Fail> {
     answers_seeing(alloc, formatted(alloc, 64, 16)?, 0, 64, cases)
 }
 
@@ -94,11 +94,11 @@ fn answers_filled(
     alloc: Global,
     bench: Bench,
     slots: u64,
-    cases: &[(Ask, Said)],
+    cases: &[(Ask, StepAnswer)],
 ) -> Result<(), Fail> {
     let mut bench = bench;
     for slot in 0..slots {
-        if !matches!(bench.ask(alloc, whole(slot)), Said::Stored(_, _, 0)) {
+        if !matches!(bench.ask(alloc, whole(slot)), StepAnswer::Stored(_, _, 0)) {
             return Err("not filled".into());
         }
     }
@@ -112,17 +112,17 @@ fn a_put_reaches_over_two_slots_and_a_hole_stays(rt: HostRuntime) -> Result<(), 
         [
             hole(0),
             (STAT, file_of(0)),
-            (Ask::Put(LABEL, 0, 1022, 2, 0xaa), Said::Stored(S, 0, 0)),
-            (Ask::Put(LABEL, 1, 0, 2, 0xcc), Said::Stored(S + 1, 0, 0)),
-            (Ask::Get(LABEL, 0, 1020), Said::Bytes([0, 0, 0xaa, 0xaa])),
-            (get(1), Said::Bytes([0xcc, 0xcc, 0, 0])),
+            (Ask::Put(LABEL, 0, 1022, 2, 0xaa), StepAnswer::Stored(S, 0, 0)),
+            (Ask::Put(LABEL, 1, 0, 2, 0xcc), StepAnswer::Stored(S + 1, 0, 0)),
+            (Ask::Get(LABEL, 0, 1020), StepAnswer::Bytes([0, 0, 0xaa, 0xaa])),
+            (get(1), StepAnswer::Bytes([0xcc, 0xcc, 0, 0])),
             (STAT, file_of(1026)),
             free(57),
         ],
         [
             sized(5000),
             hole(4),
-            (put(2), Said::Stored(S, 0, 0)),
+            (put(2), StepAnswer::Stored(S, 0, 0)),
             hole(1),
             one(2),
             (STAT, file_of(5000)),
@@ -130,12 +130,12 @@ fn a_put_reaches_over_two_slots_and_a_hole_stays(rt: HostRuntime) -> Result<(), 
             (put(5), refused(Refusal::PastEnd)),
         ],
         [
-            (put(0), Said::Stored(S, 0, 0)),
-            (Ask::Put(LABEL, 0, 1, 1023, 0x42), Said::Stored(0, 0, 0)),
-            (Ask::Get(LABEL, 0, 0), Said::Bytes([0x41, 0x42, 0x42, 0x42])),
+            (put(0), StepAnswer::Stored(S, 0, 0)),
+            (Ask::Put(LABEL, 0, 1, 1023, 0x42), StepAnswer::Stored(0, 0, 0)),
+            (Ask::Get(LABEL, 0, 0), StepAnswer::Bytes([0x41, 0x42, 0x42, 0x42])),
             sized(2),
             sized(1024),
-            (Ask::Get(LABEL, 0, 0), Said::Bytes([0x41, 0x42, 0, 0])),
+            (Ask::Get(LABEL, 0, 0), StepAnswer::Bytes([0x41, 0x42, 0, 0])),
             (Ask::Put(LABEL, 0, 1, 1024, 1), refused(Refusal::BadRange)),
             (Ask::Put(LABEL, 0, 0, 0, 1), refused(Refusal::BadRange)),
         ],
@@ -150,9 +150,9 @@ fn slots_from_8_on_have_a_leaf_and_there_are_72(rt: HostRuntime) -> Result<(), F
     let alloc = rt.alloc();
     let cases = [
         sized(73_728),
-        (put(7), Said::Stored(S, 0, 0)),
-        (put(8), Said::Stored(S + 1, S + 2, 0)),
-        (put(71), Said::Stored(S + 3, 0, 0)),
+        (put(7), StepAnswer::Stored(S, 0, 0)),
+        (put(8), StepAnswer::Stored(S + 1, S + 2, 0)),
+        (put(71), StepAnswer::Stored(S + 3, 0, 0)),
         no_put(72),
         no_get(72),
         too_large(size(73_729)),
@@ -170,7 +170,7 @@ fn slots_from_8_on_have_a_leaf_and_there_are_72(rt: HostRuntime) -> Result<(), F
         one(7),
         free(58),
         sized(9000),
-        (put(8), Said::Stored(S + 4, S + 5, 0)),
+        (put(8), StepAnswer::Stored(S + 4, S + 5, 0)),
     ];
     answers_examined(alloc, &cases)
 }
@@ -180,13 +180,13 @@ fn what_a_crash_left_past_the_end_is_freed_by_a_resize(rt: HostRuntime) -> Resul
     let alloc = rt.alloc();
     let disk = disk_of(alloc, &residue_past_the_size(alloc)?)?;
     let cases = [
-        (get(8), Said::Bytes(*b"junk")),
+        (get(8), StepAnswer::Bytes(*b"junk")),
         (STAT, file_of(8192)),
         free(0),
         sized(9000),
         hole(8),
         free(2),
-        (put(8), Said::Stored(T, T + 1, 0)),
+        (put(8), StepAnswer::Stored(T, T + 1, 0)),
         free(0),
         one(8),
     ];
@@ -203,11 +203,11 @@ fn slots_from_72_on_have_a_top_and_children_in_version_2(rt: HostRuntime) -> Res
         too_large(size(4_268_033)),
         sized(4_268_032),
         hole(72),
-        (put(72), Said::Stored(T, T + 1, T + 2)),
-        (put(71), Said::Stored(T + 3, T + 4, 0)),
-        (put(135), Said::Stored(T + 5, 0, 0)),
-        (put(136), Said::Stored(T + 6, T + 7, 0)),
-        (put(4_167), Said::Stored(T + 8, T + 9, 0)),
+        (put(72), StepAnswer::Stored(T, T + 1, T + 2)),
+        (put(71), StepAnswer::Stored(T + 3, T + 4, 0)),
+        (put(135), StepAnswer::Stored(T + 5, 0, 0)),
+        (put(136), StepAnswer::Stored(T + 6, T + 7, 0)),
+        (put(4_167), StepAnswer::Stored(T + 8, T + 9, 0)),
         no_put(4_168),
         no_get(4_168),
         one(71),
@@ -240,20 +240,20 @@ fn a_lost_child_is_named_by_its_first_slot(rt: HostRuntime) -> Result<(), Fail> 
     let alloc = rt.alloc();
     let disk = disk_of(alloc, &blocks_under_the_top(alloc)?)?;
     let cases = [
-        (get(72), Said::Bytes(*b"far\0")),
-        (get(73), Said::Lost),
+        (get(72), StepAnswer::Bytes(*b"far\0")),
+        (get(73), StepAnswer::Lost),
         hole(135),
-        (get(136), Said::Lost),
+        (get(136), StepAnswer::Lost),
         hole(200),
         (put(136), refused(Refusal::LostSlot { slot: 136 })),
         (whole(199), refused(Refusal::LostSlot { slot: 199 })),
         (put(73), refused(Refusal::LostSlot { slot: 73 })),
-        (whole(73), Said::Stored(T, 0, 0)),
+        (whole(73), StepAnswer::Stored(T, 0, 0)),
         (get(73), ALL),
         (size(204_800), refused(Refusal::LostSlot { slot: 136 })),
         sized(139_264),
         hole(136),
-        (get(72), Said::Bytes(*b"far\0")),
+        (get(72), StepAnswer::Bytes(*b"far\0")),
         sized(100),
         hole(72),
         hole(0),
@@ -269,9 +269,9 @@ fn a_put_that_finds_too_few_blocks_is_made_after_one_is_examined(
     answers_seeing(alloc, formatted(alloc, 64, 16)?, 5, 24, &[free(19)])?;
     let cases = [
         full(whole(18), 40, 24),
-        (Ask::SeeBlock(24), Said::Seen(false)),
-        (whole(18), Said::Stored(S + 19, 0, 0)),
-        (Ask::SeeBlock(24), Said::Seen(true)),
+        (Ask::SeeBlock(24), StepAnswer::Seen(false)),
+        (whole(18), StepAnswer::Stored(S + 19, 0, 0)),
+        (Ask::SeeBlock(24), StepAnswer::Seen(true)),
         (Ask::SeeBlock(64), refused(Refusal::BadRange)),
     ];
     let bench = Bench::seeing(alloc, formatted(alloc, 64, 16)?, 5, 24)?;
@@ -283,9 +283,9 @@ fn thirteen_slots_and_a_leaf_fill_the_smallest_disk(rt: HostRuntime) -> Result<(
     let alloc = rt.alloc();
     let cases = [
         full(put(13), 0, 0),
-        (put(12), Said::Stored(0, 0, 0)),
+        (put(12), StepAnswer::Stored(0, 0, 0)),
         sized(12_288),
-        (put(12), Said::Stored(S + 14, 0, 0)),
+        (put(12), StepAnswer::Stored(S + 14, 0, 0)),
     ];
     let bench = Bench::seeing(alloc, formatted(alloc, 16, 4)?, 0, 16)?;
     answers_filled(alloc, bench, 13, &cases)
@@ -295,11 +295,11 @@ fn thirteen_slots_and_a_leaf_fill_the_smallest_disk(rt: HostRuntime) -> Result<(
 fn the_last_stamp_of_a_mount_is_given_once(rt: HostRuntime) -> Result<(), Fail> {
     let alloc = rt.alloc();
     let cases = [
-        (Ask::SeeBlock(2), Said::Seen(false)),
-        (Ask::SeeBlock(3), Said::Seen(false)),
-        (whole(0), Said::Stored(2_199_023_255_551, 0, 0)),
+        (Ask::SeeBlock(2), StepAnswer::Seen(false)),
+        (Ask::SeeBlock(3), StepAnswer::Seen(false)),
+        (whole(0), StepAnswer::Stored(2_199_023_255_551, 0, 0)),
         (whole(1), refused(Refusal::SerialsSpent)),
-        (put(0), Said::Stored(0, 0, 0)),
+        (put(0), StepAnswer::Stored(0, 0, 0)),
         sized(0),
         (put(0), refused(Refusal::SerialsSpent)),
     ];
@@ -312,16 +312,16 @@ fn a_read_that_fails_refuses_one_step(rt: HostRuntime) -> Result<(), Fail> {
     for (ask, want) in [
         hole(0),
         (STAT, file_of(0)),
-        (Ask::Flush(LABEL), Said::Flushed),
+        (Ask::Flush(LABEL), StepAnswer::Flushed),
         sized(9),
-        (put(0), Said::Stored(S, 0, 0)),
-        (Ask::SeeBlock(3), Said::Seen(false)),
+        (put(0), StepAnswer::Stored(S, 0, 0)),
+        (Ask::SeeBlock(3), StepAnswer::Seen(false)),
     ] {
         let mut disk = formatted(alloc, 16, 4)?;
         // Two reads are the mount's, and one looks at block 2.
         failing(&mut disk, CallKind::Read, 4)?;
         let cases = [
-            (Ask::SeeBlock(2), Said::Seen(false)),
+            (Ask::SeeBlock(2), StepAnswer::Seen(false)),
             (ask, refused(Refusal::ReadFault)),
             (ask, want),
         ];
@@ -345,7 +345,7 @@ fn after_a_write_that_fails_each_step_is_stopped(rt: HostRuntime) -> Result<(), 
         failing(&mut disk, call, number)?;
         let stopped = refused(Refusal::Stopped);
         let cases = [
-            (Ask::SeeBlock(2), Said::Seen(false)),
+            (Ask::SeeBlock(2), StepAnswer::Seen(false)),
             (ask, refused(Refusal::WriteFault)),
             (ask, stopped),
             (get(0), stopped),

@@ -1,6 +1,6 @@
 //! Verdicts that are committed after other steps, and elements that are examined one by one.
 use crate::bench::asking::Bench;
-use crate::bench::steps::{Ask, LABEL, ROOT, S, Said};
+use crate::bench::steps::{Ask, LABEL, ROOT, S, StepAnswer};
 use nofs_history::{ElementKind, Refusal};
 use nofs_test_disks::formatted;
 use std::alloc::Global;
@@ -43,8 +43,8 @@ fn a_verdict_that_is_committed_late_undoes_no_step(rt: HostRuntime) -> Result<()
 // and what was found and what stands. The steps after it are to be answered so.
 fn freed_meanwhile(
     alloc: Global,
-    cases: &[(Ask, Said)],
-) -> Result<(Said, Option<(bool, bool)>), Fail> {
+    cases: &[(Ask, StepAnswer)],
+) -> Result<(StepAnswer, Option<(bool, bool)>), Fail> {
     let mut bench = begun(alloc)?;
     let stored = bench.ask(alloc, PUT);
     let asks = [Ask::Resize(LABEL, 0)];
@@ -57,11 +57,11 @@ fn freed_meanwhile(
 fn a_block_that_was_freed_since_stays_free(rt: HostRuntime) -> Result<(), Fail> {
     let alloc = rt.alloc();
     let cases = [
-        (Ask::SeeBlock(9), Said::Seen(false)),
-        (PUT, Said::Stored(S + 1, 0, 0)),
-        (Ask::SeeBlock(9), Said::Seen(true)),
+        (Ask::SeeBlock(9), StepAnswer::Seen(false)),
+        (PUT, StepAnswer::Stored(S + 1, 0, 0)),
+        (Ask::SeeBlock(9), StepAnswer::Seen(true)),
     ];
-    let want = (Said::Stored(S, 0, 0), Some((true, false)));
+    let want = (StepAnswer::Stored(S, 0, 0), Some((true, false)));
     assert_eq!(rt; freed_meanwhile(alloc, &cases)?, want);
     Ok(())
 }
@@ -70,7 +70,7 @@ fn a_block_that_was_freed_since_stays_free(rt: HostRuntime) -> Result<(), Fail> 
 // it are to be answered so.
 fn both_found_free(
     alloc: Global,
-    cases: &[(Ask, Said)],
+    cases: &[(Ask, StepAnswer)],
 ) -> Result<[Option<(bool, bool)>; 2], Fail> {
     let mut bench = Bench::over(alloc, formatted(alloc, 16, 4)?, 0)?;
     let block = bench.late(alloc, ElementKind::Block, 15, &[]);
@@ -83,12 +83,12 @@ fn both_found_free(
 fn what_was_found_free_may_be_claimed(rt: HostRuntime) -> Result<(), Fail> {
     let alloc = rt.alloc();
     let cases = [
-        (Ask::Free, Said::Free(1, 1)),
-        (MAKE, Said::Made(4, S, S + 1, 0)),
-        (Ask::SeeInode(4), Said::Seen(true)),
-        (Ask::SeeBlock(15), Said::Seen(true)),
-        (Ask::SeeBlock(16), Said::Refused(Refusal::BadRange)),
-        (Ask::SeeInode(0), Said::Refused(Refusal::BadRange)),
+        (Ask::Free, StepAnswer::Free(1, 1)),
+        (MAKE, StepAnswer::Made(4, S, S + 1, 0)),
+        (Ask::SeeInode(4), StepAnswer::Seen(true)),
+        (Ask::SeeBlock(15), StepAnswer::Seen(true)),
+        (Ask::SeeBlock(16), StepAnswer::Refused(Refusal::BadRange)),
+        (Ask::SeeInode(0), StepAnswer::Refused(Refusal::BadRange)),
     ];
     let found = both_found_free(alloc, &cases)?;
     assert_eq!(rt; found, [Some((false, false)); 2]);

@@ -1,5 +1,5 @@
 //! What a cached disk keeps back, what a crash drops, and what becomes of calls that fail below.
-use crate::disks::{Answer, Call, failing, first_wrong, flush, out, put, reads};
+use crate::disks::{CallAnswer, DiskCall, failing, first_wrong, flush, out, put, reads};
 use nofs_cache::Cached;
 use nofs_disk::Disk;
 use nofs_memdisk::MemDisk;
@@ -87,7 +87,7 @@ fn a_call_that_fails_below_is_reported_by_the_flush_and_made_again(
 }
 
 // What a flush leaves in a block that it writes with its call of this place, where that with this number fails.
-fn left(place: u64, number: u64, block: u64, byte: u8) -> (Call, Answer) {
+fn left(place: u64, number: u64, block: u64, byte: u8) -> (DiskCall, CallAnswer) {
     reads(block, if place < number { byte } else { 0 })
 }
 
@@ -147,7 +147,7 @@ fn a_write_out_that_fails_keeps_its_block_dirty(rt: HostRuntime) -> Result<(), F
     let mut disk = cached(rt.alloc(), below)?;
     let cases = [
         put(2, 7),
-        (Call::WriteOut, Answer::OutFailed),
+        (DiskCall::WriteOut, CallAnswer::OutFailed),
         reads(2, 7),
         out(Some(2)),
         out(None),

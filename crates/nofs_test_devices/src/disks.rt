@@ -58,7 +58,7 @@ pub(crate) fn byte_of<D: Disk>(disk: &mut D, block: u64) -> Option<u8> {
 
 /// A call of a disk.
 #[derive(Clone, Copy)]
-pub enum Call {
+pub enum DiskCall {
     /// Writes a cell of one byte to a block.
     Write(u64, u8),
     Flush,
@@ -69,7 +69,7 @@ pub enum Call {
 
 /// What a call is answered.
 #[derive(Clone, Copy, PartialEq, Eq)]
-pub enum Answer {
+pub enum CallAnswer {
     /// Whether a write or a flush succeeded.
     Done(bool),
     /// The block that was written out.
@@ -80,41 +80,41 @@ pub enum Answer {
 }
 
 /// A write that succeeds.
-pub(crate) fn put(block: u64, byte: u8) -> (Call, Answer) {
-    (Call::Write(block, byte), Answer::Done(true))
+pub(crate) fn put(block: u64, byte: u8) -> (DiskCall, CallAnswer) {
+    (DiskCall::Write(block, byte), CallAnswer::Done(true))
 }
 
 /// A flush, and whether it succeeds.
-pub(crate) fn flush(done: bool) -> (Call, Answer) {
-    (Call::Flush, Answer::Done(done))
+pub(crate) fn flush(done: bool) -> (DiskCall, CallAnswer) {
+    (DiskCall::Flush, CallAnswer::Done(done))
 }
 
 /// A write-out, and the block that is written.
-pub(crate) fn out(block: Option<u64>) -> (Call, Answer) {
-    (Call::WriteOut, Answer::Out(block))
+pub(crate) fn out(block: Option<u64>) -> (DiskCall, CallAnswer) {
+    (DiskCall::WriteOut, CallAnswer::Out(block))
 }
 
 /// A read, and the byte of the block.
-pub(crate) fn reads(block: u64, byte: u8) -> (Call, Answer) {
-    (Call::Read(block), Answer::Byte(Some(byte)))
+pub(crate) fn reads(block: u64, byte: u8) -> (DiskCall, CallAnswer) {
+    (DiskCall::Read(block), CallAnswer::Byte(Some(byte)))
 }
 
-fn made<D: Disk>(disk: &mut D, call: Call) -> Result<Answer, AllocError> {
+fn made<D: Disk>(disk: &mut D, call: DiskCall) -> Result<CallAnswer, AllocError> {
     Ok(match call {
-        Call::Write(block, byte) => Answer::Done(wrote(disk, block, byte)?),
-        Call::Flush => Answer::Done(flushed(disk)?),
-        Call::WriteOut => match written_out(disk)? {
-            Ok(block) => Answer::Out(block),
-            Err(_) => Answer::OutFailed,
+        DiskCall::Write(block, byte) => CallAnswer::Done(wrote(disk, block, byte)?),
+        DiskCall::Flush => CallAnswer::Done(flushed(disk)?),
+        DiskCall::WriteOut => match written_out(disk)? {
+            Ok(block) => CallAnswer::Out(block),
+            Err(_) => CallAnswer::OutFailed,
         },
-        Call::Read(block) => Answer::Byte(byte_of(disk, block)),
+        DiskCall::Read(block) => CallAnswer::Byte(byte_of(disk, block)),
     })
 }
 
 /// Makes these calls: the place of the first that is answered otherwise, if one is.
 pub(crate) fn first_wrong<D: Disk>(
     disk: &mut D,
-    cases: &[(Call, Answer)],
+    cases: &[(DiskCall, CallAnswer)],
 ) -> Result<Option<usize>, AllocError> {
     for (place, (call, want)) in cases.iter().enumerate() {
         if made(disk, *call)? != *want {

@@ -1,6 +1,6 @@
 //! How a mirror goes on when a side fails, and what it does when both do.
 use crate::disks::{
-    Answer, Call, byte_of, failing, first_wrong, flush, flushed, out, put, reads, wrote,
+    CallAnswer, DiskCall, byte_of, failing, first_wrong, flush, flushed, out, put, reads, wrote,
 };
 use nofs_disk::Disk;
 use nofs_memdisk::MemDisk;
@@ -156,7 +156,7 @@ fn the_last_side_that_is_in_stays_in(rt: HostRuntime) -> Result<(), Fail> {
     let mut mirror = failing_twice(rt.alloc(), 1, 6)?;
     assert_eq!(rt; first_wrong(&mut mirror, &[put(1, 5)])?, None);
     assert_eq!(rt; mirror.sides(), OTHER);
-    let refused = (Call::Write(3, 6), Answer::Done(false));
+    let refused = (DiskCall::Write(3, 6), CallAnswer::Done(false));
     assert_eq!(rt; first_wrong(&mut mirror, &[refused])?, None);
     assert_eq!(rt; mirror.sides(), OTHER);
     let calls = [put(3, 7), flush(true), reads(1, 5), reads(3, 7)];

@@ -14,7 +14,7 @@ use std::test::Fail;
 
 /// Images of 16 blocks and 4 inodes, but for the last two.
 #[derive(Clone, Copy)]
-pub enum Image {
+pub enum TestImage {
     /// A root with one block and no entry, and an empty label file.
     Empty,
     Version2,
@@ -47,27 +47,27 @@ pub type Patch = (usize, usize, &'static str);
 pub const VERSION_2: Patch = (0, 8, "02000000");
 
 /// The cells of an image.
-pub fn image_cells(alloc: Global, image: Image) -> Result<Vec<Cell>, Fail> {
+pub fn image_cells(alloc: Global, image: TestImage) -> Result<Vec<Cell>, Fail> {
     match image {
-        Image::Empty => patched_empty(alloc, &[]),
-        Image::Version2 => patched_empty(alloc, &[VERSION_2]),
-        Image::OnlyTheSuperblock => Ok(first_cell(empty(alloc)?)),
-        Image::StampThatDiffers => Ok(stamp_that_differs(alloc)?),
-        Image::TwoOwners => Ok(two_owners(alloc)?),
-        Image::TwoOwnersTheOtherWay => Ok(two_owners_the_other_way(alloc)?),
-        Image::InodeMadeAgain => Ok(inode_made_again(alloc)?),
-        Image::DeadSecondLink => Ok(dead_second_link(alloc)?),
-        Image::OneNameTwice => Ok(one_name_twice(alloc)?),
-        Image::Residue => Ok(residue_past_the_size(alloc)?),
-        Image::ResidueInVersion2 => { patched(alloc, residue_past_the_size(alloc)?, &[VERSION_2]) }
-        Image::EntryOfAFreeRecord => Ok(entry_of_a_free_record(alloc)?),
-        Image::EntryOfAnotherGeneration => Ok(entry_of_another_generation(alloc)?),
-        Image::LoopOfDirectories => Ok(loop_of_directories(alloc)?),
-        Image::LostNames => patched_empty(alloc, &[(6, 1048, "0900000000010000")]),
-        Image::LostChild => patched_empty(alloc, &LOST_CHILD),
-        Image::Zeros => Ok(vec![in alloc; Cell::ZERO; 16]?),
-        Image::BytesFf => Ok(bytes_ff(alloc)?),
-        Image::ChainOfDirectories => Ok(chain_of_directories(alloc)?),
+        TestImage::Empty => patched_empty(alloc, &[]),
+        TestImage::Version2 => patched_empty(alloc, &[VERSION_2]),
+        TestImage::OnlyTheSuperblock => Ok(first_cell(empty(alloc)?)),
+        TestImage::StampThatDiffers => Ok(stamp_that_differs(alloc)?),
+        TestImage::TwoOwners => Ok(two_owners(alloc)?),
+        TestImage::TwoOwnersTheOtherWay => Ok(two_owners_the_other_way(alloc)?),
+        TestImage::InodeMadeAgain => Ok(inode_made_again(alloc)?),
+        TestImage::DeadSecondLink => Ok(dead_second_link(alloc)?),
+        TestImage::OneNameTwice => Ok(one_name_twice(alloc)?),
+        TestImage::Residue => Ok(residue_past_the_size(alloc)?),
+        TestImage::ResidueInVersion2 => { patched(alloc, residue_past_the_size(alloc)?, &[VERSION_2]) }
+        TestImage::EntryOfAFreeRecord => Ok(entry_of_a_free_record(alloc)?),
+        TestImage::EntryOfAnotherGeneration => Ok(entry_of_another_generation(alloc)?),
+        TestImage::LoopOfDirectories => Ok(loop_of_directories(alloc)?),
+        TestImage::LostNames => patched_empty(alloc, &[(6, 1048, "0900000000010000")]),
+        TestImage::LostChild => patched_empty(alloc, &LOST_CHILD),
+        TestImage::Zeros => Ok(vec![in alloc; Cell::ZERO; 16]?),
+        TestImage::BytesFf => Ok(bytes_ff(alloc)?),
+        TestImage::ChainOfDirectories => Ok(chain_of_directories(alloc)?),
     }
 }
 
@@ -134,32 +134,32 @@ fn put_in_tag(cell: &mut Cell, at: usize, bytes: &[u8]) {
 }
 
 /// A field of the superblock that is not as it should be, and the line of the fault.
-pub const FAULTS: [(Image, Patch, &str); 11] = [
+pub const FAULTS: [(TestImage, Patch, &str); 11] = [
     (
-        Image::Zeros,
+        TestImage::Zeros,
         (0, 0, "4e6f4653"),
         "bad magic 4e6f465300000000",
     ),
-    (Image::Zeros, (0, 0, "00"), "bad magic 0000000000000000"),
-    (Image::Empty, (0, 0, "6e"), "bad magic 6e6f465376303031"),
-    (Image::Empty, (0, 8, "03"), "bad version 3"),
-    (Image::Empty, (0, 12, "01"), "byte 12 is not zero"),
+    (TestImage::Zeros, (0, 0, "00"), "bad magic 0000000000000000"),
+    (TestImage::Empty, (0, 0, "6e"), "bad magic 6e6f465376303031"),
+    (TestImage::Empty, (0, 8, "03"), "bad version 3"),
+    (TestImage::Empty, (0, 12, "01"), "byte 12 is not zero"),
     (
-        Image::Empty,
+        TestImage::Empty,
         (0, 16, "0f"),
         "bad geometry, blocks 15, inodes 4",
     ),
-    (Image::Empty, (0, 16, "11"), "device too small, has 16"),
+    (TestImage::Empty, (0, 16, "11"), "device too small, has 16"),
     (
-        Image::Empty,
+        TestImage::Empty,
         (0, 24, "05"),
         "bad geometry, blocks 16, inodes 5",
     ),
     (
-        Image::Empty,
+        TestImage::Empty,
         (0, 32, "ffffff"),
         "mounts spent, number 16777215",
     ),
-    (Image::Empty, (0, 40, "01"), "byte 40 is not zero"),
-    (Image::Version2, (0, 1023, "01"), "byte 1023 is not zero"),
+    (TestImage::Empty, (0, 40, "01"), "byte 40 is not zero"),
+    (TestImage::Version2, (0, 1023, "01"), "byte 1023 is not zero"),
 ];

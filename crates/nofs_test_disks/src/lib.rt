@@ -30,7 +30,7 @@ pub use examples::names::{
     chain_of_directories, dead_second_link, entry_of_a_free_record, entry_of_another_generation,
     loop_of_directories, one_name_twice,
 };
-pub use images::{FAULTS, Image, Patch, VERSION_2, image_cells, patched, patched_empty};
+pub use images::{FAULTS, TestImage, Patch, VERSION_2, image_cells, patched, patched_empty};
 use nofs_disk::{Cell, Disk};
 use nofs_memdisk::MemDisk;
 use nofs_super::{SuperBlock, format, read_super};

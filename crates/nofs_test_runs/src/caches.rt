@@ -1,9 +1,9 @@
 //! Runs over a cache that keeps writes back, and over the images that a crash in an ordinary day may leave.
 
-use crate::readings::{Seen, count, push_bytes, scanned_and_read, see_line};
+use crate::readings::{ReadTally, count, push_bytes, scanned_and_read, see_line};
 use crate::recorder::Recorder;
 use crate::runs::{LINES, SESSION, prints, run_on};
-use crate::stories::{Line, Story, day_calls, evening, stopped, text_of_lines};
+use crate::stories::{SessionLine, Story, day_calls, evening, stopped, text_of_lines};
 use nofs_disk::Disk;
 use nofs_filedisk::{FileDisk, MemFile};
 use nofs_memdisk::MemDisk;
@@ -81,7 +81,7 @@ const LARGE: Story = Story {
     files: &LARGE_FILES,
 };
 
-const EVENING: [Line; 10] = [
+const EVENING: [SessionLine; 10] = [
     ("make /kept", 1),
     ("put /kept 0 10", KEPT),
     ("mkdir /d", 1),
@@ -94,7 +94,7 @@ const EVENING: [Line; 10] = [
     ("put @ 0 1a", 2_000),
 ];
 
-const DAY: [Line; 24] = [
+const DAY: [SessionLine; 24] = [
     ("put /a 4096 11", 7_000),
     ("make /f", 1),
     ("put /f 0 14", 14_000),
@@ -137,14 +137,14 @@ const FILES: [(&str, u8); 12] = [
 ];
 
 // A file has 72 blocks before it needs a top, and 64 more below each child.
-const LARGE_EVENING: [Line; 4] = [
+const LARGE_EVENING: [SessionLine; 4] = [
     ("make /kept", 1),
     ("put /kept 0 10", KEPT),
     ("make /a", 1),
     ("put /a 70000 11", 9_000),
 ];
 
-const LARGE_DAY: [Line; 14] = [
+const LARGE_DAY: [SessionLine; 14] = [
     ("put /a 0 11", 60_000),
     ("put /a 137000 11", 9_000),
     ("fsync /a", 1),
@@ -187,7 +187,7 @@ fn kept_line(alloc: Global) -> Result<Vec<u8>, Fail> {
 }
 
 // The lines of a reading, one a file.
-fn see(alloc: Global, story: Story, seen: &mut Seen, lines: &[u8]) -> Result<(), Fail> {
+fn see(alloc: Global, story: Story, seen: &mut ReadTally, lines: &[u8]) -> Result<(), Fail> {
     for (at, line) in lines.split(|byte| *byte == b'\n').enumerate() {
         if let Some(file) = story.files.get(at) {
             see_line(alloc, seen, line, &[file.1])?;
@@ -201,7 +201,7 @@ fn is_served<R: Threads + Wait + Sync, D: Disk + Drop + Send>(
     rt: &R,
     alloc: Global,
     story: Story,
-    seen: &mut Seen,
+    seen: &mut ReadTally,
     image: D,
 ) -> Result<bool, Fail> {
     let (ended, sink) = scanned_and_read(rt, alloc, &reading(alloc, story)?, image)?;
@@ -248,8 +248,8 @@ fn served_images<R: Threads + Wait + Sync>(
     story: Story,
     file: &Recorder,
     start: u64,
-) -> Result<(bool, Seen), Fail> {
-    let (mut state, mut seen, mut served) = (start, Seen::NOTHING, true);
+) -> Result<(bool, ReadTally), Fail> {
+    let (mut state, mut seen, mut served) = (start, ReadTally::NOTHING, true);
     for number in 0..LEAST_IMAGES.max(file.calls()) {
         let call = number.checked_rem(file.calls()).unwrap_or(0);
         let image = file_disk(alloc, &file.image(call, &mut state)?)?;
@@ -259,7 +259,7 @@ fn served_images<R: Threads + Wait + Sync>(
 }
 
 // Whether every part that was read of so many images is of its file, and some were lost.
-fn are_own(seen: Seen, images: u64) -> bool {
+fn are_own(seen: ReadTally, images: u64) -> bool {
     seen.images >= images && seen.foreign == 0 && seen.bytes > 0 && seen.lost > 0
 }
 
@@ -309,9 +309,9 @@ fn served_stops<R: Threads + Wait + Sync>(
     alloc: Global,
     story: Story,
     start: u64,
-) -> Result<(bool, Seen), Fail> {
+) -> Result<(bool, ReadTally), Fail> {
     let calls = day_calls(rt, alloc, story)?;
-    let (mut state, mut seen, mut served) = (start, Seen::NOTHING, true);
+    let (mut state, mut seen, mut served) = (start, ReadTally::NOTHING, true);
     for _ in 0..STOPS.0 {
         let (status, disk) = stopped(rt, alloc, story, &mut state, calls)?;
         served = served && status == 3;

@@ -10,7 +10,7 @@ use std::test::Fail;
 
 /// What a run tells of one command of its session.
 #[derive(Clone, Copy)]
-struct Told {
+struct CommandTold {
     line: &'static str,
     /// Whether it writes to the disk, or flushes it.
     writes: bool,
@@ -21,16 +21,16 @@ struct Told {
 }
 
 // A command that writes to the disk, or flushes it.
-fn writes(line: &'static str, rest: &'static str) -> Told {
-    Told {
+fn writes(line: &'static str, rest: &'static str) -> CommandTold {
+    CommandTold {
         writes: true,
         ..reads(line, rest)
     }
 }
 
 // A command that does not, as one over a cache.
-fn reads(line: &'static str, rest: &'static str) -> Told {
-    Told {
+fn reads(line: &'static str, rest: &'static str) -> CommandTold {
+    CommandTold {
         line,
         writes: false,
         end: "\n",
@@ -39,8 +39,8 @@ fn reads(line: &'static str, rest: &'static str) -> Told {
 }
 
 // A put over a cache.
-fn puts(line: &'static str, rest: &'static str) -> Told {
-    Told {
+fn puts(line: &'static str, rest: &'static str) -> CommandTold {
+    CommandTold {
         end: ", stored 0\n",
         ..reads(line, rest)
     }
@@ -52,7 +52,7 @@ const NAMES: &str =
 const FILES: &str =
     "put @ 0 616263\nget @ 0 3\nfsync @\nmake /a\nput /a 0 646566\nget /a 0 3\nfsync /a";
 
-fn names_told() -> [Told; 10] {
+fn names_told() -> [CommandTold; 10] {
     [
         writes(
             "made\n",
@@ -85,7 +85,7 @@ fn names_told() -> [Told; 10] {
     ]
 }
 
-fn files_told() -> [Told; 7] {
+fn files_told() -> [CommandTold; 7] {
     [
         puts(
             "put 3\n",
@@ -115,7 +115,7 @@ const NONE: CallCounts = CallCounts {
 // The lines up to the command at a place, which is refused; all of them where none has this place.
 fn lines_to(
     alloc: Global,
-    told: &[Told],
+    told: &[CommandTold],
     place: usize,
     refusal: &str,
 ) -> Result<Vec<u8>, AllocError> {
@@ -133,7 +133,7 @@ fn lines_to(
 }
 
 // The lines where a read of the command at a place fails: it changes nothing, and nothing is stopped.
-fn after_read(alloc: Global, told: &[Told], place: usize) -> Result<Vec<u8>, AllocError> {
+fn after_read(alloc: Global, told: &[CommandTold], place: usize) -> Result<Vec<u8>, AllocError> {
     let mut text = lines_to(alloc, told, place, "refused 18 read fault")?;
     if let Some(command) = told.get(place) {
         text.extend_from_slice(command.rest.as_bytes())?;
@@ -142,7 +142,7 @@ fn after_read(alloc: Global, told: &[Told], place: usize) -> Result<Vec<u8>, All
 }
 
 // The lines where a write or a flush of the command at a place fails, and all after it are stopped.
-fn after_write(alloc: Global, told: &[Told], place: usize) -> Result<Vec<u8>, AllocError> {
+fn after_write(alloc: Global, told: &[CommandTold], place: usize) -> Result<Vec<u8>, AllocError> {
     let mut text = lines_to(alloc, told, place, "refused 19 write fault")?;
     for (at, command) in told.iter().enumerate() {
         if at > place {
@@ -156,7 +156,7 @@ fn after_write(alloc: Global, told: &[Told], place: usize) -> Result<Vec<u8>, Al
 // Whether these are the lines after a fault in some command. Only the flush at the end fails in none.
 fn tell_a_fault(
     alloc: Global,
-    told: &[Told],
+    told: &[CommandTold],
     call: CallKind,
     lines: &[u8],
 ) -> Result<bool, AllocError> {
@@ -185,7 +185,7 @@ fn is_before_serving(fault: FaultAt) -> bool {
 // was made again, or no such call was made.
 fn may_tell(
     alloc: Global,
-    told: &[Told],
+    told: &[CommandTold],
     fault: FaultAt,
     status: u8,
     lines: &[u8],

@@ -3,78 +3,78 @@
 use crate::runs::{USAGE, prints, run_on};
 use nofs_test_disks as images;
 use nofs_test_disks::{
-    FAULTS, Image, bytes_of, cells_of, disk_with, image_cells, patched, scan_line, used,
+    FAULTS, TestImage, bytes_of, cells_of, disk_with, image_cells, patched, scan_line, used,
 };
 use std::test::Fail;
 
-const ROWS: [(Image, &str, &str); 19] = [
-    (Image::StampThatDiffers, "get @ 0 3", "got lost:3\n"),
-    (Image::TwoOwners, "get /a 0 1", "got lost:1\n"),
-    (Image::TwoOwnersTheOtherWay, "get /b 0 1", "got lost:1\n"),
-    (Image::InodeMadeAgain, "get /a 0 1", "got lost:1\n"),
+const ROWS: [(TestImage, &str, &str); 19] = [
+    (TestImage::StampThatDiffers, "get @ 0 3", "got lost:3\n"),
+    (TestImage::TwoOwners, "get /a 0 1", "got lost:1\n"),
+    (TestImage::TwoOwnersTheOtherWay, "get /b 0 1", "got lost:1\n"),
+    (TestImage::InodeMadeAgain, "get /a 0 1", "got lost:1\n"),
     (
-        Image::DeadSecondLink,
+        TestImage::DeadSecondLink,
         "stat /a\ndrop /a\nstat /a",
         "stat file 0 1\ndropped\nrefused 1 missing\n",
     ),
     (
-        Image::OneNameTwice,
+        TestImage::OneNameTwice,
         "stat /a\ndrop /a\nstat /a",
         "stat file 1 1\ndropped\nstat file 2 1\n",
     ),
     (
-        Image::Residue,
+        TestImage::Residue,
         "get @ 8192 4\nsize @ 9000\nget @ 8192 4",
         "got\nsized 9000\ngot hole:4\n",
     ),
     (
-        Image::ResidueInVersion2,
+        TestImage::ResidueInVersion2,
         "get @ 8192 4\nsize @ 9000\nget @ 8192 4",
         "got\nsized 9000\ngot hole:4\n",
     ),
     (
-        Image::OnlyTheSuperblock,
+        TestImage::OnlyTheSuperblock,
         "stat /\nmake /a\nget @ 0 1",
         "refused 14 stale\nrefused 14 stale\nrefused 14 stale\n",
     ),
     (
-        Image::EntryOfAFreeRecord,
+        TestImage::EntryOfAFreeRecord,
         "list /\nstat /a\nmake /a\nstat /a",
         "names /dead:a\nrefused 2 lost entry 0\nmade\nstat file 0 1\n",
     ),
     (
-        Image::EntryOfAnotherGeneration,
+        TestImage::EntryOfAnotherGeneration,
         "list /\nstat /a\ndrop /a",
         "names /dead:a\nrefused 2 lost entry 0\nrefused 2 lost entry 0\n",
     ),
     (
-        Image::LoopOfDirectories,
+        TestImage::LoopOfDirectories,
         "list /\nstat /a\nmake /a/c",
         "names\nrefused 1 missing\nrefused 1 missing\n",
     ),
     (
-        Image::LostNames,
+        TestImage::LostNames,
         "list /\nstat /a\ndrop /a\nmake /a\nlist /\nstat /a\nstat /b",
         "names /lost:0\nrefused 3 lost slot 0\nrefused 3 lost slot 0\nmade\nnames /lost:0 a\nstat file 0 1\nrefused 3 lost slot 0\n",
     ),
-    (Image::Empty, "size @ 73729", "refused 12 too large\n"),
+    (TestImage::Empty, "size @ 73729", "refused 12 too large\n"),
     (
-        Image::Version2,
+        TestImage::Version2,
         "size @ 80000\nput @ 79999 07\nget @ 73727 3\nget @ 79998 2\nstat @",
         "sized 80000\nput 1\ngot hole:1 hole:2\ngot bytes:0007\nstat file 80000 0\n",
     ),
     (
-        Image::Version2,
+        TestImage::Version2,
         "size @ 4268032\nput @ 4268031 01\nput @ 4268032 01\nsize @ 4268033\nget @ 4268030 9",
         "sized 4268032\nput 1\nrefused 12 too large, stored 0\nrefused 12 too large\ngot bytes:0001\n",
     ),
     (
-        Image::LostChild,
+        TestImage::LostChild,
         "get @ 79998 2\nsize @ 80001\nsize @ 100\nget @ 0 100",
         "got lost:2\nrefused 3 lost slot 72\nsized 100\ngot hole:100\n",
     ),
-    (Image::Version2, "size @ 73729", "sized 73729\n"),
-    (Image::Empty, "", ""),
+    (TestImage::Version2, "size @ 73729", "sized 73729\n"),
+    (TestImage::Empty, "", ""),
 ];
 
 #[test]
@@ -110,12 +110,12 @@ fn larger_images_are_counted(rt: HostRuntime) -> Result<(), Fail> {
     let alloc = rt.alloc();
     for (image, blocks, want) in [
         (
-            Image::BytesFf,
+            TestImage::BytesFf,
             64,
             "inodes used 2 free 14 unchecked 0, blocks used 5 free 59 unchecked 0\n",
         ),
         (
-            Image::ChainOfDirectories,
+            TestImage::ChainOfDirectories,
             4096,
             "inodes used 2002 free 2 unchecked 0, blocks used 2502 free 1594 unchecked 0\n",
         ),

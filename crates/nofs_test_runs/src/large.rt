@@ -10,12 +10,12 @@ use std::test::Fail;
 
 /// A session, and the lines that it is to print.
 #[derive(Drop)]
-struct Told {
+struct SessionText {
     session: Vec<u8>,
     lines: Vec<u8>,
 }
 
-impl Told {
+impl SessionText {
     fn push(&mut self, session: &str, lines: &str) -> Result<(), AllocError> {
         self.session.extend_from_slice(session.as_bytes())?;
         self.lines.extend_from_slice(lines.as_bytes())
@@ -41,7 +41,7 @@ fn offset_of(first: u64, number: u64) -> u64
 // A put of bytes that are all one more than its number.
 fn push_put(
     alloc: Global,
-    told: &mut Told,
+    told: &mut SessionText,
     path: &str,
     first: u64,
     number: u64,
@@ -63,7 +63,7 @@ fn push_put(
 }
 
 // Makes a file and fills it to its greatest size.
-fn push_fill(alloc: Global, told: &mut Told, path: &str, first: u64) -> Result<(), AllocError>
+fn push_fill(alloc: Global, told: &mut SessionText, path: &str, first: u64) -> Result<(), AllocError>
     requires { first ≤ 8192 }
 {
     told.push(format!(in alloc; "make {path}\n")?.as_str(), "made\n")?;
@@ -154,8 +154,8 @@ fn parts() -> [Part; 7] {
     ]
 }
 
-fn told_of(alloc: Global, part: Part) -> Result<Told, AllocError> {
-    let mut told = Told {
+fn told_of(alloc: Global, part: Part) -> Result<SessionText, AllocError> {
+    let mut told = SessionText {
         session: Vec::new(alloc),
         lines: Vec::new(alloc),
     };

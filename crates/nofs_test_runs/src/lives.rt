@@ -4,7 +4,7 @@ mod chains;
 mod numbers;
 mod scripts;
 
-use crate::lives::chains::{Chain, Found, Wrong, left_image};
+use crate::lives::chains::{Chain, ChainsFound, Wrong, left_image};
 use crate::lives::numbers::{mount_on, numbers_on};
 use crate::lives::scripts::{all_gets, drawn_script};
 use crate::readings::{count, scanned_and_read};
@@ -125,8 +125,8 @@ fn found_in<R: Threads + Wait + Sync>(
     rt: &R,
     alloc: Global,
     seed: u64,
-    before: Found,
-) -> Result<Found, Fail> {
+    before: ChainsFound,
+) -> Result<ChainsFound, Fail> {
     let mut chain = Chain::new(alloc, seed, before)?;
     let mut disk = MemDisk::new(alloc, BLOCKS)?;
     for life in 1..=LIVES {
@@ -137,7 +137,7 @@ fn found_in<R: Threads + Wait + Sync>(
 }
 
 // Whether so much came in these chains that what was not found might have been.
-fn are_full(found: Found, chains: u64) -> bool {
+fn are_full(found: ChainsFound, chains: u64) -> bool {
     let seen = found.seen;
     found.mounts > 35
         && found.failed > 8
@@ -154,7 +154,7 @@ fn give_and_mix_nothing<R: Threads + Wait + Sync + Abort + AllocGlobal>(
     first: u64,
     chains: u64,
 ) -> Result<(), Fail> {
-    let mut found = Found::NOTHING;
+    let mut found = ChainsFound::NOTHING;
     for number in 0..chains {
         found = found_in(rt, rt.alloc(), first.saturating_add(number), found)?;
     }

@@ -18,7 +18,7 @@ pub fn push_bytes(alloc: Global, text: &mut Vec<u8>, byte: u8, count: usize) -> 
 
 /// What was read of the files in all images.
 #[derive(Clone, Copy, Debug, PartialEq, Eq)]
-pub struct Seen {
+pub struct ReadTally {
     pub images: u64,
     pub bytes: u64,
     pub holes: u64,
@@ -28,9 +28,9 @@ pub struct Seen {
     pub foreign: u64,
 }
 
-impl Seen {
+impl ReadTally {
     /// What is seen of no image.
-    pub const NOTHING: Seen = Seen {
+    pub const NOTHING: ReadTally = ReadTally {
         images: 0,
         bytes: 0,
         holes: 0,
@@ -55,7 +55,7 @@ fn has_byte(bytes: &[u8], byte: u8) -> bool {
     bytes.iter().any(|one| *one == byte)
 }
 
-fn see_part(alloc: Global, seen: &mut Seen, part: &[u8], own: &[u8]) -> Result<(), Fail> {
+fn see_part(alloc: Global, seen: &mut ReadTally, part: &[u8], own: &[u8]) -> Result<(), Fail> {
     if part.starts_with(b"hole:".as_slice()) {
         count(&mut seen.holes);
     } else if part.starts_with(b"lost:".as_slice()) {
@@ -72,7 +72,7 @@ fn see_part(alloc: Global, seen: &mut Seen, part: &[u8], own: &[u8]) -> Result<(
 }
 
 /// Counts the parts of the line of a file that has these bytes.
-pub fn see_line(alloc: Global, seen: &mut Seen, line: &[u8], own: &[u8]) -> Result<(), Fail> {
+pub fn see_line(alloc: Global, seen: &mut ReadTally, line: &[u8], own: &[u8]) -> Result<(), Fail> {
     for part in line.split(|byte| *byte == b' ') {
         see_part(alloc, seen, part, own)?;
     }

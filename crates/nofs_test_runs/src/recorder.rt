@@ -19,7 +19,7 @@ const PIECE: usize = 1_048_576;
 
 /// A call that changes the file, or makes it durable.
 #[derive(Drop)]
-pub enum FileCall {
+pub enum RecordedCall {
     Write { at: u64, bytes: Vec<u8> },
     Sync,
 }
@@ -32,7 +32,7 @@ pub struct Recorder {
     /// The bytes at first, all of which are durable.
     first: Vec<u8>,
     /// The writes and syncs since, in order.
-    calls: Vec<FileCall>,
+    calls: Vec<RecordedCall>,
     /// Whether each of them was kept.
     is_kept: bool,
 }
@@ -79,10 +79,10 @@ impl Recorder {
     }
 
     // The bytes at first, after these calls.
-    fn replay(&self, calls: &[FileCall]) -> Result<Vec<u8>, AllocError> {
+    fn replay(&self, calls: &[RecordedCall]) -> Result<Vec<u8>, AllocError> {
         let mut bytes = self.first.to_vec(self.alloc)?;
         for call in calls {
-            if let FileCall::Write { at, bytes: part } = call {
+            if let RecordedCall::Write { at, bytes: part } = call {
                 put(&mut bytes, *at as usize, part);
             }
         }
@@ -102,7 +102,7 @@ impl Recorder {
     }
 
     // Keeps a call, where there is memory.
-    fn keep(&mut self, call: Option<FileCall>)
+    fn keep(&mut self, call: Option<RecordedCall>)
         ensures { self.new.under ≡ self.old.under }
     {
         let kept = match call {
@@ -114,11 +114,11 @@ impl Recorder {
 }
 
 impl Positioned for Recorder {
-    ghost use Rattle.nofs_filedisk.specs.Memory.{told_is};
+    ghost use Rattle.nofs_filedisk.specs.Memory.{telling_file-is};
 
     ghost state = { λ f. ⟦<MemFile as Positioned>⟧.state f.under };
 
-    ghost is_file = { λ f. told_is f.under.bytes.items f.under.durable.items f.under.faults f.under.counted f.under.small };
+    ghost is_file = { λ f. telling_file-is f.under.bytes.items f.under.durable.items f.under.faults f.under.counted f.under.small };
 
     fn read_at(&mut self, at: u64, into: &mut [u8]) -> Result<usize, Failed> {
         self.under.read_at(at, into)
@@ -132,55 +132,55 @@ impl Positioned for Recorder {
 
     fn sync(&mut self) -> Result<(), Failed> {
         self.under.sync()?;
-        self.keep(Some(FileCall::Sync));
+        self.keep(Some(RecordedCall::Sync));
         Ok(())
     }
 }
 
 // The write of the first bytes of these; `None` where there is no memory.
-fn write_call(alloc: Global, at: u64, from: &[u8], count: usize) -> Option<FileCall> {
+fn write_call(alloc: Global, at: u64, from: &[u8], count: usize) -> Option<RecordedCall> {
     let part = from.get(..count)?;
     match part.to_vec(alloc) {
-        Ok(bytes) => Some(FileCall::Write { at, bytes }),
+        Ok(bytes) => Some(RecordedCall::Write { at, bytes }),
         Err(_) => None,
     }
 }
 
 // How many cells a call writes.
-fn cells_of_call(call: &FileCall) -> usize {
+fn cells_of_call(call: &RecordedCall) -> usize {
     match call {
-        FileCall::Write { bytes, .. } => bytes.len() / CELL_BYTES,
-        FileCall::Sync => 0,
+        RecordedCall::Write { bytes, .. } => bytes.len() / CELL_BYTES,
+        RecordedCall::Sync => 0,
     }
 }
 
 // Whether a call writes whole cells, if it writes.
-fn has_whole_cells(call: &FileCall) -> bool {
+fn has_whole_cells(call: &RecordedCall) -> bool {
     match call {
-        FileCall::Write { at, bytes } => {
+        RecordedCall::Write { at, bytes } => {
             *at % CELL_BYTES as u64 == 0 && bytes.len() % CELL_BYTES == 0
         }
-        FileCall::Sync => true,
+        RecordedCall::Sync => true,
     }
 }
 
 // The first so many calls, or all of them.
-fn first_calls(calls: &[FileCall], count: usize) -> &[FileCall] {
+fn first_calls(calls: &[RecordedCall], count: usize) -> &[RecordedCall] {
     calls.get(..count).unwrap_or(calls)
 }
 
 // The calls up to the last sync.
-fn up_to_sync(calls: &[FileCall]) -> &[FileCall] {
+fn up_to_sync(calls: &[RecordedCall]) -> &[RecordedCall] {
     match calls.iter().rev().position(is_sync) {
         Some(behind) => first_calls(calls, calls.len().saturating_sub(behind)),
         None => &[],
     }
 }
 
-fn is_sync(call: &FileCall) -> bool {
+fn is_sync(call: &RecordedCall) -> bool {
     match call {
-        FileCall::Write { .. } => false,
-        FileCall::Sync => true,
+        RecordedCall::Write { .. } => false,
+        RecordedCall::Sync => true,
     }
 }
 
@@ -207,8 +207,8 @@ impl DrawnImage {
     }
 
     // Takes or leaves each cell that a call writes.
-    fn offer(&mut self, call: &FileCall, state: &mut u64) {
-        if let FileCall::Write { at, bytes } = call {
+    fn offer(&mut self, call: &RecordedCall, state: &mut u64) {
+        if let RecordedCall::Write { at, bytes } = call {
             self.offer_cells(*at as usize / CELL_BYTES, bytes, state);
         }
     }

@@ -2,10 +2,10 @@
 //! slow walk over the cells tells.
 
 use crate::runs::run_on;
-use crate::stories::{Line, Story, day_calls, stopped};
+use crate::stories::{SessionLine, Story, day_calls, stopped};
 use crate::walks::told_of;
 use nofs_memdisk::MemDisk;
-use nofs_test_disks::{Image, Patch, cells_of, disk_with, drawn_picks, image_cells, left, patched};
+use nofs_test_disks::{TestImage, Patch, cells_of, disk_with, drawn_picks, image_cells, left, patched};
 use std::alloc::{AllocError, Global};
 use std::sync::Wait;
 use std::test::Fail;
@@ -14,39 +14,39 @@ use std::thread::Threads;
 // Entry 0 of the root is `a`, of inode 3, whose record is free.
 const DEAD_A: Patch = (6, 0, "0300000001000000010000000001000061");
 
-const ROWS: [(Image, &[Patch], &str, &str); 10] = [
+const ROWS: [(TestImage, &[Patch], &str, &str); 10] = [
     (
-        Image::StampThatDiffers,
+        TestImage::StampThatDiffers,
         &[DEAD_A],
         "salvage",
         "lost 2 slot 0\ndead 1 a\n",
     ),
     (
-        Image::StampThatDiffers,
+        TestImage::StampThatDiffers,
         &[DEAD_A],
         "salvage b",
         "lost 2 slot 0\n",
     ),
-    (Image::OneNameTwice, &[], "salvage", "twice 1 a\n"),
-    (Image::OneNameTwice, &[], "salvage a", "twice 1 a\n"),
-    (Image::TwoOwners, &[], "salvage", "lost 3 slot 0\n"),
-    (Image::LostNames, &[], "salvage b", "lost 1 slot 0\n"),
+    (TestImage::OneNameTwice, &[], "salvage", "twice 1 a\n"),
+    (TestImage::OneNameTwice, &[], "salvage a", "twice 1 a\n"),
+    (TestImage::TwoOwners, &[], "salvage", "lost 3 slot 0\n"),
+    (TestImage::LostNames, &[], "salvage b", "lost 1 slot 0\n"),
     (
-        Image::OnlyTheSuperblock,
+        TestImage::OnlyTheSuperblock,
         &[],
         "salvage",
         "refused 14 stale\n",
     ),
-    (Image::Empty, &[], "salvage", ""),
+    (TestImage::Empty, &[], "salvage", ""),
     // Of 80,000 bytes, those from slot 72 on are below a lost child.
     (
-        Image::LostChild,
+        TestImage::LostChild,
         &[],
         "salvage",
         "lost 2 slot 72\nlost 2 slot 73\nlost 2 slot 74\nlost 2 slot 75\nlost 2 slot 76\nlost 2 slot 77\nlost 2 slot 78\n",
     ),
     // In version 1 a file has no such slots.
-    (Image::LostChild, &[(0, 8, "01")], "salvage", ""),
+    (TestImage::LostChild, &[(0, 8, "01")], "salvage", ""),
 ];
 
 /// What a salvage of a disk ended with and printed, and what the slow walk tells of its cells.
@@ -100,24 +100,24 @@ fn a_salvage_tells_what_is_lost(rt: HostRuntime) -> Result<(), Fail> {
 }
 
 // Those that can be mounted, but for the chain of directories, and how many blocks their disks have.
-const IMAGES: [(Image, u64); 17] = [
-    (Image::Empty, 16),
-    (Image::Version2, 16),
-    (Image::OnlyTheSuperblock, 16),
-    (Image::StampThatDiffers, 16),
-    (Image::TwoOwners, 16),
-    (Image::TwoOwnersTheOtherWay, 16),
-    (Image::InodeMadeAgain, 16),
-    (Image::DeadSecondLink, 16),
-    (Image::OneNameTwice, 16),
-    (Image::Residue, 16),
-    (Image::ResidueInVersion2, 16),
-    (Image::EntryOfAFreeRecord, 16),
-    (Image::EntryOfAnotherGeneration, 16),
-    (Image::LoopOfDirectories, 16),
-    (Image::LostNames, 16),
-    (Image::LostChild, 16),
-    (Image::BytesFf, 64),
+const IMAGES: [(TestImage, u64); 17] = [
+    (TestImage::Empty, 16),
+    (TestImage::Version2, 16),
+    (TestImage::OnlyTheSuperblock, 16),
+    (TestImage::StampThatDiffers, 16),
+    (TestImage::TwoOwners, 16),
+    (TestImage::TwoOwnersTheOtherWay, 16),
+    (TestImage::InodeMadeAgain, 16),
+    (TestImage::DeadSecondLink, 16),
+    (TestImage::OneNameTwice, 16),
+    (TestImage::Residue, 16),
+    (TestImage::ResidueInVersion2, 16),
+    (TestImage::EntryOfAFreeRecord, 16),
+    (TestImage::EntryOfAnotherGeneration, 16),
+    (TestImage::LoopOfDirectories, 16),
+    (TestImage::LostNames, 16),
+    (TestImage::LostChild, 16),
+    (TestImage::BytesFf, 64),
 ];
 
 #[test]
@@ -140,7 +140,7 @@ const ORDINARY: Story = Story {
     files: &[],
 };
 
-const EVENING: [Line; 18] = [
+const EVENING: [SessionLine; 18] = [
     ("mkdir /a", 1),
     ("mkdir /b", 1),
     ("mkdir /a/c", 1),
@@ -162,7 +162,7 @@ const EVENING: [Line; 18] = [
 ];
 
 // Names are given again, and so are inodes and blocks.
-const DAY: [Line; 40] = [
+const DAY: [SessionLine; 40] = [
     ("make /b/eight", 1),
     ("put /b/eight 0 19", 2_048),
     ("rename /one uno", 1),

@@ -9,7 +9,7 @@ use std::test::Fail;
 use std::thread::Threads;
 
 /// A line of a session: its words, and how often their last two digits stand there.
-pub type Line = (&'static str, usize);
+pub type SessionLine = (&'static str, usize);
 
 /// Two sessions over an image of 16 inodes: one that ends well, and one in which a crash comes.
 #[derive(Clone, Copy)]
@@ -17,16 +17,16 @@ pub struct Story {
     pub blocks: u64,
     pub is_upgraded: bool,
     /// All of it is durable.
-    pub evening: &'static [Line],
+    pub evening: &'static [SessionLine],
     /// Each of `files` has bytes of its own, and its name is never given to a second file. The blocks of files
     /// that were dropped are needed again.
-    pub day: &'static [Line],
+    pub day: &'static [SessionLine],
     /// Where the files are or were, and the byte of each.
     pub files: &'static [(&'static str, u8)],
 }
 
 /// The session of these lines.
-pub fn text_of_lines(alloc: Global, lines: &[Line]) -> Result<Vec<u8>, AllocError> {
+pub fn text_of_lines(alloc: Global, lines: &[SessionLine]) -> Result<Vec<u8>, AllocError> {
     let mut text = Vec::new(alloc);
     for line in lines {
         push_line(&mut text, *line)?;
@@ -34,7 +34,7 @@ pub fn text_of_lines(alloc: Global, lines: &[Line]) -> Result<Vec<u8>, AllocErro
     Ok(text)
 }
 
-fn push_line(text: &mut Vec<u8>, line: Line) -> Result<(), AllocError> {
+fn push_line(text: &mut Vec<u8>, line: SessionLine) -> Result<(), AllocError> {
     let words = line.0.as_bytes();
     text.extend_from_slice(words)?;
     let digits = words.get(words.len().saturating_sub(2)..).unwrap_or(&[]);

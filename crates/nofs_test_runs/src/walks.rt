@@ -44,7 +44,7 @@ struct Walk<'a> {
 
 /// An entry, and where it stands.
 #[derive(Clone, Copy)]
-struct Entry<'a> {
+struct PlacedEntry<'a> {
     directory: u32,
     /// Counted over the whole content of the directory.
     place: u32,
@@ -94,7 +94,7 @@ impl Walk<'_> {
         pairs: &mut Vec<Vec<u8>>,
     ) -> Result<(), AllocError> {
         for (number, bytes) in content.chunks(64).enumerate() {
-            let entry = Entry {
+            let entry = PlacedEntry {
                 directory,
                 place: first.wrapping_add((number % 16) as u32),
                 bytes,
@@ -107,7 +107,7 @@ impl Walk<'_> {
     }
 
     // `pairs` has the names of the pairs before, in this directory.
-    fn tell_entry(&mut self, entry: Entry<'_>, pairs: &mut Vec<Vec<u8>>) -> Result<(), AllocError> {
+    fn tell_entry(&mut self, entry: PlacedEntry<'_>, pairs: &mut Vec<Vec<u8>>) -> Result<(), AllocError> {
         let name = name_in(entry.bytes);
         if !is_pair(self.cells, entry) {
             return self.push_name("dead", entry);
@@ -119,7 +119,7 @@ impl Walk<'_> {
         self.tell_pair(entry)
     }
 
-    fn tell_pair(&mut self, entry: Entry<'_>) -> Result<(), AllocError> {
+    fn tell_pair(&mut self, entry: PlacedEntry<'_>) -> Result<(), AllocError> {
         let inode = word_in(entry.bytes, 0);
         if is_directory(record_of(self.cells, inode)) {
             self.meet(inode)
@@ -155,7 +155,7 @@ impl Walk<'_> {
     }
 
     // Tells of a name that begins with the prefix.
-    fn push_name(&mut self, what: &str, entry: Entry<'_>) -> Result<(), AllocError> {
+    fn push_name(&mut self, what: &str, entry: PlacedEntry<'_>) -> Result<(), AllocError> {
         let name = name_in(entry.bytes);
         if !name.starts_with(self.prefix) {
             return Ok(());
@@ -242,7 +242,7 @@ fn name_in(entry: &[u8]) -> &[u8] {
 
 // Whether an entry of an agreed directory names an inode that names the entry back. A directory is
 // younger than the one that names it.
-fn is_pair(cells: &[Cell], entry: Entry<'_>) -> bool {
+fn is_pair(cells: &[Cell], entry: PlacedEntry<'_>) -> bool {
     let inode = word_in(entry.bytes, 0);
     let record = record_of(cells, inode);
     let above = number_in(record_of(cells, entry.directory), 0);
@@ -253,7 +253,7 @@ fn is_pair(cells: &[Cell], entry: Entry<'_>) -> bool {
 }
 
 // Whether a record has a back link to an entry of a directory of this generation.
-fn has_link(record: &[u8], entry: Entry<'_>, generation: u64) -> bool {
+fn has_link(record: &[u8], entry: PlacedEntry<'_>, generation: u64) -> bool {
     [32, 48, 64, 80].iter().any(|at| {
         word_in(record, *at) == entry.directory
             && word_in(record, at.saturating_add(4)) == entry.place

@@ -22,7 +22,7 @@ use Rattle.nofs_upgrade.specs.declared.fault.UpgradeFault.TheVariants.{Already}
 use Rattle.nofs_tool.specs.Upgrading.{UpgradeEnds}
 use Rattle.nofs_tool.specs.Complete.{CanBeFormatted, CanBeMounted, HoldsSession, NoneRose}
 use Rattle.nofs_tool.specs.Statuses.{IsExplained}
-use Rattle.nofs_tool.specs.Tool.{IsBad, IsRefusedBy, IsStatus, SessionEnds, WithText}
+use Rattle.nofs_tool.specs.Tool.{IsNoSession, IsRefusedBy, IsStatus, SessionEnds, WithText}
 
 -- all that was left was taken
 pub consumed : (old new : Option (List ℕ)) (text bytes : List ℕ) → old ≡ Some text → Consumes old new bytes → IsAtEnd new → bytes ≡ text
@@ -46,7 +46,7 @@ consumed-front (Some xs) None text bytes is c = absurd c
 consumed-front (Some xs) (Some ys) text bytes is c = (ys, ap (λ (o : Option (List ℕ)). unwrap_or o []) (sym is) ∙ c)
 
 -- a text that holds a session is none of the others
-pub held-not-bad : (old new : SourceState) (limit : ℕ) → HoldsSession old limit → WithText old new limit IsBad → ⊥
+pub held-not-bad : (old new : SourceState) (limit : ℕ) → HoldsSession old limit → WithText old new limit IsNoSession → ⊥
 held-not-bad old new limit h given =
     let (text, whole, spelled) = given in
     let (why, bad) = spelled in

@@ -19,7 +19,7 @@ use Rattle.nofs_shared.specs.Added.{AddsStep}
 use Rattle.nofs_serve.specs.Served.{TeamMade, TeamServed}
 use Rattle.nofs_serve.proofs.Teaming.{team-unserved}
 use Rattle.nofs_tool.specs.declared.reads.FileRead.{FileRead}
-use Rattle.nofs_tool.specs.Drill.{AddsOwn, AreRead, AreReadings, GoesOn, IsDrillFollowed, IsFileRead, IsLookedUp, IsOneStep, IsReadFollowed, ReadsBy}
+use Rattle.nofs_tool.specs.Drill.{AddsOwn, AreRead, AreReadings, FollowsAnswer, IsDrillFollowed, IsFileRead, IsLookedUp, IsOneStep, IsReadFollowed, ReadsBy}
 use Rattle.nofs_tool.specs.Drill.{drill_session, found_in, gets_from, is_reading}
 use Rattle.nofs_tool.proofs.SessionLemmas.{adds-others, sweeps-shorter}
 
@@ -143,7 +143,7 @@ long-more rs new r k is long = let n = ap length is in let m = length-append rs 
 
 -- this step was made, and then what follows from its reply
 abbrev pub Leads : {A : Type 0} → (Reply → Option A) → (A → Option FileRead → List Made → Type 0) → Step → Option FileRead → List Made → Type 0
-Leads f Next s read made = (q : Reply) × (rest : List Made) × (made ≡ (s, q) ∷ rest) × GoesOn Next (f q) read rest
+Leads f Next s read made = (q : Reply) × (rest : List Made) × (made ≡ (s, q) ∷ rest) × FollowsAnswer Next (f q) read rest
 
 -- a step of caller 0 after which nothing is asked for
 pub reads-end : {A E : Type 0} (f : Reply → Option A) (Next : A → Option FileRead → List Made → Type 0) (s : Step) (r : Reply) (H K : List Entry1)
@@ -152,7 +152,7 @@ reads-end f Next s r H K one none = record {
   made = (s, r) ∷ [];
   adds = one-added s r H K one;
   readings = (one-reading s r H K one, tt);
-  read = (r, [], refl, subst (λ o. GoesOn Next o None []) (sym none) (refl, refl));
+  read = (r, [], refl, subst (λ o. FollowsAnswer Next o None []) (sym none) (refl, refl));
 }
 
 -- and one after which it goes on
@@ -167,7 +167,7 @@ reads-more {A} {E} f Next s r H K L it made one some more = record {
 }
   where
     go : (m : Result (Option FileRead) E) → IfOk m (λ read. Next it read more.made) → IfOk m (λ read. Leads f Next s read ((s, r) ∷ more.made))
-    go (Ok read) next = (r, more.made, refl, subst (λ o. GoesOn Next o read more.made) (sym some) next)
+    go (Ok read) next = (r, more.made, refl, subst (λ o. FollowsAnswer Next o read more.made) (sym some) next)
     go (Err e) next = tt
 
 -- the step of a name that was looked up

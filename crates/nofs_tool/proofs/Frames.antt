@@ -8,14 +8,14 @@ use Rattle.nofs_io.specs.Calls.{SourceState, SinkState}
 use Rattle.nofs_io.specs.Texts.{TakesJust}
 use Rattle.nofs_history.specs.HistoryState.{HistoryState}
 use Rattle.nofs_history.specs.Steps.{Made}
-use Rattle.nofs_history.specs.Callers.{steps_by}
+use Rattle.nofs_history.specs.Callers.{steps_by, made_step}
 use Rattle.nofs_shared.specs.Mounts.{IsMount}
 use Rattle.nofs_state.specs.declared.books.Books.{Books}
 use Rattle.nofs_tool.specs.Entries.{has_fault}
 use Rattle.nofs_tool.specs.Serving.{IsClosed}
 use Rattle.nofs_tool.specs.Whole.{Finished}
 use Rattle.nofs_wire.specs.Frames.{front_of, rest_of, IsBad, IsCut}
-use Rattle.nofs_wire.specs.Serves.{Serves, EndsSo, IsServed, IsServedInPart, made_step}
+use Rattle.nofs_wire.specs.Serves.{Serves, EndsSo, IsServed, IsServedInPart}
 use Rattle.nofs_wire.specs.declared.serving.WireEnd.{WireEnd}
 use Rattle.nofs_wire.specs.declared.serving.WireEnd.TheVariants as ended
 use Rattle.nofs_tool.specs.Complete.{CanBeMounted, HoldsFrames, NoneRose}

@@ -38,13 +38,13 @@ use Rattle.nofs_script.specs.Text.{text_of}
 use Rattle.nofs_shared.specs.Added.{AddsStep}
 use Rattle.nofs_shared.specs.Forms.{Forms}
 use Rattle.nofs_tool.specs.Entries.{has_fault}
-use Rattle.nofs_tool.specs.Says.{Says}
+use Rattle.nofs_tool.specs.Says.{Prints}
 use Rattle.nofs_tool.specs.Whole.{Finished}
 use Rattle.nofs_tool.specs.Words.{picks_in}
 use Rattle.nofs_workers.specs.Sweeps.{Sweeps, see_of}
 use Rattle.nofs_salvage.specs.Answered.{AreAnswered, IsAnswered}
 use Rattle.nofs_salvage.specs.Picks.{begins_with}
-use Rattle.nofs_salvage.specs.Reads.{IsRead, first_refusal, is_get, is_too_large, refusal_of}
+use Rattle.nofs_salvage.specs.Reads.{IsReadingStep, first_refusal, is_get, is_too_large, refusal_of}
 use Rattle.nofs_salvage.specs.Refusing.{HasRoots, LacksRoot, MayRefuse, is_there}
 use Rattle.nofs_salvage.specs.Report.{report_of}
 use Rattle.nofs_salvage.specs.declared.lost.report.Loss.{Loss}
@@ -76,7 +76,7 @@ AreQuiet made = All (λ m. IsQuiet m.0) made
 none-quiet : AreQuiet []
 none-quiet = All-nil (λ (m : Made). IsQuiet m.0)
 
-quiet-read : (s : Step) → IsRead s → IsQuiet s
+quiet-read : (s : Step) → IsReadingStep s → IsQuiet s
 quiet-read (step.Look d g name) r = tt
 quiet-read (step.List d g slot) r = tt
 quiet-read (step.Stat i g) r = tt
@@ -170,8 +170,8 @@ quiet-sweep Item kind count short made s = quiet-sees kind made s.elements (ap (
 
 quiet-reads : (made : List Made) → AreReads made → AreQuiet made
 quiet-reads [] a = none-quiet
-quiet-reads (m ∷ made) a = All-cons (λ (n : Made). IsQuiet n.0) m made (quiet-read m.0 (All-head (λ (n : Made). IsRead n.0) m made a))
-    (quiet-reads made (All-tail (λ (n : Made). IsRead n.0) m made a))
+quiet-reads (m ∷ made) a = All-cons (λ (n : Made). IsQuiet n.0) m made (quiet-read m.0 (All-head (λ (n : Made). IsReadingStep n.0) m made a))
+    (quiet-reads made (All-tail (λ (n : Made). IsReadingStep n.0) m made a))
 
 quiet-added : (served H : List Entry1) (flush : Reply) → AddsStep 0 (step.Flush 0 0) flush served H → AllByRecursion (λ e. IsQuiet e.step) served
     → AllByRecursion (λ e. IsQuiet e.step) H
@@ -329,7 +329,7 @@ none-walked at H text none said = record {
   short = true;
   early = λ e. said;
   follows = visit-closed AreReads at.inodes at.blocks true false [] [] H (reply.Refused refusal.OutOfMemory) refl
-      (visit-none AreReads at.inodes at.blocks true [] [] refl refl (All-nil (λ (m : Made). IsRead m.0))) (record { none = λ e. none; one = λ e. cc e }) refl;
+      (visit-none AreReads at.inodes at.blocks true [] [] refl refl (All-nil (λ (m : Made). IsReadingStep m.0))) (record { none = λ e. none; one = λ e. cc e }) refl;
 }
 
 -- a walk that was told
@@ -373,10 +373,10 @@ salvage-done picks found (Some t) ran h old new some ok is a told =
 
 -- its text was told, in part where the run did not end well
 pub salvage-said : (picks : List ℕ → Bool) (found : DiskState) (text : Option (List ℕ)) (ran : HistoryState) (status : ℕ) (old new : SinkState)
-    → (text ≡ None → status ≡ 7) → IfSome text (Says old new) → IfSome text (IsWalkTold picks found ran) → (status ≡ 3) ⊎ (status ≡ 5) → SaysWalk old new
+    → (text ≡ None → status ≡ 7) → IfSome text (Prints old new) → IfSome text (IsWalkTold picks found ran) → (status ≡ 3) ⊎ (status ≡ 5) → SaysWalk old new
 salvage-said picks found None ran status old new unsaid says told (inl e) = absurd (let z = unsaid refl in omega (arith, e, z))
 salvage-said picks found None ran status old new unsaid says told (inr e) = absurd (let z = unsaid refl in omega (arith, e, z))
-salvage-said picks found (Some t) ran status old new unsaid says told ended = (told.result, subst (Says old new) told.tells says)
+salvage-said picks found (Some t) ran status old new unsaid says told ended = (told.result, subst (Prints old new) told.tells says)
 
 -- Which names a salvage is about, by its words
 

@@ -58,14 +58,14 @@ IsWholeRead f s (Some file) rest =
     (file.found ≡ f) × (file.size ≡ s.size) × (length file.slots.items ≡ slots_in s.size) × (rest ≡ gets_from f 0 file.slots.items)
 
 -- after a refusal nothing more was asked for, and there is no file; else it went on from what was answered
-abbrev pub GoesOn : {A : Type 0} → (A → Option FileRead → List Made → Type 0) → Option A → Option FileRead → List Made → Type 0
-GoesOn Next None read rest = (read ≡ None) × (rest ≡ [])
-GoesOn Next (Some it) read rest = Next it read rest
+abbrev pub FollowsAnswer : {A : Type 0} → (A → Option FileRead → List Made → Type 0) → Option A → Option FileRead → List Made → Type 0
+FollowsAnswer Next None read rest = (read ≡ None) × (rest ≡ [])
+FollowsAnswer Next (Some it) read rest = Next it read rest
 
 -- the size of the file was asked for, and then its slots
 abbrev pub IsReadAt : Found → Option FileRead → List Made → Type 0
 IsReadAt f read made =
-    (r : Reply) × (rest : List Made) × (made ≡ (step.Stat f.inode f.generation, r) ∷ rest) × GoesOn (IsWholeRead f) (stat_in r) read rest
+    (r : Reply) × (rest : List Made) × (made ≡ (step.Stat f.inode f.generation, r) ∷ rest) × FollowsAnswer (IsWholeRead f) (stat_in r) read rest
 
 -- a name of directory d was looked up, which found this
 abbrev pub IsLookedUp : ℕ → ℕ → List ℕ → Option Found → List Made → Type 0
@@ -74,12 +74,12 @@ IsLookedUp d generation name found made = (r : Reply) × (made ≡ (step.Look d 
 -- the file was looked up in its directory, and then read
 abbrev pub IsReadIn : Found → Option FileRead → List Made → Type 0
 IsReadIn d read made =
-    (r : Reply) × (rest : List Made) × (made ≡ (step.Look d.inode d.generation (codes "f"), r) ∷ rest) × GoesOn IsReadAt (found_in r) read rest
+    (r : Reply) × (rest : List Made) × (made ≡ (step.Look d.inode d.generation (codes "f"), r) ∷ rest) × FollowsAnswer IsReadAt (found_in r) read rest
 
 -- the directory of a user was looked up in the root, and then its file
 abbrev pub IsFileRead : ℕ → Option FileRead → List Made → Type 0
 IsFileRead user read made =
-    (r : Reply) × (rest : List Made) × (made ≡ (step.Look 1 1 (digit user), r) ∷ rest) × GoesOn IsReadIn (found_in r) read rest
+    (r : Reply) × (rest : List Made) × (made ≡ (step.Look 1 1 (digit user), r) ∷ rest) × FollowsAnswer IsReadIn (found_in r) read rest
 
 -- the files of the users from one on were read, one after the other
 abbrev pub AreRead : ℕ → List (Option FileRead) → List Made → Type 0

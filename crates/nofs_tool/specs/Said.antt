@@ -17,7 +17,7 @@ use Rattle.nofs_tool.specs.Entries.{session_text}
 use Rattle.nofs_tool.specs.Lines.{cause_line, fixed_line, script_line, upgrade_line}
 use Rattle.nofs_tool.specs.declared.beginning.faults.FixedLine.TheVariants.{Upgraded as UpgradedLine, Usage as UsageLine}
 use Rattle.nofs_tool.specs.declared.beginning.faults.FixedLine.TheVariants.{SourceFault as SourceFaultLine, TooLong as TooLongLine}
-use Rattle.nofs_tool.specs.Says.{Says, SaysOrNot}
+use Rattle.nofs_tool.specs.Says.{Prints, PrintsOrNot}
 use Rattle.nofs_upgrade.specs.declared.fault.UpgradeFault.{UpgradeFault}
 use Rattle.nofs_tool.specs.Tool.{UnlessWire, WithSession, WithText}
 use Rattle.nofs_tool.specs.Upgrading.{upgrade_status}
@@ -25,28 +25,28 @@ use Rattle.nofs_tool.specs.Salvaging.{SaysWalk}
 
 -- the line of a text that is no session: its first bad line
 abbrev pub SaysFault : SinkState → SinkState → List ℕ → Type 0
-SaysFault old new text = (fault : ScriptFault) × (session_of text ≡ Err fault) × SaysOrNot old new (script_line fault)
+SaysFault old new text = (fault : ScriptFault) × (session_of text ≡ Err fault) × PrintsOrNot old new (script_line fault)
 
 -- the line of a device that was not mounted
 abbrev pub SaysCause : SinkState → SinkState → ℕ → Type 0
-SaysCause old new status = (cause : Cause) × (status_of cause ≡ status) × SaysOrNot old new (cause_line cause)
+SaysCause old new status = (cause : Cause) × (status_of cause ≡ status) × PrintsOrNot old new (cause_line cause)
 
 -- the line of an upgrade, or of a refused one
 abbrev pub SaysUpgrade : SinkState → SinkState → ℕ → Type 0
-SaysUpgrade old new status = ((status ≡ 5) × Says old new (fixed_line UpgradedLine))
-    ⊎ ((why : UpgradeFault) × (upgrade_status why ≡ status) × SaysOrNot old new (upgrade_line why))
+SaysUpgrade old new status = ((status ≡ 5) × Prints old new (fixed_line UpgradedLine))
+    ⊎ ((why : UpgradeFault) × (upgrade_status why ≡ status) × PrintsOrNot old new (upgrade_line why))
 
 -- the text of a session by its history
 abbrev pub SaysSession : SinkState → SinkState → List (List Command) → Option HistoryState → Type 0
-SaysSession old new session h = IfSome h (λ x. Says old new (session_text session x.entries))
+SaysSession old new session h = IfSome h (λ x. Prints old new (session_text session x.entries))
 
 -- the line of some counts
 abbrev pub SaysCounts : SinkState → SinkState → Type 0
-SaysCounts old new = (c : Counts) × Says old new (counts_line c)
+SaysCounts old new = (c : Counts) × Prints old new (counts_line c)
 
 -- the line of a drill
 abbrev pub SaysDrill : SinkState → SinkState → ℕ → ℕ → Option HistoryState → Type 0
-SaysDrill old new start steps h = IfSome h (λ x. (text : List ℕ) × IsDrilled start steps x.entries text × Says old new text)
+SaysDrill old new start steps h = IfSome h (λ x. (text : List ℕ) × IsDrilled start steps x.entries text × Prints old new text)
 
 -- why nothing was served, where no mount stood
 abbrev pub SaysRefusal : Option Request → SinkState → SinkState → ℕ → Type 0
@@ -70,9 +70,9 @@ SaysText (Some (New blocks inodes)) source_old source_new limit old new h = With
 -- frames were served it took their replies alone, at each status (`IsWireRun`)
 pub record Said (task : Option Request) (source_old source_new : SourceState) (limit : ℕ) (old new : SinkState) (status : ℕ) (h : Option HistoryState) : Type 0
   where
-    pub usage : status ≡ 1 → Says old new (fixed_line UsageLine)
-    pub source : status ≡ 6 → UnlessWire task (Says old new (fixed_line SourceFaultLine))
-    pub too_long : status ≡ 8 → UnlessWire task (Says old new (fixed_line TooLongLine))
+    pub usage : status ≡ 1 → Prints old new (fixed_line UsageLine)
+    pub source : status ≡ 6 → UnlessWire task (Prints old new (fixed_line SourceFaultLine))
+    pub too_long : status ≡ 8 → UnlessWire task (Prints old new (fixed_line TooLongLine))
     pub script : status ≡ 2 → UnlessWire task (WithText source_old source_new limit (λ text. SaysFault old new text))
     pub refused : (status ≡ 3) ⊎ (status ≡ 4) → h ≡ None → SaysRefusal task old new status
     pub part : (status ≡ 3) ⊎ (status ≡ 5) → (x : HistoryState) → h ≡ Some x → SaysText task source_old source_new limit old new h

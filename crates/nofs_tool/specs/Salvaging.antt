@@ -20,9 +20,9 @@ use Rattle.nofs_client.specs.declared.task.lines.Line.TheVariants as line
 use Rattle.nofs_script.specs.Text.{text_of}
 use Rattle.nofs_tool.specs.Entries.{has_fault}
 use Rattle.nofs_tool.specs.Whole.{IsMet}
-use Rattle.nofs_tool.specs.Says.{Says}
+use Rattle.nofs_tool.specs.Says.{Prints}
 use Rattle.nofs_salvage.specs.Answered.{AreAnswered}
-use Rattle.nofs_salvage.specs.Reads.{IsRead, Reads, refusal_by}
+use Rattle.nofs_salvage.specs.Reads.{IsReadingStep, MakesReads, refusal_by}
 use Rattle.nofs_salvage.specs.Refusing.{HasRoots, MayRefuse, is_there}
 use Rattle.nofs_salvage.specs.Report.{report_of}
 use Rattle.nofs_salvage.specs.declared.lost.report.Loss.{Loss}
@@ -48,11 +48,11 @@ walk_text (Err fault.OutOfMemory) = []
 
 -- steps that only read files and names
 abbrev pub AreReads : List Made → Type 0
-AreReads made = All (λ m. IsRead m.0) made
+AreReads made = All (λ m. IsReadingStep m.0) made
 
 -- a walk from old to new: what it came to is told of a world by which its steps were answered
 pub record IsWalk (picks : List ℕ → Bool) (told : Result (List Loss) SalvageFault) (old new : List Made) : Type 0 where
-  pub reads : Reads old new (refusal_by told)
+  pub reads : MakesReads old new (refusal_by told)
   pub report : IfOk told (λ report. (W : World) → AreAnswered W old new → report ≡ report_of W picks)
   pub refused : (W : World) → HasRoots W.files → AreAnswered W old new → IfSome (refusal_by told) (MayRefuse W.files)
   pub agreed : IfOk told (λ report. (W : World) → AreAnswered W old new → (is_there W.files 1 1 ≡ true) × (is_there W.files 2 2 ≡ true))
@@ -72,7 +72,7 @@ found_world found = world_of (slice_set found.now 0 (super_cell (raised (super_a
 -- a walk that has not begun
 pub walk_none : (picks : List ℕ → Bool) (told : Result (List Loss) SalvageFault) (made : List Made) → told ≡ Err fault.OutOfMemory → IsWalk picks told made made
 walk_none picks told made is = subst (λ (t : Result (List Loss) SalvageFault). IsWalk picks t made made) (sym is) (record {
-  reads = record { made = []; more = sym (append-nil made); read = All-nil (λ (m : Made). IsRead m.0); refused = refl };
+  reads = record { made = []; more = sym (append-nil made); read = All-nil (λ (m : Made). IsReadingStep m.0); refused = refl };
   report = tt;
   refused = λ W roots a. tt;
   agreed = tt;
@@ -82,7 +82,7 @@ walk_none picks told made is = subst (λ (t : Result (List Loss) SalvageFault). 
 -- report of the world that the mount found
 pub record IsWalkTold (picks : List ℕ → Bool) (found : DiskState) (h : HistoryState) (text : List ℕ) : Type 0 where
   pub result : Result (List Loss) SalvageFault
-  pub reads : Reads [] (steps_by 1 h.entries) (refusal_by result)
+  pub reads : MakesReads [] (steps_by 1 h.entries) (refusal_by result)
   pub tells : text ≡ walk_text result
   pub whole : ∥ (IsMet found → has_fault h.entries ≡ false → text ≡ salvage_text (found_world found) picks) ∥₁
 
@@ -93,4 +93,4 @@ IsSalvaged picks found (Some h) old new = (has_fault h.entries ≡ false) × ((t
 
 -- the text of a walk
 abbrev pub SaysWalk : SinkState → SinkState → Type 0
-SaysWalk old new = (result : Result (List Loss) SalvageFault) × Says old new (walk_text result)
+SaysWalk old new = (result : Result (List Loss) SalvageFault) × Prints old new (walk_text result)

@@ -5,9 +5,9 @@ use Rattle.nofs_io.specs.Calls.{SinkState}
 use Rattle.nofs_io.specs.Texts.{AppendsAll, AppendsPart}
 
 -- the sink took this text, or a part of it where it failed
-abbrev pub Says : SinkState → SinkState → List ℕ → Type 0
-Says old new text = AppendsAll old new text ⊎ (AppendsPart old new text × Rose old.faults new.faults)
+abbrev pub Prints : SinkState → SinkState → List ℕ → Type 0
+Prints old new text = AppendsAll old new text ⊎ (AppendsPart old new text × Rose old.faults new.faults)
 
 -- or nothing, where there was no memory for it
-abbrev pub SaysOrNot : SinkState → SinkState → List ℕ → Type 0
-SaysOrNot old new text = Says old new text ⊎ Says old new []
+abbrev pub PrintsOrNot : SinkState → SinkState → List ℕ → Type 0
+PrintsOrNot old new text = Prints old new text ⊎ Prints old new []

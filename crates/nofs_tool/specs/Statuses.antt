@@ -9,7 +9,7 @@ use Rattle.nofs_upgrade.specs.Upgrades.{StaysOrUpgrades}
 use Rattle.nofs_tool.specs.declared.beginning.words.Request.{Request}
 use Rattle.nofs_tool.specs.declared.beginning.words.Request.TheVariants.{Upgrade, Salvage, Wire}
 use Rattle.nofs_tool.specs.Salvaging.{IsSalvaged}
-use Rattle.nofs_tool.specs.Tool.{HasFaultOf, HasSession, IsBad, IsFaulty, IsFaultlessIn, IsStatus, UnlessWire, WithText}
+use Rattle.nofs_tool.specs.Tool.{HasFaultOf, HasSession, IsNoSession, IsFaulty, IsFaultlessIn, IsStatus, UnlessWire, WithText}
 use Rattle.nofs_tool.specs.Wiring.{WireEnds}
 
 -- The status of a task has its cause, in what source, sink and device say after it, and in the history
@@ -22,7 +22,7 @@ pub record IsExplained (task : Option Request) (source_old source_new : SourceSt
   -- 8: one byte more than the limit was taken
   pub too_long : status ≡ 8 → TakesJust source_old source_new (limit + 1)
   -- 2: the whole text was read, and is no session
-  pub script : status ≡ 2 → UnlessWire task (WithText source_old source_new limit IsBad)
+  pub script : status ≡ 2 → UnlessWire task (WithText source_old source_new limit IsNoSession)
   -- 0, 3, 4, 5: a task that serves a session read one
   pub session : (status ≡ 0) ⊎ (status ≡ 3) ⊎ (status ≡ 4) ⊎ (status ≡ 5) → HasSession task source_old source_new limit
   -- 3: the device failed, and no mount stood or an entry has a fault

@@ -26,8 +26,8 @@ abbrev pub WithText : SourceState → SourceState → ℕ → (List ℕ → Type
 WithText old new limit P = (text : List ℕ) × IsWhole old new text limit × P text
 
 -- the text is no session
-abbrev pub IsBad : List ℕ → Type 0
-IsBad text = (fault : ScriptFault) × (session_of text ≡ Err fault)
+abbrev pub IsNoSession : List ℕ → Type 0
+IsNoSession text = (fault : ScriptFault) × (session_of text ≡ Err fault)
 
 -- the text is a session, and it has P
 abbrev pub WithSession : List ℕ → (List (List Command) → Type 0) → Type 0
@@ -45,9 +45,9 @@ HasSession (Some Run) old new limit = WithText old new limit (λ text. WithSessi
 HasSession (Some (New blocks inodes)) old new limit = WithText old new limit (λ text. WithSession text (λ _. Unit {0}))
 
 -- a session was served: no call of the device failed, and the sink took the whole text that follows from the replies in the history
-abbrev pub IsAnswered : List (List Command) → Option HistoryState → SinkState → SinkState → Type 0
-IsAnswered session None old new = ⊥
-IsAnswered session (Some h) old new = AppendsAll old new (session_text session h.entries) × (has_fault h.entries ≡ false)
+abbrev pub IsSessionAnswered : List (List Command) → Option HistoryState → SinkState → SinkState → Type 0
+IsSessionAnswered session None old new = ⊥
+IsSessionAnswered session (Some h) old new = AppendsAll old new (session_text session h.entries) × (has_fault h.entries ≡ false)
 
 -- the mount stood, and no entry has a fault of the device
 abbrev pub IsFaultless : Option HistoryState → Type 0
@@ -121,6 +121,6 @@ IsDone (Some Salvage) source_old source_new limit old new found last h = IsFault
 IsDone (Some Wire) source_old source_new limit old new found last h = IsFaultless h
 IsDone (Some Upgrade) source_old source_new limit old new found last h = IsUpgraded found last × AppendsAll old new (fixed_line UpgradedLine)
 IsDone (Some Run) source_old source_new limit old new found last h = WithText source_old source_new limit (λ text.
-    WithSession text (λ session. IsAnswered session h old new))
+    WithSession text (λ session. IsSessionAnswered session h old new))
 IsDone (Some (New blocks inodes)) source_old source_new limit old new found last h = WithText source_old source_new limit (λ text.
-    WithSession text (λ session. IsAnswered session h old new))
+    WithSession text (λ session. IsSessionAnswered session h old new))

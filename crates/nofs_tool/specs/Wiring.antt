@@ -9,10 +9,10 @@ use Rattle.nofs_io.specs.Texts.{TakesJust}
 use Rattle.nofs_history.specs.HistoryState.{HistoryState}
 use Rattle.nofs_history.specs.Steps.{Made}
 use Rattle.nofs_history.specs.declared.machine.steps.Step.{Step}
-use Rattle.nofs_history.specs.Callers.{steps_by}
+use Rattle.nofs_history.specs.Callers.{steps_by, made_step}
 use Rattle.nofs_tool.specs.Entries.{has_fault}
 use Rattle.nofs_wire.specs.Frames.{frames_of}
-use Rattle.nofs_wire.specs.Serves.{Serves, made_step}
+use Rattle.nofs_wire.specs.Serves.{Serves}
 use Rattle.nofs_wire.specs.declared.serving.WireEnd.{WireEnd}
 use Rattle.nofs_wire.specs.declared.serving.WireEnd.TheVariants as ended
 use Rattle.nofs_wire.proofs.Along.{serves-nothing}

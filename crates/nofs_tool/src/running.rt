@@ -14,13 +14,13 @@ ghost use Rattle.nofs_tool.specs.Salvaging.{AreReads, IsSalvaged, SaysWalk};
 ghost use Rattle.nofs_tool.specs.Visits.{FollowsVisit};
 ghost use Rattle.nofs_tool.specs.Entries.{has_fault};
 ghost use Rattle.nofs_tool.specs.Drill.{IsDrillDone};
-ghost use Rattle.nofs_tool.specs.Says.{Says, SaysOrNot};
+ghost use Rattle.nofs_tool.specs.Says.{Prints, PrintsOrNot};
 ghost use Rattle.nofs_tool.specs.Counts.{IsScanned};
 ghost use Rattle.nofs_tool.specs.Said.{Said, SaysCause, SaysCounts, SaysDrill, SaysFault, SaysSession};
 ghost use Rattle.nofs_tool.specs.Headline.{HeadlineIn, HeadlineOf, IsDrillHeadline, IsHeadline, IsHeadlineOf};
 ghost use Rattle.nofs_tool.specs.Complete.{IsReady, NoneRose};
 ghost use Rattle.nofs_tool.specs.Statuses.{HoldsOfTask, IsExplained, KeepsDevice};
-ghost use Rattle.nofs_tool.specs.Tool.{IsBad, IsDone, IsRefusedBy, IsRefusedTask, IsAnswered, MountEnds, SessionEnds, WithSession, WithText};
+ghost use Rattle.nofs_tool.specs.Tool.{IsNoSession, IsDone, IsRefusedBy, IsRefusedTask, IsSessionAnswered, MountEnds, SessionEnds, WithSession, WithText};
 
 use crate::beginning::begin::{Numbers, Refused, format_and_mount, mount, status_of};
 use crate::beginning::faults::{FixedLine, cause_text, fixed_text, script_text};
@@ -50,7 +50,7 @@ pub struct Outcome<D> {
 
 /// Tells a sink a text: where it fails, it has a part of it.
 pub(crate) fn say<K: Sink>(sink: &mut K, text: &[u8]) -> Result<(), Failed>
-    ensures says { Says (K.state sink.old) (K.state sink.new) text.now }
+    ensures says { Prints (K.state sink.old) (K.state sink.new) text.now }
     ensures whole { OnOk result (AppendsAll (K.state sink.old) (K.state sink.new) text.now) }
     ensures cause { OnErr result (Rose (K.state sink.old).faults (K.state sink.new).faults) }
 {
@@ -63,7 +63,7 @@ pub(crate) fn say<K: Sink>(sink: &mut K, text: &[u8]) -> Result<(), Failed>
 // A run that served nothing, and says why. A sink that fails here changes nothing.
 fn told<K: Sink, D>(sink: &mut K, disk: D, status: u8, line: &str) -> Outcome<D>
     ensures is { (result.status ≡ status) × (result.disk ≡ disk) × (result.history ≡ None) }
-    ensures says { Says (K.state sink.old) (K.state sink.new) line.now }
+    ensures says { Prints (K.state sink.old) (K.state sink.new) line.now }
 {
     let _said = say(sink, line.as_bytes());
     Outcome {
@@ -81,7 +81,7 @@ pub(crate) fn told_text<K: Sink, D>(
     line: Result<String, AllocError>,
 ) -> Outcome<D>
     ensures is { (result.status ≡ status) × (result.disk ≡ disk) × (result.history ≡ None) }
-    ensures says { (text : List ℕ) → IfOk line (λ l. string_bytes l ≡ text) → SaysOrNot (K.state sink.old) (K.state sink.new) text }
+    ensures says { (text : List ℕ) → IfOk line (λ l. string_bytes l ≡ text) → PrintsOrNot (K.state sink.old) (K.state sink.new) text }
 {
     match line {
         Ok(line) => told(sink, disk, status, line.as_str()),
@@ -96,7 +96,7 @@ fn status_after<K: Sink>(sink: &mut K, text: &Content, faulty: bool) -> u8
     ensures done { result ≡ 0 → (faulty ≡ false) × AppendsAll (K.state sink.old) (K.state sink.new) text.now }
     ensures sound { result ≡ 5 → faulty ≡ false }
     ensures named { (result ≡ 0) ⊎ (result ≡ 3) ⊎ (result ≡ 5) }
-    ensures says { Says (K.state sink.old) (K.state sink.new) text.now }
+    ensures says { Prints (K.state sink.old) (K.state sink.new) text.now }
 {
     let end = say(sink, text.as_slice());
     if faulty {
@@ -118,7 +118,7 @@ fn written<K: Sink, D: Disk>(sink: &mut K, ran: Ran<D>) -> Outcome<D>
         × IfSome ran.text (AppendsAll (K.state sink.old) (K.state sink.new)) }
     ensures named { (result.status ≡ 0) ⊎ (result.status ≡ 3) ⊎ (result.status ≡ 5) ⊎ (result.status ≡ 7) }
     ensures unsaid { ran.text ≡ None → result.status ≡ 7 }
-    ensures says { IfSome ran.text (Says (K.state sink.old) (K.state sink.new)) }
+    ensures says { IfSome ran.text (Prints (K.state sink.old) (K.state sink.new)) }
 {
     let Ran {
         disk,
@@ -162,7 +162,7 @@ fn mounted<R: Threads + Wait + Sync, K: Sink, D: Disk + Drop + Send>(
     requires first { mount.first ≡ 0 }
     ensures headline { IfSome result.history (λ h. ∥ IsHeadline session (D.state mount.found.value) (D.state result.disk) result.status h ∥₁) }
     ensures ends { MountEnds (D.state mount.found.value) (D.state result.disk) (K.state sink.old) (K.state sink.new) result.status result.history }
-    ensures done { result.status ≡ 0 → IsAnswered session result.history (K.state sink.old) (K.state sink.new) }
+    ensures done { result.status ≡ 0 → IsSessionAnswered session result.history (K.state sink.old) (K.state sink.new) }
     ensures part { (result.status ≡ 3) ⊎ (result.status ≡ 5) → SaysSession (K.state sink.old) (K.state sink.new) session result.history }
 {
     written(sink, run_session(rt, alloc, mount, session))
@@ -181,7 +181,7 @@ fn new_outcome<R: Threads + Wait + Sync, K: Sink, D: Disk + Drop + Send>(
     ensures headline { IfSome result.history (HeadlineOf D.state (Some numbers) session disk (D.state result.disk) result.status) }
     ensures ends { SessionEnds (IsRefusedBy (Some numbers) (D.state disk) (D.state result.disk)) (D.state disk) (D.state result.disk)
         (K.state sink.old) (K.state sink.new) result.status result.history }
-    ensures done { result.status ≡ 0 → IsAnswered session result.history (K.state sink.old) (K.state sink.new) }
+    ensures done { result.status ≡ 0 → IsSessionAnswered session result.history (K.state sink.old) (K.state sink.new) }
     ensures unserved { result.history ≡ None → SaysCause (K.state sink.old) (K.state sink.new) result.status }
     ensures part { (result.status ≡ 3) ⊎ (result.status ≡ 5) → SaysSession (K.state sink.old) (K.state sink.new) session result.history }
 {
@@ -203,7 +203,7 @@ fn run_outcome<R: Threads + Wait + Sync, K: Sink, D: Disk + Drop + Send>(
     ensures headline { IfSome result.history (HeadlineOf D.state None session disk (D.state result.disk) result.status) }
     ensures ends { SessionEnds (IsRefusedBy None (D.state disk) (D.state result.disk)) (D.state disk) (D.state result.disk)
         (K.state sink.old) (K.state sink.new) result.status result.history }
-    ensures done { result.status ≡ 0 → IsAnswered session result.history (K.state sink.old) (K.state sink.new) }
+    ensures done { result.status ≡ 0 → IsSessionAnswered session result.history (K.state sink.old) (K.state sink.new) }
     ensures unserved { result.history ≡ None → SaysCause (K.state sink.old) (K.state sink.new) result.status }
     ensures part { (result.status ≡ 3) ⊎ (result.status ≡ 5) → SaysSession (K.state sink.old) (K.state sink.new) session result.history }
 {
@@ -227,7 +227,7 @@ fn session_outcome<R: Threads + Wait + Sync, K: Sink, D: Disk + Drop + Send>(
     ensures ends { SessionEnds (IsRefusedBy numbers (D.state disk) (D.state result.disk)) (D.state disk) (D.state result.disk)
         (K.state sink.old) (K.state sink.new) result.status result.history }
     ensures unserved { result.history ≡ None → SaysCause (K.state sink.old) (K.state sink.new) result.status }
-    ensures done { result.status ≡ 0 → IsAnswered session result.history (K.state sink.old) (K.state sink.new) }
+    ensures done { result.status ≡ 0 → IsSessionAnswered session result.history (K.state sink.old) (K.state sink.new) }
     ensures part { (result.status ≡ 3) ⊎ (result.status ≡ 5) → SaysSession (K.state sink.old) (K.state sink.new) session result.history }
 {
     match numbers {
@@ -247,11 +247,11 @@ fn text_outcome<R: Threads + Wait + Sync, K: Sink, D: Disk + Drop + Send>(
 ) -> Outcome<D>
     ensures headline { IfSome result.history (λ h. WithSession text.now (λ session.
         HeadlineOf D.state numbers session disk (D.state result.disk) result.status h)) }
-    ensures script { result.status ≡ 2 → IsBad text.now × (result.disk ≡ disk) × (result.history ≡ None) }
+    ensures script { result.status ≡ 2 → IsNoSession text.now × (result.disk ≡ disk) × (result.history ≡ None) }
     ensures ends { result.status ≢ 2 → SessionEnds (IsRefusedBy numbers (D.state disk) (D.state result.disk)) (D.state disk) (D.state result.disk)
         (K.state sink.old) (K.state sink.new) result.status result.history }
     ensures session { (result.status ≡ 0) ⊎ (result.status ≡ 3) ⊎ (result.status ≡ 4) ⊎ (result.status ≡ 5) → WithSession text.now (λ _. Unit {0}) }
-    ensures done { result.status ≡ 0 → WithSession text.now (λ session. IsAnswered session result.history (K.state sink.old) (K.state sink.new)) }
+    ensures done { result.status ≡ 0 → WithSession text.now (λ session. IsSessionAnswered session result.history (K.state sink.old) (K.state sink.new)) }
     ensures fault { result.status ≡ 2 → SaysFault (K.state sink.old) (K.state sink.new) text.now }
     ensures unserved { (result.status ≡ 3) ⊎ (result.status ≡ 4) → result.history ≡ None → SaysCause (K.state sink.old) (K.state sink.new) result.status }
     ensures part { (result.status ≡ 3) ⊎ (result.status ≡ 5)
@@ -282,7 +282,7 @@ fn source_outcome<R: Threads + Wait + Sync, S: Source, K: Sink, D: Disk + Drop +
     ensures kept { KeepsDevice (IsRefusedBy numbers (D.state disk) (D.state result.disk)) (Some Request.Run) disk result.disk result.status
         result.history }
     ensures done { result.status ≡ 0 → WithText (S.state source.old) (S.state source.new) TEXT_LIMIT (λ text.
-        WithSession text (λ session. IsAnswered session result.history (K.state sink.old) (K.state sink.new))) }
+        WithSession text (λ session. IsSessionAnswered session result.history (K.state sink.old) (K.state sink.new))) }
     ensures said { Said (Some Request.Run) (S.state source.old) (S.state source.new) TEXT_LIMIT (K.state sink.old) (K.state sink.new) result.status
         result.history }
 {

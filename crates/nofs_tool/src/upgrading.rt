@@ -7,7 +7,7 @@ ghost use Rattle.nofs_disk.specs.Disk.{Rose};
 ghost use Rattle.nofs_io.specs.Texts.{AppendsAll};
 ghost use Rattle.nofs_tool.specs.Lines.{fixed_line};
 ghost use Rattle.nofs_tool.specs.declared.beginning.faults.FixedLine.TheVariants.{Upgraded as UpgradedLine};
-ghost use Rattle.nofs_tool.specs.Says.{Says};
+ghost use Rattle.nofs_tool.specs.Says.{Prints};
 ghost use Rattle.nofs_tool.specs.Said.{SaysUpgrade};
 ghost use Rattle.nofs_tool.specs.Upgrading.{UpgradeEnds, upgrade_status as status_in};
 
@@ -35,7 +35,7 @@ fn status_of(why: UpgradeFault) -> u8
 // The status after the line of an upgrade was written.
 fn said<K: Sink>(sink: &mut K) -> u8
     ensures done { result ≡ 0 → AppendsAll (K.state sink.old) (K.state sink.new) (fixed_line UpgradedLine) }
-    ensures says { Says (K.state sink.old) (K.state sink.new) (fixed_line UpgradedLine) }
+    ensures says { Prints (K.state sink.old) (K.state sink.new) (fixed_line UpgradedLine) }
     ensures sink { result ≡ 5 → Rose (K.state sink.old).faults (K.state sink.new).faults }
     ensures named { (result ≡ 0) ⊎ (result ≡ 5) }
 {

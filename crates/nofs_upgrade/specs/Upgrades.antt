@@ -107,7 +107,7 @@ pub record IsUpgradeRefused (old new : DiskState) (why : UpgradeFault) : Type 0 
   pub some : IsOfTable why → 0 < old.blocks → (payload : List ℕ) × IsBytes 1024 payload × (check_upgrade old.blocks payload ≡ Err why)
 
 -- what comes before the write: the superblock, with room for two calls
-pub record Prepares (old new : DiskState) (result : Result SuperBlock UpgradeFault) : Type 0 where
+pub record PreparesUpgrade (old new : DiskState) (result : Result SuperBlock UpgradeFault) : Type 0 where
   pub disk : IsSameDisk old new
   pub past : KeepsPast old new
   pub cells : KeepsCells old new

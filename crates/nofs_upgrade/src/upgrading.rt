@@ -1,7 +1,7 @@
 //! The upgrade: what is asked before it, and why it is refused.
 ghost use Rattle.std.specs.Prelude.{◌≡◌, ◌≢◌, IfErr, IsTrue, OnOk};
 ghost use Rattle.nofs_disk.specs.Disk.{IsSameDisk, KeepsPast};
-ghost use Rattle.nofs_upgrade.specs.Upgrades.{IsUpgradeRefused, IsUpgraded, IsUpgradeStopped, Prepares, StaysOrUpgrades};
+ghost use Rattle.nofs_upgrade.specs.Upgrades.{IsUpgradeRefused, IsUpgraded, IsUpgradeStopped, PreparesUpgrade, StaysOrUpgrades};
 
 use crate::fault::UpgradeFault;
 use crate::second::write_second;
@@ -33,7 +33,7 @@ pub fn upgrade<D: Disk>(disk: &mut D) -> Result<(), UpgradeFault>
 
 // The superblock of version 1 that was read, with room for the two calls.
 fn prepare<D: Disk>(disk: &mut D) -> Result<SuperBlock, UpgradeFault>
-    ensures { Prepares (D.state disk.old) (D.state disk.new) result }
+    ensures { PreparesUpgrade (D.state disk.old) (D.state disk.new) result }
 {
     let old = match read_super(disk) {
         Ok(old) => old,

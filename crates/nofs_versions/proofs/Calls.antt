@@ -6,11 +6,12 @@ use Rattle.std.proofs.lemmas.List.{length_push, take-append-le, take_all, take_a
 use Rattle.nofs_disk.specs.declared.Failed.{Failed}
 use Rattle.nofs_disk.specs.declared.tag.Cell.{Cell}
 use Rattle.nofs_disk.specs.Disk.{Flushes, IsSameDisk, KeepsPast, Picks, Rose, Writes, cell_at}
+use Rattle.nofs_disk.specs.Held.{Held}
 use Rattle.nofs_versions.specs.declared.call.Call.{Call}
 use Rattle.nofs_versions.specs.declared.call.Call.TheVariants.{Write, Flush}
-use Rattle.nofs_versions.specs.Memory.{Held, after_flush, after_write, within, MayLeave, call_at, held_after, may_during, state_of}
+use Rattle.nofs_versions.specs.Memory.{after_flush, after_write, within, MayLeave, call_at, held_after, may_during, state_of}
 use Rattle.nofs_versions.specs.Faults.{next}
-use Rattle.nofs_versions.specs.MemoryLaws.{picks_in, within_from, within_has, held_after-held}
+use Rattle.nofs_versions.specs.MemoryLaws.{picks-within, within_from, within_has, held_after-held}
 use Rattle.nofs_versions.proofs.Held.{flush_now, flush_of, held_after-push, may_cases, may_of, now_cases, now_of, only_one, write_others}
 
 -- the moments up to the one at which a call began are as they were
@@ -106,7 +107,7 @@ within_during : (start : ℕ) (base : List Cell) (calls : List Call) (block : �
     → MayLeave start base (calls ++ Write block cell taken ∷ []) (start + 2 * length calls + 1) image
     → Picks (within (length base) (held_after base (calls ++ Write block cell taken ∷ [])).may) (length base) image
 within_during start base calls block cell taken image left =
-    picks_in (length base) (held_after base (calls ++ Write block cell taken ∷ [])).may image (during_write start base calls block cell taken image left)
+    picks-within (length base) (held_after base (calls ++ Write block cell taken ∷ [])).may image (during_write start base calls block cell taken image left)
 
 not_held : (P : Type 0) → false ≡ true → P
 not_held P e = cc
@@ -160,7 +161,7 @@ flushes start base calls s t f g settles result room later went failed no_fault 
   clean = on_ok result (λ is. refl) went;
   err = on_err result (λ fails. same_may fails.0) failed;
   dirty = λ b has. has;
-  during = λ image left. picks_in (length base) before.may image (during_flush start base calls settles image left);
+  during = λ image left. picks-within (length base) before.may image (during_flush start base calls settles image left);
   cause = on_err result (λ fails. fails.1) failed;
   no_fault = no_fault;
 }

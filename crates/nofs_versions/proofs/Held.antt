@@ -6,10 +6,11 @@ use Rattle.std.proofs.lemmas.List.{length-set}
 use Rattle.std.proofs.lemmas.List.Elements.{Contains-push_cases}
 use Rattle.nofs_disk.specs.declared.tag.Cell.{Cell}
 use Rattle.nofs_disk.specs.Disk.{IsSettled, cell_at}
+use Rattle.nofs_disk.specs.Held.{Held, written_here, written_other}
 use Rattle.nofs_versions.specs.declared.call.Call.{Call}
 use Rattle.nofs_versions.specs.declared.call.Call.TheVariants.{Write, Flush}
-use Rattle.nofs_versions.specs.Memory.{Held, after_call, after_flush, after_write, held_after, put_if, settled, state_of}
-use Rattle.nofs_versions.specs.MemoryLaws.{within_has, written_here, written_other}
+use Rattle.nofs_versions.specs.Memory.{after_call, after_flush, after_write, held_after, put_if, settled, state_of}
+use Rattle.nofs_versions.specs.MemoryLaws.{within_has}
 
 -- one call more
 pub held_after-push : (base : List Cell) (calls : List Call) (call : Call) → held_after base (calls ++ call ∷ []) ≡ after_call (held_after base calls) call

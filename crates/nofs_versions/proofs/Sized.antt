@@ -7,9 +7,10 @@ use Rattle.nofs_disk.specs.declared.tag.Cell.{Cell}
 use Rattle.nofs_disk.specs.Disk.{IsSizedCell, cell_at, no_cell}
 use Rattle.nofs_disk.specs.Cells.{IsSizedCell-zero}
 use Rattle.nofs_disk.specs.Tag.{zero_cell}
+use Rattle.nofs_disk.specs.Held.{Held}
 use Rattle.nofs_versions.specs.declared.call.Call.{Call}
 use Rattle.nofs_versions.specs.declared.call.Call.TheVariants.{Write, Flush}
-use Rattle.nofs_versions.specs.Memory.{Held, after_flush, held_after}
+use Rattle.nofs_versions.specs.Memory.{after_flush, held_after}
 use Rattle.nofs_versions.specs.MemoryLaws.{AreSized, held_after-held}
 use Rattle.nofs_versions.proofs.Held.{flush_of, may_cases, may_of, only_one, write_others}
 

@@ -9,10 +9,10 @@ use Rattle.nofs_disk.specs.declared.tag.Cell.{Cell}
 use Rattle.nofs_disk.specs.Disk.{cell_at, no_cell}
 use Rattle.nofs_versions.specs.declared.call.Call.{Call}
 use Rattle.nofs_versions.specs.declared.call.Call.TheVariants.{Write, Flush}
-use Rattle.nofs_versions.specs.Memory.{Held, IsSearch, after_call, count_after, held_after, picked, searched, settled, written}
+use Rattle.nofs_versions.specs.Memory.{IsSearch, after_call, count_after, held_after, picked, searched, settled}
 use Rattle.nofs_versions.specs.declared.call.Pick.{Pick}
 use Rattle.nofs_versions.specs.declared.search.Search.{Search}
-use Rattle.nofs_versions.specs.MemoryLaws.{written_here, written_other}
+use Rattle.nofs_disk.specs.Held.{Held, written, written_here, written_other}
 use Rattle.nofs_versions.proofs.Held.{held_after-push}
 
 -- the number of cells that a block may hold, after one call more

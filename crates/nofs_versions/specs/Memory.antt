@@ -1,25 +1,17 @@
 -- A disk in memory, by the cells that it began with and the writes and flushes since.
-use Rattle.std.specs.Prelude.{◌≡◌, ◌⊎◌, ℕ, ◌+◌, ◌-◌, ◌*◌, ◌/◌, ◌<◌, ◌≤◌, ◌==◌, nat_lt, if◌then◌else◌, Bool, true, false, ◌&&◌, List, [], ◌∷◌, ◌++◌, length}
+use Rattle.std.specs.Prelude.{◌≡◌, ◌⊎◌, ℕ, ◌+◌, ◌-◌, ◌*◌, ◌/◌, ◌<◌, ◌≤◌, ◌==◌, nat_lt, if◌then◌else◌, Bool, true, false, ◌&&◌, List, [], ◌∷◌, length}
 use Rattle.std.specs.Prelude.{take, fold, slice_index_or, slice_set}
 use Rattle.nofs_disk.specs.declared.tag.Cell.{Cell}
 use Rattle.nofs_disk.specs.Disk.{DiskState, Picks, cell_at, no_cell}
+use Rattle.nofs_disk.specs.Held.{Held, written}
 use Rattle.nofs_versions.specs.declared.call.Call.{Call}
 use Rattle.nofs_versions.specs.declared.call.Pick.{Pick}
 use Rattle.nofs_versions.specs.declared.search.Search.{Search}
 use Rattle.nofs_versions.specs.declared.call.Call.TheVariants.{Write, Flush}
 
--- the present cells, and for each block the cells that it may hold, in the order in which they came
-pub record Held : Type 0 where
-  pub now : List Cell
-  pub may : ℕ → List Cell
-
 -- each block may hold its cell alone
 abbrev pub settled : List Cell → Held
 settled cells = record { now = cells; may = λ b. cell_at cells b ∷ [] }
-
--- a cell was written
-abbrev pub written : Held → ℕ → Cell → Held
-written held block cell = record { now = slice_set held.now block cell; may = λ b. if b == block then held.may b ++ cell ∷ [] else held.may b }
 
 -- the cells with one that is taken or not
 abbrev pub put_if : Bool → List Cell → ℕ → Cell → List Cell

@@ -1,32 +1,21 @@
 -- A disk in memory is a disk.
-use Rattle.std.proofs.Common.{◌≡◌, ℕ, ◌+◌, ◌*◌, ◌^◌, ◌<◌, true, false, List, [], ◌∷◌, ◌++◌, length, arith, inl, inr, refl, sym, subst, ◌∙◌}
+use Rattle.std.proofs.Common.{◌≡◌, ℕ, ◌+◌, ◌*◌, ◌^◌, ◌<◌, true, false, List, [], ◌∷◌, length, arith, inl, inr, refl, sym, subst, ◌∙◌}
 use Rattle.std.specs.Prelude.{Contains, fold}
-use Rattle.std.proofs.lemmas.Bool.{cases_eq, cases_lt, eq-eqb, le-ltb, lt-ltb, ne_eqb}
+use Rattle.std.proofs.lemmas.Bool.{cases_eq, cases_lt, le-ltb, lt-ltb}
 use Rattle.std.proofs.lemmas.List.{length-set, get_or-set_same, get_or-set_other, take_all}
 use Rattle.std.proofs.lemmas.List.Elements.{Contains-push}
 use Rattle.nofs_disk.specs.declared.tag.Cell.{Cell}
 use Rattle.nofs_disk.specs.Disk.{IsDisk, IsSizedCell, Picks, cell_at, no_cell}
+use Rattle.nofs_disk.specs.Held.{Held, IsHeld, written, written_here, written_other}
 use Rattle.nofs_versions.specs.declared.call.Call.{Call}
 use Rattle.nofs_versions.specs.declared.call.Call.TheVariants.{Write, Flush}
-use Rattle.nofs_versions.specs.Memory.{Held, settled, written, after_call, held_after, MayLeave, state_of, within}
-
--- each block may hold its present cell
-pub record IsHeld (n : ℕ) (held : Held) : Type 0 where
-  pub len : length held.now ≡ n
-  pub has_now : (b : ℕ) → b < n → Contains (held.may b) (cell_at held.now b)
+use Rattle.nofs_versions.specs.Memory.{settled, after_call, held_after, MayLeave, state_of, within}
 
 single : (c : Cell) → Contains (c ∷ []) c
 single c = (0, omega arith, refl)
 
 settled-held : (n : ℕ) (cells : List Cell) → length cells ≡ n → IsHeld n (settled cells)
 settled-held n cells len = record { len = len; has_now = λ b low. single (cell_at cells b) }
-
--- the cells of the block that was written, and of another
-pub written_here : (held : Held) (block : ℕ) (cell : Cell) → (written held block cell).may block ≡ held.may block ++ cell ∷ []
-written_here held block cell = rw (eq-eqb block block refl)
-
-pub written_other : (held : Held) (block b : ℕ) (cell : Cell) → (b ≡ block → ⊥) → (written held block cell).may b ≡ held.may b
-written_other held block b cell other = rw (ne_eqb b block other)
 
 written-held : (n : ℕ) (held : Held) (block : ℕ) (cell : Cell) → IsHeld n held → IsHeld n (written held block cell)
 written-held n held block cell is = record {
@@ -78,8 +67,8 @@ pub within_from : (n : ℕ) (may : ℕ → List Cell) (b : ℕ) (c : Cell) → b
 within_from n may b c low has = subst (λ (l : List Cell). Contains l c) (sym (within_is n may b low)) has
 
 -- an image picks from the lists of all blocks where it picks from those of the blocks that there are
-pub picks_in : (n : ℕ) (may : ℕ → List Cell) (image : List Cell) → Picks may n image → Picks (within n may) n image
-picks_in n may image picks = record { len = picks.len; each = λ b low. within_from n may b (cell_at image b) low (picks.each b low) }
+pub picks-within : (n : ℕ) (may : ℕ → List Cell) (image : List Cell) → Picks may n image → Picks (within n may) n image
+picks-within n may image picks = record { len = picks.len; each = λ b low. within_from n may b (cell_at image b) low (picks.each b low) }
 
 pub picks_out : (n : ℕ) (may : ℕ → List Cell) (image : List Cell) → Picks (within n may) n image → Picks may n image
 picks_out n may image picks = record { len = picks.len; each = λ b low. (within_has n may b (cell_at image b) (picks.each b low)).1 }
@@ -97,5 +86,5 @@ state_of-is start base calls spare faults room counted sized = record {
   has_now = λ b tells low. within_from (length base) (held_after base calls).may b _ low ((held_after-held base calls).has_now b low);
   beyond = λ b c past has. let two = within_has (length base) (held_after base calls).may b c has in let l = two.0 in omega arith;
   sized = λ b c has. let two = within_has (length base) (held_after base calls).may b c has in sized.each b c two.0 two.1;
-  at_rest = λ image left. picks_in (length base) (held_after base calls).may image (at_rest start base calls image left);
+  at_rest = λ image left. picks-within (length base) (held_after base calls).may image (at_rest start base calls image left);
 }

@@ -7,12 +7,13 @@ use lib.Seq.{take-append-add}
 use Rattle.std.proofs.lemmas.Grind.{flat_map-append}
 use Rattle.std.proofs.lemmas.List.{map-append, take_at}
 use Rattle.nofs_history.specs.Steps.{Made}
+use Rattle.nofs_history.specs.Callers.{made_step}
 use Rattle.nofs_wire.specs.declared.stream.frames.Front.{Front}
 use Rattle.nofs_wire.specs.declared.stream.frames.Front.TheVariants as front
 use Rattle.nofs_wire.specs.declared.serving.WireEnd.{WireEnd}
 use Rattle.nofs_wire.specs.declared.serving.WireEnd.TheVariants as ended
 use Rattle.nofs_wire.specs.Frames.{front_of, step_in, split_of, frames_of, rest_of, IsBad, IsBadBy, IsCut, IsCutBy}
-use Rattle.nofs_wire.specs.Serves.{made_step, made_bytes, replies_of, IsServed, IsServedInPart, IsRestAt, EndsSo, Serves}
+use Rattle.nofs_wire.specs.Serves.{made_bytes, replies_of, IsServed, IsServedInPart, IsRestAt, EndsSo, Serves}
 use Rattle.nofs_wire.specs.Turns.{IsFramed, GoesOn, HasNone, IsInPart, StopsSo, Stops}
 use Rattle.nofs_wire.specs.Inbox.{InboxState}
 use Rattle.nofs_wire.proofs.Splitting.{framed-none, framed-more, none-split, first-split}

@@ -16,7 +16,7 @@ use Rattle.nofs_history.specs.declared.machine.replies.Refusal.{Refusal}
 use Rattle.nofs_history.specs.declared.machine.replies.Refusal.TheVariants as refusal
 use Rattle.nofs_wire.specs.declared.answers.Answered.{Answered}
 use Rattle.nofs_wire.specs.declared.answers.Answered.TheVariants as answered
-use Rattle.nofs_wire.specs.Replies.{HasSpelling, IsShort, line_bytes, body_bytes, field_bytes, kept_bytes, reply_bytes}
+use Rattle.nofs_wire.specs.Replies.{HasSpelling, FitsOneByte, line_bytes, body_bytes, field_bytes, kept_bytes, reply_bytes}
 use Rattle.nofs_wire.specs.Fields.{kind_byte, truth_byte, number_bytes}
 use Rattle.nofs_wire.specs.Turns.{AnswersSo, AnswersInPart, GivesReply}
 use Rattle.nofs_wire.proofs.Fields.{length-number_bytes}
@@ -26,11 +26,11 @@ pub record IsSpelled (r : Reply) : Type 0 where
   pub lists : HasSpelling r
   pub short : length (body_bytes r) < 2 ^ 32
 
-short-name : (lines : List NameLine) → All (λ line. IsTrue (is_name line.name)) lines → All IsShort lines
+short-name : (lines : List NameLine) → All (λ line. IsTrue (is_name line.name)) lines → All FitsOneByte lines
 short-name lines names k d low = let ok = (is_name-Decides (slice_index_or lines k d).name).0 (names k d low) in let short = ok.short in omega arith
 
 -- the lines of a slot take at most 258 bytes each
-length-lines : (lines : List NameLine) → All IsShort lines → length (flat_map line_bytes lines) ≤ 258 * length lines
+length-lines : (lines : List NameLine) → All FitsOneByte lines → length (flat_map line_bytes lines) ≤ 258 * length lines
 unfolding line_bytes
 length-lines [] short = omega arith
 length-lines (line ∷ lines) short =

@@ -12,7 +12,7 @@ use Rattle.nofs_inode.specs.declared.inode.FileKind.TheVariants.{File, Directory
 use Rattle.nofs_history.specs.declared.machine.steps.Step.{Step}
 use Rattle.nofs_history.specs.declared.machine.steps.Step.TheVariants as step
 use Rattle.nofs_wire.specs.Fields.{number_bytes, kind_byte, name_bytes}
-use Rattle.nofs_wire.specs.Requests.{◌>>=◌, where_ends, name_length, name_at, kind_of, inode_of, generation_of, look_of, make_of, link_of, drop_of}
+use Rattle.nofs_wire.specs.Requests.{◌>>=◌, where_ends, name_length, name_field, kind_numbered, inode_field, generation_field, look_request, make_of, link_of, drop_of}
 use Rattle.nofs_wire.specs.Requests.{rename_of, list_of, get_of, put_of, resize_of, stat_of, flush_of, see_inode_of, see_block_of, named_of}
 use Rattle.nofs_wire.specs.Requests.{handled_of, step_by, step_of}
 use Rattle.nofs_wire.specs.Spelled.{head_bytes, request_bytes, IsHandle, FitsBody}
@@ -38,11 +38,11 @@ module _ (first d g : ℕ) (rest : List ℕ) where
   abbrev B : List ℕ
   B = head_bytes first d g rest
 
-  inode-back : d < 2 ^ 32 → inode_of B ≡ d
+  inode-back : d < 2 ^ 32 → inode_field B ≡ d
   unfolding number_bytes
   inode-back small = number-behind 4 1 B (number_bytes 4 d ++ (number_bytes 8 g ++ rest)) refl ∙ number-back 4 d (number_bytes 8 g ++ rest) small
 
-  generation-back : g < 2 ^ 64 → generation_of B ≡ g
+  generation-back : g < 2 ^ 64 → generation_field B ≡ g
   unfolding number_bytes
   generation-back small = number-behind 8 5 B (number_bytes 8 g ++ rest) refl ∙ number-back 8 g rest small
 
@@ -72,8 +72,8 @@ module _ (first d g : ℕ) (rest : List ℕ) where
 -- Names
 
 -- a name that stands at a place is found there
-name-back : (at : ℕ) (name rest l : List ℕ) → drop at l ≡ name_bytes name ++ rest → length l ≡ at + 1 + length name + length rest → name_at at l ≡ Some name
-unfolding name_at
+name-back : (at : ℕ) (name rest l : List ℕ) → drop at l ≡ name_bytes name ++ rest → length l ≡ at + 1 + length name + length rest → name_field at l ≡ Some name
+unfolding name_field
 name-back at name rest l is long =
     let here : at ≡ at + 0 = omega arith in
     let size : name_length at l ≡ length name = ap (slice_index l) here ∙ sym (get_or-drop at l 0 0) ∙ ap (λ m. slice_index m 0) is in
@@ -85,8 +85,8 @@ name-back at name rest l is long =
     ∙ ap (λ m. Some (take (length name) m)) next
     ∙ ap Some (take_at name rest (length name) refl)
 
-kind-back : (k : FileKind) → kind_of (kind_byte k) ≡ Some k
-unfolding kind_of
+kind-back : (k : FileKind) → kind_numbered (kind_byte k) ≡ Some k
+unfolding kind_numbered
 kind-back File = refl
 kind-back Directory = refl
 
@@ -101,7 +101,7 @@ number-size first d g slot = length-head first d g (number_bytes 8 slot) ∙ ap 
 
 -- `make` is the step of what was read
 read-number : (first d g slot : ℕ) (make : ℕ → ℕ → ℕ → Step) → (first == 12) ≡ false → (first == 13) ≡ false → IsHandle d g → slot < 2 ^ 64
-    → ((L : List ℕ) → handled_of first L ≡ where_ends (length L == 21) (make (inode_of L) (generation_of L) (number_at 8 13 L)))
+    → ((L : List ℕ) → handled_of first L ≡ where_ends (length L == 21) (make (inode_field L) (generation_field L) (number_at 8 13 L)))
     → step_of (head_bytes first d g (number_bytes 8 slot)) ≡ Some (make d g slot)
 read-number first d g slot make no_inode no_block h small is =
     let R = number_bytes 8 slot in
@@ -124,7 +124,7 @@ unfolding handled_of resize_of
 read-resize d g slot h small = read-number 9 d g slot step.Resize refl refl h small (λ L. refl)
 
 read-handle : (first d g : ℕ) (make : ℕ → ℕ → Step) → (first == 12) ≡ false → (first == 13) ≡ false → IsHandle d g
-    → ((L : List ℕ) → handled_of first L ≡ where_ends (length L == 13) (make (inode_of L) (generation_of L)))
+    → ((L : List ℕ) → handled_of first L ≡ where_ends (length L == 13) (make (inode_field L) (generation_field L)))
     → step_of (head_bytes first d g []) ≡ Some (make d g)
 read-handle first d g make no_inode no_block h is =
     let L = head_bytes first d g [] in
@@ -162,7 +162,7 @@ module _ (first d g : ℕ) (name rest : List ℕ) (no_inode : (first == 12) ≡ 
   length-named : length N ≡ 14 + length name + length rest
   length-named = omega (arith, length-head first d g (name_bytes name ++ rest), length-append (name_bytes name) rest)
 
-  found : name_at 13 N ≡ Some name
+  found : name_field 13 N ≡ Some name
   found = name-back 13 name rest N (rest-back first d g (name_bytes name ++ rest)) (omega (arith, length-named))
 
   behind-name : drop (14 + length name) N ≡ rest
@@ -173,7 +173,7 @@ module _ (first d g : ℕ) (name rest : List ℕ) (no_inode : (first == 12) ≡ 
 
 -- the name alone
 read-name : (first d g : ℕ) (name : List ℕ) (make : ℕ → ℕ → List ℕ → Step) → (first == 12) ≡ false → (first == 13) ≡ false → IsHandle d g
-    → ((L : List ℕ) → handled_of first L ≡ (name_at 13 L >>= λ m. where_ends (length L == 14 + length m) (make (inode_of L) (generation_of L) m)))
+    → ((L : List ℕ) → handled_of first L ≡ (name_field 13 L >>= λ m. where_ends (length L == 14 + length m) (make (inode_field L) (generation_field L) m)))
     → step_of (head_bytes first d g (name_bytes name)) ≡ Some (make d g name)
 read-name first d g name make no_inode no_block h is =
     let R = name_bytes name in
@@ -181,15 +181,15 @@ read-name first d g name make no_inode no_block h is =
     let same : head_bytes first d g (R ++ []) ≡ L = ap (head_bytes first d g) (append-nil R) in
     let a = inode-back first d g R h.0 in
     let b = generation-back first d g R h.1 in
-    let n : name_at 13 L ≡ Some name = ap (name_at 13) (sym same) ∙ found first d g name [] no_inode no_block in
+    let n : name_field 13 L ≡ Some name = ap (name_field 13) (sym same) ∙ found first d g name [] no_inode no_block in
     let size : length L ≡ 14 + length name = length-head first d g R ∙ omega arith in
     handled first d g R no_inode no_block
     ∙ is L
-    ∙ ap (λ o. o >>= λ m. where_ends (length L == 14 + length m) (make (inode_of L) (generation_of L) m)) n
+    ∙ ap (λ o. o >>= λ m. where_ends (length L == 14 + length m) (make (inode_field L) (generation_field L) m)) n
     ∙ where-true _ _ _ (eq-eqb (length L) (14 + length name) size) (λ k. make (a k) (b k) name)
 
 read-look : (d g : ℕ) (name : List ℕ) → IsHandle d g → step_of (head_bytes 1 d g (name_bytes name)) ≡ Some (step.Look d g name)
-unfolding handled_of named_of look_of
+unfolding handled_of named_of look_request
 read-look d g name h = read-name 1 d g name step.Look refl refl h (λ L. refl)
 
 read-drop : (d g : ℕ) (name : List ℕ) → IsHandle d g → step_of (head_bytes 4 d g (name_bytes name)) ≡ Some (step.Drop d g name)
@@ -211,8 +211,8 @@ read-make d g name kind h =
     ap (slice_index L) here ∙ sym (get_or-drop (14 + length name) L 0 0) ∙ ap (λ m. slice_index m 0) (behind-name 2 d g name last refl refl) in
     handled 2 d g R refl refl
     ∙ ap (λ o. o >>= λ m. named_of 2 m L) (found 2 d g name last refl refl)
-    ∙ ap (λ n. kind_of n >>= λ k. where_ends (length L == 15 + length name) (step.Make (inode_of L) (generation_of L) name k)) byte
-    ∙ ap (λ o. o >>= λ k. where_ends (length L == 15 + length name) (step.Make (inode_of L) (generation_of L) name k)) (kind-back kind)
+    ∙ ap (λ n. kind_numbered n >>= λ k. where_ends (length L == 15 + length name) (step.Make (inode_field L) (generation_field L) name k)) byte
+    ∙ ap (λ o. o >>= λ k. where_ends (length L == 15 + length name) (step.Make (inode_field L) (generation_field L) name k)) (kind-back kind)
     ∙ where-true _ _ _ (eq-eqb (length L) (15 + length name) size) (λ k. step.Make (a k) (b k) name kind)
 
 read-link : (d g i of : ℕ) (name : List ℕ) → IsHandle d g → IsHandle i of
@@ -247,12 +247,12 @@ read-rename d g old new h =
     let a = inode-back 5 d g R h.0 in
     let b = generation-back 5 d g R h.1 in
     let long = length-named 5 d g old last refl refl in
-    let second : name_at (14 + length old) L ≡ Some new =
+    let second : name_field (14 + length old) L ≡ Some new =
     name-back (14 + length old) new [] L (behind-name 5 d g old last refl refl ∙ sym (append-nil last)) (long ∙ omega arith) in
     let size : length L ≡ 15 + length old + length new = long ∙ omega arith in
     handled 5 d g R refl refl
     ∙ ap (λ o. o >>= λ m. named_of 5 m L) (found 5 d g old last refl refl)
-    ∙ ap (λ o. o >>= λ m. where_ends (length L == 15 + length old + length m) (step.Rename (inode_of L) (generation_of L) old m)) second
+    ∙ ap (λ o. o >>= λ m. where_ends (length L == 15 + length old + length m) (step.Rename (inode_field L) (generation_field L) old m)) second
     ∙ where-true _ _ _ (eq-eqb (length L) (15 + length old + length new) size) (λ k. step.Rename (a k) (b k) old new)
 
 -- a number alone

@@ -15,7 +15,7 @@ use Rattle.nofs_inode.specs.declared.inode.FileKind.TheVariants.{File, Directory
 use Rattle.nofs_history.specs.declared.machine.steps.Step.{Step}
 use Rattle.nofs_history.specs.declared.machine.steps.Step.TheVariants as step
 use Rattle.nofs_wire.specs.Fields.{number_bytes, kind_byte, name_bytes}
-use Rattle.nofs_wire.specs.Requests.{◌>>=◌, where_ends, name_length, has_name, name_at, kind_of, inode_of, generation_of, look_of, make_of, link_of}
+use Rattle.nofs_wire.specs.Requests.{◌>>=◌, where_ends, name_length, has_name_field, name_field, kind_numbered, inode_field, generation_field, look_request, make_of, link_of}
 use Rattle.nofs_wire.specs.Requests.{drop_of, rename_of, list_of, get_of, put_of, resize_of, stat_of, flush_of, see_inode_of, see_block_of, named_of}
 use Rattle.nofs_wire.specs.Requests.{handled_of, step_by, step_of}
 use Rattle.nofs_wire.specs.Spelled.{head_bytes, request_bytes}
@@ -56,8 +56,8 @@ pick false x y s e = inr (refl, e)
 none-of : (s : Step) {P : Type 0} → None ≡ Some s → P
 none-of s e = absurd (cc)
 
-kind-byte : (n : ℕ) (k : FileKind) → kind_of n ≡ Some k → n ≡ kind_byte k
-unfolding kind_of
+kind-byte : (n : ℕ) (k : FileKind) → kind_numbered n ≡ Some k → n ≡ kind_byte k
+unfolding kind_numbered
 kind-byte n k e = go (n == 1) (n == 2) refl refl e
   where
     go : (a b : Bool) → (n == 1) ≡ a → (n == 2) ≡ b → (if a then Some File else if b then Some Directory else None) ≡ Some k → n ≡ kind_byte k
@@ -84,9 +84,9 @@ module _ (body : List ℕ) (each : (k : ℕ) → slice_index body k < 256) where
   end-cut : (at : ℕ) → length body ≡ at → drop at body ≡ []
   end-cut at is = drop_of_length-le body (omega arith)
 
-  name-cut : (at : ℕ) (name : List ℕ) → name_at at body ≡ Some name → drop at body ≡ name_bytes name ++ drop (at + 1 + length name) body
-  unfolding name_at
-  name-cut at name e = go (has_name at body) refl e
+  name-cut : (at : ℕ) (name : List ℕ) → name_field at body ≡ Some name → drop at body ≡ name_bytes name ++ drop (at + 1 + length name) body
+  unfolding name_field
+  name-cut at name e = go (has_name_field at body) refl e
     where
       size : ℕ
       size = name_length at body
@@ -94,7 +94,7 @@ module _ (body : List ℕ) (each : (k : ℕ) → slice_index body k < 256) where
       found : List ℕ
       found = take size (drop (at + 1) body)
 
-      go : (b : Bool) → has_name at body ≡ b → (if b then Some found else None) ≡ Some name → drop at body ≡ name_bytes name ++ drop (at + 1 + length name) body
+      go : (b : Bool) → has_name_field at body ≡ b → (if b then Some found else None) ≡ Some name → drop at body ≡ name_bytes name ++ drop (at + 1 + length name) body
       go false t e = absurd (cc)
       go true t e =
           let parts = and_parts (nat_lt at (length body)) (nat_le (at + 1 + size) (length body)) t in
@@ -108,13 +108,13 @@ module _ (body : List ℕ) (each : (k : ℕ) → slice_index body k < 256) where
           ∙ ap (λ l. found ++ l) (drop-drop size (at + 1) body ∙ ap (λ n. drop (at + 1 + n) body) (sym long))) in
           whole ∙ ap (λ n. name_bytes n ++ drop (at + 1 + length n) body) same
 
-  head : (first : ℕ) → slice_index body 0 ≡ first → 13 ≤ length body → body ≡ head_bytes first (inode_of body) (generation_of body) (drop 13 body)
+  head : (first : ℕ) → slice_index body 0 ≡ first → 13 ≤ length body → body ≡ head_bytes first (inode_field body) (generation_field body) (drop 13 body)
   head first is long =
       byte-cut 0 (omega arith)
-      ∙ ap₂ (λ n l. n ∷ l) is (number-cut 4 1 (omega arith) ∙ ap (λ l. number_bytes 4 (inode_of body) ++ l) (number-cut 8 5 (omega arith)))
+      ∙ ap₂ (λ n l. n ∷ l) is (number-cut 4 1 (omega arith) ∙ ap (λ l. number_bytes 4 (inode_field body) ++ l) (number-cut 8 5 (omega arith)))
 
   -- a name that ends the body
-  last-name : (at : ℕ) (name : List ℕ) → name_at at body ≡ Some name → length body ≡ at + 1 + length name → drop at body ≡ name_bytes name
+  last-name : (at : ℕ) (name : List ℕ) → name_field at body ≡ Some name → length body ≡ at + 1 + length name → drop at body ≡ name_bytes name
   last-name at name is long = name-cut at name is ∙ ap (λ l. name_bytes name ++ l) (end-cut (at + 1 + length name) long) ∙ append-nil (name_bytes name)
 
   -- a number that ends the body
@@ -126,20 +126,20 @@ module _ (body : List ℕ) (each : (k : ℕ) → slice_index body k < 256) where
   module _ (long : 13 ≤ length body) (s : Step) where
     -- what was read is the step, and the head and the rest spell it
     spelled : (first : ℕ) (rest : List ℕ) (read : Step) → slice_index body 0 ≡ first → drop 13 body ≡ rest
-        → head_bytes first (inode_of body) (generation_of body) rest ≡ request_bytes read → read ≡ s → body ≡ request_bytes s
+        → head_bytes first (inode_field body) (generation_field body) rest ≡ request_bytes read → read ≡ s → body ≡ request_bytes s
     spelled first rest read is cut same e =
-        head first is long ∙ ap (head_bytes first (inode_of body) (generation_of body)) cut ∙ same ∙ ap request_bytes e
+        head first is long ∙ ap (head_bytes first (inode_field body) (generation_field body)) cut ∙ same ∙ ap request_bytes e
 
     -- a step of a number
     spelled-number : (first : ℕ) (read : Step) → slice_index body 0 ≡ first → where_ends (length body == 21) read ≡ Some s
-        → head_bytes first (inode_of body) (generation_of body) (number_bytes 8 (number_at 8 13 body)) ≡ request_bytes read → body ≡ request_bytes s
+        → head_bytes first (inode_field body) (generation_field body) (number_bytes 8 (number_at 8 13 body)) ≡ request_bytes read → body ≡ request_bytes s
     spelled-number first read is e same =
         let p = where-parts _ _ s e in
         spelled first (number_bytes 8 (number_at 8 13 body)) read is (last-number 8 13 (eqb-true (length body) 21 p.0)) same p.1
 
     -- one of the handle alone
     spelled-handle : (first : ℕ) (read : Step) → slice_index body 0 ≡ first → where_ends (length body == 13) read ≡ Some s
-        → head_bytes first (inode_of body) (generation_of body) [] ≡ request_bytes read → body ≡ request_bytes s
+        → head_bytes first (inode_field body) (generation_field body) [] ≡ request_bytes read → body ≡ request_bytes s
     spelled-handle first read is e same =
         let p = where-parts _ _ s e in
         spelled first [] read is (end-cut 13 (eqb-true (length body) 13 p.0)) same p.1
@@ -150,14 +150,14 @@ module _ (body : List ℕ) (each : (k : ℕ) → slice_index body k < 256) where
         let p = where-parts _ _ s e in
         let fits = leb-true 25 (length body) p.0 in
         head 8 is long
-        ∙ ap (head_bytes 8 (inode_of body) (generation_of body)) (number-cut 8 13 (omega arith)
+        ∙ ap (head_bytes 8 (inode_field body) (generation_field body)) (number-cut 8 13 (omega arith)
         ∙ ap (λ l. number_bytes 8 (number_at 8 13 body) ++ l) (number-cut 4 21 (omega arith)))
         ∙ ap request_bytes p.1
 
-    module _ (name : List ℕ) (named : name_at 13 body ≡ Some name) where
+    module _ (name : List ℕ) (named : name_field 13 body ≡ Some name) where
       -- a step of the name alone
       spelled-name : (first : ℕ) (read : Step) → slice_index body 0 ≡ first → where_ends (length body == 14 + length name) read ≡ Some s
-          → head_bytes first (inode_of body) (generation_of body) (name_bytes name) ≡ request_bytes read → body ≡ request_bytes s
+          → head_bytes first (inode_field body) (generation_field body) (name_bytes name) ≡ request_bytes read → body ≡ request_bytes s
       spelled-name first read is e same =
           let p = where-parts _ _ s e in
           spelled first (name_bytes name) read is (last-name 13 name named (eqb-true (length body) (14 + length name) p.0)) same p.1
@@ -165,13 +165,13 @@ module _ (body : List ℕ) (each : (k : ℕ) → slice_index body k < 256) where
       spelled-make : slice_index body 0 ≡ 2 → make_of name body ≡ Some s → body ≡ request_bytes s
       unfolding make_of request_bytes
       spelled-make is e =
-          let (kind, kind_is, rest) = bind-parts (kind_of (slice_index body (14 + length name))) _ s e in
+          let (kind, kind_is, rest) = bind-parts (kind_numbered (slice_index body (14 + length name))) _ s e in
           let p = where-parts _ _ s rest in
           let size = eqb-true (length body) (15 + length name) p.0 in
           let last : drop (14 + length name) body ≡ kind_byte kind ∷ [] =
           byte-cut (14 + length name) (omega arith)
           ∙ ap₂ (λ n l. n ∷ l) (kind-byte (slice_index body (14 + length name)) kind kind_is) (end-cut (14 + length name + 1) (omega arith)) in
-          head 2 is long ∙ ap (head_bytes 2 (inode_of body) (generation_of body)) (name-cut 13 name named ∙ ap (λ l. name_bytes name ++ l) last)
+          head 2 is long ∙ ap (head_bytes 2 (inode_field body) (generation_field body)) (name-cut 13 name named ∙ ap (λ l. name_bytes name ++ l) last)
           ∙ ap request_bytes p.1
 
       spelled-link : slice_index body 0 ≡ 3 → link_of name body ≡ Some s → body ≡ request_bytes s
@@ -184,29 +184,29 @@ module _ (body : List ℕ) (each : (k : ℕ) → slice_index body k < 256) where
           (number_at 8 (18 + length name) body) =
           number-cut 4 (14 + length name) (omega arith)
           ∙ ap (λ l. number_bytes 4 (number_at 4 (14 + length name) body) ++ l) (ap (λ k. drop k body) at ∙ last-number 8 (18 + length name) (omega arith)) in
-          head 3 is long ∙ ap (head_bytes 3 (inode_of body) (generation_of body)) (name-cut 13 name named ∙ ap (λ l. name_bytes name ++ l) last)
+          head 3 is long ∙ ap (head_bytes 3 (inode_field body) (generation_field body)) (name-cut 13 name named ∙ ap (λ l. name_bytes name ++ l) last)
           ∙ ap request_bytes p.1
 
       spelled-rename : slice_index body 0 ≡ 5 → rename_of name body ≡ Some s → body ≡ request_bytes s
       unfolding rename_of request_bytes
       spelled-rename is e =
-          let (new, new_is, rest) = bind-parts (name_at (14 + length name) body) _ s e in
+          let (new, new_is, rest) = bind-parts (name_field (14 + length name) body) _ s e in
           let p = where-parts _ _ s rest in
           let size = eqb-true (length body) (15 + length name + length new) p.0 in
           let last : drop (14 + length name) body ≡ name_bytes new = last-name (14 + length name) new new_is (omega arith) in
-          head 5 is long ∙ ap (head_bytes 5 (inode_of body) (generation_of body)) (name-cut 13 name named ∙ ap (λ l. name_bytes name ++ l) last)
+          head 5 is long ∙ ap (head_bytes 5 (inode_field body) (generation_field body)) (name-cut 13 name named ∙ ap (λ l. name_bytes name ++ l) last)
           ∙ ap request_bytes p.1
 
       spelled-named : (first : ℕ) → slice_index body 0 ≡ first → named_of first name body ≡ Some s → body ≡ request_bytes s
-      unfolding named_of look_of drop_of request_bytes
+      unfolding named_of look_request drop_of request_bytes
       spelled-named first is e = elim (pick (first == 1) _ _ s e) [
-        | inl p ↦ spelled-name 1 (step.Look (inode_of body) (generation_of body) name) (is ∙ eqb-true first 1 p.0) p.1 refl
+        | inl p ↦ spelled-name 1 (step.Look (inode_field body) (generation_field body) name) (is ∙ eqb-true first 1 p.0) p.1 refl
         | inr p ↦ elim (pick (first == 2) _ _ s p.1) [
           | inl p ↦ spelled-make (is ∙ eqb-true first 2 p.0) p.1
           | inr p ↦ elim (pick (first == 3) _ _ s p.1) [
             | inl p ↦ spelled-link (is ∙ eqb-true first 3 p.0) p.1
             | inr p ↦ elim (pick (first == 4) _ _ s p.1) [
-              | inl p ↦ spelled-name 4 (step.Drop (inode_of body) (generation_of body) name) (is ∙ eqb-true first 4 p.0) p.1 refl
+              | inl p ↦ spelled-name 4 (step.Drop (inode_field body) (generation_field body) name) (is ∙ eqb-true first 4 p.0) p.1 refl
               | inr p ↦ elim (pick (first == 5) _ _ s p.1) [
                 | inl p ↦ spelled-rename (is ∙ eqb-true first 5 p.0) p.1
                 | inr p ↦ none-of s p.1
@@ -219,18 +219,18 @@ module _ (body : List ℕ) (each : (k : ℕ) → slice_index body k < 256) where
     spelled-handled : (first : ℕ) → slice_index body 0 ≡ first → handled_of first body ≡ Some s → body ≡ request_bytes s
     unfolding handled_of list_of get_of resize_of stat_of flush_of request_bytes
     spelled-handled first is e = elim (pick (first == 6) _ _ s e) [
-      | inl p ↦ spelled-number 6 (step.List (inode_of body) (generation_of body) (number_at 8 13 body)) (is ∙ eqb-true first 6 p.0) p.1 refl
+      | inl p ↦ spelled-number 6 (step.List (inode_field body) (generation_field body) (number_at 8 13 body)) (is ∙ eqb-true first 6 p.0) p.1 refl
       | inr p ↦ elim (pick (first == 7) _ _ s p.1) [
-        | inl p ↦ spelled-number 7 (step.Get (inode_of body) (generation_of body) (number_at 8 13 body)) (is ∙ eqb-true first 7 p.0) p.1 refl
+        | inl p ↦ spelled-number 7 (step.Get (inode_field body) (generation_field body) (number_at 8 13 body)) (is ∙ eqb-true first 7 p.0) p.1 refl
         | inr p ↦ elim (pick (first == 8) _ _ s p.1) [
           | inl p ↦ spelled-put (is ∙ eqb-true first 8 p.0) p.1
           | inr p ↦ elim (pick (first == 9) _ _ s p.1) [
-            | inl p ↦ spelled-number 9 (step.Resize (inode_of body) (generation_of body) (number_at 8 13 body)) (is ∙ eqb-true first 9 p.0) p.1 refl
+            | inl p ↦ spelled-number 9 (step.Resize (inode_field body) (generation_field body) (number_at 8 13 body)) (is ∙ eqb-true first 9 p.0) p.1 refl
             | inr p ↦ elim (pick (first == 10) _ _ s p.1) [
-              | inl p ↦ spelled-handle 10 (step.Stat (inode_of body) (generation_of body)) (is ∙ eqb-true first 10 p.0) p.1 refl
+              | inl p ↦ spelled-handle 10 (step.Stat (inode_field body) (generation_field body)) (is ∙ eqb-true first 10 p.0) p.1 refl
               | inr p ↦ elim (pick (first == 11) _ _ s p.1) [
-                | inl p ↦ spelled-handle 11 (step.Flush (inode_of body) (generation_of body)) (is ∙ eqb-true first 11 p.0) p.1 refl
-                | inr p ↦ let (name, named, rest) = bind-parts (name_at 13 body) _ s p.1 in spelled-named name named first is rest
+                | inl p ↦ spelled-handle 11 (step.Flush (inode_field body) (generation_field body)) (is ∙ eqb-true first 11 p.0) p.1 refl
+                | inr p ↦ let (name, named, rest) = bind-parts (name_field 13 body) _ s p.1 in spelled-named name named first is rest
               ]
             ]
           ]

@@ -13,7 +13,7 @@ use Rattle.nofs_wire.specs.declared.stream.frames.Front.{Front}
 use Rattle.nofs_wire.specs.declared.stream.frames.Front.TheVariants as front
 use Rattle.nofs_wire.specs.Frames.{length_of, sized_front, front_of, body_of, behind, behind_in, step_in, joined, split_in, split_of}
 use Rattle.nofs_wire.specs.Requests.{step_of}
-use Rattle.nofs_wire.specs.Serves.{made_step}
+use Rattle.nofs_history.specs.Callers.{made_step}
 use Rattle.nofs_wire.specs.Turns.{IsFramed, HasNone}
 
 -- a whole frame in front, by its length

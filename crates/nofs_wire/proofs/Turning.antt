@@ -6,13 +6,14 @@ use Rattle.std.specs.Io.KnownBytes.{Consumes, Appends, IsAtEnd}
 use Rattle.std.proofs.KnownBytes.{Appends-nil, Consumes-nil}
 use Rattle.nofs_history.specs.Steps.{Made}
 use Rattle.nofs_history.specs.declared.machine.steps.Step.{Step}
+use Rattle.nofs_history.specs.Callers.{made_step}
 use Rattle.nofs_wire.specs.declared.stream.frames.Front.TheVariants as front
 use Rattle.nofs_wire.specs.declared.serving.WireEnd.{WireEnd}
 use Rattle.nofs_wire.specs.declared.serving.WireEnd.TheVariants as ended
 use Rattle.nofs_wire.specs.Frames.{front_of, step_in, body_of, IsBad, IsBadBy, IsCutBy}
 use Rattle.nofs_wire.specs.Requests.{step_of}
 use Rattle.nofs_wire.specs.Replies.{reply_bytes}
-use Rattle.nofs_wire.specs.Serves.{made_step, replies_of}
+use Rattle.nofs_wire.specs.Serves.{replies_of}
 use Rattle.nofs_wire.specs.Turns.{AnswersInPart, AnswersNone, AnswersWhole, GoesOn, Stops, StopsSo}
 use Rattle.nofs_wire.specs.Inbox.{InboxState, TakesCount}
 use Rattle.nofs_wire.proofs.Along.{short-none}

@@ -97,12 +97,12 @@ unfoldable pub reply_bytes : Reply → List ℕ
 reply_bytes r = frame_bytes (body_bytes r)
 
 -- a name whose length fits one byte
-abbrev pub IsShort : NameLine → Type 0
-IsShort line = length line.name < 256
+abbrev pub FitsOneByte : NameLine → Type 0
+FitsOneByte line = length line.name < 256
 
 -- the lists of a reply fit their numbers in the frame
 abbrev pub HasSpelling : Reply → Type 0
-HasSpelling (reply.Names slot lines) = (length lines < 256) × All IsShort lines
+HasSpelling (reply.Names slot lines) = (length lines < 256) × All FitsOneByte lines
 HasSpelling (reply.Found _) = Unit {0}
 HasSpelling (reply.Made _ _) = Unit {0}
 HasSpelling reply.Linked = Unit {0}

@@ -20,71 +20,71 @@ abbrev pub name_length : ℕ → List ℕ → ℕ
 name_length at body = slice_index body at
 
 -- a name stands whole at a place: one byte for its length, and its bytes
-abbrev pub has_name : ℕ → List ℕ → Bool
-has_name at body = nat_lt at (length body) && nat_le (at + 1 + name_length at body) (length body)
+abbrev pub has_name_field : ℕ → List ℕ → Bool
+has_name_field at body = nat_lt at (length body) && nat_le (at + 1 + name_length at body) (length body)
 
 -- the name at a place
-unfoldable pub name_at : ℕ → List ℕ → Option (List ℕ)
-name_at at body = if has_name at body then Some (take (name_length at body) (drop (at + 1) body)) else None
+unfoldable pub name_field : ℕ → List ℕ → Option (List ℕ)
+name_field at body = if has_name_field at body then Some (take (name_length at body) (drop (at + 1) body)) else None
 
 -- the kind of this number
-unfoldable pub kind_of : ℕ → Option FileKind
-kind_of n = if n == 1 then Some File else if n == 2 then Some Directory else None
+unfoldable pub kind_numbered : ℕ → Option FileKind
+kind_numbered n = if n == 1 then Some File else if n == 2 then Some Directory else None
 
 -- every step but two begins with an inode number and a generation
-abbrev pub inode_of : List ℕ → ℕ
-inode_of body = number_at 4 1 body
+abbrev pub inode_field : List ℕ → ℕ
+inode_field body = number_at 4 1 body
 
-abbrev pub generation_of : List ℕ → ℕ
-generation_of body = number_at 8 5 body
+abbrev pub generation_field : List ℕ → ℕ
+generation_field body = number_at 8 5 body
 
 -- the name alone
-unfoldable pub look_of : List ℕ → List ℕ → Option Step
-look_of name body = where_ends (length body == 14 + length name) (step.Look (inode_of body) (generation_of body) name)
+unfoldable pub look_request : List ℕ → List ℕ → Option Step
+look_request name body = where_ends (length body == 14 + length name) (step.Look (inode_field body) (generation_field body) name)
 
 -- behind the name the kind
 unfoldable pub make_of : List ℕ → List ℕ → Option Step
 make_of name body = do
-  kind ← kind_of (slice_index body (14 + length name))
-  where_ends (length body == 15 + length name) (step.Make (inode_of body) (generation_of body) name kind)
+  kind ← kind_numbered (slice_index body (14 + length name))
+  where_ends (length body == 15 + length name) (step.Make (inode_field body) (generation_field body) name kind)
 
 -- behind the name the inode number and the generation of the file
 unfoldable pub link_of : List ℕ → List ℕ → Option Step
 link_of name body = where_ends (length body == 26 + length name)
-    (step.Link (inode_of body) (generation_of body) name (number_at 4 (14 + length name) body) (number_at 8 (18 + length name) body))
+    (step.Link (inode_field body) (generation_field body) name (number_at 4 (14 + length name) body) (number_at 8 (18 + length name) body))
 
 -- the name alone
 unfoldable pub drop_of : List ℕ → List ℕ → Option Step
-drop_of name body = where_ends (length body == 14 + length name) (step.Drop (inode_of body) (generation_of body) name)
+drop_of name body = where_ends (length body == 14 + length name) (step.Drop (inode_field body) (generation_field body) name)
 
 -- behind the name the new one
 unfoldable pub rename_of : List ℕ → List ℕ → Option Step
 rename_of name body = do
-  new ← name_at (14 + length name) body
-  where_ends (length body == 15 + length name + length new) (step.Rename (inode_of body) (generation_of body) name new)
+  new ← name_field (14 + length name) body
+  where_ends (length body == 15 + length name + length new) (step.Rename (inode_field body) (generation_field body) name new)
 
 -- slot
 unfoldable pub list_of : List ℕ → Option Step
-list_of body = where_ends (length body == 21) (step.List (inode_of body) (generation_of body) (number_at 8 13 body))
+list_of body = where_ends (length body == 21) (step.List (inode_field body) (generation_field body) (number_at 8 13 body))
 
 -- slot
 unfoldable pub get_of : List ℕ → Option Step
-get_of body = where_ends (length body == 21) (step.Get (inode_of body) (generation_of body) (number_at 8 13 body))
+get_of body = where_ends (length body == 21) (step.Get (inode_field body) (generation_field body) (number_at 8 13 body))
 
 -- slot, place in the slot, bytes to the end
 unfoldable pub put_of : List ℕ → Option Step
 put_of body = where_ends (nat_le 25 (length body))
-    (step.Put (inode_of body) (generation_of body) (number_at 8 13 body) (number_at 4 21 body) (drop 25 body))
+    (step.Put (inode_field body) (generation_field body) (number_at 8 13 body) (number_at 4 21 body) (drop 25 body))
 
 -- size
 unfoldable pub resize_of : List ℕ → Option Step
-resize_of body = where_ends (length body == 21) (step.Resize (inode_of body) (generation_of body) (number_at 8 13 body))
+resize_of body = where_ends (length body == 21) (step.Resize (inode_field body) (generation_field body) (number_at 8 13 body))
 
 unfoldable pub stat_of : List ℕ → Option Step
-stat_of body = where_ends (length body == 13) (step.Stat (inode_of body) (generation_of body))
+stat_of body = where_ends (length body == 13) (step.Stat (inode_field body) (generation_field body))
 
 unfoldable pub flush_of : List ℕ → Option Step
-flush_of body = where_ends (length body == 13) (step.Flush (inode_of body) (generation_of body))
+flush_of body = where_ends (length body == 13) (step.Flush (inode_field body) (generation_field body))
 
 -- an inode number alone
 unfoldable pub see_inode_of : List ℕ → Option Step
@@ -97,7 +97,7 @@ see_block_of body = where_ends (length body == 9) (step.SeeBlock (number_at 8 1 
 -- the steps whose name is this one
 unfoldable pub named_of : ℕ → List ℕ → List ℕ → Option Step
 named_of first name body =
-    if first == 1 then look_of name body
+    if first == 1 then look_request name body
     else if first == 2 then make_of name body
     else if first == 3 then link_of name body
     else if first == 4 then drop_of name body
@@ -113,7 +113,7 @@ handled_of first body =
     else if first == 9 then resize_of body
     else if first == 10 then stat_of body
     else if first == 11 then flush_of body
-    else name_at 13 body >>= λ name. named_of first name body
+    else name_field 13 body >>= λ name. named_of first name body
 
 -- the step of a body, by its first byte
 unfoldable pub step_by : ℕ → List ℕ → Option Step

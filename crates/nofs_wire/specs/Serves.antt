@@ -4,14 +4,11 @@ use Rattle.std.specs.declared.option.Option.{Option}
 use Rattle.std.specs.Io.KnownBytes.{Consumes, Appends, IsAtEnd}
 use Rattle.nofs_history.specs.Steps.{Made}
 use Rattle.nofs_history.specs.declared.machine.steps.Step.{Step}
+use Rattle.nofs_history.specs.Callers.{made_step}
 use Rattle.nofs_wire.specs.declared.serving.WireEnd.{WireEnd}
 use Rattle.nofs_wire.specs.declared.serving.WireEnd.TheVariants as ended
 use Rattle.nofs_wire.specs.Frames.{frames_of, rest_of, IsBad, IsCut}
 use Rattle.nofs_wire.specs.Replies.{reply_bytes}
-
--- the step that was made, and the frame of its reply
-abbrev pub made_step : Made → Step
-made_step m = m.0
 
 abbrev pub made_bytes : Made → List ℕ
 made_bytes m = reply_bytes m.1

@@ -2,16 +2,17 @@
 use Rattle.std.specs.Prelude.{◌≡◌, ℕ, ◌+◌, ◌*◌, ◌<◌, ◌≤◌, List, [], ◌∷◌, ◌++◌, length, take, map, option_to_list, Some, None}
 use Rattle.std.specs.declared.option.Option.{Option}
 use Rattle.std.specs.Io.KnownBytes.{Consumes, Appends, IsAtEnd}
-use Rattle.nofs_io.specs.Calls.{Rose}
+use Rattle.nofs_io.specs.Calls.{CountRose}
 use Rattle.nofs_history.specs.Steps.{Made}
 use Rattle.nofs_history.specs.declared.machine.steps.Step.{Step}
+use Rattle.nofs_history.specs.Callers.{made_step}
 use Rattle.nofs_wire.specs.declared.answers.Answered.{Answered}
 use Rattle.nofs_wire.specs.declared.answers.Answered.TheVariants as answered
 use Rattle.nofs_wire.specs.declared.serving.WireEnd.{WireEnd}
 use Rattle.nofs_wire.specs.declared.serving.WireEnd.TheVariants as ended
 use Rattle.nofs_wire.specs.Frames.{front_of, split_of, step_in, IsBad, IsCut}
 use Rattle.nofs_wire.specs.Replies.{reply_bytes}
-use Rattle.nofs_wire.specs.Serves.{made_step, replies_of}
+use Rattle.nofs_wire.specs.Serves.{replies_of}
 use Rattle.nofs_wire.specs.Inbox.{InboxState}
 
 -- the count of faults of a source or a sink, where an end may be its fault
@@ -19,7 +20,7 @@ pub record FailsAt (end : Type 0) (before now : ℕ) : Type 0 where
   -- it never falls
   pub later : before ≤ now
   -- it rose where that end came
-  pub fault : end → Rose before now
+  pub fault : end → CountRose before now
 
 -- a frame was given whole, or its first bytes
 abbrev pub GivesReply : Answered → List ℕ → Option (List ℕ) → Option (List ℕ) → Type 0

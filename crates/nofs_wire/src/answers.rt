@@ -2,7 +2,7 @@
 //!
 //! Promise: a body that spells a step has it made once, and its reply written whole; of any other nothing is made.
 ghost use Rattle.std.specs.Prelude.{◌≡◌, ◌≤◌, Some};
-ghost use Rattle.nofs_io.specs.Calls.{Rose};
+ghost use Rattle.nofs_io.specs.Calls.{CountRose};
 ghost use Rattle.nofs_history.specs.Steps.{Fits};
 ghost use Rattle.nofs_history.specs.declared.machine.steps.Step.{Step};
 ghost use Rattle.nofs_wire.specs.Replies.{reply_bytes};
@@ -38,7 +38,7 @@ pub(crate) fn answer<S: Steps, K: Sink>(
 ) -> Answered
     ensures so { AnswersSo result (step_of body.now) (S.made steps.old) (S.made steps.new) (K.state sink.old).given (K.state sink.new).given }
     ensures goes { S.goes steps.old steps.new }
-    ensures fault { result ≡ Answered.SinkFault → Rose (K.state sink.old).faults (K.state sink.new).faults }
+    ensures fault { result ≡ Answered.SinkFault → CountRose (K.state sink.old).faults (K.state sink.new).faults }
     ensures later { (K.state sink.old).faults ≤ (K.state sink.new).faults }
 {
     match read_step(alloc, body) {
@@ -51,7 +51,7 @@ pub(crate) fn answer<S: Steps, K: Sink>(
 fn make<S: Steps, K: Sink>(steps: &mut S, sink: &mut K, step: Step, out: &mut Vec<u8>) -> Answered
     ensures so { AnswersSo result (Some step) (S.made steps.old) (S.made steps.new) (K.state sink.old).given (K.state sink.new).given }
     ensures goes { S.goes steps.old steps.new }
-    ensures fault { result ≡ Answered.SinkFault → Rose (K.state sink.old).faults (K.state sink.new).faults }
+    ensures fault { result ≡ Answered.SinkFault → CountRose (K.state sink.old).faults (K.state sink.new).faults }
     ensures later { (K.state sink.old).faults ≤ (K.state sink.new).faults }
 {
     let reply = steps.step(step);
@@ -64,7 +64,7 @@ fn make<S: Steps, K: Sink>(steps: &mut S, sink: &mut K, step: Step, out: &mut Ve
 fn give_reply<K: Sink>(sink: &mut K, reply: &Reply, out: &mut Vec<u8>) -> Answered
     requires { (s : Step) × Fits s reply.now }
     ensures so { GivesReply result (reply_bytes reply.now) (K.state sink.old).given (K.state sink.new).given }
-    ensures fault { result ≡ Answered.SinkFault → Rose (K.state sink.old).faults (K.state sink.new).faults }
+    ensures fault { result ≡ Answered.SinkFault → CountRose (K.state sink.old).faults (K.state sink.new).faults }
     ensures later { (K.state sink.old).faults ≤ (K.state sink.new).faults }
 {
     match write_reply(out, reply) {
@@ -75,7 +75,7 @@ fn give_reply<K: Sink>(sink: &mut K, reply: &Reply, out: &mut Vec<u8>) -> Answer
 
 fn give_frame<K: Sink>(sink: &mut K, frame: &[u8]) -> Answered
     ensures so { GivesReply result frame.now (K.state sink.old).given (K.state sink.new).given }
-    ensures fault { result ≡ Answered.SinkFault → Rose (K.state sink.old).faults (K.state sink.new).faults }
+    ensures fault { result ≡ Answered.SinkFault → CountRose (K.state sink.old).faults (K.state sink.new).faults }
     ensures later { (K.state sink.old).faults ≤ (K.state sink.new).faults }
 {
     match write_all(sink, frame) {

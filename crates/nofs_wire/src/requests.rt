@@ -3,8 +3,8 @@
 //! Promise: a body gives a step exactly where it spells one to its last byte, and then just that one.
 ghost use Rattle.std.specs.Prelude.{◌≡◌, ◌+◌, ◌≤◌, ◌==◌, IfOk, IfSome, Some, if◌then◌else◌, length};
 ghost use Rattle.std.specs.Option.{option_copied as copied};
-ghost use Rattle.nofs_wire.specs.Requests.{drop_of, flush_of, generation_of, get_of, handled_of, inode_of, kind_of as kind_numbered, link_of};
-ghost use Rattle.nofs_wire.specs.Requests.{list_of, look_of, make_of, name_at as name_in, named_of, put_of, rename_of, resize_of, see_block_of};
+ghost use Rattle.nofs_wire.specs.Requests.{drop_of, flush_of, generation_field, get_of, handled_of, inode_field, kind_numbered, link_of};
+ghost use Rattle.nofs_wire.specs.Requests.{list_of, look_request, make_of, name_field as name_in, named_of, put_of, rename_of, resize_of, see_block_of};
 ghost use Rattle.nofs_wire.specs.Requests.{see_inode_of, stat_of, step_by, step_of, where_ends};
 ghost use Rattle.nofs_wire.specs.Spelled.{FitsBody, request_bytes};
 ghost use Rattle.nofs_history.specs.declared.machine.steps.Step.{Step};
@@ -94,7 +94,7 @@ fn named(alloc: Global, first: u8, name: &[u8], body: &[u8]) -> Result<Option<St
 }
 
 // The name at a place, behind the byte for its length.
-#[tactic(auto, unfolding(crate::specs::Requests::name_at))]
+#[tactic(auto, unfolding(crate::specs::Requests::name_field))]
 fn name_at(body: &[u8], at: usize) -> Option<&[u8]>
     ensures is { copied result ≡ name_in at body.now }
     ensures within { IfSome result (λ name. at + 1 + length name.now ≤ length body.now) }
@@ -109,7 +109,7 @@ fn name_at(body: &[u8], at: usize) -> Option<&[u8]>
     Some(&body[at + 1..at + 1 + length])
 }
 
-#[tactic(auto, unfolding(crate::specs::Requests::kind_of))]
+#[tactic(auto, unfolding(crate::specs::Requests::kind_numbered))]
 fn kind_of(number: u8) -> Option<FileKind>
     ensures { result ≡ kind_numbered number }
 {
@@ -121,10 +121,10 @@ fn kind_of(number: u8) -> Option<FileKind>
 }
 
 // A look, 1, or a drop, 4: behind the name stands nothing.
-#[tactic(auto, unfolding(crate::specs::Requests::look_of, crate::specs::Requests::drop_of))]
+#[tactic(auto, unfolding(crate::specs::Requests::look_request, crate::specs::Requests::drop_of))]
 fn of_name(alloc: Global, first: u8, name: &[u8], body: &[u8]) -> Result<Option<Step>, AllocError>
     requires { 14 + length name.now ≤ length body.now }
-    ensures { IfOk result (λ step. step ≡ (if first == 1 then look_of name.now body.now else drop_of name.now body.now)) }
+    ensures { IfOk result (λ step. step ≡ (if first == 1 then look_request name.now body.now else drop_of name.now body.now)) }
 {
     if body.len() != NAME_AT + name.len() {
         return Ok(None);
@@ -197,7 +197,7 @@ fn rename(alloc: Global, old: &[u8], body: &[u8]) -> Result<Option<Step>, AllocE
 fn renamed(alloc: Global, old: &[u8], new: &[u8], body: &[u8]) -> Result<Option<Step>, AllocError>
     requires { 15 + length old.now + length new.now ≤ length body.now }
     ensures { IfOk result (λ step. step ≡ where_ends (length body.now == 15 + length old.now + length new.now)
-        (rename_step (inode_of body.now) (generation_of body.now) old.now new.now)) }
+        (rename_step (inode_field body.now) (generation_field body.now) old.now new.now)) }
 {
     if body.len() != NAME_AT + old.len() + 1 + new.len() {
         return Ok(None);

@@ -3,7 +3,7 @@
 //! Promise: each whole frame's step is made once, in order, and each reply is given before the next frame's body is
 //! taken. No frame is answered before it is whole, and none is made up where the source ends.
 ghost use Rattle.std.specs.Prelude.{◌≡◌, ◌+◌, ◌<◌, ◌≤◌, ◌^◌, [], IfSome, IfNone, List, None, Some, length, ℕ};
-ghost use Rattle.nofs_io.specs.Calls.{Rose};
+ghost use Rattle.nofs_io.specs.Calls.{CountRose};
 ghost use Rattle.nofs_wire.specs.Frames.{HasFront, front_of as front_in};
 ghost use Rattle.nofs_wire.specs.Serves.{Serves};
 ghost use Rattle.nofs_wire.specs.Turns.{FailsAt, GoesOn, Stops, StopsSo};
@@ -58,8 +58,8 @@ pub fn serve<S: Steps, Q: Source, K: Sink>(
     ensures serves { Serves 16777216 result (Q.state source.old).left (Q.state source.new).left (K.state sink.old).given
         (K.state sink.new).given (S.made steps.old) (S.made steps.new) }
     ensures goes { S.goes steps.old steps.new }
-    ensures source_fault { result ≡ WireEnd.SourceFault → Rose (Q.state source.old).faults (Q.state source.new).faults }
-    ensures sink_fault { result ≡ WireEnd.SinkFault → Rose (K.state sink.old).faults (K.state sink.new).faults }
+    ensures source_fault { result ≡ WireEnd.SourceFault → CountRose (Q.state source.old).faults (Q.state source.new).faults }
+    ensures sink_fault { result ≡ WireEnd.SinkFault → CountRose (K.state sink.old).faults (K.state sink.new).faults }
     ensures source_later { (Q.state source.old).faults ≤ (Q.state source.new).faults }
     ensures sink_later { (K.state sink.old).faults ≤ (K.state sink.new).faults }
 {
@@ -78,8 +78,8 @@ pub fn serve_up_to<S: Steps, Q: Source, K: Sink>(
     ensures serves { Serves limit result (Q.state source.old).left (Q.state source.new).left
         (K.state sink.old).given (K.state sink.new).given (S.made steps.old) (S.made steps.new) }
     ensures goes { S.goes steps.old steps.new }
-    ensures source_fault { result ≡ WireEnd.SourceFault → Rose (Q.state source.old).faults (Q.state source.new).faults }
-    ensures sink_fault { result ≡ WireEnd.SinkFault → Rose (K.state sink.old).faults (K.state sink.new).faults }
+    ensures source_fault { result ≡ WireEnd.SourceFault → CountRose (Q.state source.old).faults (Q.state source.new).faults }
+    ensures sink_fault { result ≡ WireEnd.SinkFault → CountRose (K.state sink.old).faults (K.state sink.new).faults }
     ensures source_later { (Q.state source.old).faults ≤ (Q.state source.new).faults }
     ensures sink_later { (K.state sink.old).faults ≤ (K.state sink.new).faults }
 {

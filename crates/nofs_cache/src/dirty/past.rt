@@ -23,7 +23,7 @@ pub enum CacheCall {
 
 /// The calls so far, the last one first.
 #[derive(Drop)]
-pub enum Past {
+pub enum CachePast {
     Start,
-    Made(CacheCall, Snapshot<Past>),
+    Made(CacheCall, Snapshot<CachePast>),
 }

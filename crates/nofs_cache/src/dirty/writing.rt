@@ -7,7 +7,7 @@ ghost use Rattle.std.specs.Prelude.{◌≡◌, ◌+◌, ◌<◌, ◌≤◌, OnOk
 ghost use Rattle.nofs_disk.specs.Disk.{Rose};
 ghost use Rattle.nofs_cache.specs.DirtyBlocks.{block_count, entries_of, room_of};
 ghost use Rattle.nofs_cache.specs.DirtyEntries.{BlocksFall};
-ghost use Rattle.nofs_cache.specs.Cache.{WrittenBack, WritesRising, SettlesDirty, TakesOut, Shrinks, SpendsOne, WroteOne, WroteAll, Stopped};
+ghost use Rattle.nofs_cache.specs.Cache.{WrittenBack, WritesRising, SettlesDirty, TakesOut, Shrinks, SpendsOne, WroteBelow, WroteAllBelow, Stopped};
 
 use crate::dirty::dirty::DirtyBlocks;
 use nofs_disk::{Disk, Failed};
@@ -23,7 +23,7 @@ pub(crate) fn write_back<D: Disk>(
     ensures out { TakesOut (entries_of dirty.old) (entries_of dirty.new) result }
     ensures shrinks { Shrinks dirty.old dirty.new }
     ensures spends { SpendsOne (D.state under.old) (D.state under.new) (entries_of dirty.old) (entries_of dirty.new) }
-    ensures wrote { OnOk result (WroteOne (D.state under.old) (D.state under.new) (entries_of dirty.old) (entries_of dirty.new)) }
+    ensures wrote { OnOk result (WroteBelow (D.state under.old) (D.state under.new) (entries_of dirty.old) (entries_of dirty.new)) }
     ensures cause { OnErr result (Rose (D.state under.old).faults (D.state under.new).faults) }
 {
     match dirty.last() {
@@ -45,7 +45,7 @@ pub(crate) fn write_back_all<D: Disk>(under: &mut D, dirty: &mut DirtyBlocks) ->
     requires spare { length (entries_of dirty.old) ≤ (D.state under.old).spare }
     ensures writes_back { WrittenBack (D.state under.old) (D.state under.new) (entries_of dirty.old) (entries_of dirty.new) }
     ensures shrinks { Shrinks dirty.old dirty.new }
-    ensures wrote { OnOk result (WroteAll (D.state under.old) (D.state under.new) (entries_of dirty.old) (entries_of dirty.new)) }
+    ensures wrote { OnOk result (WroteAllBelow (D.state under.old) (D.state under.new) (entries_of dirty.old) (entries_of dirty.new)) }
     ensures stopped { OnErr result (Stopped (D.state under.old) (D.state under.new) (entries_of dirty.old) (entries_of dirty.new)) }
 {
     for _ in 0..dirty.len() {

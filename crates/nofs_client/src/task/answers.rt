@@ -6,7 +6,7 @@ ghost use Rattle.nofs_client.specs.declared.task.lines.ListPart.TheVariants.{Nam
 ghost use Rattle.nofs_client.specs.Commands.{IsWellFormed};
 ghost use Rattle.nofs_client.specs.Places.{looks, new_looks};
 ghost use Rattle.nofs_client.specs.Task.{TaskStands, IsActing, IsPutting, IsLinking, HasTwoPaths};
-ghost use Rattle.nofs_client.specs.Asks.{IsAnswered};
+ghost use Rattle.nofs_client.specs.Asks.{IsAnsweredTask};
 ghost use Rattle.nofs_client.specs.Answers.{handle_of as handle_in, looked as looked_by, looked_new as looked_new_by, getting as getting_from};
 ghost use Rattle.nofs_client.specs.Answers.{task_after_stat as sized_by, acted as acted_by, next_stage as stage_after, linked as linked_by};
 ghost use Rattle.nofs_client.specs.Answers.{stored as stored_of, after_put as put_after, after_get as get_after, listing as listing_from};
@@ -341,7 +341,7 @@ pub(crate) fn task_after(
     task: Task,
     reply: &Reply,
 ) -> Result<Task, AllocError>
-    requires { IsAnswered command.now task reply.now }
+    requires { IsAnsweredTask command.now task reply.now }
     ensures is { IfOk result (λ next. next ≡ after_task command.now task reply.now) }
     ensures stands { IfOk result (TaskStands command.now) }
 {

@@ -1,7 +1,7 @@
 //! The next step of a command, as if there were always room.
 ghost use Rattle.std.specs.Prelude.{◌≡◌, ◌+◌, ◌-◌, ◌/◌, ◌%◌, ◌<◌, IfOk, List};
 ghost use Rattle.nofs_client.specs.Task.{IsActing, IsPutting, TaskStands};
-ghost use Rattle.nofs_client.specs.Asks.{IsAsked, look_of, act_of, link_step, put_slot_step};
+ghost use Rattle.nofs_client.specs.Asks.{IsAsked, look_in, act_of, stage_step, put_slot_step};
 ghost use Rattle.nofs_client.specs.Asks.{task_asks};
 
 use crate::task::commands::Command;
@@ -16,7 +16,7 @@ use std::alloc::{AllocError, Global};
 pub(crate) const SLOT: u64 = 1024;
 
 fn look(at: Handle, name: Name) -> Step
-    ensures { result ≡ look_of at name }
+    ensures { result ≡ look_in at name }
 {
     Step::Look {
         directory: at.inode,
@@ -74,7 +74,7 @@ fn link(
     to: Handle,
     stage: Stage,
 ) -> Result<Step, AllocError>
-    ensures { IfOk result (λ step. step ≡ link_step command.now place to stage) }
+    ensures { IfOk result (λ step. step ≡ stage_step command.now place to stage) }
 {
     let Location { directory, found } = place;
     Ok(match stage {

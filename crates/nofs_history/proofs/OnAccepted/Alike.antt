@@ -9,7 +9,7 @@ use Rattle.nofs_model.specs.Files.{Absent, FileState, Files, entry_at, is_pair, 
 use Rattle.nofs_model.specs.declared.image.value.Value.{Value}
 use Rattle.nofs_model.specs.declared.image.value.Value.TheVariants.{Hole, Bytes}
 use Rattle.nofs_history.specs.Meta.{Meta, Gone, Is}
-use Rattle.nofs_history.specs.Machine.{Given, nothing, is_at, value_of, size_of, link_to, found, place_for, link_place, zeros, put_content}
+use Rattle.nofs_history.specs.Machine.{Given, nothing, is_at, value_of, size_of, link_to, found, place_for, link_place, zero_bytes, put_content}
 use Rattle.nofs_history.specs.Machine.{with_entry, cell_given, meta_given, no_meta, meta_with, put_given, resize_slot, resize_given, entry_given}
 use Rattle.nofs_history.specs.Machine.{make_given, link_given, drop_given, rename_given, set_link, without_link, drop_meta, at_place, gives, filled}
 use Rattle.nofs_history.specs.Machine.{after_meta, file_after, new_file, born_file, files_after}
@@ -202,7 +202,7 @@ drop-same F d g e = go (entry_at F d e) (entry_at (kept_files F) d e) refl refl 
     go (Some q) None eo ep same = absurd (cc same)
     go (Some entry) (Some q) eo ep same =
         let ep' : entry_at (kept_files F) d e ≡ Some entry = ep ∙ same in
-        rw (eo, ep', drop_given) (entry-same F d g e (zeros 64) (meta_given entry.inode entry.generation (drop_meta F entry.inode (link_to d e g)))
+        rw (eo, ep', drop_given) (entry-same F d g e (zero_bytes 64) (meta_given entry.inode entry.generation (drop_meta F entry.inode (link_to d e g)))
         (meta_given entry.inode entry.generation (drop_meta (kept_files F) entry.inode (link_to d e g)))
         (given-same entry.inode entry.generation (drop_meta F entry.inode (link_to d e g)) (drop_meta (kept_files F) entry.inode (link_to d e g))
         (drop_meta-same F entry.inode (link_to d e g))))

@@ -6,12 +6,12 @@ use Rattle.nofs_ptrs.specs.Paths.{slot_limit}
 use Rattle.nofs_model.specs.declared.image.value.Value.{Value}
 use Rattle.nofs_model.specs.declared.image.value.Value.TheVariants.{Hole, Bytes, Lost}
 use Rattle.nofs_history.specs.Meta.{is_bytes}
-use Rattle.nofs_history.specs.Machine.{slots_in, trimmed, bytes_in, zeros, trimmed_value}
+use Rattle.nofs_history.specs.Machine.{slots_in, trimmed, bytes_in, zero_bytes, trimmed_value}
 use Rattle.nofs_history.specs.Accepted.Files.{resized_value, end_value}
 
 -- inside what stays
 inside : (a b c : Bool) (cut : ℕ) (v : Value) → cond (a && (b && c)) (trimmed_value cut v) v
-    ≡ unwrap_or (cond (a && (b && (c && is_bytes v))) (Some (Bytes (take cut (bytes_in v) ++ zeros (1024 - cut)))) None) v
+    ≡ unwrap_or (cond (a && (b && (c && is_bytes v))) (Some (Bytes (take cut (bytes_in v) ++ zero_bytes (1024 - cut)))) None) v
 unfolding trimmed
 inside false b c cut v = refl
 inside true false c cut v = refl
@@ -29,7 +29,7 @@ resized-at old size k v lt = elim (cases_lt k (min (slots_in old) (slots_in size
   where
     given : ℕ → Option Value
     given m = cond (leb m k) (cond (ltb k slot_limit) (Some Hole) None) (cond (leb old size && (eqb (k + 1) m && (not (eqb (old % 1024) 0) && is_bytes v)))
-        (Some (Bytes (take (old % 1024) (bytes_in v) ++ zeros (1024 - old % 1024)))) None)
+        (Some (Bytes (take (old % 1024) (bytes_in v) ++ zero_bytes (1024 - old % 1024)))) None)
 
     within : (m : ℕ) → k < m → end_value old size m k (cond (ltb k m) v Hole) ≡ unwrap_or (given m) v
     within m less =
@@ -59,7 +59,7 @@ end-given o old size k m v same least less le last part =
   where
     go : (n : ℕ) → n ≡ m → cond (is_bytes v) (Some (Bytes (trimmed (old % 1024) (bytes_in v)))) None
         ≡ cond (leb n k) (cond (ltb k slot_limit) (Some Hole) None) (cond (leb old size && (eqb (k + 1) n && (not (eqb (old % 1024) 0) && is_bytes v)))
-        (Some (Bytes (take (old % 1024) (bytes_in v) ++ zeros (1024 - old % 1024)))) None)
+        (Some (Bytes (take (old % 1024) (bytes_in v) ++ zero_bytes (1024 - old % 1024)))) None)
     go n e =
         let a : leb n k ≡ false = under n k (omega (arith, e, less)) in
         let b : leb old size ≡ true = over old size (omega (arith, same, le)) in

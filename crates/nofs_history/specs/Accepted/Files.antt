@@ -6,7 +6,7 @@ use Rattle.nofs_model.specs.Files.{Absent, FileState, Files}
 use Rattle.nofs_model.specs.declared.image.value.Value.{Value}
 use Rattle.nofs_model.specs.declared.image.value.Value.TheVariants as value
 use Rattle.nofs_history.specs.Meta.{is_bytes}
-use Rattle.nofs_history.specs.Machine.{slots_in, zeros, bytes_in, entry_has_name, is_paired, trimmed_value}
+use Rattle.nofs_history.specs.Machine.{slots_in, zero_bytes, bytes_in, entry_has_name, is_paired, trimmed_value}
 use Rattle.nofs_history.specs.declared.accepted.files.file.ValueNow.{ValueNow}
 use Rattle.nofs_history.specs.declared.accepted.files.file.ValueNow.TheVariants as now
 use Rattle.nofs_history.specs.declared.accepted.files.file.FileNow.{FileNow}
@@ -83,7 +83,7 @@ resized_value old size v k =
     let m : ℕ = min (slots_in old) (slots_in size) in
     if nat_le m k then (if nat_lt k slot_limit then Some value.Hole else None) else
     (if nat_le old size && ((k + 1 == m) && (not (old % 1024 == 0) && is_bytes v))
-    then Some (value.Bytes (take (old % 1024) (bytes_in v) ++ zeros (1024 - old % 1024))) else None)
+    then Some (value.Bytes (take (old % 1024) (bytes_in v) ++ zero_bytes (1024 - old % 1024))) else None)
 
 -- a file of another size
 abbrev pub resized_file : FileState → ℕ → FileState

@@ -2,11 +2,11 @@
 //!
 //! Promise: a call is Ok exactly where some side succeeded, and each one that failed is counted.
 ghost use Rattle.std.specs.Prelude.{◌≡◌, ◌+◌, ◌*◌, ◌^◌, ◌<◌, ◌≤◌, ◌∷◌, [], length, is_ok, true, IsFalse, IsTrue};
-ghost use Rattle.nofs_mirror.specs.Asking.{any_done, call_of, counted, counted_if, flush_effect, sides_after};
-ghost use Rattle.nofs_mirror.specs.Past.{past_calls};
+ghost use Rattle.nofs_mirror.specs.Asking.{any_done, answered_call, counted, counted_if, flush_effect, sides_after};
+ghost use Rattle.nofs_mirror.specs.Past.{mirror_calls};
 
 use crate::sides::asking::{SideAnswer, SideCall, any_done, lead_stays, other_stays};
-use crate::sides::past::{Effect, MirrorCall, Past, Span};
+use crate::sides::past::{Effect, MirrorCall, MirroredPast, Span};
 use nofs_disk::Failed;
 use std::mem;
 use std::snapshot::Snapshot;
@@ -22,7 +22,7 @@ pub struct Sides {
 #[derive(Drop)]
 pub struct Log {
     /// The writes and flushes so far.
-    pub past: Snapshot<Past>,
+    pub past: Snapshot<MirroredPast>,
     /// Which sides are in.
     pub sides: Sides,
     pub moment: u64,
@@ -30,17 +30,17 @@ pub struct Log {
     pub spare: u64,
     /// How often a call of the mirror has failed.
     pub faults: u64,
-    ghost made: { moment ≡ 2 * length (past_calls past.value) },
+    ghost made: { moment ≡ 2 * length (mirror_calls past.value) },
     ghost room: { 2 * spare + moment < 2 ^ 64 },
     ghost counted: { faults < 2 ^ 64 },
 }
 
 // Adds a call.
-fn add(call: MirrorCall, past: &mut Snapshot<Past>)
-    ensures { past_calls past.new.value ≡ call ∷ past_calls past.old.value }
+fn add(call: MirrorCall, past: &mut Snapshot<MirroredPast>)
+    ensures { mirror_calls past.new.value ≡ call ∷ mirror_calls past.old.value }
 {
-    let earlier = mem::replace(past, Snapshot::of(&Past::Start));
-    let next = Past::Made(call, earlier);
+    let earlier = mem::replace(past, Snapshot::of(&MirroredPast::Start));
+    let next = MirroredPast::Made(call, earlier);
     *past = Snapshot::of(&next);
 }
 
@@ -68,7 +68,7 @@ fn answer(done: bool, faults: &mut u64) -> Result<(), Failed>
 
 // The call with these answers.
 fn call_of(effect: Effect, lead: &SideCall, other: &SideCall) -> MirrorCall
-    ensures { result ≡ call_of effect lead.now other.now }
+    ensures { result ≡ answered_call effect lead.now other.now }
 {
     let lead_in = lead_stays(lead.answer, other.answer);
     let other_in = other_stays(lead.answer, other.answer);
@@ -101,7 +101,7 @@ pub(crate) fn flush_effect(lead: SideAnswer, other: SideAnswer) -> Effect
 impl Log {
     /// No calls yet. The lead is in.
     pub fn new(other_in: bool) -> Log
-        ensures past { past_calls result.past.value ≡ [] }
+        ensures past { mirror_calls result.past.value ≡ [] }
         ensures lead_in { result.sides.lead_in ≡ true }
         ensures other_in { result.sides.other_in ≡ other_in }
         ensures moment { result.moment ≡ 0 }
@@ -109,7 +109,7 @@ impl Log {
         ensures faults { result.faults ≡ 0 }
     {
         Log {
-            past: Snapshot::of(&Past::Start),
+            past: Snapshot::of(&MirroredPast::Start),
             sides: Sides {
                 lead_in: true,
                 other_in,
@@ -132,7 +132,7 @@ impl Log {
     /// failed goes out, but for the last one.
     pub fn note(&mut self, effect: Effect, lead: &SideCall, other: &SideCall) -> Result<(), Failed>
         requires { 1 ≤ self.old.spare }
-        ensures past { past_calls self.new.past.value ≡ call_of effect lead.now other.now ∷ past_calls self.old.past.value }
+        ensures past { mirror_calls self.new.past.value ≡ answered_call effect lead.now other.now ∷ mirror_calls self.old.past.value }
         ensures sides { self.new.sides ≡ sides_after lead.now.answer other.now.answer }
         ensures spare { self.new.spare + 1 ≡ self.old.spare }
         ensures result { is_ok result ≡ any_done lead.now.answer other.now.answer }

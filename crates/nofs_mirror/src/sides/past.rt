@@ -34,7 +34,7 @@ pub struct MirrorCall {
 
 /// The calls so far, the last one first.
 #[derive(Drop)]
-pub enum Past {
+pub enum MirroredPast {
     Start,
-    Made(MirrorCall, Snapshot<Past>),
+    Made(MirrorCall, Snapshot<MirroredPast>),
 }

@@ -5,14 +5,14 @@ use nofs_history::NameList;
 
 /// A file or a directory: its inode, with the generation that tells it from an earlier one.
 #[derive(Clone, Copy, Debug, PartialEq, Eq)]
-pub struct Handle {
+pub struct InodeHandle {
     pub inode: u32,
     pub generation: u64,
 }
 
 /// What a list gives of a directory: its next slot that isn't a hole.
 #[derive(Drop)]
-pub enum Listed {
+pub enum NextSlot {
     Names(u64, NameList),
     LostNames(u64),
     NoMore,
@@ -20,7 +20,7 @@ pub enum Listed {
 
 /// What a slot has, as far as a report wants to know.
 #[derive(Clone, Copy, Debug, PartialEq, Eq)]
-pub enum Got {
+pub enum SlotState {
     /// Content, or nothing was ever put there.
     Kept,
     Lost,

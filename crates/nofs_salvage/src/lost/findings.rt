@@ -6,7 +6,7 @@ ghost use Rattle.nofs_salvage.specs.Report.{if_so, name_loss};
 ghost use Rattle.nofs_salvage.specs.Handles.{root_handle};
 ghost use Rattle.nofs_salvage.specs.InHand.{handles_in};
 
-use crate::lost::answers::Handle;
+use crate::lost::answers::InodeHandle;
 use crate::lost::report::{Loss, Report};
 use crate::lost::tree::Tree;
 use nofs_dirent::Name;
@@ -26,7 +26,7 @@ impl Findings {
         ensures root { IfOk result (λ findings. handles_in findings.tree ≡ root_handle ∷ []) }
     {
         let mut tree = Tree::new(alloc);
-        tree.add(Handle {
+        tree.add(InodeHandle {
             inode: 1,
             generation: 1,
         })?;

@@ -8,14 +8,14 @@ ghost use Rattle.std.specs.BTreeSet.{contains};
 ghost use Rattle.nofs_salvage.specs.Report.{with_one};
 ghost use Rattle.nofs_salvage.specs.Handles.{inode_of, with_handle};
 
-use crate::lost::answers::Handle;
+use crate::lost::answers::InodeHandle;
 use std::alloc::{AllocError, Global};
 use std::collections::BTreeSet;
 
 /// A list of directories in which no inode stands twice, and the set of its inodes.
 #[derive(Drop)]
 pub struct Tree {
-    list: Vec<Handle>,
+    list: Vec<InodeHandle>,
     numbers: BTreeSet<u32>,
     pub ghost same: { (q : ℕ) → contains nat_cmp numbers q ≡ list_any (λ x. x == q) (map inode_of list.items) },
 }
@@ -33,7 +33,7 @@ impl Tree {
     }
 
     /// Puts a directory at the end, where its inode isn't there yet.
-    pub fn add(&mut self, directory: Handle) -> Result<(), AllocError>
+    pub fn add(&mut self, directory: InodeHandle) -> Result<(), AllocError>
         ensures inodes { OnOk result (map inode_of self.new.list.items ≡ with_one (map inode_of self.old.list.items) directory.inode) }
         ensures handles { OnOk result (self.new.list.items ≡ with_handle self.old.list.items directory) }
     {
@@ -52,7 +52,7 @@ impl Tree {
     }
 
     /// The directory at a place counted from 0, and `None` exactly where there is none.
-    pub fn get(&self, at: usize) -> Option<Handle>
+    pub fn get(&self, at: usize) -> Option<InodeHandle>
         ensures is { option_map inode_of result ≡ slice_get (map inode_of self.now.list.items) at }
         ensures handle { result ≡ slice_get self.now.list.items at }
         ensures early { IfSome result (λ directory. at < 2 ^ 64 - 1) }

@@ -10,7 +10,7 @@ ghost use Rattle.nofs_history.specs.declared.machine.steps.ElementKind.{ElementK
 ghost use Rattle.nofs_scan.specs.Elements.{HasElement, is_used};
 ghost use Rattle.nofs_scan.specs.Sights as sights;
 
-use crate::sights::sights::{BlockSight, InodeSight, LinkSight, Named, Sight, TagSight};
+use crate::sights::sights::{BlockSight, InodeSight, LinkSight, EntryTarget, Sight, TagSight};
 use nofs_disk::{Pointer, Tag};
 use nofs_inode::{BackLink, FileKind, Record};
 use nofs_model::{Place, kind_in, place_of, record_pointer, slot_number};
@@ -93,7 +93,7 @@ fn may_have(kind: Option<FileKind>, directory: u64, generation: u64) -> bool
     }
 }
 
-fn names_it(entry: Option<Named>, inode: u32, generation: u64) -> bool
+fn names_it(entry: Option<EntryTarget>, inode: u32, generation: u64) -> bool
     ensures { result ≡ sights.names_it entry inode generation }
 {
     match entry {

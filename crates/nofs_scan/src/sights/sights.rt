@@ -4,7 +4,7 @@ use nofs_inode::Record;
 
 /// What is kept of an entry of a directory: whom it names.
 #[derive(Clone, Copy)]
-pub struct Named {
+pub struct EntryTarget {
     pub inode: u32,
     pub generation: u64,
 }
@@ -14,7 +14,7 @@ pub struct Named {
 pub struct LinkSight {
     /// The entry that the link names; `None` where there is none, and where the directory is not one
     /// of the link's generation.
-    pub entry: Option<Named>,
+    pub entry: Option<EntryTarget>,
     /// Whether the directory is agreed.
     pub agreed: bool,
 }

@@ -8,7 +8,7 @@ use std::alloc::{AllocError, Global};
 
 /// A reply of a table.
 #[derive(Clone, Copy)]
-pub enum Answer<'a> {
+pub enum CommandReply<'a> {
     /// Inode 3 of generation 7, a file.
     File,
     /// Inode 4 of generation 9, a directory.
@@ -75,34 +75,34 @@ fn stat(kind: FileKind, size: u64) -> Reply {
 }
 
 /// The reply, its bytes and names made anew.
-pub(crate) fn reply(alloc: Global, answer: Answer<'_>) -> Result<Reply, AllocError> {
+pub(crate) fn reply(alloc: Global, answer: CommandReply<'_>) -> Result<Reply, AllocError> {
     Ok(match answer {
-        Answer::File => found(3, 7, FileKind::File),
-        Answer::Folder => found(4, 9, FileKind::Directory),
-        Answer::Made => Reply::Made {
+        CommandReply::File => found(3, 7, FileKind::File),
+        CommandReply::Folder => found(4, 9, FileKind::Directory),
+        CommandReply::Made => Reply::Made {
             inode: 5,
             generation: 11,
         },
-        Answer::Linked => Reply::Linked,
-        Answer::Dropped => Reply::Dropped { removed: true },
-        Answer::Renamed => Reply::Renamed,
-        Answer::Names(at) => Reply::Names(at, name_list(alloc, &NAMES)?),
-        Answer::LostNames(at) => Reply::LostNames(at),
-        Answer::NoMore => Reply::NoMore,
-        Answer::Bytes(at, bytes) => Reply::Bytes(slot(alloc, at, bytes)?),
-        Answer::Hole => Reply::Hole,
-        Answer::Lost => Reply::Lost,
-        Answer::Stored => Reply::Stored,
-        Answer::Resized => Reply::Resized,
-        Answer::Sized(size) => stat(FileKind::File, size),
-        Answer::Directory => stat(FileKind::Directory, 0),
-        Answer::Flushed => Reply::Flushed,
-        Answer::Seen => Reply::Seen { used: false },
-        Answer::Full(unverified) => Reply::Refused(full(unverified)),
-        Answer::InodesFull(unverified) => Reply::Refused(Refusal::InodesFull {
+        CommandReply::Linked => Reply::Linked,
+        CommandReply::Dropped => Reply::Dropped { removed: true },
+        CommandReply::Renamed => Reply::Renamed,
+        CommandReply::Names(at) => Reply::Names(at, name_list(alloc, &NAMES)?),
+        CommandReply::LostNames(at) => Reply::LostNames(at),
+        CommandReply::NoMore => Reply::NoMore,
+        CommandReply::Bytes(at, bytes) => Reply::Bytes(slot(alloc, at, bytes)?),
+        CommandReply::Hole => Reply::Hole,
+        CommandReply::Lost => Reply::Lost,
+        CommandReply::Stored => Reply::Stored,
+        CommandReply::Resized => Reply::Resized,
+        CommandReply::Sized(size) => stat(FileKind::File, size),
+        CommandReply::Directory => stat(FileKind::Directory, 0),
+        CommandReply::Flushed => Reply::Flushed,
+        CommandReply::Seen => Reply::Seen { used: false },
+        CommandReply::Full(unverified) => Reply::Refused(full(unverified)),
+        CommandReply::InodesFull(unverified) => Reply::Refused(Refusal::InodesFull {
             unverified,
             next: 3,
         }),
-        Answer::No(refusal) => Reply::Refused(refusal),
+        CommandReply::No(refusal) => Reply::Refused(refusal),
     })
 }

@@ -9,11 +9,11 @@ use std::alloc::AllocError;
 
 /// The steps that were asked for, each ended by a semicolon.
 #[derive(Drop)]
-pub struct AskedSteps {
+pub struct CommandSteps {
     pub pad: Notepad,
 }
 
-impl Notes for AskedSteps {
+impl Notes for CommandSteps {
     fn note(&mut self, step: &Step) -> Result<(), AllocError> {
         let pad = &mut self.pad;
         let (word, name) = (word_of(step), name_of(step));

@@ -8,7 +8,7 @@ use std::alloc::{AllocError, Global};
 
 /// A reply of a table.
 #[derive(Clone, Copy)]
-pub enum Answer {
+pub enum WireReply {
     /// Inode 5 of generation 7, a directory.
     Found,
     Made,
@@ -39,35 +39,35 @@ const NAMES: [(&str, FileKind, bool); 2] = [
 ];
 
 /// The reply, its bytes and names made anew.
-pub(crate) fn reply(alloc: Global, answer: Answer) -> Result<Reply, AllocError> {
+pub(crate) fn reply(alloc: Global, answer: WireReply) -> Result<Reply, AllocError> {
     Ok(match answer {
-        Answer::Found => Reply::Found(Found {
+        WireReply::Found => Reply::Found(Found {
             inode: 5,
             generation: 7,
             kind: FileKind::Directory,
         }),
-        Answer::Made => Reply::Made {
+        WireReply::Made => Reply::Made {
             inode: 6,
             generation: 72_057_594_037_927_945,
         },
-        Answer::Linked => Reply::Linked,
-        Answer::Dropped(removed) => Reply::Dropped { removed },
-        Answer::Renamed => Reply::Renamed,
-        Answer::Names(slot) => Reply::Names(slot, name_list(alloc, &NAMES)?),
-        Answer::LostNames(slot) => Reply::LostNames(slot),
-        Answer::NoMore => Reply::NoMore,
-        Answer::Bytes(byte) => Reply::Bytes(Content::from_slice(alloc, &[byte; 1024])?),
-        Answer::Hole => Reply::Hole,
-        Answer::Lost => Reply::Lost,
-        Answer::Stored => Reply::Stored,
-        Answer::Resized => Reply::Resized,
-        Answer::Stat(size, links) => Reply::Stat(Stat {
+        WireReply::Linked => Reply::Linked,
+        WireReply::Dropped(removed) => Reply::Dropped { removed },
+        WireReply::Renamed => Reply::Renamed,
+        WireReply::Names(slot) => Reply::Names(slot, name_list(alloc, &NAMES)?),
+        WireReply::LostNames(slot) => Reply::LostNames(slot),
+        WireReply::NoMore => Reply::NoMore,
+        WireReply::Bytes(byte) => Reply::Bytes(Content::from_slice(alloc, &[byte; 1024])?),
+        WireReply::Hole => Reply::Hole,
+        WireReply::Lost => Reply::Lost,
+        WireReply::Stored => Reply::Stored,
+        WireReply::Resized => Reply::Resized,
+        WireReply::Stat(size, links) => Reply::Stat(Stat {
             kind: FileKind::File,
             size,
             links,
         }),
-        Answer::Flushed => Reply::Flushed,
-        Answer::Seen(used) => Reply::Seen { used },
-        Answer::No(refusal) => Reply::Refused(refusal),
+        WireReply::Flushed => Reply::Flushed,
+        WireReply::Seen(used) => Reply::Seen { used },
+        WireReply::No(refusal) => Reply::Refused(refusal),
     })
 }

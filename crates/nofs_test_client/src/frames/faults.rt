@@ -1,9 +1,9 @@
 //! Streams of which a read, a write or a step fails, and which reply comes before it.
 ghost use Rattle.std.specs.Prelude.{◌<◌};
 
-use crate::frames::answer::Answer;
+use crate::frames::answer::WireReply;
 use crate::frames::served::{
-    Faults, GET_0, HOLE_REPLY, NO_FAULTS, STAT, STAT_REPLY, STOPPED_REPLY, Served, expect,
+    Faults, GET_0, HOLE_REPLY, NO_FAULTS, STAT, STAT_REPLY, STOPPED_REPLY, FramesServed, expect,
     failing_reads, failing_writes, joined, serve_faulty, serve_stream,
 };
 use nofs_history::Refusal;
@@ -31,20 +31,20 @@ fn a_reply_is_given_before_the_next_body_is_taken(rt: HostRuntime) -> Result<(),
 }
 
 /// How many stats were asked for, and how many replies were given.
-fn counts(served: &Served) -> (u64, u64) {
+fn counts(served: &FramesServed) -> (u64, u64) {
     let asked = served.asked.len() / STAT.len();
     let given = served.given.len() / STOPPED_REPLY.len();
     (asked as u64, given as u64)
 }
 
 /// Whether as many replies were given as stats were asked for.
-fn each_is_answered(served: &Served) -> bool {
+fn each_is_answered(served: &FramesServed) -> bool {
     let whole = served.asked.len() / STAT.len();
     served.given.len() == whole.saturating_mul(STOPPED_REPLY.len())
 }
 
 /// Serves three stats, which a mount that is told nothing refuses, while calls fail.
-fn serve_stats(alloc: Global, piece: u64, faults: Faults<'_>) -> Result<Served, AllocError>
+fn serve_stats(alloc: Global, piece: u64, faults: Faults<'_>) -> Result<FramesServed, AllocError>
     requires { 0 < piece }
 {
     let stream = joined(alloc, &[STAT, STAT, STAT])?;
@@ -88,7 +88,7 @@ fn a_sink_without_room_has_the_first_bytes_of_a_reply(rt: HostRuntime) -> Result
         room: 10,
         ..NO_FAULTS
     };
-    let served = serve_faulty(rt.alloc(), STAT, 4096, small, &[Answer::Stat(0, 0)])?;
+    let served = serve_faulty(rt.alloc(), STAT, 4096, small, &[WireReply::Stat(0, 0)])?;
     let given = &STAT_REPLY[..10];
     expect(&rt, &served, WireEnd::SinkFault, STAT, given, 10);
     Ok(())
@@ -98,7 +98,7 @@ fn a_sink_without_room_has_the_first_bytes_of_a_reply(rt: HostRuntime) -> Result
 fn a_step_without_memory_ends_the_stream_unanswered(rt: HostRuntime) -> Result<(), Fail> {
     let alloc = rt.alloc();
     let stream = joined(alloc, &[GET_0, GET_0, GET_0])?;
-    let answers = [Answer::Hole, Answer::No(Refusal::OutOfMemory), Answer::Hole];
+    let answers = [WireReply::Hole, WireReply::No(Refusal::OutOfMemory), WireReply::Hole];
     let served = serve_stream(alloc, &stream, 4096, &answers)?;
     let asked = joined(alloc, &[GET_0, GET_0])?;
     expect(&rt, &served, WireEnd::OutOfMemory, &asked, HOLE_REPLY, 2);

@@ -1,7 +1,7 @@
 //! Streams that are served, in pieces of any size and while calls fail, with the frames of worked steps.
 ghost use Rattle.std.specs.Prelude.{◌<◌};
 
-use crate::frames::answer::{Answer, reply};
+use crate::frames::answer::{WireReply, reply};
 use crate::frames::spelled::AskedFrames;
 use crate::standin::mount::Told;
 use crate::standin::notes::InTurn;
@@ -27,7 +27,7 @@ pub(crate) const STOPPED_REPLY: &[u8] = b"\x01\0\0\0\x14";
 
 type StandIn = Told<InTurn<AskedFrames>>;
 
-pub(crate) fn stand_in(alloc: Global, answers: &[Answer]) -> Result<StandIn, AllocError> {
+pub(crate) fn stand_in(alloc: Global, answers: &[WireReply]) -> Result<StandIn, AllocError> {
     let mut replies = Vec::new(alloc);
     for answer in answers.iter().rev() {
         replies.push(reply(alloc, *answer)?)?;
@@ -44,7 +44,7 @@ pub(crate) fn frames_of(told: StandIn) -> Vec<u8> {
 
 /// What became of a stream: its end, what was asked, and what was given. The source is left.
 #[derive(Drop)]
-pub struct Served {
+pub struct FramesServed {
     pub end: WireEnd,
     pub asked: Vec<u8>,
     pub given: Vec<u8>,
@@ -84,8 +84,8 @@ pub(crate) fn serve_faulty(
     stream: &[u8],
     piece: u64,
     faults: Faults<'_>,
-    answers: &[Answer],
-) -> Result<Served, AllocError>
+    answers: &[WireReply],
+) -> Result<FramesServed, AllocError>
     requires { 0 < piece }
 {
     let mut told = stand_in(alloc, answers)?;
@@ -94,7 +94,7 @@ pub(crate) fn serve_faulty(
     let end = serve(alloc, &mut told, &mut source, &mut sink);
     let given = sink.bytes().to_vec(alloc)?;
     let asked = frames_of(told);
-    Ok(Served {
+    Ok(FramesServed {
         end,
         asked,
         given,
@@ -107,8 +107,8 @@ pub(crate) fn serve_stream(
     alloc: Global,
     stream: &[u8],
     piece: u64,
-    answers: &[Answer],
-) -> Result<Served, AllocError>
+    answers: &[WireReply],
+) -> Result<FramesServed, AllocError>
     requires { 0 < piece }
 {
     serve_faulty(alloc, stream, piece, NO_FAULTS, answers)
@@ -118,7 +118,7 @@ pub(crate) fn serve_stream(
 /// were given.
 pub(crate) fn expect(
     rt: &impl Abort,
-    served: &Served,
+    served: &FramesServed,
     end: WireEnd,
     asked: &[u8],
     given: &[u8],

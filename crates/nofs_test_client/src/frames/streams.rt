@@ -1,6 +1,6 @@
 //! Streams in pieces of any size, at their limits, and with frames that spell no step.
 
-use crate::frames::answer::Answer;
+use crate::frames::answer::WireReply;
 use crate::frames::served::{
     GET_0, GET_72, HOLE_REPLY, STAT, STAT_REPLY, STOPPED_REPLY, TOO_LARGE_REPLY, expect, joined,
     serve_stream, stand_in,
@@ -17,9 +17,9 @@ fn frames_are_the_same_in_pieces_of_every_size(rt: HostRuntime) -> Result<(), Fa
     let stream = joined(alloc, &[STAT, GET_0, GET_72])?;
     let replies = joined(alloc, &[STAT_REPLY, HOLE_REPLY, TOO_LARGE_REPLY])?;
     let answers = [
-        Answer::Stat(0, 0),
-        Answer::Hole,
-        Answer::No(Refusal::TooLarge),
+        WireReply::Stat(0, 0),
+        WireReply::Hole,
+        WireReply::No(Refusal::TooLarge),
     ];
     for piece in [1, 3, 4, 5, 8, 21, 4096] {
         let served = serve_stream(alloc, &stream, piece, &answers)?;
@@ -85,7 +85,7 @@ fn put_of(alloc: Global, length: &[u8], count: u64) -> Result<Vec<u8>, AllocErro
 #[test]
 fn a_body_has_at_most_1100_bytes(rt: HostRuntime) -> Result<(), Fail> {
     let most = put_of(rt.alloc(), b"\x4c\x04\0\0", 1075)?;
-    let served = serve_stream(rt.alloc(), &most, 4096, &[Answer::Stored])?;
+    let served = serve_stream(rt.alloc(), &most, 4096, &[WireReply::Stored])?;
     expect(&rt, &served, WireEnd::End, &most, b"\x01\0\0\0\0", 1075);
     Ok(())
 }
@@ -93,7 +93,7 @@ fn a_body_has_at_most_1100_bytes(rt: HostRuntime) -> Result<(), Fail> {
 #[test]
 fn a_body_of_1101_bytes_is_bad(rt: HostRuntime) -> Result<(), Fail> {
     let more = put_of(rt.alloc(), b"\x4d\x04\0\0", 1076)?;
-    let served = serve_stream(rt.alloc(), &more, 4096, &[Answer::Stored])?;
+    let served = serve_stream(rt.alloc(), &more, 4096, &[WireReply::Stored])?;
     expect(&rt, &served, WireEnd::Bad { at: 0 }, b"", b"", 1076);
     Ok(())
 }

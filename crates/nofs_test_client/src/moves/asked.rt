@@ -7,9 +7,9 @@ use std::alloc::AllocError;
 
 /// The steps that were asked for, each ended by a semicolon.
 #[derive(Drop)]
-pub struct AskedSteps(pub Notepad);
+pub struct MoveSteps(pub Notepad);
 
-impl Notes for AskedSteps {
+impl Notes for MoveSteps {
     fn note(&mut self, step: &Step) -> Result<(), AllocError> {
         match step {
             Step::Look { .. } | Step::Link { .. } | Step::Drop { .. } | Step::Flush { .. } => {

@@ -7,17 +7,17 @@ use nofs_salvage::Loss;
 use std::alloc::{AllocError, Global};
 
 /// An entry of a slot: its name, its kind, and whether it is dead.
-pub type Entry<'a> = (&'a str, FileKind, bool);
+pub type EntryRow<'a> = (&'a str, FileKind, bool);
 
 /// A reply of a table.
 #[derive(Clone, Copy)]
-pub enum Answer<'a> {
+pub enum WalkReply<'a> {
     /// A file of this size.
     Sized(u64),
     /// An inode, whose generation is the same number.
     Found(u32, FileKind),
     /// These entries in this slot.
-    Names(u64, &'a [Entry<'a>]),
+    Names(u64, &'a [EntryRow<'a>]),
     LostNames(u64),
     NoMore,
     Hole,
@@ -33,7 +33,7 @@ pub enum Lost<'a> {
     Twice(u32, &'a str),
 }
 
-fn names(alloc: Global, entries: &[Entry<'_>]) -> Result<NameList, AllocError> {
+fn names(alloc: Global, entries: &[EntryRow<'_>]) -> Result<NameList, AllocError> {
     let mut names = NameList::new(alloc);
     for (name, kind, dead) in entries {
         names.push(NameLine {
@@ -46,24 +46,24 @@ fn names(alloc: Global, entries: &[Entry<'_>]) -> Result<NameList, AllocError> {
 }
 
 /// The reply, its names made anew.
-pub(crate) fn reply(alloc: Global, answer: Answer<'_>) -> Result<Reply, AllocError> {
+pub(crate) fn reply(alloc: Global, answer: WalkReply<'_>) -> Result<Reply, AllocError> {
     Ok(match answer {
-        Answer::Sized(size) => Reply::Stat(Stat {
+        WalkReply::Sized(size) => Reply::Stat(Stat {
             kind: FileKind::File,
             size,
             links: 1,
         }),
-        Answer::Found(inode, kind) => Reply::Found(Found {
+        WalkReply::Found(inode, kind) => Reply::Found(Found {
             inode,
             generation: u64::from(inode),
             kind,
         }),
-        Answer::Names(slot, entries) => Reply::Names(slot, names(alloc, entries)?),
-        Answer::LostNames(slot) => Reply::LostNames(slot),
-        Answer::NoMore => Reply::NoMore,
-        Answer::Hole => Reply::Hole,
-        Answer::Lost => Reply::Lost,
-        Answer::No(refusal) => Reply::Refused(refusal),
+        WalkReply::Names(slot, entries) => Reply::Names(slot, names(alloc, entries)?),
+        WalkReply::LostNames(slot) => Reply::LostNames(slot),
+        WalkReply::NoMore => Reply::NoMore,
+        WalkReply::Hole => Reply::Hole,
+        WalkReply::Lost => Reply::Lost,
+        WalkReply::No(refusal) => Reply::Refused(refusal),
     })
 }
 

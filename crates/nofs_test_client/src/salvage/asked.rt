@@ -7,11 +7,11 @@ use std::alloc::AllocError;
 
 /// The steps that were asked for, each with its inode and its slot, or 0, and ended by a semicolon.
 #[derive(Drop)]
-pub struct AskedSteps {
+pub struct WalkSteps {
     pub pad: Notepad,
 }
 
-impl Notes for AskedSteps {
+impl Notes for WalkSteps {
     fn note(&mut self, step: &Step) -> Result<(), AllocError> {
         let numbers = [u64::from(inode_of(step)), number_of(step)];
         self.pad.step(word_of(step), &numbers, &[])

@@ -11,7 +11,7 @@ use crate::bench::file_asks::{
     ask_flush, ask_get, ask_put, ask_resize, ask_see_block, ask_see_inode, ask_stat, free,
 };
 use crate::bench::name_asks::{ask_drop, ask_link, ask_list, ask_look, ask_make, ask_rename};
-use crate::bench::steps::{Ask, MemCore, Said};
+use crate::bench::steps::{Ask, MemCore, StepAnswer};
 use nofs_disk::Disk;
 use nofs_inode::FileKind;
 use nofs_memdisk::MemDisk;
@@ -69,7 +69,7 @@ impl Bench {
     }
 
     /// Makes a step.
-    pub fn ask(&mut self, alloc: Global, ask: Ask) -> Said
+    pub fn ask(&mut self, alloc: Global, ask: Ask) -> StepAnswer
         ensures { self.new.core.books.at ≡ self.old.core.books.at }
     {
         let core = &mut self.core;
@@ -102,7 +102,7 @@ impl Bench {
     }
 
     /// Makes these steps, the last of this core, each of which is to be answered so.
-    pub fn answers(self, alloc: Global, cases: &[(Ask, Said)]) -> Result<(), Fail> {
+    pub fn answers(self, alloc: Global, cases: &[(Ask, StepAnswer)]) -> Result<(), Fail> {
         let mut bench = self;
         for (place, (ask, want)) in cases.iter().enumerate() {
             let said = bench.ask(alloc, *ask);
@@ -120,7 +120,7 @@ pub(crate) fn answers_over(
     alloc: Global,
     disk: MemDisk,
     first: u64,
-    cases: &[(Ask, Said)],
+    cases: &[(Ask, StepAnswer)],
 ) -> Result<(), Fail>
     requires { first ≤ 2 ^ 40 }
 {
@@ -133,7 +133,7 @@ pub(crate) fn answers_seeing(
     disk: MemDisk,
     from: u64,
     to: u64,
-    cases: &[(Ask, Said)],
+    cases: &[(Ask, StepAnswer)],
 ) -> Result<(), Fail> {
     Bench::seeing(alloc, disk, from, to)?.answers(alloc, cases)
 }

@@ -8,13 +8,13 @@ use nofs_state::Core;
 pub type MemCore = Core<MemDisk>;
 
 /// A file or directory: its inode and its generation.
-pub type Handle = (u32, u64);
+pub type HandlePair = (u32, u64);
 
 /// The root.
-pub(crate) const ROOT: Handle = (1, 1);
+pub(crate) const ROOT: HandlePair = (1, 1);
 
 /// The label file.
-pub(crate) const LABEL: Handle = (2, 2);
+pub(crate) const LABEL: HandlePair = (2, 2);
 
 /// The first stamp of the first mount.
 pub(crate) const S: u64 = 1_099_511_627_776;
@@ -25,21 +25,21 @@ pub(crate) const T: u64 = 2_199_023_255_552;
 /// A step.
 #[derive(Clone, Copy)]
 pub enum Ask {
-    Look(Handle, &'static [u8]),
+    Look(HandlePair, &'static [u8]),
     /// Makes a file.
-    Make(Handle, &'static [u8]),
-    MakeDirectory(Handle, &'static [u8]),
-    Link(Handle, &'static [u8], Handle),
-    Drop(Handle, &'static [u8]),
-    Rename(Handle, &'static [u8], &'static [u8]),
-    List(Handle, u64),
+    Make(HandlePair, &'static [u8]),
+    MakeDirectory(HandlePair, &'static [u8]),
+    Link(HandlePair, &'static [u8], HandlePair),
+    Drop(HandlePair, &'static [u8]),
+    Rename(HandlePair, &'static [u8], &'static [u8]),
+    List(HandlePair, u64),
     /// Four bytes of a slot, from a byte on.
-    Get(Handle, u64, usize),
+    Get(HandlePair, u64, usize),
     /// So many times a byte into a slot, from a byte on.
-    Put(Handle, u64, u32, usize, u8),
-    Resize(Handle, u64),
-    Stat(Handle),
-    Flush(Handle),
+    Put(HandlePair, u64, u32, usize, u8),
+    Resize(HandlePair, u64),
+    Stat(HandlePair),
+    Flush(HandlePair),
     SeeInode(u32),
     SeeBlock(u64),
     /// How many inodes and blocks are known to be free. It is no step.
@@ -48,7 +48,7 @@ pub enum Ask {
 
 /// What a step is answered. Of what it claims the stamps are told, 0 where it claims none.
 #[derive(Clone, Copy, Debug, PartialEq, Eq)]
-pub enum Said {
+pub enum StepAnswer {
     Found(u32, u64, FileKind),
     /// The inode and its generation, and the stamps of the cell and the leaf.
     Made(u32, u64, u64, u64),
@@ -76,13 +76,13 @@ pub enum Said {
 }
 
 /// A put that claimed these.
-pub(crate) fn stored(claims: &Claims) -> Said {
-    Said::Stored(claims.cell.stamp, claims.leaf.stamp, claims.top.stamp)
+pub(crate) fn stored(claims: &Claims) -> StepAnswer {
+    StepAnswer::Stored(claims.cell.stamp, claims.leaf.stamp, claims.top.stamp)
 }
 
 /// Four bytes of these, from one on.
-pub(crate) fn four_of(bytes: &[u8; 1024], at: usize) -> Said {
-    Said::Bytes([
+pub(crate) fn four_of(bytes: &[u8; 1024], at: usize) -> StepAnswer {
+    StepAnswer::Bytes([
         byte_at(bytes, at),
         byte_at(bytes, at.saturating_add(1)),
         byte_at(bytes, at.saturating_add(2)),
@@ -98,8 +98,8 @@ fn byte_at(bytes: &[u8; 1024], at: usize) -> u8 {
 }
 
 /// The names of a slot.
-pub(crate) fn names_of(slot: u64, lines: &[NameLine]) -> Said {
-    Said::Names(
+pub(crate) fn names_of(slot: u64, lines: &[NameLine]) -> StepAnswer {
+    StepAnswer::Names(
         slot,
         [
             letter(lines.first()),

@@ -21,7 +21,7 @@ fn path(alloc: Global, names: &[&str]) -> Result<Path, AllocError> {
 
 /// What a line says of a file that is made, filled, moved and read.
 #[derive(Clone, Copy, Debug, PartialEq, Eq)]
-enum Said {
+enum FileLine {
     Made,
     Put(u64),
     Moved,
@@ -30,13 +30,13 @@ enum Said {
     Other,
 }
 
-fn told(line: &Line) -> Said {
+fn told(line: &Line) -> FileLine {
     match line {
-        Line::Made => Said::Made,
-        Line::Put(count) => Said::Put(*count),
-        Line::Moved => Said::Moved,
-        Line::Stat(Stat { size, links, .. }) => Said::File(*size, *links),
-        _ => Said::Other,
+        Line::Made => FileLine::Made,
+        Line::Put(count) => FileLine::Put(*count),
+        Line::Moved => FileLine::Moved,
+        Line::Stat(Stat { size, links, .. }) => FileLine::File(*size, *links),
+        _ => FileLine::Other,
     }
 }
 
@@ -44,15 +44,15 @@ fn run<S: Steps>(
     alloc: Global,
     client: &mut Client<S>,
     command: &Command,
-) -> Result<Said, AllocError> {
+) -> Result<FileLine, AllocError> {
     if !command.is_well_formed() {
-        return Ok(Said::Other);
+        return Ok(FileLine::Other);
     }
     Ok(told(&client.run(alloc, command)?))
 }
 
 // A file `a` with two bytes, beside a directory `d`: what is said of each command that makes them.
-fn made<S: Steps>(alloc: Global, client: &mut Client<S>) -> Result<[Said; 3], AllocError> {
+fn made<S: Steps>(alloc: Global, client: &mut Client<S>) -> Result<[FileLine; 3], AllocError> {
     let directory = Command::MakeDirectory {
         path: path(alloc, &["d"])?,
     };
@@ -77,9 +77,9 @@ fn move_line<S: Steps>(
     client: &mut Client<S>,
     from: &Path,
     to: &Path,
-) -> Result<Said, AllocError> {
+) -> Result<FileLine, AllocError> {
     if !(from.has_name() && to.has_name()) {
-        return Ok(Said::Other);
+        return Ok(FileLine::Other);
     }
     Ok(told(&move_file(alloc, client, from, to)?))
 }
@@ -89,13 +89,13 @@ fn stat_line<S: Steps>(
     alloc: Global,
     client: &mut Client<S>,
     names: &[&str],
-) -> Result<Said, AllocError> {
+) -> Result<FileLine, AllocError> {
     let path = path(alloc, names)?;
     run(alloc, client, &Command::Stat { path })
 }
 
 // The file is moved into the directory: what is said of that, and of the new and of the old path then.
-fn moved<S: Steps>(alloc: Global, client: &mut Client<S>) -> Result<[Said; 3], AllocError> {
+fn moved<S: Steps>(alloc: Global, client: &mut Client<S>) -> Result<[FileLine; 3], AllocError> {
     let (from, to) = (path(alloc, &["a"])?, path(alloc, &["d", "b"])?);
     Ok([
         move_line(alloc, client, &from, &to)?,
@@ -105,7 +105,7 @@ fn moved<S: Steps>(alloc: Global, client: &mut Client<S>) -> Result<[Said; 3], A
 }
 
 // Both by a client of a pass.
-fn made_and_moved<R: Wait>(rt: &R, alloc: Global) -> Result<([Said; 3], [Said; 3]), Fail> {
+fn made_and_moved<R: Wait>(rt: &R, alloc: Global) -> Result<([FileLine; 3], [FileLine; 3]), Fail> {
     let mount = mounted(alloc, formatted(alloc, 64, 16)?, 0)?;
     let Ok((shared, mut passes)) = SharedMount::new(alloc, mount, 1) else {
         return Err("no passes".into());
@@ -121,7 +121,7 @@ fn made_and_moved<R: Wait>(rt: &R, alloc: Global) -> Result<([Said; 3], [Said; 3
 #[test]
 fn a_file_is_moved_through_a_pass(rt: HostRuntime) -> Result<(), Fail> {
     let (first, then) = made_and_moved(&rt, rt.alloc())?;
-    assert_eq!(rt; first, [Said::Made, Said::Made, Said::Put(2)]);
-    assert_eq!(rt; then, [Said::Moved, Said::File(2, 1), Said::Other]);
+    assert_eq!(rt; first, [FileLine::Made, FileLine::Made, FileLine::Put(2)]);
+    assert_eq!(rt; then, [FileLine::Moved, FileLine::File(2, 1), FileLine::Other]);
     Ok(())
 }

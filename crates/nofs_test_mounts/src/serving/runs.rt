@@ -60,7 +60,7 @@ pub(crate) fn plans_of<T: Drop>(
 
 /// What two users were told, and who made steps meanwhile.
 #[derive(Drop)]
-pub struct Told {
+pub struct RunOutput {
     /// The text of all lines, the first user's first.
     pub text: Vec<u8>,
     /// The caller of each entry.
@@ -76,7 +76,7 @@ pub(crate) fn run_of<R: Threads + Wait + Sync, D: Disk + Drop + Send, T: Gate + 
     mount: Mount<D>,
     plans: Vec<Plan<T>>,
     gates: (T, T, T),
-) -> Result<Told, AllocError>
+) -> Result<RunOutput, AllocError>
     requires few { vec_len plans ≤ 8 }
     requires formed { All (λ p. AreWellFormed p.commands) plans.items }
 {
@@ -93,11 +93,11 @@ pub(crate) fn run_of<R: Threads + Wait + Sync, D: Disk + Drop + Send, T: Gate + 
     told_of(alloc, served)
 }
 
-fn told_of<D: Disk + Drop>(alloc: Global, served: Served<Mount<D>>) -> Result<Told, AllocError> {
+fn told_of<D: Disk + Drop>(alloc: Global, served: Served<Mount<D>>) -> Result<RunOutput, AllocError> {
     let text = text_of(alloc, &served.lines);
     let callers = callers_of(alloc, served.mount.history());
     match (text, callers) {
-        (Ok(text), Ok(callers)) => Ok(Told {
+        (Ok(text), Ok(callers)) => Ok(RunOutput {
             text,
             callers,
             out_of_memory: served.out_of_memory,

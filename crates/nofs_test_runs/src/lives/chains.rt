@@ -2,10 +2,10 @@
 
 use crate::lives::BLOCKS;
 use crate::lives::numbers::{
-    Reading, SERIALS, has_mount, has_number, mount_on, number_at, push_numbers, reading_of,
+    BlockReading, SERIALS, has_mount, has_number, mount_on, number_at, push_numbers, reading_of,
 };
 use crate::lives::scripts::{FILES, SLOTS};
-use crate::readings::{Seen, count, see_line};
+use crate::readings::{ReadTally, count, see_line};
 use nofs_disk::Cell;
 use nofs_memdisk::MemDisk;
 use nofs_test_disks::{cell_of, choices_of, left};
@@ -49,9 +49,9 @@ impl Wrong {
 
 /// What was found in some chains.
 #[derive(Clone, Copy, Debug, PartialEq, Eq)]
-pub struct Found {
+pub struct ChainsFound {
     pub wrong: Wrong,
-    pub seen: Seen,
+    pub seen: ReadTally,
     /// How many mounts ended, and how many failed.
     pub mounts: u64,
     pub failed: u64,
@@ -59,10 +59,10 @@ pub struct Found {
     pub cells: u64,
 }
 
-impl Found {
-    pub const NOTHING: Found = Found {
+impl ChainsFound {
+    pub const NOTHING: ChainsFound = ChainsFound {
         wrong: Wrong::NOTHING,
-        seen: Seen::NOTHING,
+        seen: ReadTally::NOTHING,
         mounts: 0,
         failed: 0,
         cells: 0,
@@ -83,7 +83,7 @@ pub struct Chain {
     claims: Vec<Claim>,
     /// The bytes that lives have put.
     pub given: Vec<u8>,
-    pub found: Found,
+    pub found: ChainsFound,
 }
 
 fn claim_of(claims: &[Claim], number: u64) -> Option<Claim> {
@@ -130,7 +130,7 @@ fn picks_of(alloc: Global, choices: &[u64], version: u64) -> Result<Vec<Pick>, A
 
 impl Chain {
     // A disk that is not yet formatted. The root and the label file get the generations 1 and 2 from the format.
-    pub fn new(alloc: Global, seed: u64, found: Found) -> Result<Chain, AllocError> {
+    pub fn new(alloc: Global, seed: u64, found: ChainsFound) -> Result<Chain, AllocError> {
         let mut numbers = Vec::new(alloc);
         numbers.extend_from_slice(&[1, 2])?;
         Ok(Chain {
@@ -193,7 +193,7 @@ impl Chain {
         }
         count(&mut self.found.cells);
         match reading_of(block, cell) {
-            Reading::Table => self.note_records(block, cell),
+            BlockReading::Table => self.note_records(block, cell),
             _ => self.note_tag(cell),
         }
     }

@@ -23,31 +23,31 @@ pub(crate) fn number_at(bytes: &[u8], at: usize) -> u64 {
 
 /// What a block is read as.
 #[derive(Clone, Copy, PartialEq, Eq)]
-pub enum Reading {
+pub enum BlockReading {
     Table,
     Directory,
     Leaf,
     Other,
 }
 
-pub(crate) fn reading_of(block: u64, cell: &Cell) -> Reading {
+pub(crate) fn reading_of(block: u64, cell: &Cell) -> BlockReading {
     if block > 0 && block < FIRST_OF_DATA {
-        return Reading::Table;
+        return BlockReading::Table;
     }
     match number_at(&cell.tag, 0) % 4_294_967_296 {
-        2 => Reading::Directory,
-        3 => Reading::Leaf,
-        _ => Reading::Other,
+        2 => BlockReading::Directory,
+        3 => BlockReading::Leaf,
+        _ => BlockReading::Other,
     }
 }
 
 // Whether a stamp or generation stands at this place: in a record the generation, and those of four links and ten pointers.
-fn has_number_at(reading: Reading, place: usize) -> bool {
+fn has_number_at(reading: BlockReading, place: usize) -> bool {
     match reading {
-        Reading::Table => place % 256 == 0 || (place % 256 >= 40 && place % 16 == 8),
-        Reading::Directory => place % 64 == 8,
-        Reading::Leaf => place % 16 == 8,
-        Reading::Other => false,
+        BlockReading::Table => place % 256 == 0 || (place % 256 >= 40 && place % 16 == 8),
+        BlockReading::Directory => place % 64 == 8,
+        BlockReading::Leaf => place % 16 == 8,
+        BlockReading::Other => false,
     }
 }
 
@@ -60,7 +60,7 @@ pub(crate) fn push_numbers(
     push_number(numbers, number_at(&cell.tag, 8))?;
     push_number(numbers, number_at(&cell.tag, 24))?;
     let reading = reading_of(block, cell);
-    if reading == Reading::Other {
+    if reading == BlockReading::Other {
         return Ok(());
     }
     for word in 0..128_usize {

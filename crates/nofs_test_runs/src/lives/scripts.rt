@@ -24,12 +24,12 @@ pub(crate) const FILES: [File; 4] = [
 
 /// The session of a life, and the bytes that it puts.
 #[derive(Drop)]
-pub struct Script {
+pub struct LifeScript {
     pub text: Vec<u8>,
     pub given: Vec<u8>,
 }
 
-impl Script {
+impl LifeScript {
     fn push(&mut self, text: &str) -> Result<(), AllocError> {
         self.text.extend_from_slice(text.as_bytes())
     }
@@ -61,8 +61,8 @@ impl Script {
     }
 }
 
-pub(crate) fn drawn_script(alloc: Global, state: &mut u64, life: u8) -> Result<Script, Fail> {
-    let mut script = Script {
+pub(crate) fn drawn_script(alloc: Global, state: &mut u64, life: u8) -> Result<LifeScript, Fail> {
+    let mut script = LifeScript {
         text: Vec::new(alloc),
         given: Vec::new(alloc),
     };

@@ -21,7 +21,7 @@ use std::alloc::{AllocError, Global};
 
 /// The numbers of a drill's line.
 #[derive(Clone, Copy)]
-pub struct Told {
+pub struct DrillNumbers {
     /// How many lines tell of a refusal.
     pub refused: u64,
     /// The sizes of the files, in bytes.
@@ -245,13 +245,13 @@ pub(crate) fn numbers_of(
     users: &[LineList],
     reads: &[Option<FileRead>],
     history: &History,
-) -> Result<Told, AllocError>
+) -> Result<DrillNumbers, AllocError>
     ensures refused { IfOk result (λ t. t.refused ≡ sum_by (count_by is_refused_line) users.now) }
     ensures bytes { IfOk result (λ t. t.bytes ≡ sum_by size_of reads.now) }
     ensures total { IfOk result (λ t. t.sum ≡ sum_by sum_of reads.now) }
     ensures wrong { IfOk result (λ t. t.wrong ≡ sum_by (wrong_of history.now.entries) reads.now) }
 {
-    Ok(Told {
+    Ok(DrillNumbers {
         refused: refused(users)?,
         bytes: sizes(reads)?,
         sum: sums(reads)?,
@@ -265,7 +265,7 @@ pub(crate) fn drill_text(
     alloc: Global,
     start: u64,
     steps: u64,
-    told: &Told,
+    told: &DrillNumbers,
 ) -> Result<Content, AllocError>
     requires { steps ≤ 4000 }
     ensures { IfOk result (λ text. text ≡ drill_line start steps told.now.refused told.now.bytes told.now.sum told.now.wrong) }

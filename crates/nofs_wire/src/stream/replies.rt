@@ -2,7 +2,7 @@
 //!
 //! Promise: the bytes are those of the reply, behind what stood there, and nothing else.
 ghost use Rattle.std.specs.Prelude.{◌≡◌, ◌<◌, ◌≤◌, ◌^◌, ◌∷◌, ◌++◌, [], All, OnOk, drop, flat_map, length, vec_len};
-ghost use Rattle.nofs_wire.specs.Replies.{HasSpelling, IsShort, body_bytes, field_bytes, first_byte as byte_of_reply, kept_bytes, line_bytes};
+ghost use Rattle.nofs_wire.specs.Replies.{HasSpelling, FitsOneByte, body_bytes, field_bytes, first_byte as byte_of_reply, kept_bytes, line_bytes};
 ghost use Rattle.nofs_wire.specs.Replies.{refusal_byte as byte_of_refusal, reply_bytes};
 ghost use Rattle.nofs_wire.specs.Fields.{kind_byte as byte_of_kind, name_bytes, number_bytes, truth_byte};
 
@@ -66,7 +66,7 @@ fn push_name(out: &mut Vec<u8>, name: &[u8]) -> Result<(), AllocError>
 
 #[tactic(auto, unfolding(crate::specs::Replies::line_bytes))]
 fn push_line(out: &mut Vec<u8>, line: &NameLine) -> Result<(), AllocError>
-    requires { IsShort line.now }
+    requires { FitsOneByte line.now }
     ensures { OnOk result (out.new.items ≡ out.old.items ++ line_bytes line.now) }
 {
     push_byte(out, kind_byte(line.kind))?;
@@ -75,7 +75,7 @@ fn push_line(out: &mut Vec<u8>, line: &NameLine) -> Result<(), AllocError>
 }
 
 fn push_lines(out: &mut Vec<u8>, lines: &NameList) -> Result<(), AllocError>
-    requires { All IsShort lines.now }
+    requires { All FitsOneByte lines.now }
     ensures { OnOk result (out.new.items ≡ out.old.items ++ flat_map line_bytes lines.now) }
 {
     for line in lines.as_slice() {
@@ -182,7 +182,7 @@ fn push_made(out: &mut Vec<u8>, inode: u32, generation: u64) -> Result<(), Alloc
 
 fn push_names(out: &mut Vec<u8>, slot: u64, lines: &NameList) -> Result<(), AllocError>
     requires few { length lines.now < 256 }
-    requires short { All IsShort lines.now }
+    requires short { All FitsOneByte lines.now }
     ensures { OnOk result (out.new.items ≡ out.old.items ++ (1 ∷ (number_bytes 8 slot ++ (length lines.now ∷ flat_map line_bytes lines.now)))) }
 {
     push_byte(out, 1)?;

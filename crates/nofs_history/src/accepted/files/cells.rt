@@ -53,7 +53,7 @@ pub(crate) fn spelled(inode: u32, generation: u64, name: &[u8]) -> [u8; 64]
 
 /// The 64 bytes of a place without an entry.
 pub(crate) fn cleared() -> [u8; 64]
-    ensures { result ≡ machine.zeros 64 }
+    ensures { result ≡ machine.zero_bytes 64 }
 {
     let mut bytes = [0; 64];
     clear(&mut bytes);

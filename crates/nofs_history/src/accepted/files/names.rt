@@ -15,13 +15,13 @@ use std::alloc::{AllocError, Global};
 
 /// A name in one generation of a directory.
 #[derive(Clone, Copy)]
-pub struct NameIn<'a> {
+pub struct DirectoryName<'a> {
     pub directory: u32,
     pub generation: u64,
     pub name: &'a [u8],
 }
 
-impl NameIn<'_> {
+impl DirectoryName<'_> {
     /// An entry of the directory.
     pub fn at(&self, entry: u32) -> BackLink
         ensures { result ≡ machine.link_to self.now.directory entry self.now.generation }
@@ -152,7 +152,7 @@ impl FilesNow {
     }
 
     /// Whether an entry of a directory has this name.
-    fn has_name(&self, alloc: Global, name: &NameIn<'_>, entry: u32) -> Result<bool, AllocError>
+    fn has_name(&self, alloc: Global, name: &DirectoryName<'_>, entry: u32) -> Result<bool, AllocError>
         ensures { IfOk result (λ has. has ≡ machine.entry_has_name (kept_files_of self.now) name.now.directory name.now.name.now entry) }
     {
         match self.entry_at(alloc, name.directory, entry)? {
@@ -165,7 +165,7 @@ impl FilesNow {
     fn leads(
         &self,
         alloc: Global,
-        name: &NameIn<'_>,
+        name: &DirectoryName<'_>,
         to_file: bool,
         entry: u32,
     ) -> Result<bool, AllocError>
@@ -181,7 +181,7 @@ impl FilesNow {
     fn first_from(
         &self,
         alloc: Global,
-        name: &NameIn<'_>,
+        name: &DirectoryName<'_>,
         to_file: bool,
         at: u32,
         count: u32,
@@ -202,7 +202,7 @@ impl FilesNow {
 
     /// The least entry by which a name leads to a file.
     #[tactic(auto, unfolding(crate::specs::Machine::found))]
-    pub fn found(&self, alloc: Global, name: &NameIn<'_>) -> Result<Option<u32>, AllocError>
+    pub fn found(&self, alloc: Global, name: &DirectoryName<'_>) -> Result<Option<u32>, AllocError>
         ensures found { IfOk result (λ found. found ≡ machine.found (kept_files_of self.now) name.now.directory name.now.name.now) }
         ensures range { IfOk result (λ found. IfSome found (λ e. e < entry_limit)) }
     {
@@ -214,7 +214,7 @@ impl FilesNow {
     pub(crate) fn first_dead(
         &self,
         alloc: Global,
-        name: &NameIn<'_>,
+        name: &DirectoryName<'_>,
     ) -> Result<Option<u32>, AllocError>
         ensures found { IfOk result (λ found. found ≡ machine.first_dead (kept_files_of self.now) name.now.directory name.now.name.now) }
         ensures range { IfOk result (λ found. IfSome found (λ e. e < entry_limit)) }

@@ -7,7 +7,7 @@ ghost use Rattle.nofs_history.specs.Accepted.Fit.{is_fit, IsFit};
 ghost use Rattle.nofs_history.specs.Accepted.Given.{given_of, is_sound, name_gives, value_for};
 
 use crate::accepted::files::file::FilesNow;
-use crate::accepted::files::names::NameIn;
+use crate::accepted::files::names::DirectoryName;
 use crate::accepted::given::given::GivenNow;
 use crate::accepted::given::slots::{Wanted, value_for};
 use crate::accepted::given::steps::{
@@ -54,12 +54,12 @@ fn fits_cell(slot: u64, at: u32, count: u64) -> bool
 }
 
 // A name in one generation of a directory.
-fn name_in(directory: u32, generation: u64, name: &Name) -> NameIn<'_>
+fn name_in(directory: u32, generation: u64, name: &Name) -> DirectoryName<'_>
     ensures directory { result.directory ≡ directory }
     ensures generation { result.generation ≡ generation }
     ensures name { result.name.now ≡ name.now }
 {
-    NameIn {
+    DirectoryName {
         directory,
         generation,
         name: name.as_slice(),

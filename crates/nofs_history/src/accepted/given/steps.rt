@@ -11,7 +11,7 @@ ghost use Rattle.nofs_history.specs.Accepted.Given.{cell_of, given_of, is_sound,
 
 use crate::accepted::files::cells::{cleared, spelled};
 use crate::accepted::files::file::FilesNow;
-use crate::accepted::files::names::NameIn;
+use crate::accepted::files::names::DirectoryName;
 use crate::accepted::given::given::{Birth, GivenCell, GivenMeta, GivenNow};
 use crate::accepted::given::metas::{grown, linked, unlinked};
 use crate::machine::history::Claims;
@@ -143,7 +143,7 @@ fn make_given_at(
 pub(crate) fn make_given(
     alloc: Global,
     files: &FilesNow,
-    name: &NameIn<'_>,
+    name: &DirectoryName<'_>,
     kind: FileKind,
     claims: &Claims,
 ) -> Result<GivenNow, AllocError>
@@ -195,7 +195,7 @@ fn link_given_in(
 pub(crate) fn link_given(
     alloc: Global,
     files: &FilesNow,
-    name: &NameIn<'_>,
+    name: &DirectoryName<'_>,
     inode: u32,
     of: u64,
 ) -> Result<GivenNow, AllocError>
@@ -226,7 +226,7 @@ fn drop_given_of(
 ) -> Result<GivenNow, AllocError>
     requires { at.entry < entry_limit }
     ensures given { IfOk result (λ it. given_of (kept_files_of files.now) it
-        ≡ machine.entry_given (kept_files_of files.now) at.directory at.generation at.entry (machine.zeros 64)
+        ≡ machine.entry_given (kept_files_of files.now) at.directory at.generation at.entry (machine.zero_bytes 64)
         (machine.meta_given inode of (machine.drop_meta (kept_files_of files.now) inode at))) }
     ensures sound { IfOk result (λ it. is_sound it ≡ true) }
 {
@@ -254,7 +254,7 @@ fn drop_given_at(alloc: Global, files: &FilesNow, at: BackLink) -> Result<GivenN
 pub(crate) fn drop_given(
     alloc: Global,
     files: &FilesNow,
-    name: &NameIn<'_>,
+    name: &DirectoryName<'_>,
 ) -> Result<GivenNow, AllocError>
     ensures given { IfOk result (λ it. given_of (kept_files_of files.now) it
         ≡ machine.at_place (machine.found (kept_files_of files.now) name.now.directory name.now.name.now) (λ e.
@@ -292,7 +292,7 @@ fn rename_given_at(
 pub(crate) fn rename_given(
     alloc: Global,
     files: &FilesNow,
-    old: &NameIn<'_>,
+    old: &DirectoryName<'_>,
     new: &[u8],
 ) -> Result<GivenNow, AllocError>
     requires { length new.now ≤ 48 }

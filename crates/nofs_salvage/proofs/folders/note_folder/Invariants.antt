@@ -1,7 +1,7 @@
 use Rattle.std.proofs.Common.{◌≡◌, ◌<◌, ◌≤◌, ◌-◌, List, true, None}
 use Rattle.nofs_history.specs.World.{World}
 use Rattle.nofs_history.specs.Steps.{Made}
-use Rattle.nofs_salvage.specs.Reads.{Reads}
+use Rattle.nofs_salvage.specs.Reads.{MakesReads}
 use Rattle.nofs_salvage.specs.Answered.{AreAnswered}
 use Rattle.nofs_salvage.specs.Trees.{IsWalked}
 use Rattle.nofs_salvage.specs.Refusing.{is_there, MayAsk, AreFair}
@@ -11,7 +11,7 @@ use Rattle.nofs_salvage.proofs.folders.note_folder.Given as goal
 
 abbrev pub invariant-loop-slot : goal.invariant-loop-slot
 invariant-loop-slot g l = record {
-  reads : Reads (g.S.Steps.made l.initial.steps) (g.S.Steps.made l.steps) None;
+  reads : MakesReads (g.S.Steps.made l.initial.steps) (g.S.Steps.made l.steps) None;
   goes : g.S.Steps.goes l.initial.steps l.steps;
   below : l.slot ≤ 72;
   walked : (W : World) → AreAnswered W (g.S.Steps.made l.initial.steps) (g.S.Steps.made l.steps)

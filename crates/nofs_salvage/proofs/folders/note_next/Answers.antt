@@ -1,5 +1,5 @@
 use Rattle.std.proofs.Common.{◌≤◌, refl, arith, rules}
-use Rattle.nofs_salvage.specs.Reads.{Reads, refusal_by}
+use Rattle.nofs_salvage.specs.Reads.{MakesReads, refusal_by}
 use Rattle.nofs_salvage.proofs.Reading.{reads-on, answered-both}
 use Rattle.nofs_salvage.proofs.Walking.{walked-names, walked-lost, walked-end}
 use Rattle.nofs_salvage.specs.Report.{lines_below}
@@ -9,7 +9,7 @@ use Rattle.nofs_salvage.proofs.folders.note_next.Goals as goal
 
 pub returns-in_err-note_lines-in-Names-clause-reads : goal.returns-in_err-note_lines-in-Names-clause-reads
 returns-in_err-note_lines-in-Names-clause-reads g c =
-    let last : Reads (g.S.Steps.made c.list.new.steps) (g.S.Steps.made c.note_lines.new.steps)
+    let last : MakesReads (g.S.Steps.made c.list.new.steps) (g.S.Steps.made c.note_lines.new.steps)
     (refusal_by c.from_residual-in_err-note_lines-in-Names.result) = search rules in
     reads-on _ _ _ _ c.in_ok-listed.ensures.reads last
 

@@ -2,10 +2,10 @@ use Rattle.std.proofs.Common.{◌++◌, List, take, true, None}
 use Rattle.nofs_history.specs.World.{World}
 use Rattle.nofs_history.specs.Steps.{Made}
 use Rattle.nofs_history.specs.declared.machine.replies.NameLine.{NameLine}
-use Rattle.nofs_salvage.specs.Reads.{Reads}
+use Rattle.nofs_salvage.specs.Reads.{MakesReads}
 use Rattle.nofs_salvage.specs.Report.{lines_losses, lines_folders}
 use Rattle.nofs_salvage.specs.Answered.{AreAnswered}
-use Rattle.nofs_salvage.specs.Trees.{AreSeen, Adds}
+use Rattle.nofs_salvage.specs.Trees.{AreSeen, AddsFindings}
 use Rattle.nofs_salvage.specs.Refusing.{MayAsk, AreFair}
 use Rattle.nofs_salvage.specs.Told.{AreTold, AreFolders}
 use Rattle.nofs_salvage.specs.Asks.{Asks, AreGiven, AreReached}
@@ -13,11 +13,11 @@ use Rattle.nofs_salvage.proofs.lines.note_lines.Given as goal
 
 abbrev pub invariant-loop-line : goal.invariant-loop-line
 invariant-loop-line g l = record {
-  reads : Reads (g.S.Steps.made l.initial.steps) (g.S.Steps.made l.steps) None;
+  reads : MakesReads (g.S.Steps.made l.initial.steps) (g.S.Steps.made l.steps) None;
   goes : g.S.Steps.goes l.initial.steps l.steps;
   names : (earlier : List NameLine) → AreSeen l.initial.seen earlier → AreSeen l.seen (earlier ++ take l.line-index l.lines);
   noted : (W : World) (earlier : List NameLine) → AreSeen l.initial.seen earlier → AreAnswered W (g.S.Steps.made l.initial.steps) (g.S.Steps.made l.steps)
-      → Adds (lines_losses W (g.R.NameRule.picks l.filter.rule) l.at.inode earlier (take l.line-index l.lines))
+      → AddsFindings (lines_losses W (g.R.NameRule.picks l.filter.rule) l.at.inode earlier (take l.line-index l.lines))
       (lines_folders W.files l.at.inode earlier (take l.line-index l.lines)) l.initial.findings l.findings;
   right : (W : World) (earlier : List NameLine) → AreSeen l.initial.seen earlier → AreAnswered W (g.S.Steps.made l.initial.steps) (g.S.Steps.made l.steps)
       → MayAsk W.files true l.at → AreTold W.files l.at.inode earlier l.lines

@@ -1,6 +1,6 @@
 use Rattle.std.proofs.Common.{◌≡◌, ◌<◌, true, false, arith, rules}
 use Rattle.nofs_history.specs.Machine.{slots_in}
-use Rattle.nofs_salvage.specs.Reads.{Reads, refusal_by}
+use Rattle.nofs_salvage.specs.Reads.{MakesReads, refusal_by}
 use Rattle.nofs_salvage.proofs.Reading.{reads-none, reads-on, answered-both}
 use Rattle.nofs_salvage.proofs.LostSlots.{lost-none, noted-on, noted-end}
 use Rattle.nofs_salvage.proofs.Refusing.{right-none, right-on}
@@ -19,7 +19,7 @@ loop-slot-init g c = record {
 
 pub returns-in_err-note_slot-clause-reads : goal.returns-in_err-note_slot-clause-reads
 returns-in_err-note_slot-clause-reads g c =
-    let last : Reads (g.S.Steps.made c.loop-slot.steps) (g.S.Steps.made c.note_slot.new.steps) (refusal_by c.from_residual.result) = search rules in
+    let last : MakesReads (g.S.Steps.made c.loop-slot.steps) (g.S.Steps.made c.note_slot.new.steps) (refusal_by c.from_residual.result) = search rules in
     reads-on _ _ _ _ c.loop-slot.invariant.reads last
 
 pub returns-then-not-branch-clause-reads : goal.returns-then-not-branch-clause-reads

@@ -1,7 +1,7 @@
 use Rattle.std.proofs.Common.{◌-◌, ◌^◌, List, None}
 use Rattle.nofs_history.specs.World.{World}
 use Rattle.nofs_history.specs.Steps.{Made}
-use Rattle.nofs_salvage.specs.Reads.{Reads}
+use Rattle.nofs_salvage.specs.Reads.{MakesReads}
 use Rattle.nofs_salvage.specs.Answered.{AreAnswered}
 use Rattle.nofs_salvage.specs.Refusing.{HasRoots, AreFair}
 use Rattle.nofs_salvage.specs.Told.{AreFolders, IsRooted}
@@ -11,7 +11,7 @@ use Rattle.nofs_salvage.proofs.walk.note_tree.Given as goal
 
 abbrev pub invariant-loop-directory : goal.invariant-loop-directory
 invariant-loop-directory g l = record {
-  reads : Reads (g.S.Steps.made l.initial.steps) (g.S.Steps.made l.steps) None;
+  reads : MakesReads (g.S.Steps.made l.initial.steps) (g.S.Steps.made l.steps) None;
   goes : g.S.Steps.goes l.initial.steps l.steps;
   grown : (W : World) → AreAnswered W (g.S.Steps.made l.initial.steps) (g.S.Steps.made l.steps)
       → IsGrown W (g.R.NameRule.picks l.filter.rule) l.at l.initial.findings.report l.findings;

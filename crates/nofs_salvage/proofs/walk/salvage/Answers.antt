@@ -1,5 +1,5 @@
 use Rattle.std.proofs.Common.{rules}
-use Rattle.nofs_salvage.specs.Reads.{Reads, refusal_by}
+use Rattle.nofs_salvage.specs.Reads.{MakesReads, refusal_by}
 use Rattle.nofs_salvage.proofs.Reading.{reads-on, answered-both}
 use Rattle.nofs_salvage.proofs.Growing.{report-is}
 use Rattle.nofs_salvage.proofs.Refusing.{right-on, refused-right, ask-label}
@@ -8,7 +8,7 @@ use Rattle.nofs_salvage.proofs.walk.salvage.Goals as goal
 
 pub returns-in_err-note_tree-clause-reads : goal.returns-in_err-note_tree-clause-reads
 returns-in_err-note_tree-clause-reads g c =
-    let last : Reads (g.S.Steps.made c.note_file.new.steps) (g.S.Steps.made c.note_tree.new.steps) (refusal_by c.from_residual-in_err-note_tree.result) =
+    let last : MakesReads (g.S.Steps.made c.note_file.new.steps) (g.S.Steps.made c.note_tree.new.steps) (refusal_by c.from_residual-in_err-note_tree.result) =
     search rules in
     reads-on _ _ _ _ c.in_ok-note_file.ensures.reads last
 
@@ -23,13 +23,13 @@ returns-clause-report g c = λ W a.
 
 pub returns-in_err-note_file-clause-refused : goal.returns-in_err-note_file-clause-refused
 returns-in_err-note_file-clause-refused g c = λ W roots a.
-    let last : Reads (g.S.Steps.made c.args.steps.now) (g.S.Steps.made c.note_file.new.steps) (refusal_by c.from_residual-in_err-note_file.result) =
+    let last : MakesReads (g.S.Steps.made c.args.steps.now) (g.S.Steps.made c.note_file.new.steps) (refusal_by c.from_residual-in_err-note_file.result) =
     search rules in
     refused-right W.files _ _ _ last (c.note_file.ensures.right W a (ask-label W.files roots))
 
 pub returns-in_err-note_tree-clause-refused : goal.returns-in_err-note_tree-clause-refused
 returns-in_err-note_tree-clause-refused g c = λ W roots a.
-    let last : Reads (g.S.Steps.made c.note_file.new.steps) (g.S.Steps.made c.note_tree.new.steps) (refusal_by c.from_residual-in_err-note_tree.result) =
+    let last : MakesReads (g.S.Steps.made c.note_file.new.steps) (g.S.Steps.made c.note_tree.new.steps) (refusal_by c.from_residual-in_err-note_tree.result) =
     search rules in
     refused-right W.files _ _ _ (reads-on _ _ _ _ c.in_ok-note_file.ensures.reads last)
     (right-on W _ _ _ _ _ c.in_ok-note_file.ensures.reads c.note_tree.ensures.reads a

@@ -1,6 +1,6 @@
 use Rattle.std.proofs.Common.{ℕ, false, subst}
 use Rattle.std.proofs.lemmas.List.Elements.{All-get_or}
-use Rattle.nofs_state.specs.Verdicts.{Settles}
+use Rattle.nofs_state.specs.Verdicts.{OffersVerdict}
 use Rattle.nofs_scan.specs.Elements.{IsRight, learned, verdict_at, verdict_of}
 use Rattle.nofs_scan.proofs.Committing.{commits}
 use Rattle.nofs_scan.proofs.commits.commit.Goals as goal
@@ -12,5 +12,5 @@ returns-clause-commits g c = commits (g.D.Disk.state c.args.evidence.now.core.va
     (All-get_or (IsRight (g.D.Disk.state c.args.evidence.now.core.value.disk) c.args.evidence.now.core.value.books c.args.evidence.now.kind)
     c.args.evidence.now.verdicts c.args.at (record { item = 0; used = false }) c.requires.within c.args.evidence.now.right)
     c.requires.verdict c.requires.numbers c.settle.new.books c.settle.result
-    (subst (λ (i : ℕ). Settles c.args.core.now.books c.settle.new.books (verdict_of c.args.evidence.now.kind c.args.core.now.books i)
+    (subst (λ (i : ℕ). OffersVerdict c.args.core.now.books c.settle.new.books (verdict_of c.args.evidence.now.kind c.args.core.now.books i)
     (learned c.args.evidence.now.kind c.args.core.now.books i) c.args.used c.settle.result) c.item-item.ensures c.settle.ensures)

@@ -1,7 +1,7 @@
 use Rattle.std.proofs.Common.{◌≡◌, ℕ, List, false, sym, subst}
 use Rattle.nofs_client.specs.declared.task.lines.Line.{Line}
 use Rattle.nofs_tool.specs.Entries.{session_text}
-use Rattle.nofs_tool.specs.Says.{Says}
+use Rattle.nofs_tool.specs.Says.{Prints}
 use Rattle.nofs_tool.specs.Serving.{IsSessionRun}
 use Rattle.nofs_tool.proofs.Saying.{told-text}
 use Rattle.std.specs.Prelude.{IfSome}
@@ -38,7 +38,7 @@ returns-clause-part g c = λ ended.
     let new = sink w.new.sink in
     told-text old new (λ text. (lines : List (List Line)) × IsSessionRun c.args.session c.args.mount.core.books.at.inodes c.args.mount.core.books.at.blocks
     false lines
-    ran.history.entries × (text ≡ session_text c.args.session ran.history.entries)) (λ x. Says old new (session_text c.args.session x.entries))
+    ran.history.entries × (text ≡ session_text c.args.session ran.history.entries)) (λ x. Prints old new (session_text c.args.session x.entries))
     ran.text ran.history
-    w.result.history w.result.status e.disk.1 e.unsaid e.says c.run_session.ensures.ran (λ t told says. subst (λ (l : List ℕ). Says old new l) told.2 says)
+    w.result.history w.result.status e.disk.1 e.unsaid e.says c.run_session.ensures.ran (λ t told says. subst (λ (l : List ℕ). Prints old new l) told.2 says)
     ended

@@ -1,12 +1,12 @@
 use Rattle.std.proofs.Common.{arith, ap, length}
-use Rattle.nofs_filedisk.specs.Past.{past_calls}
+use Rattle.nofs_filedisk.specs.Past.{file_calls}
 use Rattle.nofs_filedisk.proofs.Calls.{start_lasting, start_now, start_present, start_settled, start_sized}
 use Rattle.nofs_filedisk.proofs.filedisk.FileDisk.over.Goals as goal
 
 pub invariant_of-result : goal.invariant_of-result
 invariant_of-result g c =
     let file = c.args.file in
-    let calls = past_calls c.start-past.result.value in
+    let calls = file_calls c.start-past.result.value in
     let none = c.start-past.ensures in
     let len = ap length none in
     rw (c.of-first.ensures, c.in_ok-over.ensures.file) (record {
@@ -18,8 +18,8 @@ invariant_of-result g c =
     })
 
 pub returns-clause-now : goal.returns-clause-now
-returns-clause-now g c = rw c.of-first.ensures (start_now (g.B.Positioned.state c.args.file) (past_calls c.start-past.result.value) c.start-past.ensures)
+returns-clause-now g c = rw c.of-first.ensures (start_now (g.B.Positioned.state c.args.file) (file_calls c.start-past.result.value) c.start-past.ensures)
 
 pub returns-clause-settled : goal.returns-clause-settled
 returns-clause-settled g c =
-    rw c.of-first.ensures (start_settled (g.B.Positioned.state c.args.file) (past_calls c.start-past.result.value) 0 c.start-past.ensures)
+    rw c.of-first.ensures (start_settled (g.B.Positioned.state c.args.file) (file_calls c.start-past.result.value) 0 c.start-past.ensures)

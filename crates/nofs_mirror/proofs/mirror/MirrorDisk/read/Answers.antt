@@ -1,5 +1,5 @@
 use Rattle.std.proofs.Common.{ap, arith, refl}
-use Rattle.nofs_mirror.specs.Past.{past_calls}
+use Rattle.nofs_mirror.specs.Past.{mirror_calls}
 use Rattle.nofs_mirror.proofs.MirrorReads.{mirror_reads, rest_noted, rest_stays, stays_rests}
 use Rattle.nofs_mirror.proofs.mirror.MirrorDisk.read.Goals as goal
 
@@ -12,7 +12,7 @@ pub invariant_of-self-in-Err : goal.invariant_of-self-in-Err
 invariant_of-self-in-Err g c =
     let reads = c.read_either.ensures.reads in
     let note = c.note_fault.ensures in
-    rest_noted c.args.self.now (stays_rests _ _ reads.lead) (stays_rests _ _ reads.other) (ap (λ p. past_calls p.value) note.past) note.spare note.sides
+    rest_noted c.args.self.now (stays_rests _ _ reads.lead) (stays_rests _ _ reads.other) (ap (λ p. mirror_calls p.value) note.past) note.spare note.sides
 
 pub returns-in-Ok-clause-does : goal.returns-in-Ok-clause-does
 returns-in-Ok-clause-does g c = mirror_reads c.args.self.now _ _ _ _ c.in-Ok.ensures.reads c.requires (omega arith) tt refl
