@@ -3,8 +3,8 @@
 //! Promise: the headline holds of them word for word, of the cached disk.
 
 ghost use Rattle.std.specs.Prelude.{IfSome, map, string_bytes};
-ghost use Rattle.nofs_tool.specs.Headline.{HeadlineIn};
-ghost use Rattle.nofs_tool.specs.Words.{task_in};
+ghost use Rattle.nofs_tool.specs.Runs.Headline.{HeadlineIn};
+ghost use Rattle.nofs_tool.specs.Begin.Words.{task_in};
 
 use nofs_cache::Cached;
 use nofs_disk::Disk;

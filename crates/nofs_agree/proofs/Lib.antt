@@ -1,3 +1,3 @@
-pub mod Links
-pub mod Climbs
-pub mod Learning
+pub mod OnPair
+pub mod OnChain
+pub mod OnKnown

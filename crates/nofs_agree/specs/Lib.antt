@@ -1,3 +1,3 @@
-pub mod Reading
-pub mod Finding
-pub mod Chains
+pub mod Reads
+pub mod Path
+pub mod Chain

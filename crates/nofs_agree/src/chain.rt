@@ -8,8 +8,8 @@ ghost use Rattle.nofs_disk.specs.Disk.{Rose, StaysButFaults};
 ghost use Rattle.nofs_inode.specs.declared.inode.FileKind.TheVariants as kind;
 ghost use Rattle.nofs_model.specs.Files as files;
 ghost use Rattle.nofs_model.specs.Geometry as image;
-ghost use Rattle.nofs_agree.specs.Chains.{AreTrue, ReadsParent, TellsAgreed, is_agreed_link};
-ghost use Rattle.nofs_agree.specs.Reading.{IsAt, IsLast, KnowsDirectory, KnowsInode};
+ghost use Rattle.nofs_agree.specs.Chain.{AreTrue, ReadsParent, TellsAgreed, is_agreed_link};
+ghost use Rattle.nofs_agree.specs.Reads.{IsAt, IsLast, KnowsDirectory, KnowsInode};
 
 use crate::known::Known;
 use crate::pair::{first_link, is_directory, read_pair};

@@ -2,7 +2,7 @@
 //!
 //! Promise: what was set of an inode is what is told of it. Whether that is true is its user's to see to.
 ghost use Rattle.std.specs.Prelude.{◌≡◌, ◌-◌, ◌≤◌, IfOk, None, length, replicate, slice_set};
-ghost use Rattle.nofs_agree.specs.Chains.{LearnsOne, known_agreement};
+ghost use Rattle.nofs_agree.specs.Chain.{LearnsOne, known_agreement};
 
 use std::alloc::{AllocError, Global};
 use std::marker::Model;

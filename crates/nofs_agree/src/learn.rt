@@ -6,8 +6,8 @@
 ghost use Rattle.std.specs.Prelude.{◌≡◌, ◌≤◌, IfOk, IsTrue, OnErr, Some, length};
 ghost use Rattle.nofs_disk.specs.Disk.{Rose, StaysButFaults};
 ghost use Rattle.nofs_model.specs.Files as files;
-ghost use Rattle.nofs_agree.specs.Chains.{AreTrue, LearnsAgreement, LearnsAbove, LearnsChain, known_agreement};
-ghost use Rattle.nofs_agree.specs.Reading.{IsAt, IsLast, KnowsDirectory, KnowsInode};
+ghost use Rattle.nofs_agree.specs.Chain.{AreTrue, LearnsAgreement, LearnsAbove, LearnsChain, known_agreement};
+ghost use Rattle.nofs_agree.specs.Reads.{IsAt, IsLast, KnowsDirectory, KnowsInode};
 
 use crate::chain::{Directory, check_chain, is_agreed_directory, is_root, is_special, read_parent};
 use crate::known::Known;

@@ -4,8 +4,8 @@ ghost use Rattle.std.specs.List.{position};
 ghost use Rattle.nofs_inode.specs.InodeRecords.{is_empty_link};
 ghost use Rattle.nofs_inode.specs.declared.inode.FileKind.TheVariants as kind;
 ghost use Rattle.nofs_model.specs.Files as files;
-ghost use Rattle.nofs_agree.specs.Chains.{ReadsPair, TellsAnswer, first_link};
-ghost use Rattle.nofs_agree.specs.Reading.{IsLast, KnowsDirectory, KnowsInode};
+ghost use Rattle.nofs_agree.specs.Chain.{ReadsPair, TellsAnswer, first_link};
+ghost use Rattle.nofs_agree.specs.Reads.{IsLast, KnowsDirectory, KnowsInode};
 
 use crate::path::find_slot;
 use crate::reads::{LastRead, read_inode};

@@ -6,8 +6,8 @@ ghost use Rattle.std.specs.Prelude.{◌≡◌, ◌<◌, IsTrue, IfOk, OnErr};
 ghost use Rattle.nofs_disk.specs.Disk.{Rose, StaysButFaults};
 ghost use Rattle.nofs_model.specs.Places.{IsPlace, place_path};
 ghost use Rattle.nofs_model.specs.Slots as slots;
-ghost use Rattle.nofs_agree.specs.Reading.{IsAt, IsLast, KnowsInode};
-ghost use Rattle.nofs_agree.specs.Finding.{FindsSlot};
+ghost use Rattle.nofs_agree.specs.Reads.{IsAt, IsLast, KnowsInode};
+ghost use Rattle.nofs_agree.specs.Path.{FindsSlot};
 
 use crate::reads::{LastRead, read_block, read_inode};
 use nofs_disk::{Disk, Failed, Pointer, Tag};

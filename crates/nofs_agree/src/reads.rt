@@ -1,6 +1,6 @@
 //! Reads of blocks and of inode records. The block that was read last isn't read again.
 ghost use Rattle.std.specs.Prelude.{◌≡◌, ◌<◌, IsTrue, Some};
-ghost use Rattle.nofs_agree.specs.Reading.{IsAt, IsLast, ReadsBlock, ReadsInode};
+ghost use Rattle.nofs_agree.specs.Reads.{IsAt, IsLast, ReadsBlock, ReadsInode};
 
 use nofs_disk::{Cell, Disk, Failed};
 use nofs_inode::{FREE_RECORD, Record, record_at};

@@ -11,8 +11,8 @@ use Rattle.nofs_disk.specs.Disk.{DiskState, IsDisk, Picks, cell_at, no_cell}
 use Rattle.nofs_disk.specs.Held.{Held, IsHeld, IsWithin, written_here, written_other}
 use Rattle.nofs_cache.specs.declared.dirty.past.CacheCall.{CacheCall}
 use Rattle.nofs_cache.specs.declared.dirty.past.CacheCall.TheVariants.{Write, Flush}
-use Rattle.nofs_cache.specs.declared.dirty.dirty.DirtyEntry.{DirtyEntry}
-use Rattle.nofs_cache.specs.Cache.{IsCached, Left, LeftWithin, cache_state, held, last_end, only}
+use Rattle.nofs_cache.specs.declared.dirty.cells.DirtyEntry.{DirtyEntry}
+use Rattle.nofs_cache.specs.Cached.{IsCached, Left, LeftWithin, cache_state, held, last_end, only}
 
 single : (c : Cell) → Contains (c ∷ []) c
 single c = (0, omega arith, refl)

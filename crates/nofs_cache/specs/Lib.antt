@@ -1,5 +1,3 @@
-pub mod DirtyEntries
-pub mod DirtyBlocks
-pub mod Past
-pub mod Cache
+pub mod Dirty
+pub mod Cached
 pub mod Laws

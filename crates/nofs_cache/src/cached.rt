@@ -17,15 +17,15 @@
 //! - After a flush that succeeded every block is clean, and all of it lasts.
 ghost use Rattle.std.specs.Prelude.{◌≡◌, ℕ, ◌+◌, ◌*◌, ◌^◌, ◌<◌, ◌≤◌, ◌∷◌, [], length, IfOk, IfErr, IsOk, IsTrue, Contains};
 ghost use Rattle.nofs_disk.specs.declared.tag.Cell.{Cell};
-ghost use Rattle.nofs_cache.specs.DirtyBlocks.{block_count, entries_of, room_of};
+ghost use Rattle.nofs_cache.specs.Dirty.Blocks.{block_count, entries_of, room_of};
 ghost use Rattle.nofs_cache.specs.Laws.{CacheKeeps};
 ghost use Rattle.nofs_disk.specs.Disk.{Flushes, Reads, Writes, WritesOut, cell_at};
-ghost use Rattle.nofs_cache.specs.Cache.{IsMarked, LeavesAll, WritesRising};
-ghost use Rattle.nofs_cache.specs.Past.{cache_calls};
+ghost use Rattle.nofs_cache.specs.Cached.{IsMarked, LeavesAll, WritesRising};
+ghost use Rattle.nofs_cache.specs.Dirty.Past.{cache_calls};
 
-use crate::dirty::dirty::DirtyBlocks;
+use crate::dirty::cells::DirtyBlocks;
 use crate::dirty::past::{CacheCall, CachePast};
-use crate::dirty::writing::{write_back, write_back_and_flush};
+use crate::dirty::writes::{write_back, write_back_and_flush};
 use nofs_disk::{Cell, Disk, Failed};
 use std::alloc::{AllocError, Global};
 use std::mem;
@@ -125,7 +125,7 @@ impl<D: Disk + Drop> Cached<D> {
 }
 
 impl<D: Disk + Drop> Disk for Cached<D> {
-    ghost use Rattle.nofs_cache.specs.Cache.{cache_state};
+    ghost use Rattle.nofs_cache.specs.Cached.{cache_state};
     ghost use Rattle.nofs_cache.specs.Laws.{cache_is};
 
     ghost state = { λ c. cache_state (D.state c.under) (D.state c.first.value) (cache_calls c.past.value) (entries_of c.dirty) c.spare };

@@ -1,4 +1,4 @@
 //! The blocks that a write-back cache has yet to write, and what became of the calls that it got.
-pub(crate) mod dirty;
+pub(crate) mod cells;
 pub(crate) mod past;
-pub(crate) mod writing;
+pub(crate) mod writes;

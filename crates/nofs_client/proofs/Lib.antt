@@ -1,3 +1,3 @@
-pub mod Runs
-pub mod TaskRank
-pub mod Rank
+pub mod OnDriver
+pub mod OnTask
+pub mod OnProgress

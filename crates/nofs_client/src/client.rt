@@ -3,11 +3,11 @@
 //! Promise: a command makes just the steps that it asks for, each after the reply to the one before,
 //! and always comes to its line.
 ghost use Rattle.std.specs.Prelude.{◌≡◌, IfOk, OnOk};
-ghost use Rattle.nofs_client.specs.Commands.{IsWellFormed, AreWellFormed};
-ghost use Rattle.nofs_client.specs.Task.{TaskStands};
-ghost use Rattle.nofs_client.specs.Drive.{asks, progress_after as after_of};
-ghost use Rattle.nofs_client.specs.Asks.{Answers};
-ghost use Rattle.nofs_client.specs.Runs.{RunsTo, RunsPartly, RunsAll, RunsSome, LinesFollow};
+ghost use Rattle.nofs_client.specs.Task.Commands.{IsWellFormed, AreWellFormed};
+ghost use Rattle.nofs_client.specs.Task.State.{TaskStands};
+ghost use Rattle.nofs_client.specs.Progress.{asks, progress_after as after_of};
+ghost use Rattle.nofs_client.specs.Task.Steps.{Answers};
+ghost use Rattle.nofs_client.specs.Driver.{RunsTo, RunsPartly, RunsAll, RunsSome, LinesFollow};
 
 use crate::driver::line_of;
 use crate::progress::{Progress, after, next_step, start};

@@ -2,17 +2,17 @@
 //!
 //! Promise: the answer is that of the definition, for every command and all replies that fit.
 ghost use Rattle.std.specs.Prelude.{◌≡◌, IfOk};
-ghost use Rattle.nofs_client.specs.Commands.{IsWellFormed};
-ghost use Rattle.nofs_client.specs.Task.{TaskStands};
-ghost use Rattle.nofs_client.specs.Asks.{IsSaid, task_asks};
-ghost use Rattle.nofs_client.specs.Drive.{AllAnswer, start_of, asks, drive_of};
+ghost use Rattle.nofs_client.specs.Task.Commands.{IsWellFormed};
+ghost use Rattle.nofs_client.specs.Task.State.{TaskStands};
+ghost use Rattle.nofs_client.specs.Task.Steps.{IsSaid, task_asks};
+ghost use Rattle.nofs_client.specs.Progress.{AllAnswer, start_of, asks, drive_of};
 ghost use Rattle.nofs_client.specs.declared.task.next.Next.TheVariants.{Say};
 
 use crate::progress::{Progress, after, next_step, start};
 use crate::task::commands::Command;
 use crate::task::lines::Line;
 use crate::task::next::Next;
-use crate::task::task::Task;
+use crate::task::state::Task;
 use nofs_history::Reply;
 use std::alloc::{AllocError, Global};
 
@@ -49,7 +49,7 @@ fn what_next(alloc: Global, command: &Command, progress: Progress) -> Result<Nex
 
 /// The next step of a command after these replies to its steps, or the line that it ends with. Each
 /// reply fits the step that it answers, none tells want of memory, and none comes after the line.
-#[tactic(auto, unfolding(crate::specs::Drive::drive_of))]
+#[tactic(auto, unfolding(crate::specs::Progress::drive_of))]
 pub fn drive(alloc: Global, command: &Command, replies: &[Reply]) -> Result<Next, AllocError>
     requires formed { IsWellFormed command.now }
     requires fits { AllAnswer command.now (start_of command.now) replies.now }

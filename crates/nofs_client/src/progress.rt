@@ -2,15 +2,19 @@
 //! is repeated as long as the disk has unexamined elements and ever fewer of them.
 ghost use Rattle.std.specs.Prelude.{◌≡◌, ◌&&◌, IfOk};
 ghost use Rattle.nofs_history.specs.declared.machine.replies.Reply.TheVariants.{Refused};
-ghost use Rattle.nofs_client.specs.Commands.{IsWellFormed};
-ghost use Rattle.nofs_client.specs.Task.{TaskStands};
-ghost use Rattle.nofs_client.specs.Asks.{IsAsked, Answers, IsAnsweredTask};
-ghost use Rattle.nofs_client.specs.Drive.{StandsAs, goes_on as is_going_on, start_of, fresh_progress as fresh_of, step_answered as ended_by, examines_block as block_seen, examines_inode as inode_seen, asks as asks_of, stored_by, after_step as step_after, after_refused as refused_after, after_see as see_after, progress_after as after_of};
+ghost use Rattle.nofs_client.specs.Task.Commands.{IsWellFormed};
+ghost use Rattle.nofs_client.specs.Task.State.{TaskStands};
+ghost use Rattle.nofs_client.specs.Task.Steps.{IsAsked, Answers, IsAnsweredTask};
+ghost use Rattle.nofs_client.specs.Progress.{StandsAs, goes_on as is_going_on, start_of, fresh_progress as fresh_of};
+ghost use Rattle.nofs_client.specs.Progress.{step_answered as ended_by, examines_block as block_seen};
+ghost use Rattle.nofs_client.specs.Progress.{examines_inode as inode_seen, asks as asks_of, stored_by};
+ghost use Rattle.nofs_client.specs.Progress.{after_step as step_after, after_refused as refused_after};
+ghost use Rattle.nofs_client.specs.Progress.{after_see as see_after, progress_after as after_of};
 
 use crate::task::answers::task_after;
 use crate::task::commands::Command;
+use crate::task::state::{Task, first_task, refused};
 use crate::task::steps::task_step;
-use crate::task::task::{Task, first_task, refused};
 use nofs_history::{Refusal, Reply, Step};
 use std::alloc::{AllocError, Global};
 

@@ -2,7 +2,9 @@
 pub(crate) mod answers;
 pub(crate) mod commands;
 pub(crate) mod lines;
+pub(crate) mod names;
 pub(crate) mod next;
 pub(crate) mod places;
+pub(crate) mod slots;
+pub(crate) mod state;
 pub(crate) mod steps;
-pub(crate) mod task;

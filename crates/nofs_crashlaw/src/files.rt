@@ -3,9 +3,9 @@
 //! Promise: each law speaks of the disk before a step and the disk after it, and of no code. A step
 //! function shows that its writes lie as the law asks.
 
-ghost use Rattle.nofs_crashlaw.specs.Puts.{LawPutFiles, LawPutHeld, LawPutHomes};
-ghost use Rattle.nofs_crashlaw.specs.Resizes.{LawResizeFiles, LawResizeHoles, LawResizeHomes};
-ghost use Rattle.nofs_crashlaw.specs.Writes.{LawContent, LawPointerBlock, LawRecord};
+ghost use Rattle.nofs_crashlaw.specs.Files.Puts.{LawPutFiles, LawPutHeld, LawPutHomes};
+ghost use Rattle.nofs_crashlaw.specs.Files.Resizes.{LawResizeFiles, LawResizeHoles, LawResizeHomes};
+ghost use Rattle.nofs_crashlaw.specs.Files.Writes.{LawContent, LawPointerBlock, LawRecord};
 
 /// After a Put, in place or with claimed blocks at any depth, the machine's files are those of the
 /// disk, and each block has its home.

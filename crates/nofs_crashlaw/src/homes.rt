@@ -3,9 +3,10 @@
 //! Promise: each law speaks of the disk before a step and the disk after it, and of no code. Its
 //! premises are those that make the step's writes proper, what was claimed, and where the entry goes.
 
-ghost use Rattle.nofs_crashlaw.specs.EntryHomes.{LawDropFileHomes, LawDropNameHomes, LawLinkInHoleHomes, LawLinkInPlaceHomes, LawMakeInHoleHomes};
-ghost use Rattle.nofs_crashlaw.specs.EntryHomes.{LawMakeInPlaceHomes, LawRenameHomes};
-ghost use Rattle.nofs_crashlaw.specs.Place.{LawEntryPlace, LawSpelledEntry};
+ghost use Rattle.nofs_crashlaw.specs.Homes.Entries.{LawDropFileHomes, LawDropNameHomes, LawLinkInHoleHomes};
+ghost use Rattle.nofs_crashlaw.specs.Homes.Entries.{LawLinkInPlaceHomes, LawMakeInHoleHomes};
+ghost use Rattle.nofs_crashlaw.specs.Homes.Entries.{LawMakeInPlaceHomes, LawRenameHomes};
+ghost use Rattle.nofs_crashlaw.specs.Names.Places.{LawEntryPlace, LawSpelledEntry};
 
 /// A new entry goes into a slot that holds or into a hole, and never into one that is lost.
 pub fn law_entry_place()

@@ -3,7 +3,7 @@
 //!
 //! Promise: a reason speaks of one cell alone, and of no other block and of no order of writes.
 
-ghost use Rattle.nofs_crashlaw.specs.Moments.{LawFlush, LawImages, LawMoment};
+ghost use Rattle.nofs_crashlaw.specs.Images.Moments.{LawFlush, LawImages, LawMoment};
 
 /// What has its reason before a step, and the proper writes of the step, have their reasons after
 /// it, whichever of them were done.

@@ -1,7 +1,24 @@
 //! What a crash may leave: the laws over the definitions, each the contract of a function.
 //!
-//! Promise: where each write of a step is proper, every image that a crash may leave at any moment
-//! reads each slot as content given since the last flush, as a hole, or as lost.
+//! Promise: where each write of a step is proper, every image that a crash may leave at any moment reads each slot as
+//! content given since the last flush, as a hole, or as lost.
+//!
+//! The parts, from the lowest up:
+//!
+//! - `machine`: laws of the machine's step, and worked examples.
+//! - `images`: why a cell may stand on the disk, and what that says of each image.
+//! - `untouched`: what a step leaves as it was.
+//! - `files`: what Put and Resize leave on the disk.
+//! - `names`: what Rename and Drop, and then Link and Make, leave on the disk.
+//! - `maps`: what a step leaves of the maps and of the stamps.
+//! - `homes`: what each step on names does to the homes of the blocks.
+//! - `numbers`: why each number that a step writes is one that it may write.
+//! - `runs`: what a run of the machine keeps, whatever its entries.
+//! - `lives`: runs with crashes between them.
+//! - `paths`: which name finds its file in every image that a crash may leave.
+//!
+//! The laws of steps in a history stand in this file itself. `specs/` and `proofs/On..` have a folder for each part;
+//! that of these laws is `Histories`.
 #![tactic(auto)]
 
 mod files;
@@ -10,15 +27,15 @@ mod images;
 mod lives;
 mod machine;
 mod maps;
-mod new_names;
+mod names;
 mod numbers;
-mod old_names;
 mod paths;
 mod runs;
 mod untouched;
 
-ghost use Rattle.nofs_crashlaw.specs.CrashLaws.{LawLater, LawNames, LawRest, LawStep, LawUnflushed};
-ghost use Rattle.nofs_crashlaw.specs.Stage.{LawFirstStage, LawFlushStage, LawIdleStage, LawLasts, LawStage, LawSteady, LawTracked};
+ghost use Rattle.nofs_crashlaw.specs.Histories.Laws.{LawLater, LawNames, LawRest, LawStep, LawUnflushed};
+ghost use Rattle.nofs_crashlaw.specs.Histories.Stage.{LawFirstStage, LawFlushStage, LawIdleStage, LawLasts, LawStage};
+ghost use Rattle.nofs_crashlaw.specs.Histories.Stage.{LawSteady, LawTracked};
 
 pub use files::{law_put, law_resize, law_writes};
 pub use homes::{
@@ -29,13 +46,13 @@ pub use images::{law_flush, law_images, law_moment};
 pub use lives::{law_begin, law_lives, law_mount_stamps};
 pub use machine::{law_accepted, law_examples, law_fits, law_next};
 pub use maps::{law_fresh, law_good, law_homes, law_moves, law_pieces};
-pub use new_names::{law_link, law_make, law_name_homes};
+pub use names::new_names::{law_link, law_make, law_name_homes};
+pub use names::old_names::{law_drop, law_rename};
 use nofs_disk::Disk;
 pub use numbers::{
     law_content_numbers, law_directory_numbers, law_name_numbers, law_pointer_numbers,
     law_put_numbers, law_resize_numbers, law_table_numbers,
 };
-pub use old_names::{law_drop, law_rename};
 pub use paths::law_path;
 pub use runs::{law_base, law_run};
 pub use untouched::law_frames;

@@ -5,7 +5,7 @@
 //! twice. No format lies between two lives.
 
 ghost use Rattle.nofs_crashlaw.specs.Lives.{LawBegin, LawGiven, LawLives, LawOnce, LawOnlySuper, LawUpgraded};
-ghost use Rattle.nofs_crashlaw.specs.Fresh.{LawMountStamps};
+ghost use Rattle.nofs_crashlaw.specs.Maps.Fresh.{LawMountStamps};
 
 /// Bytes in the base of a life were given to their slot by an entry of an earlier one, and no
 /// generation and no stamp is claimed twice, in all lives together.

@@ -2,9 +2,10 @@
 //!
 //! Promise: a law is the contract of a function here; each example is computed from the definitions.
 
-ghost use Rattle.nofs_crashlaw.specs.Examples.{AreShown, FailedFlush, FailedRead, GivenToSlot, contents, elements, large_files, name_examples};
-ghost use Rattle.nofs_crashlaw.specs.Examples.{new_names};
-ghost use Rattle.nofs_crashlaw.specs.MachineLaws.{LawAccepted, LawFits, LawFunction, LawTotal};
+ghost use Rattle.nofs_crashlaw.specs.Machine.Examples.{AreShown, FailedFlush, FailedRead, GivenToSlot, contents};
+ghost use Rattle.nofs_crashlaw.specs.Machine.Examples.{elements, large_files, name_examples};
+ghost use Rattle.nofs_crashlaw.specs.Machine.Examples.{new_names};
+ghost use Rattle.nofs_crashlaw.specs.Machine.Laws.{LawAccepted, LawFits, LawFunction, LawTotal};
 
 /// In every world each step can be answered, and but for claims, faults and what becomes known in one
 /// way alone.

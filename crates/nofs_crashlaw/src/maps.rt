@@ -1,10 +1,10 @@
 //! What a step leaves of the maps and of the stamps: the homes of the machine are the owners of the
 //! image, each verdict is the scan's, and each number on the disk is below the next one.
 
-ghost use Rattle.nofs_crashlaw.specs.Fresh.{LawFresh, LawOld};
-ghost use Rattle.nofs_crashlaw.specs.Homes.{LawClaims, LawGood, LawGoodDone, LawGoodKept, LawGoodNext, LawHomes};
-ghost use Rattle.nofs_crashlaw.specs.Moves.{LawBare, LawGrow, LawHomesMove, LawShrink};
-ghost use Rattle.nofs_crashlaw.specs.Pieces.{LawEntries, LawEntryNumbers, LawPick, LawPointers};
+ghost use Rattle.nofs_crashlaw.specs.Maps.Fresh.{LawFresh, LawOld};
+ghost use Rattle.nofs_crashlaw.specs.Maps.Homes.{LawClaims, LawGood, LawGoodDone, LawGoodKept, LawGoodNext, LawHomes};
+ghost use Rattle.nofs_crashlaw.specs.Maps.Moves.{LawBare, LawGrow, LawHomesMove, LawShrink};
+ghost use Rattle.nofs_crashlaw.specs.Maps.Pieces.{LawEntries, LawEntryNumbers, LawPick, LawPointers};
 
 /// After a step the machine's homes are the owners of the image, and the maps that say what the
 /// machine says are right.

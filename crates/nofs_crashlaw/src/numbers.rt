@@ -5,10 +5,12 @@
 //! serve any step, one for each kind of cell, and each writing step has its own from what it leaves on
 //! the disk.
 
-ghost use Rattle.nofs_crashlaw.specs.CellNumbers.{LawContentNumbers, LawDirectoryNumbers, LawPointerNumbers, LawTableMoment, LawTableNumbers};
-ghost use Rattle.nofs_crashlaw.specs.FileNumbers.{LawPutCells, LawPutRecord, LawResizeCells, LawResizeRecord};
-ghost use Rattle.nofs_crashlaw.specs.NameNumbers.{LawDropNumbers, LawLinkInHoleNumbers, LawLinkInPlaceNumbers, LawMakeInHoleNumbers};
-ghost use Rattle.nofs_crashlaw.specs.NameNumbers.{LawMakeInPlaceNumbers, LawRenameNumbers};
+ghost use Rattle.nofs_crashlaw.specs.Numbers.Cells.{LawContentNumbers, LawDirectoryNumbers, LawPointerNumbers};
+ghost use Rattle.nofs_crashlaw.specs.Numbers.Cells.{LawTableMoment, LawTableNumbers};
+ghost use Rattle.nofs_crashlaw.specs.Numbers.Files.{LawPutCells, LawPutRecord, LawResizeCells, LawResizeRecord};
+ghost use Rattle.nofs_crashlaw.specs.Numbers.Names.{LawDropNumbers, LawLinkInHoleNumbers, LawLinkInPlaceNumbers};
+ghost use Rattle.nofs_crashlaw.specs.Numbers.Names.{LawMakeInHoleNumbers};
+ghost use Rattle.nofs_crashlaw.specs.Numbers.Names.{LawMakeInPlaceNumbers, LawRenameNumbers};
 
 /// A cell of content, in place or in a claimed block.
 pub fn law_content_numbers()

@@ -3,7 +3,7 @@
 //! Promise: a path each of whose names is the same in every version since the last flush leads to its
 //! file, whatever other names its directories were given.
 
-ghost use Rattle.nofs_crashlaw.specs.Finds.{LawSureChain, LawSureName};
+ghost use Rattle.nofs_crashlaw.specs.Paths.Names.{LawSureChain, LawSureName};
 
 /// A directory to which names lead that every version since the last flush has is agreed in each
 /// image, and a name in it that every version has finds its file.

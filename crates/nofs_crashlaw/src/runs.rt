@@ -3,8 +3,8 @@
 //! Promise: each directory has a chain of names from the root, and stays with its generation as long as
 //! it is not empty; and a back link that is a pair stays one, in its place, until its name is dropped.
 
-ghost use Rattle.nofs_crashlaw.specs.Bases.{LawMounted};
-ghost use Rattle.nofs_crashlaw.specs.Runs.{LawDirectory, LawPair, LawRooted};
+ghost use Rattle.nofs_crashlaw.specs.Runs.Bases.{LawMounted};
+ghost use Rattle.nofs_crashlaw.specs.Runs.Laws.{LawDirectory, LawPair, LawRooted};
 
 /// A mount raises the mount number of a sound image. What that leaves is a base: block 0 spells the
 /// numbers of a device, and each generation and stamp is below the first one that this mount gives.

@@ -3,7 +3,7 @@
 //!
 //! Promise: each law speaks of the disk before a step and the disk after it, and of no code.
 
-ghost use Rattle.nofs_crashlaw.specs.FrameLaws.{LawGrown, LawUntouched};
+ghost use Rattle.nofs_crashlaw.specs.Untouched.Laws.{LawGrown, LawUntouched};
 
 /// A file that a step does not touch stays; and where a slot gets its block, with blocks of pointers
 /// above it or without, every other slot of the file stays.

@@ -1,7 +1,4 @@
-pub mod Putting
-pub mod Reading
-pub mod Writing
-pub mod Showing
-pub mod Runs
-pub mod Present
-pub mod Calls
+pub mod OnMoving
+pub mod OnWindows
+pub mod OnRun
+pub mod OnFiledisk

@@ -8,7 +8,7 @@ use Rattle.nofs_disk.specs.Disk.{DiskState, IsDisk, cell_at, no_cell}
 use Rattle.nofs_disk.specs.Held.{Held}
 use Rattle.nofs_versions.specs.declared.call.Call.{Call}
 use Rattle.nofs_versions.specs.Memory.{held_after, state_of}
-use Rattle.nofs_versions.specs.MemoryLaws.{AreSized, state_of-is}
+use Rattle.nofs_versions.specs.Laws.{AreSized, state_of-is}
 use Rattle.nofs_filedisk.specs.Bytes.{HostFileState, IsHostFile}
 use Rattle.nofs_filedisk.specs.Cells.{cell_in}
 use Rattle.nofs_filedisk.specs.Told.{telling_disk, telling_disk-is}

@@ -3,7 +3,7 @@ pub mod Cells
 pub mod Past
 pub mod Told
 pub mod Files
-pub mod Shown
+pub mod Windows
 pub mod Present
 pub mod Untold
 pub mod Memory

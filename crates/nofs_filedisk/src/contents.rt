@@ -12,7 +12,7 @@ ghost use Rattle.nofs_disk.specs.declared.tag.Cell.{Cell};
 ghost use Rattle.nofs_disk.specs.Disk.{Rose, cell_at};
 ghost use Rattle.nofs_filedisk.specs.Bytes.{IsPut, KeepsBytes, KeepsDurable};
 ghost use Rattle.nofs_filedisk.specs.Present.{HasAllCells, HasPlace, IsPresent, LastsOrPresent, StaysPresent, TakesCell};
-ghost use Rattle.nofs_filedisk.specs.Shown.{IsShown, ShowsFile};
+ghost use Rattle.nofs_filedisk.specs.Windows.{IsShown, ShowsFile};
 
 use crate::moving::write_part;
 use crate::positioned::Positioned;

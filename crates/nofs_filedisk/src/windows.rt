@@ -161,7 +161,7 @@ fn put_cell(bytes: &mut Vec<u8>, at: usize, cell: &[u8])
 }
 
 impl Window {
-    ghost use Rattle.nofs_filedisk.specs.Shown.{IsShown};
+    ghost use Rattle.nofs_filedisk.specs.Windows.{IsShown};
 
     fn new(alloc: Global) -> Result<Window, AllocError>
         ensures { IfOk result (λ window. window.number ≡ None) }
@@ -242,7 +242,7 @@ impl Window {
 }
 
 impl Windows {
-    ghost use Rattle.nofs_filedisk.specs.Shown.{HasNumber, IsShown, ShowsFile};
+    ghost use Rattle.nofs_filedisk.specs.Windows.{HasNumber, IsShown, ShowsFile};
 
     /// Windows that show nothing.
     pub fn new(alloc: Global) -> Result<Windows, AllocError>

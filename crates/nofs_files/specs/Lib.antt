@@ -1,3 +1,3 @@
-pub mod Answers
-pub mod Putting
-pub mod Resizing
+pub mod Reads
+pub mod Puts
+pub mod Resizes

@@ -1,3 +1,3 @@
-pub mod Drawing
-pub mod Padding
-pub mod Passing
+pub mod OnScript
+pub mod OnFile
+pub mod OnReplays

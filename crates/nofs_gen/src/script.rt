@@ -2,7 +2,7 @@
 //!
 //! Promise: a user works on a file of its own, by commands that its number alone draws.
 ghost use Rattle.std.specs.Prelude.{◌≡◌, ◌≤◌, ◌<◌, ◌++◌, IfOk, OnOk, replicate};
-ghost use Rattle.nofs_client.specs.Commands.{AreWellFormed};
+ghost use Rattle.nofs_client.specs.Task.Commands.{AreWellFormed};
 ghost use Rattle.nofs_gen.specs.Script.{digit, directory_of as directory_in, user_path as file_in, first_number as first_in, next_number as next_in, drawn, drawn_command, script_of as script_in};
 
 use nofs_client::{Command, CommandList, Path};

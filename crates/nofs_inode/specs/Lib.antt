@@ -1,3 +1,4 @@
 pub mod Beside
 pub mod InodeRecords
 pub mod RecordLaws
+pub mod OtherRecords

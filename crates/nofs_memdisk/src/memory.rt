@@ -8,7 +8,7 @@ ghost use Rattle.nofs_disk.specs.Disk.{no_cell, Flushes, IsSettled, IsSizedCell,
 ghost use Rattle.nofs_disk.specs.Tag.{zero_cell};
 ghost use Rattle.nofs_disk.specs.declared.tag.Cell.{Cell};
 ghost use Rattle.nofs_versions.specs.Memory.{PicksVersions, held_after, picked};
-ghost use Rattle.nofs_versions.specs.MemoryLaws.{AreSized};
+ghost use Rattle.nofs_versions.specs.Laws.{AreSized};
 
 use nofs_disk::{Cell, Disk, Failed};
 use nofs_versions::{
@@ -180,7 +180,7 @@ impl MemDisk {
 
 impl Disk for MemDisk {
     ghost use Rattle.nofs_memdisk.specs.Parts.{flush_fault, has_flushed, has_read, has_written, has_written_out, made_ready, memory_state, parts_of, read_fault, write_fault};
-    ghost use Rattle.nofs_versions.specs.MemoryLaws.{state_of-is};
+    ghost use Rattle.nofs_versions.specs.Laws.{state_of-is};
 
     ghost state = { memory_state };
 

@@ -1,11 +1,4 @@
-pub mod SidePast
-pub mod MirrorPast
-pub mod MirrorCells
-pub mod MirrorWrites
-pub mod MirrorLeaves
-pub mod MirrorFlushes
-pub mod MirrorCalls
-pub mod WriteCalls
-pub mod FlushCalls
-pub mod MirrorReads
-pub mod Copied
+pub mod OnSides
+pub mod OnMirror
+pub mod OnLaws
+pub mod OnCopying

@@ -8,7 +8,7 @@ use Rattle.nofs_disk.specs.declared.tag.Cell.{Cell}
 use Rattle.nofs_disk.specs.Cells.{Contains-known, IsSizedCell-known, Picks-known}
 use Rattle.nofs_disk.specs.Disk.{DiskState, IsDisk, Picks, cell_at, no_cell}
 use Rattle.nofs_mirror.specs.declared.sides.log.Sides.{Sides}
-use Rattle.nofs_mirror.specs.declared.sides.opening.MirrorStart.{MirrorStart}
+use Rattle.nofs_mirror.specs.declared.sides.choices.MirrorStart.{MirrorStart}
 use Rattle.nofs_mirror.specs.declared.sides.past.MirrorCall.{MirrorCall}
 use Rattle.nofs_mirror.specs.declared.sides.past.Span.{Span}
 use Rattle.nofs_mirror.specs.Mirror.{IsMirrored, IsMirrorSide, IsSide, LeftBy, SideLeft, both_tell, last_span, may_after, mirror_state, now_of, if_told}

@@ -1,5 +1,4 @@
-pub mod Past
-pub mod Asking
+pub mod Sides
 pub mod Mirror
 pub mod Laws
 pub mod Copying

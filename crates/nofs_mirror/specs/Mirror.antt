@@ -6,14 +6,14 @@ use Rattle.nofs_disk.specs.declared.tag.Cell.{Cell}
 use Rattle.nofs_disk.specs.Disk.{DiskState, IsSameDisk, KeepsCells, KeepsPast, Rose, StaysButFaults, cell_at}
 use Rattle.nofs_disk.specs.Held.{IsWithin}
 use Rattle.nofs_mirror.specs.declared.sides.log.Sides.{Sides}
-use Rattle.nofs_mirror.specs.declared.sides.opening.MirrorCause.{MirrorCause}
-use Rattle.nofs_mirror.specs.declared.sides.opening.MirrorCause.TheVariants.{TooSmall, ReadFault, OutOfMemory}
-use Rattle.nofs_mirror.specs.declared.sides.opening.MirrorStart.{MirrorStart}
+use Rattle.nofs_mirror.specs.declared.sides.choices.MirrorCause.{MirrorCause}
+use Rattle.nofs_mirror.specs.declared.sides.choices.MirrorCause.TheVariants.{TooSmall, ReadFault, OutOfMemory}
+use Rattle.nofs_mirror.specs.declared.sides.choices.MirrorStart.{MirrorStart}
 use Rattle.nofs_mirror.specs.declared.sides.past.MirrorCall.{MirrorCall}
 use Rattle.nofs_mirror.specs.declared.sides.past.Effect.{Effect}
 use Rattle.nofs_mirror.specs.declared.sides.past.Effect.TheVariants.{Write, Settle, Nothing}
 use Rattle.nofs_mirror.specs.declared.sides.past.Span.{Span}
-use Rattle.nofs_mirror.specs.Asking.{counted}
+use Rattle.nofs_mirror.specs.Sides.Calls.{counted}
 
 -- a side's part in the last call, or in the opening
 abbrev pub last_span : (MirrorCall → Span) → Span → List MirrorCall → Span

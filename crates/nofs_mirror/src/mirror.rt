@@ -18,17 +18,17 @@
 //! - A read puts no side out. The side that went out is not touched again.
 ghost use Rattle.std.specs.Prelude.{◌≡◌, ◌+◌, ◌<◌, ◌≤◌, ◌⊎◌, ◌||◌, [], IfOk, IfErr, IsFalse, IsTrue, OnOk, OnErr};
 ghost use Rattle.nofs_disk.specs.Disk.{Flushes, IsSettled, Reads, Rose, StaysButFaults, Writes, WritesOut};
-ghost use Rattle.nofs_mirror.specs.Asking.{Rests};
+ghost use Rattle.nofs_mirror.specs.Sides.Calls.{Rests};
 ghost use Rattle.nofs_mirror.specs.Copying.{HasCopied};
 ghost use Rattle.nofs_mirror.specs.Laws.{MirrorKeeps};
 ghost use Rattle.nofs_mirror.specs.Mirror.{ChangesSides, Counts, EitherReads, IsFrom, IsReadFault, IsSide, LeadBack, LeavesOut, OpensMirror};
 ghost use Rattle.nofs_mirror.specs.Mirror.{OtherBack, ReadFails, Refuses, SideLeaves, SideServes, last_span};
-ghost use Rattle.nofs_mirror.specs.Past.{mirror_calls};
+ghost use Rattle.nofs_mirror.specs.Sides.Past.{mirror_calls};
 
 use crate::copying::{CopyFault, copy_and_flush};
-use crate::sides::asking::{SideAnswer, flush_side, read_side, write_side};
+use crate::sides::calls::{SideAnswer, flush_side, read_side, write_side};
+use crate::sides::choices::{MirrorCause, MirrorStart};
 use crate::sides::log::{Log, Sides, flush_effect};
-use crate::sides::opening::{MirrorCause, MirrorStart};
 use crate::sides::past::{Effect, Span};
 use nofs_disk::{Cell, Disk, Failed};
 use std::alloc::AllocError;

@@ -23,7 +23,7 @@ pub fn owner_of(cells: &[Cell], block: u64) -> Option<(u32, u64)>
     find_owner(cells, &at, &[], block)
 }
 
-#[tactic(auto, using(crate::proofs::Owners::owner_past), unfolding(crate::specs::Owners::owner))]
+#[tactic(auto, using(crate::proofs::OnOwners::Slots::owner_past), unfolding(crate::specs::Owners::owner))]
 pub(crate) fn find_owner(
     cells: &[Cell],
     at: &SuperBlock,

@@ -18,12 +18,13 @@ use Rattle.nofs_client.specs.declared.task.lines.Line.TheVariants as line
 use Rattle.nofs_client.specs.declared.progress.Progress.{Progress}
 use Rattle.nofs_client.specs.declared.progress.See.{See}
 use Rattle.nofs_client.specs.declared.progress.See.TheVariants as see
-use Rattle.nofs_client.specs.declared.task.task.Task.TheVariants as task
-use Rattle.nofs_client.specs.Asks.{task_asks}
-use Rattle.nofs_client.specs.Answers.{task_after}
-use Rattle.nofs_client.specs.Drive.{fresh_progress, step_before_repeat, asks_beside, asks, goes_on, step_answered, examines_block, examines_inode}
-use Rattle.nofs_client.specs.Drive.{after_refused, after_step, after_see, after_beside, progress_after}
-use Rattle.nofs_client.specs.Runs.{Asked, made_reply}
+use Rattle.nofs_client.specs.declared.task.state.Task.TheVariants as task
+use Rattle.nofs_client.specs.Task.Steps.{task_asks}
+use Rattle.nofs_client.specs.Task.Answers.{task_after}
+use Rattle.nofs_client.specs.Progress.{fresh_progress, step_before_repeat, asks_beside, asks, goes_on, step_answered}
+use Rattle.nofs_client.specs.Progress.{examines_block, examines_inode}
+use Rattle.nofs_client.specs.Progress.{after_refused, after_step, after_see, after_beside, progress_after}
+use Rattle.nofs_client.specs.Driver.{Asked, made_reply}
 use Rattle.nofs_move.specs.Linked.{only_looks, is_idle}
 
 or-true : (b : Bool) → b || true ≡ true

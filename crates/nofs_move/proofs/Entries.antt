@@ -9,7 +9,7 @@ use Rattle.nofs_history.specs.Steps.{Made}
 use Rattle.nofs_history.specs.declared.machine.history.Entry1.{Entry1}
 use Rattle.nofs_history.specs.Callers.{done_of, steps_by}
 use Rattle.nofs_client.specs.declared.task.commands.Command.{Command}
-use Rattle.nofs_crashlaw.proofs.Along.{SaneRun, moment-at}
+use Rattle.nofs_crashlaw.proofs.OnRuns.Chains.{SaneRun, moment-at}
 use Rattle.nofs_move.specs.Own.{own_place, RunBy, place_in, end_in}
 use Rattle.nofs_move.proofs.Own.{OwnEntry, own-entry, OwnStep, own-step, own-rises}
 use Rattle.nofs_move.proofs.Stages.{Told, AllTold}

@@ -18,15 +18,16 @@ use Rattle.nofs_history.specs.declared.machine.replies.Reply.TheVariants as repl
 use Rattle.nofs_history.specs.Callers.{done_of}
 use Rattle.nofs_client.specs.declared.task.commands.Command.TheVariants as command
 use Rattle.nofs_client.specs.declared.task.commands.Path.{Path}
-use Rattle.nofs_client.specs.Places.{last_name}
-use Rattle.nofs_crashlaw.specs.Runs.{files_before}
-use Rattle.nofs_crashlaw.specs.PathMoves.{KeepsEntry, named_entry}
-use Rattle.nofs_crashlaw.proofs.RunLaws.{files-after}
-use Rattle.nofs_crashlaw.proofs.Links.{IsSane, Linked, linked-range, linked-paired}
-use Rattle.nofs_crashlaw.proofs.Along.{Guard, SaneRun, moment-at, linked-along}
-use Rattle.nofs_crashlaw.proofs.Base.{sane-run}
-use Rattle.nofs_crashlaw.proofs.Alone.{Places, look-places, link-place-is}
-use Rattle.nofs_crashlaw.proofs.Moving.{Only, plain-guard, keeping-guard, found-name, name-finds, look-linked, link-linked}
+use Rattle.nofs_client.specs.Task.Places.{last_name}
+use Rattle.nofs_crashlaw.specs.Runs.Laws.{files_before}
+use Rattle.nofs_crashlaw.specs.Paths.Moves.{KeepsEntry, named_entry}
+use Rattle.nofs_crashlaw.proofs.OnRuns.Entries.{files-after}
+use Rattle.nofs_crashlaw.proofs.OnRuns.Links.{IsSane, Linked, linked-range, linked-paired}
+use Rattle.nofs_crashlaw.proofs.OnRuns.Chains.{Guard, SaneRun, moment-at, linked-along}
+use Rattle.nofs_crashlaw.proofs.OnRuns.Base.{sane-run}
+use Rattle.nofs_crashlaw.proofs.OnPaths.Alone.{Places, look-places, link-place-is}
+use Rattle.nofs_crashlaw.proofs.OnPaths.Looks.{Only, plain-guard, keeping-guard, found-name, name-finds, look-linked}
+use Rattle.nofs_crashlaw.proofs.OnPaths.Links.{link-linked}
 use Rattle.nofs_move.specs.Own.{RunBy, place_in, end_in}
 use Rattle.nofs_move.specs.Linked.{is_idle, DropMade, LinkedSteps}
 use Rattle.nofs_move.specs.Laws.{OthersKeepNames, LeavesName, NamesLeft, LawNamesLeft}

@@ -16,16 +16,16 @@ use Rattle.nofs_client.specs.declared.task.lines.Line.TheVariants as line
 use Rattle.nofs_client.specs.declared.task.places.Handle.{Handle}
 use Rattle.nofs_client.specs.declared.task.places.Location.{Location}
 use Rattle.nofs_client.specs.declared.progress.Progress.{Progress}
-use Rattle.nofs_client.specs.declared.task.task.Stage.TheVariants as stage
-use Rattle.nofs_client.specs.declared.task.task.Task.{Task}
-use Rattle.nofs_client.specs.declared.task.task.Task.TheVariants as task
-use Rattle.nofs_client.specs.Commands.{names_of, HasName}
-use Rattle.nofs_client.specs.Places.{first_handle, name_at, last_name, new_looks}
-use Rattle.nofs_client.specs.Task.{arrived, arrived_new}
-use Rattle.nofs_client.specs.Asks.{task_asks, look_in}
-use Rattle.nofs_client.specs.Answers.{task_after, handle_of}
-use Rattle.nofs_client.specs.Drive.{start_of, progress_after}
-use Rattle.nofs_client.specs.Runs.{Asked}
+use Rattle.nofs_client.specs.declared.task.state.Stage.TheVariants as stage
+use Rattle.nofs_client.specs.declared.task.state.Task.{Task}
+use Rattle.nofs_client.specs.declared.task.state.Task.TheVariants as task
+use Rattle.nofs_client.specs.Task.Commands.{names_of, HasName}
+use Rattle.nofs_client.specs.Task.Places.{first_handle, name_at, last_name, new_looks}
+use Rattle.nofs_client.specs.Task.State.{arrived, arrived_new}
+use Rattle.nofs_client.specs.Task.Steps.{task_asks, look_in}
+use Rattle.nofs_client.specs.Task.Answers.{task_after, handle_of}
+use Rattle.nofs_client.specs.Progress.{start_of, progress_after}
+use Rattle.nofs_client.specs.Driver.{Asked}
 use Rattle.nofs_move.specs.Linked.{is_idle, LinkedSteps}
 use Rattle.nofs_move.proofs.Driver.{looks-idle, Again, Stops, Answered, leads, Says, unsaid, none-in}
 use Rattle.nofs_move.proofs.Stages.{Told, AllTold, Moves, more-moves, Moving, more-moving}

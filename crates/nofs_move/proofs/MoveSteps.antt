@@ -1,8 +1,8 @@
 -- A run of a move makes the steps of a move.
 use Rattle.std.proofs.Common.{inl, inr}
 use Rattle.nofs_client.specs.declared.task.commands.Command.TheVariants as command
-use Rattle.nofs_client.specs.Drive.{drive_of, start_of}
-use Rattle.nofs_crashlaw.proofs.Base.{sane-run}
+use Rattle.nofs_client.specs.Progress.{drive_of, start_of}
+use Rattle.nofs_crashlaw.proofs.OnRuns.Base.{sane-run}
 use Rattle.nofs_move.specs.Steps.{LawSteps, LawMovedSteps}
 use Rattle.nofs_move.proofs.Driver.{Says}
 use Rattle.nofs_move.proofs.Looks.{located, linked-steps}

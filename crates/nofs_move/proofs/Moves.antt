@@ -13,13 +13,13 @@ use Rattle.nofs_history.specs.declared.machine.replies.Reply.TheVariants as repl
 use Rattle.nofs_history.specs.Callers.{done_of}
 use Rattle.nofs_client.specs.declared.task.commands.Command.TheVariants as command
 use Rattle.nofs_client.specs.declared.task.commands.Path.{Path}
-use Rattle.nofs_client.specs.Places.{last_name}
-use Rattle.nofs_crashlaw.specs.Runs.{files_before}
-use Rattle.nofs_crashlaw.specs.PathMoves.{KeepsEntry, named_entry, IsMove, HasDrop}
-use Rattle.nofs_crashlaw.proofs.Along.{SaneRun, moment-at}
-use Rattle.nofs_crashlaw.proofs.Base.{sane-run}
-use Rattle.nofs_crashlaw.proofs.Alone.{Places, look-places, link-place-is}
-use Rattle.nofs_crashlaw.proofs.PathMoves.{law-move, law-moved}
+use Rattle.nofs_client.specs.Task.Places.{last_name}
+use Rattle.nofs_crashlaw.specs.Runs.Laws.{files_before}
+use Rattle.nofs_crashlaw.specs.Paths.Moves.{KeepsEntry, named_entry, IsMove, HasDrop}
+use Rattle.nofs_crashlaw.proofs.OnRuns.Chains.{SaneRun, moment-at}
+use Rattle.nofs_crashlaw.proofs.OnRuns.Base.{sane-run}
+use Rattle.nofs_crashlaw.proofs.OnPaths.Alone.{Places, look-places, link-place-is}
+use Rattle.nofs_crashlaw.proofs.OnPaths.Moves.{law-move, law-moved}
 use Rattle.nofs_move.specs.Own.{RunBy, place_in, end_in}
 use Rattle.nofs_move.specs.Linked.{is_idle, DropMade, LinkedSteps}
 use Rattle.nofs_move.specs.Laws.{OthersKeepNames, MoveAt, LawIsMove, LawOneName, LawNewName}

@@ -18,8 +18,8 @@ use Rattle.nofs_history.specs.declared.machine.steps.Step.TheVariants as step
 use Rattle.nofs_history.specs.declared.machine.replies.Reply.{Reply}
 use Rattle.nofs_history.specs.declared.machine.replies.Reply.TheVariants as reply
 use Rattle.nofs_history.specs.Callers.{done_of}
-use Rattle.nofs_crashlaw.proofs.Acts.{accepted-acts}
-use Rattle.nofs_crashlaw.specs.PathMoves.{KeepsEntry}
+use Rattle.nofs_crashlaw.proofs.OnRuns.Acts.{accepted-acts}
+use Rattle.nofs_crashlaw.specs.Paths.Moves.{KeepsEntry}
 use Rattle.nofs_move.specs.Linked.{only_looks, is_idle}
 use Rattle.nofs_move.proofs.Stages.{Told}
 

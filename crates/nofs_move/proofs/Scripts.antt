@@ -6,8 +6,8 @@ use Rattle.nofs_history.specs.Callers.{steps_by}
 use Rattle.nofs_client.specs.declared.task.commands.Command.{Command}
 use Rattle.nofs_client.specs.declared.task.next.Next.TheVariants.{Say}
 use Rattle.nofs_client.specs.declared.task.lines.Line.{Line}
-use Rattle.nofs_client.specs.Drive.{start_of}
-use Rattle.nofs_client.specs.Runs.{Asked, IsCommandRun, IsDriven, IsBegun}
+use Rattle.nofs_client.specs.Progress.{start_of}
+use Rattle.nofs_client.specs.Driver.{Asked, IsCommandRun, IsDriven, IsBegun}
 use Rattle.nofs_move.specs.Steps.{LawCommandRun, LawCommandBegun}
 
 -- the steps of command number k, among those of all

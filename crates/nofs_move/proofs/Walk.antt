@@ -15,14 +15,14 @@ use Rattle.nofs_client.specs.declared.task.lines.Line.TheVariants as line
 use Rattle.nofs_client.specs.declared.task.places.Handle.{Handle}
 use Rattle.nofs_client.specs.declared.task.places.Location.{Location}
 use Rattle.nofs_client.specs.declared.progress.Progress.{Progress}
-use Rattle.nofs_client.specs.declared.task.task.Stage.TheVariants as stage
-use Rattle.nofs_client.specs.declared.task.task.Task.{Task}
-use Rattle.nofs_client.specs.declared.task.task.Task.TheVariants as task
-use Rattle.nofs_client.specs.Places.{last_name}
-use Rattle.nofs_client.specs.Asks.{task_asks}
-use Rattle.nofs_client.specs.Answers.{task_after}
-use Rattle.nofs_client.specs.Drive.{fresh_progress, progress_after}
-use Rattle.nofs_client.specs.Runs.{Asked}
+use Rattle.nofs_client.specs.declared.task.state.Stage.TheVariants as stage
+use Rattle.nofs_client.specs.declared.task.state.Task.{Task}
+use Rattle.nofs_client.specs.declared.task.state.Task.TheVariants as task
+use Rattle.nofs_client.specs.Task.Places.{last_name}
+use Rattle.nofs_client.specs.Task.Steps.{task_asks}
+use Rattle.nofs_client.specs.Task.Answers.{task_after}
+use Rattle.nofs_client.specs.Progress.{fresh_progress, progress_after}
+use Rattle.nofs_client.specs.Driver.{Asked}
 use Rattle.nofs_move.specs.Linked.{is_idle}
 use Rattle.nofs_move.proofs.Driver.{looks-idle, Again, Stops, Answered, leads, Says, ended, unsaid, none-in}
 use Rattle.nofs_move.proofs.Stages.{Told, AllTold, AnsweredLinked, idle-unlinked, told-flush, told-link, same-head, Dropping, no-drop, more-dropping}

@@ -13,11 +13,11 @@ use Rattle.nofs_history.specs.declared.machine.steps.Step.{Step}
 use Rattle.nofs_history.specs.declared.machine.steps.Step.TheVariants as step
 use Rattle.nofs_client.specs.declared.task.commands.Command.TheVariants as command
 use Rattle.nofs_client.specs.declared.task.commands.Path.{Path}
-use Rattle.nofs_client.specs.Places.{last_name}
-use Rattle.nofs_crashlaw.specs.Bases.{IsHistory}
-use Rattle.nofs_crashlaw.specs.Runs.{files_before}
-use Rattle.nofs_crashlaw.specs.Finds.{Finds}
-use Rattle.nofs_crashlaw.specs.PathMoves.{KeepsEntry, named_entry, IsMove, DropIsLate}
+use Rattle.nofs_client.specs.Task.Places.{last_name}
+use Rattle.nofs_crashlaw.specs.Runs.Bases.{IsHistory}
+use Rattle.nofs_crashlaw.specs.Runs.Laws.{files_before}
+use Rattle.nofs_crashlaw.specs.Paths.Names.{Finds}
+use Rattle.nofs_crashlaw.specs.Paths.Moves.{KeepsEntry, named_entry, IsMove, DropIsLate}
 use Rattle.nofs_move.specs.Own.{RunBy, place_in, end_in}
 use Rattle.nofs_move.specs.Linked.{DropMade, LinkedSteps}
 

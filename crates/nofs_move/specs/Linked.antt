@@ -8,7 +8,7 @@ use Rattle.nofs_history.specs.declared.machine.steps.Step.TheVariants as step
 use Rattle.nofs_history.specs.declared.machine.replies.Reply.{Reply}
 use Rattle.nofs_history.specs.declared.machine.replies.Reply.TheVariants as reply
 use Rattle.nofs_client.specs.declared.task.commands.Path.{Path}
-use Rattle.nofs_client.specs.Places.{last_name}
+use Rattle.nofs_client.specs.Task.Places.{last_name}
 
 -- whether a step never changes a file or a directory
 abbrev pub only_looks : Step → Bool

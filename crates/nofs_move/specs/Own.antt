@@ -4,8 +4,8 @@ use Rattle.nofs_history.specs.Callers.{is_by, steps_by}
 use Rattle.nofs_history.specs.Steps.{Made}
 use Rattle.nofs_history.specs.declared.machine.history.Entry1.{Entry1}
 use Rattle.nofs_client.specs.declared.task.commands.Command.{Command}
-use Rattle.nofs_client.specs.Drive.{start_of}
-use Rattle.nofs_client.specs.Runs.{Asked}
+use Rattle.nofs_client.specs.Progress.{start_of}
+use Rattle.nofs_client.specs.Driver.{Asked}
 
 -- the place in a history of the caller's step number k, both counted from 0
 abbrev pub own_place : ℕ → List Entry1 → ℕ → ℕ

@@ -13,11 +13,11 @@ use Rattle.nofs_client.specs.declared.task.commands.Path.{Path}
 use Rattle.nofs_client.specs.declared.task.next.Next.TheVariants.{Say}
 use Rattle.nofs_client.specs.declared.task.lines.Line.{Line}
 use Rattle.nofs_client.specs.declared.task.lines.Line.TheVariants as line
-use Rattle.nofs_client.specs.Commands.{HasName}
-use Rattle.nofs_client.specs.Places.{last_name}
-use Rattle.nofs_client.specs.Drive.{drive_of}
-use Rattle.nofs_client.specs.Runs.{made_reply, IsCommandRun, IsPartlyDriven}
-use Rattle.nofs_crashlaw.specs.Bases.{IsHistory}
+use Rattle.nofs_client.specs.Task.Commands.{HasName}
+use Rattle.nofs_client.specs.Task.Places.{last_name}
+use Rattle.nofs_client.specs.Progress.{drive_of}
+use Rattle.nofs_client.specs.Driver.{made_reply, IsCommandRun, IsPartlyDriven}
+use Rattle.nofs_crashlaw.specs.Runs.Bases.{IsHistory}
 use Rattle.nofs_move.specs.Own.{RunBy}
 use Rattle.nofs_move.specs.Linked.{DropMade, LinkedSteps}
 

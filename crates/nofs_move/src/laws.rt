@@ -2,7 +2,7 @@
 //!
 //! Promise: the replies to the steps of the command, and what other callers did to its two names, are all
 //! that has to be known of a history for this.
-ghost use Rattle.nofs_crashlaw.specs.PathMoves.{LawAlone, LawMove, LawMoved};
+ghost use Rattle.nofs_crashlaw.specs.Paths.Moves.{LawAlone, LawMove, LawMoved};
 ghost use Rattle.nofs_move.specs.Laws.{LawIsMove, LawNamesLeft, LawNewName, LawOneName};
 
 /// A file that is looked up, flushed, linked under a new name, flushed again and dropped under its old

@@ -3,9 +3,9 @@
 //! Promise: it makes just the steps of the command, in order, and ends with its line. What these steps
 //! promise of a crash the laws say.
 ghost use Rattle.std.specs.Prelude.{◌≡◌, IfOk};
-ghost use Rattle.nofs_client.specs.Commands.{HasName};
+ghost use Rattle.nofs_client.specs.Task.Commands.{HasName};
 ghost use Rattle.nofs_client.specs.declared.task.commands.Command.TheVariants as command;
-ghost use Rattle.nofs_client.specs.Runs.{RunsTo, RunsPartly};
+ghost use Rattle.nofs_client.specs.Driver.{RunsTo, RunsPartly};
 
 use crate::paths::copy_path;
 use nofs_client::{Client, Command, Line, Path};

@@ -19,17 +19,17 @@ use Rattle.nofs_history.specs.declared.machine.replies.Refusal.{Refusal}
 use Rattle.nofs_history.specs.declared.machine.replies.Refusal.TheVariants as refusal
 use Rattle.nofs_history.specs.declared.machine.replies.Reply.{Reply}
 use Rattle.nofs_history.specs.declared.machine.replies.Reply.TheVariants as reply
-use Rattle.nofs_agree.specs.Reading.{KnowsDirectory}
-use Rattle.nofs_state.specs.Books.{InodesFit, Says}
-use Rattle.nofs_state.specs.Standing.{IsOpen, Past}
-use Rattle.nofs_state.specs.Steps.{Goes}
-use Rattle.nofs_state.specs.declared.books.Books.{Books}
-use Rattle.nofs_names.specs.Refusing.{IsThere, KnownTrue}
-use Rattle.nofs_names.specs.Linking.{PlaceIs, block_rows}
-use Rattle.nofs_names.specs.Placing.{AreFree, FitsSlot, IsEntrySlot, IsSlotCell, slot_blocks}
-use Rattle.nofs_state.specs.declared.ending.Ended.{Ended}
-use Rattle.nofs_names.specs.declared.entering.EntryPlace.{EntryPlace}
-use Rattle.nofs_names.specs.declared.new_files.NewFile.{NewFile}
+use Rattle.nofs_agree.specs.Reads.{KnowsDirectory}
+use Rattle.nofs_state.specs.Books.Maps.{InodesFit, Says}
+use Rattle.nofs_state.specs.Cores.Invariant.{IsOpen, Past}
+use Rattle.nofs_state.specs.Cores.Steps.{Goes}
+use Rattle.nofs_state.specs.declared.books.maps.Books.{Books}
+use Rattle.nofs_names.specs.Searches.Refusals.{IsThere, KnownTrue}
+use Rattle.nofs_names.specs.Links.{PlaceIs, block_rows}
+use Rattle.nofs_names.specs.Entries.Places.{AreFree, FitsSlot, IsEntrySlot, IsSlotCell, slot_blocks}
+use Rattle.nofs_state.specs.declared.writes.ends.Ended.{Ended}
+use Rattle.nofs_names.specs.declared.entries.writes.EntryPlace.{EntryPlace}
+use Rattle.nofs_names.specs.declared.makes.new_file.NewFile.{NewFile}
 
 -- the record of a new inode
 abbrev pub made_record : FileKind → ℕ → BackLink → Record

@@ -5,14 +5,17 @@ ghost use Rattle.nofs_history.specs.declared.machine.replies.Reply.TheVariants a
 ghost use Rattle.nofs_history.specs.declared.machine.steps.Step.TheVariants as step;
 ghost use Rattle.nofs_model.specs.Slots.{value};
 ghost use Rattle.nofs_model.specs.declared.image.value.Value.TheVariants.{Bytes};
-ghost use Rattle.nofs_names.specs.Stepping.{Goes, IsAt, IsLast, IsSafe, no_claims};
-ghost use Rattle.nofs_names.specs.Inodes.{Knows, KnowsFolder};
-ghost use Rattle.nofs_names.specs.Listing.{FindsListed, HasListed, ReadsLine, ReadsLines, line_with, list_answer};
+ghost use Rattle.nofs_state.specs.Cores.Steps.{Goes};
+ghost use Rattle.nofs_agree.specs.Reads.{IsAt, IsLast};
+ghost use Rattle.nofs_state.specs.Books.Maps.{IsSafe};
+ghost use Rattle.nofs_history.specs.Claims.{no_claims};
+ghost use Rattle.nofs_names.specs.Searches.Inodes.{Knows, KnowsFolder};
+ghost use Rattle.nofs_names.specs.Lists.{FindsListed, HasListed, ReadsLine, ReadsLines, line_with, list_answer};
 
-use crate::finding::entries::Named;
-use crate::finding::inodes::ReadInode;
-use crate::finding::opening::open_directory;
-use crate::finding::pairing::paired_kind;
+use crate::searches::directories::open_directory;
+use crate::searches::entries::Named;
+use crate::searches::inodes::ReadInode;
+use crate::searches::pair_tests::paired_kind;
 use nofs_agree::{LastRead, find_slot, read_inode};
 use nofs_dirent::{Entry, read_entry};
 use nofs_disk::{Disk, Failed};

@@ -2,16 +2,17 @@
 ghost use Rattle.std.specs.Prelude.{◌≡◌, ◌≤◌, false};
 ghost use Rattle.nofs_history.specs.declared.machine.steps.Step.TheVariants as step;
 ghost use Rattle.nofs_history.specs.declared.machine.replies.Reply.TheVariants as reply;
-ghost use Rattle.nofs_state.specs.Steps.{Goes};
-ghost use Rattle.nofs_names.specs.Stepping.{IsLast, no_claims};
-ghost use Rattle.nofs_state.specs.Books.{IsSafe};
-ghost use Rattle.nofs_names.specs.Renames.{done_answer};
-ghost use Rattle.nofs_names.specs.Renaming.{MayRename, RenameGoes};
+ghost use Rattle.nofs_state.specs.Cores.Steps.{Goes};
+ghost use Rattle.nofs_agree.specs.Reads.{IsLast};
+ghost use Rattle.nofs_history.specs.Claims.{no_claims};
+ghost use Rattle.nofs_state.specs.Books.Maps.{IsSafe};
+ghost use Rattle.nofs_names.specs.Renames.Parts.{done_answer};
+ghost use Rattle.nofs_names.specs.Renames.Answers.{MayRename, RenameGoes};
 
-use crate::dropping::writing::{hold_entry, put_entry};
-use crate::finding::inodes::ReadInode;
-use crate::finding::opening::{NameIn, find_pair, find_unused, open_named};
-use crate::finding::pairs::NamedPair;
+use crate::entries::cells::{hold_entry, put_entry};
+use crate::searches::directories::{NameIn, find_pair, find_unused, open_named};
+use crate::searches::inodes::ReadInode;
+use crate::searches::pairs::NamedPair;
 use nofs_agree::LastRead;
 use nofs_dirent::name_ok;
 use nofs_disk::Disk;

@@ -2,7 +2,7 @@
 use Rattle.std.proofs.Common.{◌≡◌, ℕ, ◌/◌, ◌<◌, Bool, leb, ◌||◌, [], ◌∷◌, is_some, refl, sym, ap, ◌∙◌, subst}
 use Rattle.nofs_model.specs.Image.{Image, is_special, is_used_inode, is_used_block}
 use Rattle.nofs_history.specs.World.{World, uses_inode, uses_block}
-use Rattle.nofs_crashlaw.proofs.MapHomes.{uses-inode}
+use Rattle.nofs_crashlaw.proofs.OnMaps.Homes.{uses-inode}
 use Rattle.nofs_racelaw.specs.Laws.{LawPasses, Shows, LawStale}
 use Rattle.nofs_racelaw.proofs.Verdicts.{run-unchanged}
 

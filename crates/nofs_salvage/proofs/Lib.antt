@@ -1,12 +1,2 @@
-pub mod Adding
-pub mod Growing
-pub mod LostSlots
-pub mod Names
-pub mod Reading
-pub mod Walking
-pub mod Answers
-pub mod Asking
-pub mod Refusing
-pub mod Roots
-pub mod Handing
-pub mod Telling
+pub mod OnReport
+pub mod OnWalk

@@ -1,7 +1,3 @@
-pub mod Elements
-pub mod Seeing
-pub mod EntryNames
-pub mod Sighted
-pub mod Committing
-pub mod Lookups
-pub mod Swept
+pub mod OnSteps
+pub mod OnSights
+pub mod OnLaws

@@ -1,7 +1,3 @@
-pub mod Elements
+pub mod Steps
 pub mod Sights
-pub mod Seeing
-pub mod Seen
-pub mod Scanned
-pub mod Late
-pub mod Looking
+pub mod Laws

@@ -1,5 +1,5 @@
 //! What the scans come to.
-ghost use Rattle.nofs_scan.specs.Scanned.{LawScanned};
+ghost use Rattle.nofs_scan.specs.Laws.{LawScanned};
 
 use nofs_disk::Disk;
 use nofs_state::Core;

@@ -1,4 +1,5 @@
-//! What a scanner sees at one look: evidence for each element, and the verdict that it supports.
+//! What is read of an element at one look, and the verdict that follows from it alone.
 pub(crate) mod evidence;
-pub(crate) mod judging;
+pub(crate) mod reads;
 pub(crate) mod sights;
+pub(crate) mod verdicts;

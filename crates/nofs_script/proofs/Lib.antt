@@ -1,7 +1,3 @@
-mod Digits
-mod Pieces
-mod Cuts
-mod Spaces
-mod Five
-mod Lines
-mod Formed
+mod OnWords
+mod OnGrammar
+mod OnSession

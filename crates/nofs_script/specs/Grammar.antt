@@ -4,7 +4,7 @@ use Rattle.std.specs.List.{slice_split, list_all}
 use Rattle.std.specs.Str.{bytes_eq}
 use Rattle.std.specs.declared.option.Option.{Option}
 use Rattle.hex.specs.Hex.{decode_of}
-use Rattle.nofs_client.specs.Commands.{has_last_name}
+use Rattle.nofs_client.specs.Task.Commands.{has_last_name}
 use Rattle.nofs_client.specs.declared.task.commands.Path.{Path}
 use Rattle.nofs_client.specs.declared.task.commands.Path.TheVariants.{Label, Names}
 use Rattle.nofs_client.specs.declared.task.commands.Command.{Command}

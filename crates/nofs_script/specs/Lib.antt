@@ -1,4 +1,4 @@
 pub mod Text
 pub mod Words
 pub mod Grammar
-pub mod Sessions
+pub mod Session

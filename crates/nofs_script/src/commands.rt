@@ -85,7 +85,7 @@ fn all_words(parts: &[&[u8]]) -> bool
     parts.iter().all(|part| !part.is_empty())
 }
 
-#[tactic(auto, using(crate::proofs::Pieces::list_all_pieces))]
+#[tactic(auto, using(crate::proofs::OnWords::Pieces::list_all_pieces))]
 fn names_behind(alloc: Global, front: &[u8], rest: &[&[u8]]) -> Result<Option<Path>, AllocError>
     ensures { IfOk result (λ path. path ≡ path_of_parts (front.now ∷ map piece_of rest.now)) }
 {

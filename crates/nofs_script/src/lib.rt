@@ -1,7 +1,16 @@
 //! The text of a session and of its lines.
 //!
-//! Promise: a text is read as a session exactly where it is one, and otherwise the first bad line is named with what is
-//! wrong in it. Each line of a reply has one text. `docs/FORMAT.md` states the grammar under "Session text" and "Lines".
+//! Promise: a text is read as a session exactly where it is one, and otherwise the first bad line is named with what
+//! is wrong in it. Each line of a reply has one text. `docs/FORMAT.md` states the grammar under "Session text" and
+//! "Lines".
+//!
+//! The parts, from the lowest up:
+//!
+//! - `faults`: what can be wrong with a text.
+//! - `words`: the words of a line, and the numbers among them.
+//! - `commands`: commands by their words.
+//! - `session`: the scripts of a text, read line by line.
+//! - `text`: the text of a line.
 #![tactic(auto)]
 
 mod commands;

@@ -4,7 +4,10 @@ ghost use Rattle.std.specs.Prelude.{◌≡◌, ◌≢◌, ◌<◌, All, Some, []
 ghost use Rattle.std.specs.Str.Lines.{strip_carriage_return};
 ghost use Rattle.nofs_script.specs.Words.{piece_of, text_lines};
 ghost use Rattle.nofs_script.specs.Grammar.{MatchesReading};
-ghost use Rattle.nofs_script.specs.Sessions.{IsSession, asked_by as asked_in, with_command as command_added, user_of, read_verb as verb_read, read_words as words_read, read_line as line_read, at_line, is_skipped as is_skipped_in, read_from, empty_reading, session_of};
+ghost use Rattle.nofs_script.specs.Session.{IsSession, asked_by as asked_in, with_command as command_added, user_of};
+ghost use Rattle.nofs_script.specs.Session.{read_verb as verb_read, read_words as words_read, read_line as line_read};
+ghost use Rattle.nofs_script.specs.Session.{at_line, is_skipped as is_skipped_in, read_from, empty_reading};
+ghost use Rattle.nofs_script.specs.Session.{session_of};
 
 use crate::commands::{Verb, command, verb_of};
 use crate::faults::{LineFault, ParseFault, ScriptFault, ScriptKind};
@@ -156,7 +159,7 @@ fn is_skipped(line: &[u8]) -> bool
     !line.is_empty() && line[0] == b'#'
 }
 
-#[tactic(auto, unfolding(crate::specs::Sessions::read_line), using(crate::proofs::Five::read_five))]
+#[tactic(auto, unfolding(crate::specs::Session::read_line), using(crate::proofs::OnGrammar::read_five))]
 fn read_line(alloc: Global, reading: Reading, line: &[u8]) -> Result<Reading, LineFault>
     ensures { MatchesReading (λ r. r) result (line_read reading line.now) }
 {
@@ -230,7 +233,7 @@ fn read_lines(alloc: Global, text: &[u8]) -> Result<Reading, ParseFault>
 
 /// The session that a text spells, or its first bad line (docs/FORMAT.md, "Session text"). Only want of memory can stop
 /// it otherwise. A session has 1 to 8 scripts, and each of its commands is well formed.
-#[tactic(auto, unfolding(crate::specs::Sessions::session_of))]
+#[tactic(auto, unfolding(crate::specs::Session::session_of))]
 pub fn parse(alloc: Global, text: &[u8]) -> Result<Session, ParseFault>
     ensures exact { MatchesReading (λ session. session) result (session_of text.now) }
     ensures session { IfOk result IsSession }

@@ -1,5 +1,3 @@
-pub mod Joining
-pub mod Gathering
-pub mod Working
-pub mod Teaming
-pub mod Visiting
+pub mod OnTeams
+pub mod OnSession
+pub mod OnVisit

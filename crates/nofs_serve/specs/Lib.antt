@@ -1,4 +1,3 @@
-pub mod Joins
 pub mod Teams
-pub mod Served
-pub mod Visiting
+pub mod Session
+pub mod Visit

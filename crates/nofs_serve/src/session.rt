@@ -3,8 +3,8 @@
 //! Promise: the history has of each user just the steps that its commands ask for, in order, and of each sweep one step for each
 //! element. The flusher has none.
 ghost use Rattle.std.specs.Prelude.{◌≡◌, ◌<◌, ◌≤◌, ◌^◌, true, All, map, vec_len};
-ghost use Rattle.nofs_client.specs.Commands.{AreWellFormed};
-ghost use Rattle.nofs_serve.specs.Served.{TeamServed};
+ghost use Rattle.nofs_client.specs.Task.Commands.{AreWellFormed};
+ghost use Rattle.nofs_serve.specs.Session.{TeamServed};
 
 use crate::teams::gather::Gathered;
 use crate::teams::team::{Plan, Sweeps, TeamRoom, WriteOuts, run_team};

@@ -3,10 +3,10 @@
 //! Promise: the history has of `FIRST_USER` just the steps of the visit, and of each sweep one step for each element.
 //! The flusher has none, nor has any other caller.
 ghost use Rattle.std.specs.Prelude.{◌≡◌, ◌+◌, ◌<◌, ◌^◌, [], All, IfErr, IfOk, vec_len};
-ghost use Rattle.nofs_turn.specs.declared.turn_rule.view.View.{View};
-ghost use Rattle.nofs_turn.specs.Turns.{view_of, IsPassOf};
+ghost use Rattle.nofs_turn.specs.declared.rule.view.View.{View};
+ghost use Rattle.nofs_turn.specs.Turn.{view_of, IsPassOf};
 ghost use Rattle.nofs_history.specs.declared.machine.history.Entry1.{Entry1};
-ghost use Rattle.nofs_serve.specs.Visiting.{VisitGathered, VisitServed};
+ghost use Rattle.nofs_serve.specs.Visit.{VisitGathered, VisitServed};
 
 use crate::teams::gather::{either, join_way};
 use crate::teams::lend::work_beside;

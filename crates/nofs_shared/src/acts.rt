@@ -1,4 +1,4 @@
-//! Each step by its kind: which call of the core makes it, what is answered, and the room in the history that it needs.
+//! Each step by its kind: the call of the core that makes it, and the room in the history that it needs.
 pub(crate) mod acted;
 pub(crate) mod acts;
 pub(crate) mod copies;

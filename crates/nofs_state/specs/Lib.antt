@@ -1,13 +1,4 @@
 pub mod Books
-pub mod Verdicts
-pub mod Owning
-pub mod Counted
-pub mod Standing
-pub mod Steps
-pub mod Opening
-pub mod Knowing
-pub mod Beginning
-pub mod Writing
-pub mod Owing
-pub mod WritingOut
-pub mod Pointing
+pub mod Inodes
+pub mod Cores
+pub mod Writes

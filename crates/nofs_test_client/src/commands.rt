@@ -49,7 +49,11 @@ fn with_line(pad: Notepad, ended: Result<Line, AllocError>) -> Result<String, Al
 }
 
 /// The steps and the line of a command to which these replies come.
-fn run(alloc: Global, asked: Asked<'_>, answers: &[CommandReply<'_>]) -> Result<String, AllocError> {
+fn run(
+    alloc: Global,
+    asked: Asked<'_>,
+    answers: &[CommandReply<'_>],
+) -> Result<String, AllocError> {
     let command = command(alloc, asked)?;
     if !command.is_well_formed() {
         return String::from_str(alloc, "not well formed");

@@ -5,7 +5,7 @@ ghost use Rattle.std.specs.Prelude.{◌≡◌, true};
 mod answer;
 mod asked;
 
-use crate::salvage::answer::{WalkReply, Lost, loss, reply};
+use crate::salvage::answer::{Lost, WalkReply, loss, reply};
 use crate::salvage::asked::WalkSteps;
 use crate::standin::mount::Told;
 use crate::standin::notes::{InTurn, Notepad};

@@ -1,6 +1,6 @@
 //! Workers over a stand-in for a mount, which notes what it is asked.
 ghost use Rattle.std.specs.Prelude.{IfOk};
-ghost use Rattle.nofs_client.specs.Commands.{AreWellFormed};
+ghost use Rattle.nofs_client.specs.Task.Commands.{AreWellFormed};
 
 mod fake;
 mod gates;

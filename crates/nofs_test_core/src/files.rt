@@ -112,9 +112,18 @@ fn a_put_reaches_over_two_slots_and_a_hole_stays(rt: HostRuntime) -> Result<(), 
         [
             hole(0),
             (STAT, file_of(0)),
-            (Ask::Put(LABEL, 0, 1022, 2, 0xaa), StepAnswer::Stored(S, 0, 0)),
-            (Ask::Put(LABEL, 1, 0, 2, 0xcc), StepAnswer::Stored(S + 1, 0, 0)),
-            (Ask::Get(LABEL, 0, 1020), StepAnswer::Bytes([0, 0, 0xaa, 0xaa])),
+            (
+                Ask::Put(LABEL, 0, 1022, 2, 0xaa),
+                StepAnswer::Stored(S, 0, 0),
+            ),
+            (
+                Ask::Put(LABEL, 1, 0, 2, 0xcc),
+                StepAnswer::Stored(S + 1, 0, 0),
+            ),
+            (
+                Ask::Get(LABEL, 0, 1020),
+                StepAnswer::Bytes([0, 0, 0xaa, 0xaa]),
+            ),
             (get(1), StepAnswer::Bytes([0xcc, 0xcc, 0, 0])),
             (STAT, file_of(1026)),
             free(57),
@@ -131,8 +140,14 @@ fn a_put_reaches_over_two_slots_and_a_hole_stays(rt: HostRuntime) -> Result<(), 
         ],
         [
             (put(0), StepAnswer::Stored(S, 0, 0)),
-            (Ask::Put(LABEL, 0, 1, 1023, 0x42), StepAnswer::Stored(0, 0, 0)),
-            (Ask::Get(LABEL, 0, 0), StepAnswer::Bytes([0x41, 0x42, 0x42, 0x42])),
+            (
+                Ask::Put(LABEL, 0, 1, 1023, 0x42),
+                StepAnswer::Stored(0, 0, 0),
+            ),
+            (
+                Ask::Get(LABEL, 0, 0),
+                StepAnswer::Bytes([0x41, 0x42, 0x42, 0x42]),
+            ),
             sized(2),
             sized(1024),
             (Ask::Get(LABEL, 0, 0), StepAnswer::Bytes([0x41, 0x42, 0, 0])),

@@ -82,7 +82,10 @@ fn names_of_one_file_stand_in_two_directories(rt: HostRuntime) -> Result<(), Fai
     let alloc = rt.alloc();
     let cases = [
         (Ask::SeeInode(3), StepAnswer::Seen(false)),
-        (Ask::MakeDirectory(ROOT, b"d"), StepAnswer::Made(3, S, S + 1, 0)),
+        (
+            Ask::MakeDirectory(ROOT, b"d"),
+            StepAnswer::Made(3, S, S + 1, 0),
+        ),
         (Ask::SeeInode(4), StepAnswer::Seen(false)),
         (Ask::Make(DIR, b"a"), StepAnswer::Made(4, S + 2, S + 3, 0)),
         (Ask::SeeInode(5), StepAnswer::Seen(false)),
@@ -221,7 +224,10 @@ fn a_file_is_not_served_the_bytes_of_another(rt: HostRuntime) -> Result<(), Fail
         let cases = [
             (Ask::Stat(file_there), file(1, 1)),
             (Ask::Get(file_there, 0, 0), StepAnswer::Lost),
-            (Ask::Put(file_there, 0, 0, 1, 1), StepAnswer::Stored(stamp, 0, 0)),
+            (
+                Ask::Put(file_there, 0, 0, 1, 1),
+                StepAnswer::Stored(stamp, 0, 0),
+            ),
             (Ask::Get(file_there, 0, 0), one),
             (Ask::Get((3, S + 5), 0, 0), stale()),
         ];

@@ -5,7 +5,7 @@ use Rattle.nofs_super.specs.Super.{CanMount, is_super, super_in, super_of}
 use Rattle.nofs_super.specs.Geometry.{IsGeometry}
 use Rattle.nofs_super.specs.declared.superblock.SuperBlock.{SuperBlock}
 use Rattle.nofs_model.specs.Geometry.{super_at}
-use Rattle.nofs_agree.specs.Reading.{IsAt}
+use Rattle.nofs_agree.specs.Reads.{IsAt}
 
 of-in : (payload : List ℕ) (it : SuperBlock) → super_of payload ≡ Some it → super_in payload ≡ it
 unfolding super_of

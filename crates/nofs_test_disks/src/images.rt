@@ -59,7 +59,9 @@ pub fn image_cells(alloc: Global, image: TestImage) -> Result<Vec<Cell>, Fail> {
         TestImage::DeadSecondLink => Ok(dead_second_link(alloc)?),
         TestImage::OneNameTwice => Ok(one_name_twice(alloc)?),
         TestImage::Residue => Ok(residue_past_the_size(alloc)?),
-        TestImage::ResidueInVersion2 => { patched(alloc, residue_past_the_size(alloc)?, &[VERSION_2]) }
+        TestImage::ResidueInVersion2 => {
+            patched(alloc, residue_past_the_size(alloc)?, &[VERSION_2])
+        }
         TestImage::EntryOfAFreeRecord => Ok(entry_of_a_free_record(alloc)?),
         TestImage::EntryOfAnotherGeneration => Ok(entry_of_another_generation(alloc)?),
         TestImage::LoopOfDirectories => Ok(loop_of_directories(alloc)?),
@@ -161,5 +163,9 @@ pub const FAULTS: [(TestImage, Patch, &str); 11] = [
         "mounts spent, number 16777215",
     ),
     (TestImage::Empty, (0, 40, "01"), "byte 40 is not zero"),
-    (TestImage::Version2, (0, 1023, "01"), "byte 1023 is not zero"),
+    (
+        TestImage::Version2,
+        (0, 1023, "01"),
+        "byte 1023 is not zero",
+    ),
 ];

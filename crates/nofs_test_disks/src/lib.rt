@@ -18,7 +18,7 @@ ghost use Rattle.std.specs.Prelude.{◌<◌, ◌^◌, IfSome};
 ghost use Rattle.nofs_disk.specs.Disk.{IsSettled};
 ghost use Rattle.nofs_memdisk.specs.Parts.{memory_state};
 ghost use Rattle.nofs_super.specs.Geometry.{IsGeometry};
-ghost use Rattle.nofs_agree.specs.Reading.{IsAt};
+ghost use Rattle.nofs_agree.specs.Reads.{IsAt};
 
 pub use disks::{bytes_of, cached, cell_of, cells_of, failing, fault, left, scan_line, used};
 pub use draws::{choices_of, draw, drawn_call, drawn_picks, fault_after, made};
@@ -30,7 +30,7 @@ pub use examples::names::{
     chain_of_directories, dead_second_link, entry_of_a_free_record, entry_of_another_generation,
     loop_of_directories, one_name_twice,
 };
-pub use images::{FAULTS, TestImage, Patch, VERSION_2, image_cells, patched, patched_empty};
+pub use images::{FAULTS, Patch, TestImage, VERSION_2, image_cells, patched, patched_empty};
 use nofs_disk::{Cell, Disk};
 use nofs_memdisk::MemDisk;
 use nofs_super::{SuperBlock, format, read_super};

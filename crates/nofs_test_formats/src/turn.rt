@@ -1,7 +1,7 @@
 //! Turns and passes on one thread and on several: who waits, who is refused, and what is handed back.
 
 ghost use Rattle.std.specs.Prelude.{◌≡◌, ◌+◌, ◌<◌, IfSome};
-ghost use Rattle.nofs_turn.specs.Turns.{IsPassOf};
+ghost use Rattle.nofs_turn.specs.Turn.{IsPassOf};
 
 use nofs_turn::{Busy, Kept, Pass, PassesOut, Section, Turn, TurnFault};
 use std::alloc::{AllocError, Global};
@@ -60,7 +60,7 @@ struct Tries<'a> {
 
 impl Section<Log> for Tries<'_> {
     ghost use Rattle.std.specs.Prelude.{◌≡◌};
-    ghost use Rattle.nofs_turn.specs.Turns.{IsPassOf};
+    ghost use Rattle.nofs_turn.specs.Turn.{IsPassOf};
 
     type Out = (Option<u64>, Pass<Log>);
 

@@ -5,8 +5,8 @@ use Rattle.std.specs.Option.{option_to_list}
 use Rattle.std.specs.declared.option.Option.{Option}
 use Rattle.std.specs.declared.option.Option.TheVariants.{Some}
 use Rattle.nofs_client.specs.declared.task.commands.Command.{Command}
-use Rattle.nofs_client.specs.Commands.{AreWellFormed}
-use Rattle.nofs_script.specs.Sessions.{IsSession}
+use Rattle.nofs_client.specs.Task.Commands.{AreWellFormed}
+use Rattle.nofs_script.specs.Session.{IsSession}
 
 last-formed : (rest : List (List Command)) (c : List Command) → AllByRecursion AreWellFormed (rest ++ c ∷ []) → AreWellFormed c
 last-formed [] c a = a.0

@@ -4,7 +4,7 @@
 //! Promise: each ends with a value or an error, so it is the test that judges.
 
 ghost use Rattle.std.specs.Prelude.{◌≡◌, ◌≤◌, ◌^◌, [], IfSome};
-ghost use Rattle.nofs_turn.specs.Turns.{view_of, IsPassOf};
+ghost use Rattle.nofs_turn.specs.Turn.{view_of, IsPassOf};
 
 use nofs_dirent::Content;
 use nofs_disk::Disk;

@@ -10,7 +10,11 @@ use std::test::Fail;
 const ROWS: [(TestImage, &str, &str); 19] = [
     (TestImage::StampThatDiffers, "get @ 0 3", "got lost:3\n"),
     (TestImage::TwoOwners, "get /a 0 1", "got lost:1\n"),
-    (TestImage::TwoOwnersTheOtherWay, "get /b 0 1", "got lost:1\n"),
+    (
+        TestImage::TwoOwnersTheOtherWay,
+        "get /b 0 1",
+        "got lost:1\n",
+    ),
     (TestImage::InodeMadeAgain, "get /a 0 1", "got lost:1\n"),
     (
         TestImage::DeadSecondLink,

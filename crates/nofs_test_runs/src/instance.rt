@@ -2,7 +2,7 @@
 
 ghost use Rattle.std.specs.Prelude.{IfOk};
 ghost use Rattle.nofs_memdisk.specs.Parts.{memory_state};
-ghost use Rattle.nofs_tool.specs.Whole.{IsMet};
+ghost use Rattle.nofs_tool.specs.Session.Whole.{IsMet};
 
 use crate::runs::run_on;
 use nofs_memdisk::MemDisk;

@@ -63,7 +63,12 @@ fn push_put(
 }
 
 // Makes a file and fills it to its greatest size.
-fn push_fill(alloc: Global, told: &mut SessionText, path: &str, first: u64) -> Result<(), AllocError>
+fn push_fill(
+    alloc: Global,
+    told: &mut SessionText,
+    path: &str,
+    first: u64,
+) -> Result<(), AllocError>
     requires { first ≤ 8192 }
 {
     told.push(format!(in alloc; "make {path}\n")?.as_str(), "made\n")?;

@@ -5,7 +5,9 @@ use crate::runs::run_on;
 use crate::stories::{SessionLine, Story, day_calls, stopped};
 use crate::walks::told_of;
 use nofs_memdisk::MemDisk;
-use nofs_test_disks::{TestImage, Patch, cells_of, disk_with, drawn_picks, image_cells, left, patched};
+use nofs_test_disks::{
+    Patch, TestImage, cells_of, disk_with, drawn_picks, image_cells, left, patched,
+};
 use std::alloc::{AllocError, Global};
 use std::sync::Wait;
 use std::test::Fail;

@@ -107,7 +107,11 @@ impl Walk<'_> {
     }
 
     // `pairs` has the names of the pairs before, in this directory.
-    fn tell_entry(&mut self, entry: PlacedEntry<'_>, pairs: &mut Vec<Vec<u8>>) -> Result<(), AllocError> {
+    fn tell_entry(
+        &mut self,
+        entry: PlacedEntry<'_>,
+        pairs: &mut Vec<Vec<u8>>,
+    ) -> Result<(), AllocError> {
         let name = name_in(entry.bytes);
         if !is_pair(self.cells, entry) {
             return self.push_name("dead", entry);

@@ -2,7 +2,7 @@
 ghost use Rattle.nofs_disk.specs.Tag.{HasTagSpelling};
 ghost use Rattle.nofs_sweep.specs.Orders.{EachHasPlace};
 ghost use Rattle.nofs_turn.specs.Passes.{MayRun};
-ghost use Rattle.nofs_turn.specs.Turns.{IsPassOf, view_of};
+ghost use Rattle.nofs_turn.specs.Turn.{IsPassOf, view_of};
 ghost use Rattle.std.specs.Prelude.{length, ℕ, ◌<◌, ◌^◌, ◌≡◌, ◌≤◌};
 
 use nofs_bits::Bits;

@@ -1,5 +1,5 @@
 //! Others who make steps: workers, salvages, frames and moves.
-ghost use Rattle.nofs_client.specs.Commands.{AreWellFormed, HasName};
+ghost use Rattle.nofs_client.specs.Task.Commands.{AreWellFormed, HasName};
 ghost use Rattle.std.specs.Fn.{FnReturnsAt};
 ghost use Rattle.std.specs.Prelude.{Bool, List, ℕ, ◌<◌, ◌^◌, ◌≡◌};
 

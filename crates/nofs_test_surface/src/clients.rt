@@ -1,6 +1,6 @@
 //! Clients with their commands and lines, sessions and their texts, and drawn scripts.
-ghost use Rattle.nofs_client.specs.Commands.{IsWellFormed};
-ghost use Rattle.nofs_client.specs.Drive.{AllAnswer, start_of};
+ghost use Rattle.nofs_client.specs.Task.Commands.{IsWellFormed};
+ghost use Rattle.nofs_client.specs.Progress.{AllAnswer, start_of};
 ghost use Rattle.std.specs.Prelude.{◌<◌, ◌≤◌};
 
 use nofs_client::{

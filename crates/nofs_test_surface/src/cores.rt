@@ -1,9 +1,9 @@
 //! The core: the device of a mount beside what is known of it.
-ghost use Rattle.nofs_agree.specs.Reading.{IsAt};
+ghost use Rattle.nofs_agree.specs.Reads.{IsAt};
 ghost use Rattle.nofs_disk.specs.Disk.{cell_at};
 ghost use Rattle.nofs_model.specs.Slots.{is_slot, path_of};
-ghost use Rattle.nofs_state.specs.Books.{IsRoom, IsSafe};
-ghost use Rattle.nofs_state.specs.Pointing.{spot_at};
+ghost use Rattle.nofs_state.specs.Books.Maps.{IsRoom, IsSafe};
+ghost use Rattle.nofs_state.specs.Writes.Pointers.{spot_at};
 ghost use Rattle.nofs_super.specs.Geometry.{IsGeometry};
 ghost use Rattle.std.specs.Prelude.{IsTrue, length, ◌<◌, ◌^◌, ◌≡◌, ◌≤◌};
 

@@ -1,5 +1,5 @@
 //! What an image means, the checks on a device, and the history.
-ghost use Rattle.nofs_agree.specs.Reading.{IsAt};
+ghost use Rattle.nofs_agree.specs.Reads.{IsAt};
 ghost use Rattle.nofs_model.specs.Geometry as image;
 ghost use Rattle.nofs_model.specs.Geometry.{IsMountable};
 ghost use Rattle.nofs_model.specs.Slots as slots;

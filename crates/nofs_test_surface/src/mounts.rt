@@ -1,5 +1,5 @@
 //! The mount, alone and shared, the upgrade between two mounts, and the call of the program.
-ghost use Rattle.nofs_turn.specs.Turns.{IsPassOf, view_of};
+ghost use Rattle.nofs_turn.specs.Turn.{IsPassOf, view_of};
 ghost use Rattle.std.specs.Prelude.{[], ◌<◌, ◌^◌, ◌≡◌, ◌≤◌};
 
 use nofs_disk::{Disk, OutFault};

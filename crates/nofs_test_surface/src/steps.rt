@@ -1,7 +1,7 @@
 //! The steps on a core: on files, on names, and on elements.
-ghost use Rattle.nofs_scan.specs.Late.{MayCommit};
-ghost use Rattle.nofs_scan.specs.Looking.{IsBatch};
-ghost use Rattle.nofs_state.specs.Books.{IsSafe};
+ghost use Rattle.nofs_scan.specs.Steps.Commits.{MayCommit};
+ghost use Rattle.nofs_scan.specs.Steps.Looks.{IsBatch};
+ghost use Rattle.nofs_state.specs.Books.Maps.{IsSafe};
 ghost use Rattle.std.specs.Prelude.{length, ◌<◌};
 
 use nofs_dirent::Name;

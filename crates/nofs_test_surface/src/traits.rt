@@ -1,6 +1,6 @@
 //! The traits: each method is called through the bound, with what it asks.
 ghost use Rattle.std.specs.Prelude.{◌≡◌, ℕ, ◌<◌, ◌≤◌, Bool, List, length};
-ghost use Rattle.nofs_workers.specs.Sweeps.{AreInRange};
+ghost use Rattle.nofs_workers.specs.Sweep.{AreInRange};
 
 use nofs_disk::{Cell, Disk, Failed, OutFault};
 use nofs_history::{ElementKind, Refusal, Reply, Step, Steps};

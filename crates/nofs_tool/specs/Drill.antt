@@ -25,10 +25,10 @@ use Rattle.nofs_gen.specs.Script.{digit, script_of}
 use Rattle.nofs_gen.specs.Replay.{replay_of, slot_value}
 use Rattle.nofs_io.specs.Calls.{SinkState}
 use Rattle.nofs_io.specs.Texts.{AppendsAll}
-use Rattle.nofs_shared.specs.Added.{AddsStep}
-use Rattle.nofs_serve.specs.Served.{TeamMade}
-use Rattle.nofs_tool.specs.Entries.{has_fault, session_lines}
-use Rattle.nofs_tool.specs.declared.reads.FileRead.{FileRead}
+use Rattle.nofs_shared.specs.Mount.Entries.{AddsStep}
+use Rattle.nofs_serve.specs.Session.{TeamMade}
+use Rattle.nofs_tool.specs.Session.Entries.{has_fault, session_lines}
+use Rattle.nofs_tool.specs.declared.drill.reads.FileRead.{FileRead}
 
 -- the scripts of the four users
 abbrev pub drill_session : ℕ → ℕ → List (List Command)

@@ -2,9 +2,9 @@
 use Rattle.std.specs.Prelude.{◌≡◌, ℕ, ◌+◌, ◌*◌, ◌^◌, ◌<◌, ◌≤◌, List, [], ◌∷◌, ◌++◌, length, drop, Option, Some}
 use mathlib.Core.List.{IsPrefix}
 use Rattle.atomic_table.specs.Table.{Me}
-use Rattle.nofs_turn.specs.declared.turn_rule.view.View.{View}
+use Rattle.nofs_turn.specs.declared.rule.view.View.{View}
 use Rattle.nofs_turn.specs.Lists.{numbered}
-use Rattle.nofs_turn.specs.Views.{gave}
+use Rattle.nofs_turn.specs.Rule.Views.{gave}
 
 -- A section ran once between the views v and w, and answered out. It met the list `before` and left `after`
 pub record Ran {E F Out : Type 0} (tells : F → List E → List E → Out → Type 0) (v w : View E F) (out : Out) : Type 0 where

@@ -16,10 +16,10 @@
 ghost use Rattle.std.specs.Prelude.{◌≡◌, ℕ, ◌+◌, ◌*◌, ◌/◌, ◌%◌, ◌<◌, ◌≤◌, true, false, [], ◌∷◌, length, Some, IfOk, IfErr, OnErr};
 ghost use mathlib.Core.List.{IsPrefix};
 
+use crate::rule::kept::{Kept, Section};
+use crate::rule::steps::{Give, Look, Settle, Take, Unite};
+use crate::rule::view::View;
 use crate::turn::{Busy, Pass, PassesOut, Turn};
-use crate::turn_rule::kept::{Kept, Section};
-use crate::turn_rule::rule::{Give, Look, Settle, Take, Unite};
-use crate::turn_rule::view::View;
 use atomic_table::Seat;
 use std::hint::spin_loop;
 use std::sync::Wait;
@@ -35,10 +35,10 @@ const LOOKS: u32 = 50;
 const NAP: u64 = 1;
 
 impl<V: Kept> Turn<V> {
-    ghost use Rattle.nofs_turn.specs.Views.{looked, joined};
+    ghost use Rattle.nofs_turn.specs.Rule.Views.{looked, joined};
     ghost use Rattle.nofs_turn.specs.Passes.{Ran, RanOnce, Carries, HasRun, MayRun, Closes, Waited};
-    ghost use Rattle.nofs_turn.specs.Rules.{TakesFree, TakesBusy};
-    ghost use Rattle.nofs_turn.specs.Turns.{view_of, IsPassOf};
+    ghost use Rattle.nofs_turn.specs.Rule.Steps.{TakesFree, TakesBusy};
+    ghost use Rattle.nofs_turn.specs.Turn.{view_of, IsPassOf};
     ghost use Rattle.nofs_turn.specs.Lists.{rises};
 
     /// The number of entries, at least as many as the pass had seen. It makes one look, waits for nobody and takes

@@ -3,18 +3,18 @@
 //! Promise: all memory is taken before the value is given up, so a refusal hands it back unchanged.
 ghost use Rattle.std.specs.Prelude.{◌≡◌, ◌-◌, ◌*◌, ◌<◌, ◌≤◌, All, [], vec_len, vec_capacity, Some, IfOk, IfErr};
 
+use crate::rule::kept::Kept;
+use crate::rule::steps::Deal;
+use crate::rule::view::{Opening, View};
 use crate::turn::{Pass, Turn, TurnFault};
-use crate::turn_rule::kept::Kept;
-use crate::turn_rule::rule::Deal;
-use crate::turn_rule::view::{Opening, View};
 use atomic_table::{Refused, Seat, Table};
 use std::alloc::Global;
 use std::snapshot::Snapshot;
 use std::sync::atomic::AtomicU64;
 
 impl<V: Kept> Turn<V> {
-    ghost use Rattle.nofs_turn.specs.Views.{maker, newcomer, Deals};
-    ghost use Rattle.nofs_turn.specs.Turns.{view_of, IsPassOf, IsFreshPass, made_over};
+    ghost use Rattle.nofs_turn.specs.Rule.Views.{maker, newcomer, Deals};
+    ghost use Rattle.nofs_turn.specs.Turn.{view_of, IsPassOf, IsFreshPass, made_over};
 
     /// A turn over the value, and as many passes as there are seats, 1 to 64. Each pass has seen the value's
     /// list, has no entries of its own, and stands for itself alone. Refused for want of memory alone; the value

@@ -18,9 +18,9 @@
 ghost use Rattle.std.specs.Prelude.{◌≡◌, ◌<◌, ◌≤◌, false, true, []};
 ghost use Rattle.nofs_turn.specs.Lists.{rises};
 
-use crate::turn_rule::kept::Kept;
-use crate::turn_rule::rule::Counted;
-use crate::turn_rule::view::{Opening, View};
+use crate::rule::kept::Kept;
+use crate::rule::steps::Counted;
+use crate::rule::view::{Opening, View};
 use atomic_table::{Seat, Table};
 use std::alloc::Global;
 use std::sync::atomic::AtomicU64;

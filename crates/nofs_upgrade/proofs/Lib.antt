@@ -1,3 +1,3 @@
-pub mod Seconds
-pub mod Found
-pub mod Between
+pub mod OnSecond
+pub mod OnUpgrading
+pub mod OnLaws

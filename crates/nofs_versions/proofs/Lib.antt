@@ -1,5 +1,2 @@
-pub mod Calls
-pub mod Held
-pub mod Leaves
-pub mod Sized
-pub mod Versions
+pub mod OnMemory
+pub mod OnSearch

@@ -1,9 +1,2 @@
-pub mod Fields
-pub mod Spelling
-pub mod Reading
-pub mod Framing
-pub mod Taking
-pub mod Splitting
-pub mod Answering
-pub mod Along
-pub mod Turning
+pub mod OnFrames
+pub mod OnServer

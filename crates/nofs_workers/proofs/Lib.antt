@@ -1,5 +1,5 @@
-pub mod Sweeping
-pub mod Outcomes
-pub mod Writing
-pub mod Filling
-pub mod Scripts
+pub mod OnSweep
+pub mod OnTasks
+pub mod OnFlusher
+pub mod OnBatches
+pub mod OnUser

@@ -1,3 +1,3 @@
-pub mod Sweeps
-pub mod Users
-pub mod WritesOut
+pub mod Sweep
+pub mod User
+pub mod Flusher

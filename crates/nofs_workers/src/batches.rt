@@ -4,7 +4,7 @@
 //! commit is one step.
 ghost use Rattle.std.specs.Prelude.{◌≡◌, ◌<◌, ◌≤◌, length, IfOk, get_or};
 ghost use Rattle.nofs_history.specs.Steps.{Fits, with_made};
-ghost use Rattle.nofs_workers.specs.Sweeps.{Looked, AreInRange, see_of};
+ghost use Rattle.nofs_workers.specs.Sweep.{Looked, AreInRange, see_of};
 
 use nofs_history::{ElementKind, Refusal, Reply, Steps};
 

@@ -5,7 +5,7 @@
 ghost use Rattle.std.specs.Prelude.{◌≡◌, ℕ, Option};
 ghost use Rattle.std.specs.declared.result.Result.{Result};
 ghost use Rattle.nofs_disk.specs.declared.OutFault.{OutFault};
-ghost use Rattle.nofs_workers.specs.WritesOut.{WroteOut, Flushes};
+ghost use Rattle.nofs_workers.specs.Flusher.{WroteOut, Flushes};
 
 use crate::gate::Gate;
 use nofs_disk::OutFault;

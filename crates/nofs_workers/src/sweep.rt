@@ -4,7 +4,8 @@
 ghost use Rattle.std.specs.Prelude.{◌≡◌, ◌+◌, ◌-◌, ◌^◌, ◌<◌, ◌≤◌, length, false};
 ghost use Rattle.nofs_history.specs.Steps.{is_out_of_memory};
 ghost use Rattle.nofs_history.specs.declared.machine.steps.ElementKind.TheVariants.{Inode};
-ghost use Rattle.nofs_workers.specs.Sweeps.{AreInRange, AreOrdered, MakesFirst, Sweeps, element_number as number_in, see_of as step_to_see};
+ghost use Rattle.nofs_workers.specs.Sweep.{AreInRange, AreOrdered, MakesFirst, Sweeps, element_number as number_in};
+ghost use Rattle.nofs_workers.specs.Sweep.{see_of as step_to_see};
 
 use crate::batches::Batches;
 use crate::course::Course;

@@ -3,7 +3,7 @@
 //! Promise: one step for each place of the order, in order; fewer only where memory was wanting.
 ghost use Rattle.std.specs.Prelude.{◌≡◌, ◌^◌, ◌<◌, false};
 ghost use Rattle.nofs_history.specs.declared.machine.steps.ElementKind.TheVariants.{Inode, Block};
-ghost use Rattle.nofs_workers.specs.Sweeps.{Sweeps};
+ghost use Rattle.nofs_workers.specs.Sweep.{Sweeps};
 
 use crate::batches::Batches;
 use crate::course::Course;

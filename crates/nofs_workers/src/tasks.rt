@@ -1,6 +1,6 @@
 //! What workers are given to do, with the facts that their work rests on.
 ghost use Rattle.std.specs.Prelude.{◌≡◌, ◌^◌, ◌<◌};
-ghost use Rattle.nofs_client.specs.Commands.{AreWellFormed};
+ghost use Rattle.nofs_client.specs.Task.Commands.{AreWellFormed};
 
 use crate::course::Course;
 use nofs_client::CommandList;

@@ -2,8 +2,8 @@
 //!
 //! Promise: its steps are just those that its commands ask for, in order, and its lines are theirs.
 ghost use Rattle.std.specs.Prelude.{◌≡◌, false, []};
-ghost use Rattle.nofs_client.specs.Commands.{AreWellFormed};
-ghost use Rattle.nofs_workers.specs.Users.{steps_in, WorkedAsUser};
+ghost use Rattle.nofs_client.specs.Task.Commands.{AreWellFormed};
+ghost use Rattle.nofs_workers.specs.User.{steps_in, WorkedAsUser};
 
 use crate::gate::{Gate, Gated};
 use crate::tasks::Script;

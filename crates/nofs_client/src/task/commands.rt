@@ -1,7 +1,7 @@
 //! The commands of a session, each with the path or the two paths that it names.
 
 ghost use Rattle.std.specs.Prelude.{◌≡◌, ◌↔◌, IsTrue};
-ghost use Rattle.nofs_client.specs.Commands.{HasName, IsWellFormed, has_last_name};
+ghost use Rattle.nofs_client.specs.Task.Commands.{HasName, IsWellFormed, has_last_name};
 
 use nofs_dirent::{Content, ListOf, Name, PathNames};
 

@@ -1,8 +1,9 @@
 //! Which names a command looks up, and where it begins.
 ghost use Rattle.std.specs.Prelude.{◌≡◌, length, IfOk};
-ghost use Rattle.nofs_client.specs.Commands.{names_of};
-ghost use Rattle.nofs_client.specs.Places.{first_handle as begins_at, command_path as path_in, new_path_of as new_path_in, name_at as name_in};
-ghost use Rattle.nofs_client.specs.Places.{last_name as last_in, looks, new_looks};
+ghost use Rattle.nofs_client.specs.Task.Commands.{names_of};
+ghost use Rattle.nofs_client.specs.Task.Places.{first_handle as begins_at, command_path as path_in};
+ghost use Rattle.nofs_client.specs.Task.Places.{new_path_of as new_path_in, name_at as name_in};
+ghost use Rattle.nofs_client.specs.Task.Places.{last_name as last_in, looks, new_looks};
 
 use crate::task::commands::{Command, Path};
 use nofs_dirent::Name;

@@ -1,12 +1,12 @@
 //! The next step of a command, as if there were always room.
 ghost use Rattle.std.specs.Prelude.{◌≡◌, ◌+◌, ◌-◌, ◌/◌, ◌%◌, ◌<◌, IfOk, List};
-ghost use Rattle.nofs_client.specs.Task.{IsActing, IsPutting, TaskStands};
-ghost use Rattle.nofs_client.specs.Asks.{IsAsked, look_in, act_of, stage_step, put_slot_step};
-ghost use Rattle.nofs_client.specs.Asks.{task_asks};
+ghost use Rattle.nofs_client.specs.Task.State.{IsActing, IsPutting, TaskStands};
+ghost use Rattle.nofs_client.specs.Task.Steps.{IsAsked, look_in, act_of, stage_step, put_slot_step};
+ghost use Rattle.nofs_client.specs.Task.Steps.{task_asks};
 
 use crate::task::commands::Command;
 use crate::task::places::{Handle, Location, last_name, name_at, new_path_of, path_of};
-use crate::task::task::{Stage, Task};
+use crate::task::state::{Stage, Task};
 use nofs_dirent::{Content, Name};
 use nofs_history::Step;
 use nofs_inode::inode::FileKind;

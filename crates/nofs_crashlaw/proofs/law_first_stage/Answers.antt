@@ -1,4 +1,4 @@
-use Rattle.nofs_crashlaw.proofs.FirstStage.{law-first-stage}
+use Rattle.nofs_crashlaw.proofs.OnHistories.FirstStage.{law-first-stage}
 use Rattle.nofs_crashlaw.proofs.law_first_stage.Goals as goal
 
 pub returns : goal.returns

@@ -1,4 +1,4 @@
-use Rattle.nofs_crashlaw.proofs.FlushStage.{law-flush-stage}
+use Rattle.nofs_crashlaw.proofs.OnHistories.FlushStage.{law-flush-stage}
 use Rattle.nofs_crashlaw.proofs.law_flush_stage.Goals as goal
 
 pub returns : goal.returns

@@ -1,4 +1,4 @@
-use Rattle.nofs_crashlaw.proofs.Later.{law-later}
+use Rattle.nofs_crashlaw.proofs.OnHistories.Later.{law-later}
 use Rattle.nofs_crashlaw.proofs.law_later.Goals as goal
 
 pub returns : goal.returns

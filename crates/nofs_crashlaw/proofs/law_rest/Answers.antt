@@ -1,4 +1,4 @@
-use Rattle.nofs_crashlaw.proofs.Resting.{law-rest}
+use Rattle.nofs_crashlaw.proofs.OnHistories.Resting.{law-rest}
 use Rattle.nofs_crashlaw.proofs.law_rest.Goals as goal
 
 pub returns : goal.returns

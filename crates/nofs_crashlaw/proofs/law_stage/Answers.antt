@@ -1,4 +1,4 @@
-use Rattle.nofs_crashlaw.proofs.Staging.{law-lasts, law-stage, law-idle-stage, law-tracked}
+use Rattle.nofs_crashlaw.proofs.OnHistories.Stages.{law-lasts, law-stage, law-idle-stage, law-tracked}
 use Rattle.nofs_crashlaw.proofs.law_stage.Goals as goal
 
 pub returns : goal.returns

@@ -1,4 +1,4 @@
-use Rattle.nofs_crashlaw.proofs.Histories.{law-steady}
+use Rattle.nofs_crashlaw.proofs.OnHistories.Entries.{law-steady}
 use Rattle.nofs_crashlaw.proofs.law_steady.Goals as goal
 
 pub returns : goal.returns

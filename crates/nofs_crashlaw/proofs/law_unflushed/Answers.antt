@@ -1,4 +1,4 @@
-use Rattle.nofs_crashlaw.proofs.Unflushed.{law-unflushed}
+use Rattle.nofs_crashlaw.proofs.OnHistories.Unflushed.{law-unflushed}
 use Rattle.nofs_crashlaw.proofs.law_unflushed.Goals as goal
 
 pub returns : goal.returns

@@ -9,8 +9,8 @@ use Rattle.std.proofs.lemmas.Option.{slice_get_past}
 use Rattle.std.proofs.lemmas.Bool.{cases_lt, lt-leb}
 use Rattle.std.proofs.lemmas.Bool.Decides.{nat_tests}
 use Rattle.nofs_ptrs.specs.Paths.{slot_limit}
-use Rattle.nofs_model.proofs.Paths.{path-leaf, path-far}
-use Rattle.nofs_model.proofs.Find.{and-both, find-held}
+use Rattle.nofs_model.proofs.OnSlots.Paths.{path-leaf, path-far}
+use Rattle.nofs_model.proofs.OnSlots.Find.{and-both, find-held}
 use Rattle.nofs_model.specs.Cells.{FileKind, null}
 use Rattle.nofs_model.specs.Geometry.{inodes_of, blocks_of, first_data, IsMountable, IsSized, cell_at}
 use Rattle.nofs_model.specs.Image.{Image, inode, is_inode, file_from, files_in, agreed, value, value_in as value_found, Path, Under, path_of, find}

@@ -2,10 +2,11 @@
 //!
 //! Promise: a call is Ok exactly where some side succeeded, and each one that failed is counted.
 ghost use Rattle.std.specs.Prelude.{◌≡◌, ◌+◌, ◌*◌, ◌^◌, ◌<◌, ◌≤◌, ◌∷◌, [], length, is_ok, true, IsFalse, IsTrue};
-ghost use Rattle.nofs_mirror.specs.Asking.{any_done, answered_call, counted, counted_if, flush_effect, sides_after};
-ghost use Rattle.nofs_mirror.specs.Past.{mirror_calls};
+ghost use Rattle.nofs_mirror.specs.Sides.Calls.{any_done, answered_call, counted, counted_if, flush_effect};
+ghost use Rattle.nofs_mirror.specs.Sides.Calls.{sides_after};
+ghost use Rattle.nofs_mirror.specs.Sides.Past.{mirror_calls};
 
-use crate::sides::asking::{SideAnswer, SideCall, any_done, lead_stays, other_stays};
+use crate::sides::calls::{SideAnswer, SideCall, any_done, lead_stays, other_stays};
 use crate::sides::past::{Effect, MirrorCall, MirroredPast, Span};
 use nofs_disk::Failed;
 use std::mem;

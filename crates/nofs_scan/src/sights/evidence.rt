@@ -2,8 +2,8 @@
 //!
 //! Promise: each verdict is that of the disk as it was then, and is computed from what was read.
 ghost use Rattle.std.specs.Prelude.{◌≡◌, ◌<◌, length, All};
-ghost use Rattle.nofs_state.specs.Books.{IsSafe};
-ghost use Rattle.nofs_scan.specs.Elements.{IsRight, verdict_at};
+ghost use Rattle.nofs_state.specs.Books.Maps.{IsSafe};
+ghost use Rattle.nofs_scan.specs.Steps.Elements.{IsRight, verdict_at};
 
 use crate::sights::sights::Sight;
 use nofs_dirent::ListOf;
@@ -30,7 +30,7 @@ pub struct Verdicts {
 impl Model for Verdicts {
     ghost use Rattle.std.specs.Prelude.{List, map};
     ghost use Rattle.nofs_scan.specs.declared.sights.evidence.Verdict.{Verdict};
-    ghost use Rattle.nofs_scan.specs.Sights.{verdict_by};
+    ghost use Rattle.nofs_scan.specs.Sights.Verdicts.{verdict_by};
 
     ghost Value = { List Verdict };
 

@@ -2,15 +2,15 @@
 //!
 //! Promise: the joined pass has of each caller the steps that its worker made, and of no other caller any.
 ghost use Rattle.std.specs.Prelude.{◌≡◌, ℕ, ◌+◌, ◌≤◌, ◌||◌, List, [], All, length, vec_len, vec_capacity};
-ghost use Rattle.nofs_turn.specs.declared.turn_rule.view.View.{View};
-ghost use Rattle.nofs_turn.specs.Turns.{view_of, IsPassOf};
+ghost use Rattle.nofs_turn.specs.declared.rule.view.View.{View};
+ghost use Rattle.nofs_turn.specs.Turn.{view_of, IsPassOf};
 ghost use Rattle.nofs_history.specs.declared.machine.history.Entry1.{Entry1};
 ghost use Rattle.nofs_client.specs.declared.task.commands.Command.{Command};
-ghost use Rattle.nofs_shared.specs.Owned.{own_steps};
-ghost use Rattle.nofs_shared.specs.Seats.{SameSeat};
-ghost use Rattle.nofs_serve.specs.Joins.{JoinsOwn, Gathers, made_by};
-ghost use Rattle.nofs_serve.specs.Teams.{Stand, HasRun};
-ghost use Rattle.nofs_serve.specs.Served.{UsersGathered};
+ghost use Rattle.nofs_shared.specs.Passes.Entries.{own_steps};
+ghost use Rattle.nofs_shared.specs.Passes.Seats.{SameSeat};
+ghost use Rattle.nofs_serve.specs.Teams.Joins.{JoinsOwn, Gathers, made_by};
+ghost use Rattle.nofs_serve.specs.Teams.Users.{Stand, HasRun};
+ghost use Rattle.nofs_serve.specs.Session.{UsersGathered};
 
 use nofs_client::LineList;
 use nofs_shared::{Serves, SharedMount, SharedPass};

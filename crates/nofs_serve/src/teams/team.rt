@@ -3,12 +3,12 @@
 //! Promise: each worker has a caller of its own. Users are `FIRST_USER` and up, in their order; the sweeper of the inodes
 //! is `INODE_SWEEPER`, that of the blocks `BLOCK_SWEEPER`, and the flusher, which makes no step, `FLUSHER`.
 ghost use Rattle.std.specs.Prelude.{◌≡◌, ◌+◌, ◌<◌, ◌≤◌, ◌^◌, [], All, map, vec_len, vec_capacity};
-ghost use Rattle.nofs_turn.specs.declared.turn_rule.view.View.{View};
-ghost use Rattle.nofs_turn.specs.Turns.{view_of, IsPassOf};
+ghost use Rattle.nofs_turn.specs.declared.rule.view.View.{View};
+ghost use Rattle.nofs_turn.specs.Turn.{view_of, IsPassOf};
 ghost use Rattle.nofs_history.specs.declared.machine.history.Entry1.{Entry1};
-ghost use Rattle.nofs_client.specs.Commands.{AreWellFormed};
-ghost use Rattle.nofs_serve.specs.Teams.{Stand, IsReady};
-ghost use Rattle.nofs_serve.specs.Served.{TeamGathered};
+ghost use Rattle.nofs_client.specs.Task.Commands.{AreWellFormed};
+ghost use Rattle.nofs_serve.specs.Teams.Users.{Stand, IsReady};
+ghost use Rattle.nofs_serve.specs.Session.{TeamGathered};
 
 use crate::teams::gather::{Gathered, either, gather_users, join_way};
 use crate::teams::lend::work_team;

@@ -36,7 +36,7 @@ pub trait Visits {
 }
 
 impl<S: Steps, T: Gate> Works for UserWorker<S, T> {
-    ghost use Rattle.nofs_workers.specs.Users.{WorkedAsUser};
+    ghost use Rattle.nofs_workers.specs.User.{WorkedAsUser};
 
     ghost worked = { WorkedAsUser S.made S.goes };
 
@@ -46,7 +46,7 @@ impl<S: Steps, T: Gate> Works for UserWorker<S, T> {
 }
 
 impl<S: WritesOut, T: Gate> Works for Flusher<S, T> {
-    ghost use Rattle.nofs_workers.specs.WritesOut.{Flushes};
+    ghost use Rattle.nofs_workers.specs.Flusher.{Flushes};
 
     ghost worked = { Flushes S.made S.wrote S.goes };
 
@@ -58,7 +58,7 @@ impl<S: WritesOut, T: Gate> Works for Flusher<S, T> {
 impl<S: Batches, O: Course, T: Gate> Works for InodeSweeper<S, O, T> {
     ghost use Rattle.std.specs.Prelude.{◌≡◌};
     ghost use Rattle.nofs_history.specs.declared.machine.steps.ElementKind.TheVariants.{Inode};
-    ghost use Rattle.nofs_workers.specs.Sweeps.{Sweeps};
+    ghost use Rattle.nofs_workers.specs.Sweep.{Sweeps};
 
     ghost worked = { λ old new. (new.inodes ≡ old.inodes)
         × Sweeps (O.has_item old.inodes.order) Inode 0 (O.count_of old.inodes.order) new.out_of_memory (S.made old.steps) (S.made new.steps)
@@ -72,7 +72,7 @@ impl<S: Batches, O: Course, T: Gate> Works for InodeSweeper<S, O, T> {
 impl<S: Batches, O: Course, T: Gate> Works for BlockSweeper<S, O, T> {
     ghost use Rattle.std.specs.Prelude.{◌≡◌};
     ghost use Rattle.nofs_history.specs.declared.machine.steps.ElementKind.TheVariants.{Block};
-    ghost use Rattle.nofs_workers.specs.Sweeps.{Sweeps};
+    ghost use Rattle.nofs_workers.specs.Sweep.{Sweeps};
 
     ghost worked = { λ old new. (new.order ≡ old.order)
         × Sweeps (O.has_item old.order) Block 0 (O.count_of old.order) new.out_of_memory (S.made old.steps) (S.made new.steps)

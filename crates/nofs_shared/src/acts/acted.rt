@@ -6,15 +6,15 @@ ghost use Rattle.nofs_history.specs.declared.machine.replies.Reply.TheVariants a
 ghost use Rattle.nofs_history.specs.declared.machine.steps.Step.{Step};
 ghost use Rattle.nofs_history.specs.declared.machine.steps.Step.TheVariants as step;
 ghost use Rattle.nofs_inode.specs.declared.inode.FileKind.{FileKind};
-ghost use Rattle.nofs_files.specs.Answers.{flush_answer, got_answer, stat_answer};
-ghost use Rattle.nofs_files.specs.Putting.{put_answer};
-ghost use Rattle.nofs_files.specs.Resizing.{resize_answer};
-ghost use Rattle.nofs_names.specs.Dropping.{drop_answer};
-ghost use Rattle.nofs_names.specs.Listing.{HasListed, list_answer};
+ghost use Rattle.nofs_files.specs.Reads.{flush_answer, got_answer, stat_answer};
+ghost use Rattle.nofs_files.specs.Puts.{put_answer};
+ghost use Rattle.nofs_files.specs.Resizes.{resize_answer};
+ghost use Rattle.nofs_names.specs.Drops.Answers.{drop_answer};
+ghost use Rattle.nofs_names.specs.Lists.{HasListed, list_answer};
 ghost use Rattle.nofs_names.specs.Makes.{made_answer};
-ghost use Rattle.nofs_names.specs.Refusing.{look_answer};
-ghost use Rattle.nofs_names.specs.Renames.{done_answer};
-ghost use Rattle.nofs_scan.specs.Seen.{seen_answer};
+ghost use Rattle.nofs_names.specs.Searches.Refusals.{look_answer};
+ghost use Rattle.nofs_names.specs.Renames.Parts.{done_answer};
+ghost use Rattle.nofs_scan.specs.Steps.Sees.{seen_answer};
 
 use nofs_dirent::Content;
 use nofs_files::Got;

@@ -5,11 +5,11 @@ ghost use Rattle.nofs_history.specs.Steps.{Fits, is_out_of_memory};
 ghost use Rattle.nofs_history.specs.declared.machine.replies.Refusal.TheVariants as refusal;
 ghost use Rattle.nofs_history.specs.declared.machine.replies.Reply.TheVariants as reply;
 ghost use Rattle.nofs_history.specs.declared.machine.steps.Step.TheVariants as step;
-ghost use Rattle.nofs_state.specs.Books.{IsSafe};
-ghost use Rattle.nofs_state.specs.Steps.{Goes};
-ghost use Rattle.nofs_shared.specs.Contents.{reads_content};
-ghost use Rattle.nofs_shared.specs.Sees.{is_see};
-ghost use Rattle.nofs_shared.specs.Settling.{Settles};
+ghost use Rattle.nofs_state.specs.Books.Maps.{IsSafe};
+ghost use Rattle.nofs_state.specs.Cores.Steps.{Goes};
+ghost use Rattle.nofs_shared.specs.Acts.Contents.{reads_content};
+ghost use Rattle.nofs_shared.specs.Acts.Sees.{is_see};
+ghost use Rattle.nofs_shared.specs.Mount.Flushes.{Settles};
 
 use crate::acts::acted::{
     Acted, dropped, flushed, found, got, linked, listed, made, refused, renamed, resized, seen,

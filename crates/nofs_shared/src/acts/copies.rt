@@ -2,7 +2,7 @@
 ghost use Rattle.std.specs.Prelude.{◌≡◌, true, IfOk, OnErr};
 ghost use Rattle.nofs_history.specs.Steps.{Fits};
 ghost use Rattle.nofs_history.specs.declared.machine.steps.Step.{Step};
-ghost use Rattle.nofs_shared.specs.Contents.{reads_content};
+ghost use Rattle.nofs_shared.specs.Acts.Contents.{reads_content};
 
 use nofs_history::{NameLine, NameList, Reply};
 use std::alloc::{AllocError, Global};

@@ -1,6 +1,6 @@
 //! The memory for entries: some of it is kept for the sweeps.
 ghost use Rattle.std.specs.Prelude.{◌≡◌, ◌+◌, ◌-◌, ◌^◌, ◌<◌, ◌≤◌, true, false, Some, None, length, IfSome};
-ghost use Rattle.nofs_shared.specs.Sees.{is_of_sweep, is_see};
+ghost use Rattle.nofs_shared.specs.Acts.Sees.{is_of_sweep, is_see};
 
 use nofs_history::{BLOCK_SWEEPER, History, INODE_SWEEPER, Step};
 

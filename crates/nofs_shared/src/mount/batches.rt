@@ -2,15 +2,15 @@
 ghost use Rattle.std.specs.Prelude.{◌≡◌, ◌≤◌, ℕ, true, false, All, IfOk, IfErr, length};
 ghost use Rattle.nofs_disk.specs.Disk.{KeepsCells, StaysButFaults};
 ghost use Rattle.nofs_history.specs.Steps.{is_out_of_memory};
-ghost use Rattle.nofs_state.specs.Knowing.{with_agreement};
-ghost use Rattle.nofs_scan.specs.Elements.{HasElement, items_of, see_step, verdict_at};
-ghost use Rattle.nofs_shared.specs.Batches as batches;
-ghost use Rattle.nofs_shared.specs.Commits.{IsCommit, IsVerdict};
-ghost use Rattle.nofs_shared.specs.Earlier.{IsEarlier, IsOfBooks};
-ghost use Rattle.nofs_shared.specs.GoingOn.{BooksGoOn, CanStep};
-ghost use Rattle.nofs_shared.specs.Mounts.{IsMount};
-ghost use Rattle.nofs_shared.specs.Owned.{TellsStep};
-ghost use Rattle.nofs_shared.specs.Sees.{TakesKept};
+ghost use Rattle.nofs_state.specs.Books.Agreement.{with_agreement};
+ghost use Rattle.nofs_scan.specs.Steps.Elements.{HasElement, items_of, see_step, verdict_at};
+ghost use Rattle.nofs_shared.specs.Mount.Batches as batches;
+ghost use Rattle.nofs_shared.specs.Mount.Commits.{IsCommit, IsVerdict};
+ghost use Rattle.nofs_shared.specs.Mount.Earlier.{IsEarlier, IsOfBooks};
+ghost use Rattle.nofs_shared.specs.Mount.Books.{BooksGoOn, CanStep};
+ghost use Rattle.nofs_shared.specs.Mount.Invariant.{IsMount};
+ghost use Rattle.nofs_shared.specs.Passes.Entries.{TellsStep};
+ghost use Rattle.nofs_shared.specs.Acts.Sees.{TakesKept};
 
 use crate::acts::room::take_room;
 use crate::mount::mount::Mount;

@@ -1,5 +1,5 @@
 //! What a mount needs before it raises the mount number.
-ghost use Rattle.nofs_shared.specs.Begins.{Prepares};
+ghost use Rattle.nofs_shared.specs.Mount.Begin.{Prepares};
 
 use nofs_disk::Disk;
 use nofs_state::Room;

@@ -18,18 +18,18 @@
 //! - A write-out that failed is no step: the mount stays open.
 ghost use Rattle.std.specs.Prelude.{◌≡◌, ◌+◌, ◌^◌, ◌≤◌, false, [], length, IfOk, IfErr};
 ghost use Rattle.nofs_history.specs.World.{World};
-ghost use Rattle.nofs_state.specs.Books.{IsSafe, Says};
-ghost use Rattle.nofs_state.specs.WritingOut.{WroteOne};
-ghost use Rattle.nofs_scan.specs.Scanned.{AreExamined, IsFullScan};
-ghost use Rattle.nofs_state.specs.Counted as counted;
-ghost use Rattle.nofs_shared.specs.Added.{Unowned};
-ghost use Rattle.nofs_shared.specs.Begins as begins;
-ghost use Rattle.nofs_shared.specs.Ends.{Ends};
-ghost use Rattle.nofs_shared.specs.Mounts.{IsMount, IsSoundDisk};
-ghost use Rattle.nofs_shared.specs.Owned.{TellsStep};
-ghost use Rattle.nofs_shared.specs.Sees.{TakesKept};
-ghost use Rattle.nofs_shared.specs.Settling.{Settles};
-ghost use Rattle.nofs_shared.specs.StepCauses.{MeetsSound, StepCauses, StepOrder};
+ghost use Rattle.nofs_state.specs.Books.Maps.{IsSafe, Says};
+ghost use Rattle.nofs_state.specs.Cores.WriteOuts.{WroteOne};
+ghost use Rattle.nofs_scan.specs.Laws.{AreExamined, IsFullScan};
+ghost use Rattle.nofs_state.specs.Books.Counts as counted;
+ghost use Rattle.nofs_shared.specs.Mount.Entries.{Unowned};
+ghost use Rattle.nofs_shared.specs.Mount.Begin as begins;
+ghost use Rattle.nofs_shared.specs.Mount.End.{Ends};
+ghost use Rattle.nofs_shared.specs.Mount.Invariant.{IsMount, IsSoundDisk};
+ghost use Rattle.nofs_shared.specs.Passes.Entries.{TellsStep};
+ghost use Rattle.nofs_shared.specs.Acts.Sees.{TakesKept};
+ghost use Rattle.nofs_shared.specs.Mount.Flushes.{Settles};
+ghost use Rattle.nofs_shared.specs.Mount.Causes.{MeetsSound, StepCauses, StepOrder};
 
 use crate::acts::room::take_room;
 use crate::mount::begin::{Prepared, prepare};

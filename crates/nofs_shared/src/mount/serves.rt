@@ -5,7 +5,7 @@ ghost use Rattle.std.specs.Prelude.{◌≡◌, ◌++◌, ◌<◌, ◌≤◌, ℕ
 ghost use Rattle.nofs_history.specs.declared.machine.history.Entry1.{Entry1};
 ghost use Rattle.nofs_history.specs.declared.machine.steps.ElementKind.{ElementKind};
 ghost use Rattle.nofs_history.specs.declared.machine.replies.Reply.{Reply};
-ghost use Rattle.nofs_scan.specs.Elements.{see_step};
+ghost use Rattle.nofs_scan.specs.Steps.Elements.{see_step};
 
 use crate::mount::mount::Mount;
 use nofs_disk::{Disk, OutFault};
@@ -41,7 +41,7 @@ impl<D: Disk + Drop> Kept for Mount<D> {
 /// A value behind a turn at which callers make steps, one entry each, and whose elements are examined in batches. Its device keeps blocks back
 /// in a step alone, not in a look or a commit: so where a write-out found none, there is none until the next step.
 pub trait Serves: Kept<Entry = Entry1> + Drop {
-    ghost use Rattle.nofs_shared.specs.Owned.{TellsStep};
+    ghost use Rattle.nofs_shared.specs.Passes.Entries.{TellsStep};
 
     /// What was found of some elements.
     type Evidence: Drop;
@@ -109,9 +109,9 @@ pub trait Serves: Kept<Entry = Entry1> + Drop {
 }
 
 impl<D: Disk + Drop> Serves for Mount<D> {
-    ghost use Rattle.nofs_scan.specs.Elements.{items_of, verdict_at};
-    ghost use Rattle.nofs_shared.specs.Commits.{CommitsAt};
-    ghost use Rattle.nofs_shared.specs.Earlier.{IsEarlier, earlier-more};
+    ghost use Rattle.nofs_scan.specs.Steps.Elements.{items_of, verdict_at};
+    ghost use Rattle.nofs_shared.specs.Mount.Commits.{CommitsAt};
+    ghost use Rattle.nofs_shared.specs.Mount.Earlier.{IsEarlier, earlier-more};
 
     type Evidence = Evidence<D>;
 

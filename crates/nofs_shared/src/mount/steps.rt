@@ -1,14 +1,14 @@
 //! One step of a caller, and its entry.
 ghost use Rattle.std.specs.Prelude.{◌≡◌, ℕ, true, false};
 ghost use Rattle.nofs_history.specs.Steps.{is_out_of_memory};
-ghost use Rattle.nofs_state.specs.Steps.{MeetsOpen};
-ghost use Rattle.nofs_shared.specs.Added.{Unowned};
-ghost use Rattle.nofs_shared.specs.GoingOn.{BooksGoOn, CanStep};
-ghost use Rattle.nofs_shared.specs.Mounts.{IsMount, IsSoundDisk};
-ghost use Rattle.nofs_shared.specs.Owned.{TellsStep};
-ghost use Rattle.nofs_shared.specs.Sees.{is_see};
-ghost use Rattle.nofs_shared.specs.Settling.{Settles};
-ghost use Rattle.nofs_shared.specs.StepCauses.{StepCauses, StepOrder};
+ghost use Rattle.nofs_state.specs.Cores.Steps.{MeetsOpen};
+ghost use Rattle.nofs_shared.specs.Mount.Entries.{Unowned};
+ghost use Rattle.nofs_shared.specs.Mount.Books.{BooksGoOn, CanStep};
+ghost use Rattle.nofs_shared.specs.Mount.Invariant.{IsMount, IsSoundDisk};
+ghost use Rattle.nofs_shared.specs.Passes.Entries.{TellsStep};
+ghost use Rattle.nofs_shared.specs.Acts.Sees.{is_see};
+ghost use Rattle.nofs_shared.specs.Mount.Flushes.{Settles};
+ghost use Rattle.nofs_shared.specs.Mount.Causes.{StepCauses, StepOrder};
 
 use crate::acts::acted::Acted;
 use crate::acts::acts::act;

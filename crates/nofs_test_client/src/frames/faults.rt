@@ -3,7 +3,7 @@ ghost use Rattle.std.specs.Prelude.{◌<◌};
 
 use crate::frames::answer::WireReply;
 use crate::frames::served::{
-    Faults, GET_0, HOLE_REPLY, NO_FAULTS, STAT, STAT_REPLY, STOPPED_REPLY, FramesServed, expect,
+    Faults, FramesServed, GET_0, HOLE_REPLY, NO_FAULTS, STAT, STAT_REPLY, STOPPED_REPLY, expect,
     failing_reads, failing_writes, joined, serve_faulty, serve_stream,
 };
 use nofs_history::Refusal;
@@ -98,7 +98,11 @@ fn a_sink_without_room_has_the_first_bytes_of_a_reply(rt: HostRuntime) -> Result
 fn a_step_without_memory_ends_the_stream_unanswered(rt: HostRuntime) -> Result<(), Fail> {
     let alloc = rt.alloc();
     let stream = joined(alloc, &[GET_0, GET_0, GET_0])?;
-    let answers = [WireReply::Hole, WireReply::No(Refusal::OutOfMemory), WireReply::Hole];
+    let answers = [
+        WireReply::Hole,
+        WireReply::No(Refusal::OutOfMemory),
+        WireReply::Hole,
+    ];
     let served = serve_stream(alloc, &stream, 4096, &answers)?;
     let asked = joined(alloc, &[GET_0, GET_0])?;
     expect(&rt, &served, WireEnd::OutOfMemory, &asked, HOLE_REPLY, 2);

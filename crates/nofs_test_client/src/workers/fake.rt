@@ -1,7 +1,7 @@
 //! What a stand-in for a mount replies; it notes the elements that it is asked for.
 ghost use Rattle.std.specs.Prelude.{◌≡◌, ◌^◌, ◌<◌};
 ghost use Rattle.nofs_history.specs.declared.machine.steps.ElementKind.TheVariants.{Inode};
-ghost use Rattle.nofs_workers.specs.Sweeps.{AreInRange, see_of as step_to_see};
+ghost use Rattle.nofs_workers.specs.Sweep.{AreInRange, see_of as step_to_see};
 
 use crate::standin::mount::{Answers, Told};
 use nofs_disk::OutFault;

@@ -4,8 +4,8 @@
 ghost use Rattle.std.specs.Prelude.{◌≡◌, ◌<◌, ◌≤◌, ◌^◌, IfOk};
 ghost use Rattle.nofs_memdisk.specs.Parts.{memory_state};
 ghost use Rattle.nofs_super.specs.Geometry.{IsGeometry};
-ghost use Rattle.nofs_agree.specs.Reading.{IsAt};
-ghost use Rattle.nofs_state.specs.Books.{IsSafe};
+ghost use Rattle.nofs_agree.specs.Reads.{IsAt};
+ghost use Rattle.nofs_state.specs.Books.Maps.{IsSafe};
 
 use crate::bench::file_asks::{
     ask_flush, ask_get, ask_put, ask_resize, ask_see_block, ask_see_inode, ask_stat, free,

@@ -3,7 +3,7 @@
 //! Promise: each leaves a core as the next one needs it.
 ghost use Rattle.std.specs.Prelude.{◌≡◌};
 ghost use Rattle.nofs_memdisk.specs.Parts.{memory_state};
-ghost use Rattle.nofs_state.specs.Books.{IsSafe};
+ghost use Rattle.nofs_state.specs.Books.Maps.{IsSafe};
 
 use crate::bench::steps::{HandlePair, MemCore, StepAnswer, four_of, stored};
 use nofs_files::{Got, flush, get, put, resize, stat};

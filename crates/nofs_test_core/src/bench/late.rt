@@ -1,6 +1,6 @@
 //! A verdict of a bench that is committed after other steps.
 ghost use Rattle.std.specs.Prelude.{◌≡◌, true, IfSome};
-ghost use Rattle.nofs_scan.specs.Elements.{HasElement};
+ghost use Rattle.nofs_scan.specs.Steps.Elements.{HasElement};
 
 use crate::bench::asking::Bench;
 use crate::bench::steps::Ask;

@@ -3,7 +3,7 @@
 //! Promise: each leaves a core as the next one needs it.
 ghost use Rattle.std.specs.Prelude.{◌≡◌};
 ghost use Rattle.nofs_memdisk.specs.Parts.{memory_state};
-ghost use Rattle.nofs_state.specs.Books.{IsSafe};
+ghost use Rattle.nofs_state.specs.Books.Maps.{IsSafe};
 
 use crate::bench::file_asks::done;
 use crate::bench::steps::{HandlePair, MemCore, StepAnswer, names_of};
@@ -86,7 +86,10 @@ pub(crate) fn ask_rename(
     ensures safe { IsSafe (memory_state core.new.disk) core.new.books }
     ensures at { core.new.books.at ≡ core.old.books.at }
 {
-    done(rename(alloc, core, on.0, on.1, old, new), StepAnswer::Renamed)
+    done(
+        rename(alloc, core, on.0, on.1, old, new),
+        StepAnswer::Renamed,
+    )
 }
 
 pub(crate) fn ask_list(core: &mut MemCore, alloc: Global, on: HandlePair, slot: u64) -> StepAnswer

@@ -122,6 +122,9 @@ fn made_and_moved<R: Wait>(rt: &R, alloc: Global) -> Result<([FileLine; 3], [Fil
 fn a_file_is_moved_through_a_pass(rt: HostRuntime) -> Result<(), Fail> {
     let (first, then) = made_and_moved(&rt, rt.alloc())?;
     assert_eq!(rt; first, [FileLine::Made, FileLine::Made, FileLine::Put(2)]);
-    assert_eq!(rt; then, [FileLine::Moved, FileLine::File(2, 1), FileLine::Other]);
+    assert_eq!(rt;
+        then,
+        [FileLine::Moved, FileLine::File(2, 1), FileLine::Other]
+    );
     Ok(())
 }

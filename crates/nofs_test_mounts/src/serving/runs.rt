@@ -1,7 +1,7 @@
 //! Runs of two users at a mount of a new disk of 64 blocks and 16 inodes.
 ghost use Rattle.std.specs.Prelude.{◌≤◌, All, IfOk, vec_len};
-ghost use Rattle.nofs_client.specs.Commands.{AreWellFormed};
-ghost use Rattle.nofs_script.specs.Sessions.{IsSession};
+ghost use Rattle.nofs_client.specs.Task.Commands.{AreWellFormed};
+ghost use Rattle.nofs_script.specs.Session.{IsSession};
 
 use nofs_client::{CommandList, LineList};
 use nofs_disk::Disk;
@@ -93,7 +93,10 @@ pub(crate) fn run_of<R: Threads + Wait + Sync, D: Disk + Drop + Send, T: Gate + 
     told_of(alloc, served)
 }
 
-fn told_of<D: Disk + Drop>(alloc: Global, served: Served<Mount<D>>) -> Result<RunOutput, AllocError> {
+fn told_of<D: Disk + Drop>(
+    alloc: Global,
+    served: Served<Mount<D>>,
+) -> Result<RunOutput, AllocError> {
     let text = text_of(alloc, &served.lines);
     let callers = callers_of(alloc, served.mount.history());
     match (text, callers) {

@@ -1,6 +1,6 @@
 //! A session of two threads on a formatted disk in memory.
 ghost use Rattle.std.specs.Prelude.{◌≡◌, []};
-ghost use Rattle.nofs_turn.specs.Turns.{view_of, IsPassOf};
+ghost use Rattle.nofs_turn.specs.Turn.{view_of, IsPassOf};
 
 use crate::mounts::{mounted, two_passes};
 use nofs_disk::Disk;

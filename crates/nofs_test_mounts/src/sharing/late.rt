@@ -1,7 +1,7 @@
 //! A verdict that a mount commits late: a block that was found free was claimed since, or was not.
 ghost use Rattle.std.specs.Prelude.{IfOk};
 ghost use Rattle.nofs_memdisk.specs.Parts.{memory_state};
-ghost use Rattle.nofs_shared.specs.Earlier.{IsEarlier};
+ghost use Rattle.nofs_shared.specs.Mount.Earlier.{IsEarlier};
 
 use crate::mounts::{full_below_24, is_stored, is_used, put, put_step, seen};
 use nofs_history::{ElementKind, Reply, Step};

@@ -1,5 +1,5 @@
 use Rattle.std.proofs.Common.{Ok, ap, ◌∙◌, arith}
-use Rattle.nofs_agree.proofs.Climbs.{passed-ends, passed-found, passed-goes}
+use Rattle.nofs_agree.proofs.OnChain.{passed-ends, passed-found, passed-goes}
 use Rattle.nofs_agree.proofs.chain.any_agreed_link.Goals as goal
 
 pub returns-then-branch : goal.returns-then-branch

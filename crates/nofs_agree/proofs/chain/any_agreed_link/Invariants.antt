@@ -1,4 +1,4 @@
-use Rattle.nofs_agree.proofs.Climbs.{Passed}
+use Rattle.nofs_agree.proofs.OnChain.{Passed}
 use Rattle.nofs_agree.proofs.chain.any_agreed_link.Given as goal
 
 abbrev pub invariant-loop-place : goal.invariant-loop-place

@@ -1,4 +1,4 @@
-use Rattle.nofs_agree.proofs.Climbs.{whole-links, whole-root, whole-special}
+use Rattle.nofs_agree.proofs.OnChain.{whole-links, whole-root, whole-special}
 use Rattle.nofs_agree.proofs.chain.check_chain.Goals as goal
 
 pub returns-then-is_root-clause-agreed : goal.returns-then-is_root-clause-agreed

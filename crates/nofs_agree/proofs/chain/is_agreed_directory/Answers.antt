@@ -1,5 +1,5 @@
 use Rattle.std.proofs.Common.{Ok, ap, ◌∙◌}
-use Rattle.nofs_agree.proofs.Climbs.{climb-goes, climb-none, climb-root, climb-special}
+use Rattle.nofs_agree.proofs.OnChain.{climb-goes, climb-none, climb-root, climb-special}
 use Rattle.nofs_agree.proofs.chain.is_agreed_directory.Goals as goal
 
 pub returns-then-is_root : goal.returns-then-is_root

@@ -1,4 +1,4 @@
-use Rattle.nofs_agree.proofs.Climbs.{Climbed}
+use Rattle.nofs_agree.proofs.OnChain.{Climbed}
 use Rattle.nofs_agree.proofs.chain.is_agreed_directory.Given as goal
 
 abbrev pub invariant-loop-agreed : goal.invariant-loop-agreed

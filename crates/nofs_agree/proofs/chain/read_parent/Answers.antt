@@ -1,5 +1,5 @@
 use Rattle.std.proofs.Common.{Ok, ap, ◌∙◌}
-use Rattle.nofs_agree.proofs.Climbs.{parent-none, parent-some}
+use Rattle.nofs_agree.proofs.OnChain.{parent-none, parent-some}
 use Rattle.nofs_agree.proofs.chain.read_parent.Goals as goal
 
 pub returns-in-None : goal.returns-in-None

@@ -1,5 +1,5 @@
 use Rattle.std.proofs.Common.{Ok, ap, ◌∙◌}
-use Rattle.nofs_agree.proofs.Learning.{keeps-ends, keeps-fails, keeps-goes, keeps-none}
+use Rattle.nofs_agree.proofs.OnKnown.{keeps-ends, keeps-fails, keeps-goes, keeps-none}
 use Rattle.nofs_agree.proofs.learn.keep_way.Goals as goal
 
 pub returns-then-is_root : goal.returns-then-is_root

@@ -1,4 +1,4 @@
-use Rattle.nofs_agree.proofs.Learning.{Keeps}
+use Rattle.nofs_agree.proofs.OnKnown.{Keeps}
 use Rattle.nofs_agree.proofs.learn.keep_way.Given as goal
 
 abbrev pub invariant-loop-here : goal.invariant-loop-here

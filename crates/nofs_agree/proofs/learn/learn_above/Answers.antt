@@ -1,4 +1,4 @@
-use Rattle.nofs_agree.proofs.Learning.{above-fails, above-goes}
+use Rattle.nofs_agree.proofs.OnKnown.{above-fails, above-goes}
 use Rattle.nofs_agree.proofs.learn.learn_above.Goals as goal
 
 pub returns-in_err-learn_link : goal.returns-in_err-learn_link

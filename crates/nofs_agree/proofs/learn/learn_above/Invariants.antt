@@ -1,4 +1,4 @@
-use Rattle.nofs_agree.proofs.Learning.{Above}
+use Rattle.nofs_agree.proofs.OnKnown.{Above}
 use Rattle.nofs_agree.proofs.learn.learn_above.Given as goal
 
 abbrev pub invariant-loop-place : goal.invariant-loop-place

@@ -1,4 +1,4 @@
-use Rattle.nofs_agree.proofs.Learning.{agreed-at-first, chain-learned}
+use Rattle.nofs_agree.proofs.OnKnown.{agreed-at-first, chain-learned}
 use Rattle.nofs_agree.proofs.learn.learn_chain.Goals as goal
 
 pub returns-clause-agreed : goal.returns-clause-agreed

@@ -1,5 +1,5 @@
 use Rattle.std.proofs.Common.{sym, ◌∙◌}
-use Rattle.nofs_agree.proofs.Links.{first-at, first-none}
+use Rattle.nofs_agree.proofs.OnPair.{first-at, first-none}
 use Rattle.nofs_agree.proofs.pair.first_link.Goals as goal
 
 pub returns-in-Some : goal.returns-in-Some

@@ -1,6 +1,6 @@
 use Rattle.std.proofs.Common.{◌≡◌, take, drop}
-use Rattle.nofs_client.specs.Task.{TaskStands}
-use Rattle.nofs_client.specs.Drive.{AllAnswer, progress}
+use Rattle.nofs_client.specs.Task.State.{TaskStands}
+use Rattle.nofs_client.specs.Progress.{AllAnswer, progress}
 use Rattle.nofs_client.proofs.driver.drive.Given as goal
 
 abbrev pub invariant-loop-reply : goal.invariant-loop-reply

@@ -1,5 +1,5 @@
-use Rattle.nofs_crashlaw.proofs.PutHeld.{law-put-held}
-use Rattle.nofs_crashlaw.proofs.PutLies.{law-put-files, law-put-homes}
+use Rattle.nofs_crashlaw.proofs.OnFiles.PutHeld.{law-put-held}
+use Rattle.nofs_crashlaw.proofs.OnFiles.Puts.{law-put-files, law-put-homes}
 use Rattle.nofs_crashlaw.proofs.files.law_put.Goals as goal
 
 pub returns : goal.returns

@@ -1,4 +1,4 @@
-use Rattle.nofs_crashlaw.proofs.Resizes.{law-resize-files, law-resize-homes, law-resize-holes}
+use Rattle.nofs_crashlaw.proofs.OnFiles.Resizes.{law-resize-files, law-resize-homes, law-resize-holes}
 use Rattle.nofs_crashlaw.proofs.files.law_resize.Goals as goal
 
 pub returns : goal.returns

@@ -1,4 +1,4 @@
-use Rattle.nofs_crashlaw.proofs.FileWrites.{law-content, law-pointer-block, law-record}
+use Rattle.nofs_crashlaw.proofs.OnFiles.Writes.{law-content, law-pointer-block, law-record}
 use Rattle.nofs_crashlaw.proofs.files.law_writes.Goals as goal
 
 pub returns : goal.returns

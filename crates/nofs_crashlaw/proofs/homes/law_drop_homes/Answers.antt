@@ -1,4 +1,4 @@
-use Rattle.nofs_crashlaw.proofs.OldHomes.{law-drop-name-homes, law-drop-file-homes}
+use Rattle.nofs_crashlaw.proofs.OnHomes.OldEntries.{law-drop-name-homes, law-drop-file-homes}
 use Rattle.nofs_crashlaw.proofs.homes.law_drop_homes.Goals as goal
 
 pub returns : goal.returns

@@ -1,4 +1,4 @@
-use Rattle.nofs_crashlaw.proofs.NewHomes.{law-link-in-place-homes, law-link-in-hole-homes}
+use Rattle.nofs_crashlaw.proofs.OnHomes.NewEntries.{law-link-in-place-homes, law-link-in-hole-homes}
 use Rattle.nofs_crashlaw.proofs.homes.law_link_homes.Goals as goal
 
 pub returns : goal.returns

@@ -1,4 +1,4 @@
-use Rattle.nofs_crashlaw.proofs.NewHomes.{law-make-in-place-homes, law-make-in-hole-homes}
+use Rattle.nofs_crashlaw.proofs.OnHomes.NewEntries.{law-make-in-place-homes, law-make-in-hole-homes}
 use Rattle.nofs_crashlaw.proofs.homes.law_make_homes.Goals as goal
 
 pub returns : goal.returns

@@ -1,4 +1,4 @@
-use Rattle.nofs_crashlaw.proofs.OldHomes.{law-rename-homes}
+use Rattle.nofs_crashlaw.proofs.OnHomes.OldEntries.{law-rename-homes}
 use Rattle.nofs_crashlaw.proofs.homes.law_rename_homes.Goals as goal
 
 pub returns : goal.returns

@@ -1,4 +1,4 @@
-use Rattle.nofs_crashlaw.proofs.Moments.{law-flush}
+use Rattle.nofs_crashlaw.proofs.OnImages.Moments.{law-flush}
 use Rattle.nofs_crashlaw.proofs.images.law_flush.Goals as goal
 
 pub returns : goal.returns

@@ -1,4 +1,4 @@
-use Rattle.nofs_crashlaw.proofs.Moments.{law-images}
+use Rattle.nofs_crashlaw.proofs.OnImages.Moments.{law-images}
 use Rattle.nofs_crashlaw.proofs.images.law_images.Goals as goal
 
 pub returns : goal.returns

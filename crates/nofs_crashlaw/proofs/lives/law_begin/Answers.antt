@@ -1,5 +1,5 @@
-use Rattle.nofs_crashlaw.proofs.Begin.{law-begin, law-upgraded}
-use Rattle.nofs_crashlaw.proofs.OnlySuper.{law-only-super}
+use Rattle.nofs_crashlaw.proofs.OnLives.Begin.{law-begin, law-upgraded}
+use Rattle.nofs_crashlaw.proofs.OnLives.OnlySuper.{law-only-super}
 use Rattle.nofs_crashlaw.proofs.lives.law_begin.Goals as goal
 
 pub returns : goal.returns

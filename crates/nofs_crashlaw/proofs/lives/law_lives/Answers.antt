@@ -1,6 +1,6 @@
-use Rattle.nofs_crashlaw.proofs.Values.{law-lives}
-use Rattle.nofs_crashlaw.proofs.LiveNumbers.{law-once}
-use Rattle.nofs_crashlaw.proofs.Begin.{law-given}
+use Rattle.nofs_crashlaw.proofs.OnLives.Values.{law-lives}
+use Rattle.nofs_crashlaw.proofs.OnLives.Numbers.{law-once}
+use Rattle.nofs_crashlaw.proofs.OnLives.Begin.{law-given}
 use Rattle.nofs_crashlaw.proofs.lives.law_lives.Goals as goal
 
 pub returns : goal.returns

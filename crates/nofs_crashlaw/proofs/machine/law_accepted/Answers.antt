@@ -1,4 +1,4 @@
-use Rattle.nofs_crashlaw.proofs.Era.{current-accepted}
+use Rattle.nofs_crashlaw.proofs.OnLives.Era.{current-accepted}
 use Rattle.nofs_crashlaw.proofs.machine.law_accepted.Goals as goal
 
 pub returns : goal.returns

@@ -1,4 +1,4 @@
-use Rattle.nofs_crashlaw.proofs.Shown.{all-shown, failed-read, failed-flush, given-to-slot}
+use Rattle.nofs_crashlaw.proofs.OnMachine.Examples.{all-shown, failed-read, failed-flush, given-to-slot}
 use Rattle.nofs_crashlaw.proofs.machine.law_examples.Goals as goal
 
 pub returns-clause-names : goal.returns-clause-names

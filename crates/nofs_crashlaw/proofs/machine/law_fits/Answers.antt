@@ -1,4 +1,4 @@
-use Rattle.nofs_crashlaw.proofs.Fitting.{law-fits}
+use Rattle.nofs_crashlaw.proofs.OnMachine.Fits.{law-fits}
 use Rattle.nofs_crashlaw.proofs.machine.law_fits.Goals as goal
 
 pub returns : goal.returns

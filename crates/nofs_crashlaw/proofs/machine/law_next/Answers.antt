@@ -1,5 +1,5 @@
-use Rattle.nofs_crashlaw.proofs.Total.{law-total}
-use Rattle.nofs_crashlaw.proofs.Function.{law-function}
+use Rattle.nofs_crashlaw.proofs.OnMachine.Total.{law-total}
+use Rattle.nofs_crashlaw.proofs.OnMachine.Function.{law-function}
 use Rattle.nofs_crashlaw.proofs.machine.law_next.Goals as goal
 
 pub returns-clause-total : goal.returns-clause-total

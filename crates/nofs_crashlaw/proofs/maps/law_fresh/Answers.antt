@@ -1,4 +1,4 @@
-use Rattle.nofs_crashlaw.proofs.Fresh.{law-fresh, law-old}
+use Rattle.nofs_crashlaw.proofs.OnMaps.Fresh.{law-fresh, law-old}
 use Rattle.nofs_crashlaw.proofs.maps.law_fresh.Goals as goal
 
 pub returns : goal.returns

@@ -1,5 +1,5 @@
-use Rattle.nofs_crashlaw.proofs.Good.{law-good-done, law-good-kept, law-claims}
-use Rattle.nofs_crashlaw.proofs.Next.{law-good-next}
+use Rattle.nofs_crashlaw.proofs.OnMaps.Good.{law-good-done, law-good-kept, law-claims}
+use Rattle.nofs_crashlaw.proofs.OnMaps.Next.{law-good-next}
 use Rattle.nofs_crashlaw.proofs.maps.law_good.Goals as goal
 
 pub returns : goal.returns

@@ -1,4 +1,4 @@
-use Rattle.nofs_crashlaw.proofs.MapHomes.{law-homes, law-good}
+use Rattle.nofs_crashlaw.proofs.OnMaps.Homes.{law-homes, law-good}
 use Rattle.nofs_crashlaw.proofs.maps.law_homes.Goals as goal
 
 pub returns : goal.returns

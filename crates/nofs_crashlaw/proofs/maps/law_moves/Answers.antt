@@ -1,4 +1,4 @@
-use Rattle.nofs_crashlaw.proofs.Moves.{law-move, law-grow, law-shrink, law-bare}
+use Rattle.nofs_crashlaw.proofs.OnMaps.Moves.{law-move, law-grow, law-shrink, law-bare}
 use Rattle.nofs_crashlaw.proofs.maps.law_moves.Goals as goal
 
 pub returns : goal.returns

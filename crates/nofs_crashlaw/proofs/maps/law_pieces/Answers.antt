@@ -1,4 +1,4 @@
-use Rattle.nofs_crashlaw.proofs.Pieces.{law-pick, law-pointers, law-entries, law-entry-numbers}
+use Rattle.nofs_crashlaw.proofs.OnMaps.Pieces.{law-pick, law-pointers, law-entries, law-entry-numbers}
 use Rattle.nofs_crashlaw.proofs.maps.law_pieces.Goals as goal
 
 pub returns : goal.returns

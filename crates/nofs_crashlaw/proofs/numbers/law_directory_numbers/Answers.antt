@@ -1,4 +1,4 @@
-use Rattle.nofs_crashlaw.proofs.WrittenCells.{law-directory-numbers}
+use Rattle.nofs_crashlaw.proofs.OnNumbers.Cells.{law-directory-numbers}
 use Rattle.nofs_crashlaw.proofs.numbers.law_directory_numbers.Goals as goal
 
 pub returns : goal.returns

@@ -1,5 +1,6 @@
-use Rattle.nofs_crashlaw.proofs.NameNumbers.{law-rename-numbers, law-drop-numbers}
-use Rattle.nofs_crashlaw.proofs.NewNumbers.{law-link-in-place-numbers, law-link-in-hole-numbers, law-make-in-place-numbers, law-make-in-hole-numbers}
+use Rattle.nofs_crashlaw.proofs.OnNumbers.OldEntries.{law-rename-numbers, law-drop-numbers}
+use Rattle.nofs_crashlaw.proofs.OnNumbers.NewEntries.{law-link-in-place-numbers, law-link-in-hole-numbers}
+use Rattle.nofs_crashlaw.proofs.OnNumbers.NewEntries.{law-make-in-place-numbers, law-make-in-hole-numbers}
 use Rattle.nofs_crashlaw.proofs.numbers.law_name_numbers.Goals as goal
 
 pub returns : goal.returns

@@ -1,4 +1,4 @@
-use Rattle.nofs_crashlaw.proofs.FileNumbers.{law-put-cells, law-put-record}
+use Rattle.nofs_crashlaw.proofs.OnNumbers.Files.{law-put-cells, law-put-record}
 use Rattle.nofs_crashlaw.proofs.numbers.law_put_numbers.Goals as goal
 
 pub returns : goal.returns

@@ -1,4 +1,4 @@
-use Rattle.nofs_crashlaw.proofs.FileNumbers.{law-resize-cells, law-resize-record}
+use Rattle.nofs_crashlaw.proofs.OnNumbers.Files.{law-resize-cells, law-resize-record}
 use Rattle.nofs_crashlaw.proofs.numbers.law_resize_numbers.Goals as goal
 
 pub returns : goal.returns

@@ -1,4 +1,4 @@
-use Rattle.nofs_crashlaw.proofs.WrittenTables.{law-table-numbers, law-table-moment}
+use Rattle.nofs_crashlaw.proofs.OnNumbers.Tables.{law-table-numbers, law-table-moment}
 use Rattle.nofs_crashlaw.proofs.numbers.law_table_numbers.Goals as goal
 
 pub returns : goal.returns

@@ -1,4 +1,4 @@
-use Rattle.nofs_crashlaw.proofs.Mounted.{law-mounted}
+use Rattle.nofs_crashlaw.proofs.OnRuns.Mounted.{law-mounted}
 use Rattle.nofs_crashlaw.proofs.runs.law_base.Goals as goal
 
 pub returns : goal.returns

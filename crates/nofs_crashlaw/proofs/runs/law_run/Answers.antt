@@ -1,4 +1,4 @@
-use Rattle.nofs_crashlaw.proofs.Keeps.{law-directory, law-rooted, law-pair}
+use Rattle.nofs_crashlaw.proofs.OnRuns.Keeps.{law-directory, law-rooted, law-pair}
 use Rattle.nofs_crashlaw.proofs.runs.law_run.Goals as goal
 
 pub returns : goal.returns

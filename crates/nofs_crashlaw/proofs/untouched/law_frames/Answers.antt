@@ -1,4 +1,4 @@
-use Rattle.nofs_crashlaw.proofs.FrameLaws.{law-untouched, law-grown}
+use Rattle.nofs_crashlaw.proofs.OnUntouched.Laws.{law-untouched, law-grown}
 use Rattle.nofs_crashlaw.proofs.untouched.law_frames.Goals as goal
 
 pub returns : goal.returns

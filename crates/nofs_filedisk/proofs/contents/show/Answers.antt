@@ -1,5 +1,5 @@
 use Rattle.std.proofs.Common.{◌+◌, ◌*◌, arith}
-use Rattle.nofs_filedisk.proofs.Runs.{mid, run-begins, run-ends, run-next}
+use Rattle.nofs_filedisk.proofs.OnRun.{mid, run-begins, run-ends, run-next}
 use Rattle.nofs_filedisk.proofs.contents.show.Goals as goal
 
 pub loop-place-init : goal.loop-place-init

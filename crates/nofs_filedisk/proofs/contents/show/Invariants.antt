@@ -1,8 +1,8 @@
 use Rattle.std.proofs.Common.{List, ℕ, ◌+◌, ◌*◌, ◌≤◌, take}
 use Rattle.std.specs.Prelude.{All}
 use Rattle.nofs_filedisk.specs.Bytes.{IsPut}
-use Rattle.nofs_filedisk.specs.Shown.{IsShown}
-use Rattle.nofs_filedisk.proofs.Runs.{mid}
+use Rattle.nofs_filedisk.specs.Windows.{IsShown}
+use Rattle.nofs_filedisk.proofs.OnRun.{mid}
 use Rattle.nofs_filedisk.proofs.contents.show.Given as goal
 
 abbrev pub invariant-loop-place : goal.invariant-loop-place

@@ -1,7 +1,7 @@
 use Rattle.std.proofs.Common.{◌∙◌, List, length, arith, subst, sym, ℕ}
 use Rattle.std.proofs.lemmas.Bool.{eqb-false}
 use Rattle.nofs_filedisk.specs.Bytes.{IsPut}
-use Rattle.nofs_filedisk.proofs.Putting.{put-over}
+use Rattle.nofs_filedisk.proofs.OnMoving.Bytes.{put-over}
 use Rattle.nofs_filedisk.proofs.memory.put_part.Goals as goal
 
 pub returns-clause-ok : goal.returns-clause-ok

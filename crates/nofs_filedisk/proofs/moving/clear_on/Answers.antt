@@ -1,7 +1,7 @@
 use Rattle.std.proofs.Common.{◌-◌, ◌∙◌, ap, arith, drop, length}
 use Rattle.std.proofs.lemmas.List.{length-drop, length-take-le}
 use Rattle.nofs_disk.specs.Number.{zeros}
-use Rattle.nofs_filedisk.proofs.Reading.{cleared}
+use Rattle.nofs_filedisk.proofs.OnMoving.Reads.{cleared}
 use Rattle.nofs_filedisk.proofs.moving.clear_on.Goals as goal
 
 pub returns-clause-zero : goal.returns-clause-zero

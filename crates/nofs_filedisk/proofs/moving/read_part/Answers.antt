@@ -1,5 +1,5 @@
 use Rattle.std.proofs.Common.{length}
-use Rattle.nofs_filedisk.proofs.Reading.{goes-on}
+use Rattle.nofs_filedisk.proofs.OnMoving.Reads.{goes-on}
 use Rattle.nofs_filedisk.proofs.moving.read_part.Goals as goal
 
 pub loop-done-preserved : goal.loop-done-preserved

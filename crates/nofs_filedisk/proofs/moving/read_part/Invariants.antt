@@ -1,5 +1,5 @@
 use Rattle.std.proofs.Common.{length, ◌-◌}
-use Rattle.nofs_filedisk.proofs.Reading.{HasRead}
+use Rattle.nofs_filedisk.proofs.OnMoving.Reads.{HasRead}
 use Rattle.nofs_filedisk.proofs.moving.read_part.Given as goal
 
 abbrev pub invariant-loop-done : goal.invariant-loop-done

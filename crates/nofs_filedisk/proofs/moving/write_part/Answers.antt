@@ -1,4 +1,4 @@
-use Rattle.nofs_filedisk.proofs.Writing.{fails, goes-on, on-err}
+use Rattle.nofs_filedisk.proofs.OnMoving.Writes.{fails, goes-on, on-err}
 use Rattle.nofs_filedisk.proofs.moving.write_part.Goals as goal
 
 pub returns-in_err-done-clause-err : goal.returns-in_err-done-clause-err

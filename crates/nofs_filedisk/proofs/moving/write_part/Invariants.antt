@@ -1,5 +1,5 @@
 use Rattle.std.proofs.Common.{length, ◌-◌}
-use Rattle.nofs_filedisk.proofs.Writing.{HasPut}
+use Rattle.nofs_filedisk.proofs.OnMoving.Writes.{HasPut}
 use Rattle.nofs_filedisk.proofs.moving.write_part.Given as goal
 
 abbrev pub invariant-loop-done : goal.invariant-loop-done

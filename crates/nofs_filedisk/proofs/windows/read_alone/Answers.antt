@@ -1,4 +1,4 @@
-use Rattle.nofs_filedisk.proofs.Showing.{cell-alone}
+use Rattle.nofs_filedisk.proofs.OnWindows.{cell-alone}
 use Rattle.nofs_filedisk.proofs.windows.read_alone.Goals as goal
 
 pub returns-clause-cell : goal.returns-clause-cell

@@ -1,5 +1,5 @@
 use Rattle.std.proofs.Common.{rules, ◌<◌, length}
-use Rattle.nofs_gen.proofs.Padding.{padded-push}
+use Rattle.nofs_gen.proofs.OnFile.{padded-push}
 use Rattle.nofs_gen.proofs.file.pad.Goals as goal
 
 pub loop-values-preserved : goal.loop-values-preserved

@@ -1,6 +1,6 @@
 use Rattle.std.proofs.Common.{sym}
 use Rattle.nofs_gen.specs.Replay.{replayed_file}
-use Rattle.nofs_gen.proofs.Passing.{is-there, pass-entry}
+use Rattle.nofs_gen.proofs.OnReplays.{is-there, pass-entry}
 use Rattle.nofs_gen.proofs.replays.after_place.Goals as goal
 
 pub returns-in-None : goal.returns-in-None

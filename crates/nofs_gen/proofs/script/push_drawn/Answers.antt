@@ -1,5 +1,5 @@
 use Rattle.std.proofs.Common.{rules, ◌<◌}
-use Rattle.nofs_gen.proofs.Drawing.{drawn-more}
+use Rattle.nofs_gen.proofs.OnScript.{drawn-more}
 use Rattle.nofs_gen.proofs.script.push_drawn.Goals as goal
 
 pub loop-at-preserved : goal.loop-at-preserved

@@ -1,4 +1,4 @@
-use Rattle.nofs_gen.proofs.Drawing.{script-formed}
+use Rattle.nofs_gen.proofs.OnScript.{script-formed}
 use Rattle.nofs_gen.proofs.script.script_of.Goals as goal
 
 pub returns-clause-formed : goal.returns-clause-formed

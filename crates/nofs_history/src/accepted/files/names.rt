@@ -152,7 +152,12 @@ impl FilesNow {
     }
 
     /// Whether an entry of a directory has this name.
-    fn has_name(&self, alloc: Global, name: &DirectoryName<'_>, entry: u32) -> Result<bool, AllocError>
+    fn has_name(
+        &self,
+        alloc: Global,
+        name: &DirectoryName<'_>,
+        entry: u32,
+    ) -> Result<bool, AllocError>
         ensures { IfOk result (λ has. has ≡ machine.entry_has_name (kept_files_of self.now) name.now.directory name.now.name.now entry) }
     {
         match self.entry_at(alloc, name.directory, entry)? {

@@ -126,7 +126,11 @@ impl FilesNow {
 
     /// Where a new entry of a name goes; `None` where the directory is full.
     #[tactic(auto, unfolding(crate::specs::Machine::place_for))]
-    pub fn place_for(&self, alloc: Global, name: &DirectoryName<'_>) -> Result<Option<u32>, AllocError>
+    pub fn place_for(
+        &self,
+        alloc: Global,
+        name: &DirectoryName<'_>,
+    ) -> Result<Option<u32>, AllocError>
         ensures range { IfOk result (λ place. IfSome place (λ e. e < entry_limit)) }
         ensures place { IfOk result (λ place. place ≡ machine.place_for (kept_files_of self.now) name.now.directory name.now.name.now) }
     {

@@ -1,4 +1,4 @@
-use Rattle.nofs_inode.specs.RecordLaws.{IfSome-one, IfSome-spelling}
+use Rattle.nofs_inode.specs.OtherRecords.{IfSome-one, IfSome-spelling}
 use Rattle.nofs_inode.proofs.inode.read_record.Goals as goal
 
 pub returns : goal.returns

@@ -1,4 +1,4 @@
-use Rattle.nofs_inode.specs.RecordLaws.{links-more}
+use Rattle.nofs_inode.specs.OtherRecords.{links-more}
 use Rattle.nofs_inode.proofs.inode.write_links.Goals as goal
 
 pub loop-j-preserved : goal.loop-j-preserved

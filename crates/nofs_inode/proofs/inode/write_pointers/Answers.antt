@@ -1,6 +1,6 @@
 use Rattle.std.proofs.Common.{◌+◌, ◌*◌, ◌<◌, arith}
 use Rattle.nofs_inode.specs.Beside.{SameBeside-pointer}
-use Rattle.nofs_inode.specs.RecordLaws.{direct_in-from, pointers-more}
+use Rattle.nofs_inode.specs.OtherRecords.{direct_in-from, pointers-more}
 use Rattle.nofs_inode.proofs.inode.write_pointers.Goals as goal
 
 pub loop-j-preserved : goal.loop-j-preserved

@@ -1,7 +1,8 @@
 use Rattle.std.proofs.Common.{◌≢◌, ℕ, ◌+◌, ◌*◌, ◌≤◌, ◌⊎◌, ◌∙◌, arith, inl, inr}
 use Rattle.std.proofs.lemmas.Bool.{cases_lt}
 use Rattle.nofs_inode.specs.Beside.{SameBeside, SameBeside-pointer, SameBeside-range, SameBeside-then, pointer_in-beside}
-use Rattle.nofs_inode.specs.RecordLaws.{HasNumbers-beside, direct_in-beside, links_in-beside, record_of-range, record_of-spells}
+use Rattle.nofs_inode.specs.OtherRecords.{HasNumbers-beside, direct_in-beside, links_in-beside, record_of-range}
+use Rattle.nofs_inode.specs.RecordLaws.{record_of-spells}
 use Rattle.nofs_inode.proofs.inode.write_record.Goals as goal
 
 apart : (i j : ℕ) → j ≢ i → (256 * j + 256 ≤ 256 * i) ⊎ (256 * i + 256 ≤ 256 * j)

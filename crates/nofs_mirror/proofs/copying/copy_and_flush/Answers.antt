@@ -1,4 +1,4 @@
-use Rattle.nofs_mirror.proofs.Copied.{copies_flush}
+use Rattle.nofs_mirror.proofs.OnCopying.{copies_flush}
 use Rattle.nofs_mirror.proofs.copying.copy_and_flush.Goals as goal
 
 pub returns-in-Ok-flush-clause-copies : goal.returns-in-Ok-flush-clause-copies

@@ -1,5 +1,5 @@
 use Rattle.std.proofs.Common.{arith}
-use Rattle.nofs_mirror.proofs.Copied.{Copies-trans, copied_more}
+use Rattle.nofs_mirror.proofs.OnCopying.{Copies-trans, copied_more}
 use Rattle.nofs_mirror.proofs.copying.copy_cells.Goals as goal
 
 pub returns-in-Err-clause-copies : goal.returns-in-Err-clause-copies

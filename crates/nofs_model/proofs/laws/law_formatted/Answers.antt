@@ -1,4 +1,4 @@
-use Rattle.nofs_model.proofs.Formatted.{formatted-law}
+use Rattle.nofs_model.proofs.OnSound.Formats.{formatted-law}
 use Rattle.nofs_model.proofs.laws.law_formatted.Goals as goal
 
 pub returns : goal.returns

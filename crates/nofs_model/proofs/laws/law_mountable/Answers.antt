@@ -1,4 +1,4 @@
-use Rattle.nofs_model.proofs.Sound.{mountable-law}
+use Rattle.nofs_model.proofs.OnSound.Writes.{mountable-law}
 use Rattle.nofs_model.proofs.laws.law_mountable.Goals as goal
 
 pub returns : goal.returns

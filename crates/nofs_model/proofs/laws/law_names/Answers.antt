@@ -1,4 +1,4 @@
-use Rattle.nofs_model.proofs.NameMeanings.{names-law}
+use Rattle.nofs_model.proofs.OnFiles.Meanings.{names-law}
 use Rattle.nofs_model.proofs.laws.law_names.Goals as goal
 
 pub returns : goal.returns

@@ -1,4 +1,4 @@
-use Rattle.nofs_model.proofs.Meanings.{slots-law}
+use Rattle.nofs_model.proofs.OnSlots.Meanings.{slots-law}
 use Rattle.nofs_model.proofs.laws.law_slots.Goals as goal
 
 pub returns : goal.returns

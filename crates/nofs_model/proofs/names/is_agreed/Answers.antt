@@ -1,6 +1,6 @@
 use Rattle.std.proofs.Common.{refl, sym, ◌∙◌}
 use Rattle.nofs_model.specs.Files.{files_in}
-use Rattle.nofs_model.proofs.Parents.{special-is, linked-is, any-links}
+use Rattle.nofs_model.proofs.OnFiles.Parents.{special-is, linked-is, any-links}
 use Rattle.nofs_model.proofs.names.is_agreed.Goals as goal
 
 pub returns-then-is_agreed_at_once : goal.returns-then-is_agreed_at_once

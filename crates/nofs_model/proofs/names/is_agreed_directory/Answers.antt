@@ -1,6 +1,6 @@
 use Rattle.std.proofs.Common.{refl, sym, ◌∙◌}
 use Rattle.nofs_model.specs.Files.{files_in}
-use Rattle.nofs_model.proofs.Parents.{special-is, linked-is}
+use Rattle.nofs_model.proofs.OnFiles.Parents.{special-is, linked-is}
 use Rattle.nofs_model.proofs.names.is_agreed_directory.Goals as goal
 
 pub loop-directory-init : goal.loop-directory-init

@@ -1,6 +1,6 @@
 use Rattle.std.proofs.Common.{sym, ◌∙◌}
 use Rattle.nofs_model.specs.Cells.{no_link}
-use Rattle.nofs_model.proofs.Parents.{parent-read, no-parent-read}
+use Rattle.nofs_model.proofs.OnFiles.Parents.{parent-read, no-parent-read}
 use Rattle.nofs_model.proofs.names.parent_of.Goals as goal
 
 pub returns-in_err-place-clause-none : goal.returns-in_err-place-clause-none

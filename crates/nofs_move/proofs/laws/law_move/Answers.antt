@@ -1,5 +1,5 @@
-use Rattle.nofs_crashlaw.proofs.PathMoves.{law-move, law-moved}
-use Rattle.nofs_crashlaw.proofs.Alone.{law-alone}
+use Rattle.nofs_crashlaw.proofs.OnPaths.Moves.{law-move, law-moved}
+use Rattle.nofs_crashlaw.proofs.OnPaths.Alone.{law-alone}
 use Rattle.nofs_move.proofs.laws.law_move.Goals as goal
 
 pub returns : goal.returns

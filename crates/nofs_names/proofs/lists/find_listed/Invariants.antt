@@ -1,5 +1,5 @@
 use Rattle.std.proofs.Common.{◌≤◌}
-use Rattle.nofs_names.proofs.ListWalk.{Seeking}
+use Rattle.nofs_names.proofs.OnLists.Search.{Seeking}
 use Rattle.nofs_names.proofs.lists.find_listed.Given as goal
 
 abbrev pub invariant-loop-slot : goal.invariant-loop-slot

@@ -1,8 +1,9 @@
 use Rattle.nofs_disk.specs.Chains.{StaysButFaults-refl}
 use Rattle.nofs_history.specs.declared.machine.steps.Step.TheVariants as step
-use Rattle.nofs_state.proofs.Replies.{goes-stopped}
-use Rattle.nofs_names.proofs.Listings.{list-unopened, list-unread, list-none, list-lost, list-names, list-failed, list-memory, list-memory-found}
-use Rattle.nofs_names.proofs.Listings.{list-memory-read}
+use Rattle.nofs_state.proofs.OnCores.Replies.{goes-stopped}
+use Rattle.nofs_names.proofs.OnLists.Answers.{list-unopened, list-unread, list-none, list-lost, list-names}
+use Rattle.nofs_names.proofs.OnLists.Answers.{list-failed, list-memory, list-memory-found}
+use Rattle.nofs_names.proofs.OnLists.Answers.{list-memory-read}
 use Rattle.nofs_names.proofs.lists.list.Goals as goal
 
 pub returns-then-core-clause-goes : goal.returns-then-core-clause-goes

@@ -1,5 +1,5 @@
 use Rattle.std.proofs.Common.{arith}
-use Rattle.nofs_names.proofs.Lines.{lining-on, lining-ends}
+use Rattle.nofs_names.proofs.OnLists.Lines.{lining-on, lining-ends}
 use Rattle.nofs_names.proofs.lists.read_lines.Goals as goal
 
 pub loop-place-preserved : goal.loop-place-preserved

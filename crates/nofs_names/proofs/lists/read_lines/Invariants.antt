@@ -1,4 +1,4 @@
-use Rattle.nofs_names.proofs.Lines.{Lining}
+use Rattle.nofs_names.proofs.OnLists.Lines.{Lining}
 use Rattle.nofs_names.proofs.lists.read_lines.Given as goal
 
 abbrev pub invariant-loop-place : goal.invariant-loop-place

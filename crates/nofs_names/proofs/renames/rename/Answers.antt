@@ -1,8 +1,8 @@
 use Rattle.nofs_history.specs.Claims.{no_claims}
 use Rattle.nofs_history.specs.declared.machine.steps.Step.TheVariants as step
 use Rattle.nofs_history.specs.declared.machine.replies.Reply.TheVariants as reply
-use Rattle.nofs_state.proofs.Keeping.{goes-after, goes-memory, ready-keeps}
-use Rattle.nofs_names.specs.Renames.{done_answer}
+use Rattle.nofs_state.proofs.OnCores.Unchanged.{goes-after, goes-memory, ready-keeps}
+use Rattle.nofs_names.specs.Renames.Parts.{done_answer}
 use Rattle.nofs_names.proofs.renames.rename.Goals as goal
 
 pub returns-in-Ok : goal.returns-in-Ok

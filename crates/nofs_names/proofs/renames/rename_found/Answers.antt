@@ -1,8 +1,8 @@
 use Rattle.std.proofs.Common.{refl}
 use Rattle.nofs_history.specs.Claims.{no_claims}
 use Rattle.nofs_history.specs.declared.machine.steps.Step.TheVariants as step
-use Rattle.nofs_state.proofs.Keeping.{goes-memory, reads-keep}
-use Rattle.nofs_names.proofs.Renamed.{rename-ends, rename-unheld}
+use Rattle.nofs_state.proofs.OnCores.Unchanged.{goes-memory, reads-keep}
+use Rattle.nofs_names.proofs.OnRenames.Contract.{rename-ends, rename-unheld}
 use Rattle.nofs_names.proofs.renames.rename_found.Goals as goal
 
 pub returns-in-Err : goal.returns-in-Err

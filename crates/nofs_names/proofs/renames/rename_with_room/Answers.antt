@@ -3,12 +3,13 @@ use Rattle.nofs_disk.specs.Chains.{StaysButFaults-refl, StaysButFaults-trans}
 use Rattle.nofs_history.specs.Claims.{no_claims}
 use Rattle.nofs_history.specs.declared.machine.steps.Step.TheVariants as step
 use Rattle.nofs_history.specs.declared.machine.replies.Reply.TheVariants as reply
-use Rattle.nofs_state.proofs.Keeping.{goes-after, reads-keep}
-use Rattle.nofs_state.proofs.Replies.{goes-stopped}
-use Rattle.nofs_names.proofs.NamesIn.{unopened-goes}
-use Rattle.nofs_names.proofs.Onward.{directory-on, found-on, paired-on, there-on}
-use Rattle.nofs_names.specs.Renames.{done_answer}
-use Rattle.nofs_names.proofs.Renamings.{rename-bad, rename-bad-new, rename-unopened, rename-missing, rename-exists, rename-passes}
+use Rattle.nofs_state.proofs.OnCores.Unchanged.{goes-after, reads-keep}
+use Rattle.nofs_state.proofs.OnCores.Replies.{goes-stopped}
+use Rattle.nofs_names.proofs.OnSearches.Directories.{unopened-goes}
+use Rattle.nofs_names.proofs.OnSteps.Reads.{directory-on, found-on, paired-on, there-on}
+use Rattle.nofs_names.specs.Renames.Parts.{done_answer}
+use Rattle.nofs_names.proofs.OnRenames.Rows.{rename-bad, rename-bad-new, rename-unopened, rename-missing}
+use Rattle.nofs_names.proofs.OnRenames.Rows.{rename-exists, rename-passes}
 use Rattle.nofs_names.proofs.renames.rename_with_room.Goals as goal
 
 pub returns-then-core : goal.returns-then-core

@@ -1,4 +1,4 @@
-use Rattle.nofs_scan.proofs.Swept.{scanned}
+use Rattle.nofs_scan.proofs.OnLaws.{scanned}
 use Rattle.nofs_scan.proofs.laws.law_scanned.Goals as goal
 
 pub returns : goal.returns

@@ -1,4 +1,4 @@
-use Rattle.nofs_script.proofs.Formed.{is_session}
+use Rattle.nofs_script.proofs.OnSession.Commands.{is_session}
 use Rattle.nofs_script.proofs.session.parse.Goals as goal
 
 pub returns-clause-session : goal.returns-clause-session

@@ -1,6 +1,6 @@
 use Rattle.std.proofs.Common.{arith, ap, ◌+◌, [], length, length-drop}
 use Rattle.std.proofs.lemmas.Result.{err_from_is_err_and}
-use Rattle.nofs_script.proofs.Lines.{goes_on, ends, gives_last}
+use Rattle.nofs_script.proofs.OnSession.Lines.{goes_on, ends, gives_last}
 use Rattle.nofs_script.proofs.session.read_lines.Goals as goal
 
 pub returns-in-None : goal.returns-in-None

@@ -1,6 +1,6 @@
 use Rattle.std.proofs.Common.{◌≡◌, ◌+◌, ◌≤◌, length}
 use Rattle.nofs_script.specs.Words.{text_lines}
-use Rattle.nofs_script.specs.Sessions.{read_from, empty_reading}
+use Rattle.nofs_script.specs.Session.{read_from, empty_reading}
 use Rattle.nofs_script.proofs.session.read_lines.Given as goal
 
 abbrev pub invariant-loop-number : goal.invariant-loop-number

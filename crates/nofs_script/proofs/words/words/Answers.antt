@@ -1,7 +1,7 @@
 use Rattle.std.proofs.Common.{arith}
 use Rattle.std.proofs.lemmas.List.{length-map}
 use Rattle.nofs_script.specs.Words.{piece_of, words_of}
-use Rattle.nofs_script.proofs.Spaces.{goes_on, ends, full, few}
+use Rattle.nofs_script.proofs.OnWords.Spaces.{goes_on, ends, full, few}
 use Rattle.nofs_script.proofs.words.words.Goals as goal
 
 pub returns-in-None : goal.returns-in-None

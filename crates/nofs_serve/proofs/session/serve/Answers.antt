@@ -1,9 +1,9 @@
 use Rattle.std.proofs.Common.{rules, ◌≡◌, ◌∙◌, length, map, vec_len, refl, sym, ap, arith}
 use Rattle.std.specs.Option.{option_map_or}
-use Rattle.nofs_turn.specs.Turns.{view_of}
-use Rattle.nofs_turn.specs.Views.{fresh}
-use Rattle.nofs_serve.proofs.Gathering.{length-scripts}
-use Rattle.nofs_serve.proofs.Teaming.{team-unserved, team-closed}
+use Rattle.nofs_turn.specs.Turn.{view_of}
+use Rattle.nofs_turn.specs.Rule.Views.{fresh}
+use Rattle.nofs_serve.proofs.OnTeams.Gathered.{length-scripts}
+use Rattle.nofs_serve.proofs.OnSession.{team-unserved, team-closed}
 use Rattle.nofs_serve.proofs.session.serve.Goals as goal
 
 pub returns-in_default-clause-served : goal.returns-in_default-clause-served

@@ -1,8 +1,8 @@
 use Rattle.std.proofs.Common.{rules, ◌∙◌, [], refl, sym, ap, arith}
 use Rattle.std.specs.Option.{option_map_or}
-use Rattle.nofs_turn.specs.Turns.{view_of}
-use Rattle.nofs_turn.specs.Views.{fresh}
-use Rattle.nofs_serve.proofs.Visiting.{visit-closed}
+use Rattle.nofs_turn.specs.Turn.{view_of}
+use Rattle.nofs_turn.specs.Rule.Views.{fresh}
+use Rattle.nofs_serve.proofs.OnVisit.{visit-closed}
 use Rattle.nofs_serve.proofs.visit.attend.Goals as goal
 
 pub run_visit-pass-requires-clause-passes : goal.run_visit-pass-requires-clause-passes

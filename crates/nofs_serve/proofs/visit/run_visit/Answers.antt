@@ -1,17 +1,17 @@
 use Rattle.std.proofs.Common.{◌≡◌, ◌∙◌, ◌-◌, ℕ, List, [], true, ap, subst, arith}
-use Rattle.nofs_turn.specs.declared.turn_rule.view.View.{View}
-use Rattle.nofs_turn.specs.Turns.{view_of}
+use Rattle.nofs_turn.specs.declared.rule.view.View.{View}
+use Rattle.nofs_turn.specs.Turn.{view_of}
 use Rattle.nofs_history.specs.declared.machine.callers.TheConstants.{BLOCK_SWEEPER, FLUSHER, INODE_SWEEPER}
 use Rattle.nofs_history.specs.Steps.{Made}
 use Rattle.nofs_history.specs.declared.machine.history.Entry1.{Entry1}
 use Rattle.nofs_history.specs.declared.machine.steps.ElementKind.TheVariants.{Inode, Block}
-use Rattle.nofs_shared.specs.Owned.{all_by, own_steps}
-use Rattle.nofs_shared.specs.Seats.{SameSeat}
-use Rattle.nofs_workers.specs.Sweeps.{Sweeps}
-use Rattle.nofs_serve.specs.Joins.{JoinsOwn}
-use Rattle.nofs_serve.proofs.Gathering.{users-none}
-use Rattle.nofs_serve.proofs.Teaming.{team-gathers}
-use Rattle.nofs_serve.proofs.Visiting.{visit-gathers}
+use Rattle.nofs_shared.specs.Passes.Entries.{all_by, own_steps}
+use Rattle.nofs_shared.specs.Passes.Seats.{SameSeat}
+use Rattle.nofs_workers.specs.Sweep.{Sweeps}
+use Rattle.nofs_serve.specs.Teams.Joins.{JoinsOwn}
+use Rattle.nofs_serve.proofs.OnTeams.Gathered.{users-none}
+use Rattle.nofs_serve.proofs.OnSession.{team-gathers}
+use Rattle.nofs_serve.proofs.OnVisit.{visit-gathers}
 use Rattle.nofs_serve.proofs.visit.run_visit.Goals as goal
 
 pub returns-clause-gathered : goal.returns-clause-gathered

@@ -1,4 +1,4 @@
-use Rattle.nofs_turn.specs.Turns.{IsPassOf}
+use Rattle.nofs_turn.specs.Turn.{IsPassOf}
 use Rattle.nofs_test_formats.proofs.turn.add_often.Given as goal
 
 abbrev pub invariant-loop : goal.invariant-loop

@@ -1,6 +1,6 @@
 use Rattle.std.proofs.Common.{refl}
 use Rattle.nofs_memdisk.specs.Parts.{memory_state}
-use Rattle.nofs_tool.proofs.Formatted.{formatted_met}
+use Rattle.nofs_tool.proofs.OnBegin.Formats.{formatted_met}
 use Rattle.nofs_test_runs.proofs.instance.new_disk.Goals as goal
 
 pub returns-in-Ok : goal.returns-in-Ok

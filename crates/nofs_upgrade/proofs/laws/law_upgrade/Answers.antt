@@ -1,4 +1,4 @@
-use Rattle.nofs_upgrade.proofs.Between.{law-again, law-between, law-sound}
+use Rattle.nofs_upgrade.proofs.OnLaws.{law-again, law-between, law-sound}
 use Rattle.nofs_upgrade.proofs.laws.law_upgrade.Goals as goal
 
 pub returns : goal.returns

@@ -1,4 +1,4 @@
-use Rattle.nofs_upgrade.proofs.Found.{images-written, upgraded}
+use Rattle.nofs_upgrade.proofs.OnUpgrading.{images-written, upgraded}
 use Rattle.nofs_upgrade.proofs.upgrading.upgrade.Goals as goal
 
 pub returns-in-Ok-clause-upgraded : goal.returns-in-Ok-clause-upgraded

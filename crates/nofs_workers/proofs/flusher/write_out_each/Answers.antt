@@ -1,6 +1,6 @@
 use Rattle.std.proofs.Common.{◌≡◌, ◌∙◌, sym, subst, rules, is_err, true, false}
-use Rattle.nofs_workers.specs.WritesOut.{WroteOut}
-use Rattle.nofs_workers.proofs.Writing.{after-more, after-fault, after-all}
+use Rattle.nofs_workers.specs.Flusher.{WroteOut}
+use Rattle.nofs_workers.proofs.OnFlusher.{after-more, after-fault, after-all}
 use Rattle.nofs_workers.proofs.flusher.write_out_each.Goals as goal
 
 pub returns-then-is_err-clause-wrote : goal.returns-then-is_err-clause-wrote

@@ -1,5 +1,5 @@
 use Rattle.std.proofs.Common.{◌≡◌}
-use Rattle.nofs_workers.proofs.Writing.{After}
+use Rattle.nofs_workers.proofs.OnFlusher.{After}
 use Rattle.nofs_workers.proofs.flusher.write_out_each.Given as goal
 
 abbrev pub invariant-loop : goal.invariant-loop

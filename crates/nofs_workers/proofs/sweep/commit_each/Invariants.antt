@@ -1,5 +1,5 @@
 use Rattle.std.proofs.Common.{take}
-use Rattle.nofs_workers.specs.Sweeps.{Makes}
+use Rattle.nofs_workers.specs.Sweep.{Makes}
 use Rattle.nofs_workers.proofs.sweep.commit_each.Given as goal
 
 abbrev pub invariant-loop-at : goal.invariant-loop-at

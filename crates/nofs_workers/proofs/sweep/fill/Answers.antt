@@ -1,7 +1,7 @@
 use Rattle.std.proofs.Common.{◌≡◌, ◌+◌, ◌^◌, ◌<◌, rules, length}
 use Rattle.nofs_history.specs.declared.machine.steps.ElementKind.TheVariants.{Inode}
-use Rattle.nofs_workers.specs.Sweeps.{IsOrdered}
-use Rattle.nofs_workers.proofs.Filling.{filled-more, in-range}
+use Rattle.nofs_workers.specs.Sweep.{IsOrdered}
+use Rattle.nofs_workers.proofs.OnBatches.{filled-more, in-range}
 use Rattle.nofs_workers.proofs.sweep.fill.Goals as goal
 
 pub loop-at-preserved : goal.loop-at-preserved

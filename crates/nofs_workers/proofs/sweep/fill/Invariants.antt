@@ -1,6 +1,6 @@
 use Rattle.std.proofs.Common.{◌≡◌, ℕ, ◌+◌, ◌^◌, ◌<◌, length, get_or}
 use Rattle.nofs_history.specs.declared.machine.steps.ElementKind.TheVariants.{Inode}
-use Rattle.nofs_workers.specs.Sweeps.{IsOrdered}
+use Rattle.nofs_workers.specs.Sweep.{IsOrdered}
 use Rattle.nofs_workers.proofs.sweep.fill.Given as goal
 
 abbrev pub invariant-loop-at : goal.invariant-loop-at

@@ -1,5 +1,5 @@
 use Rattle.std.proofs.Common.{take}
-use Rattle.nofs_workers.specs.Sweeps.{Makes}
+use Rattle.nofs_workers.specs.Sweep.{Makes}
 use Rattle.nofs_workers.proofs.sweep.see_each.Given as goal
 
 abbrev pub invariant-loop-element : goal.invariant-loop-element

@@ -1,5 +1,5 @@
 use Rattle.std.proofs.Common.{rules, arith}
-use Rattle.nofs_workers.proofs.Sweeping.{sweeps-none, sweeps-more, sweeps-short}
+use Rattle.nofs_workers.proofs.OnSweep.{sweeps-none, sweeps-more, sweeps-short}
 use Rattle.nofs_workers.proofs.sweep.sweep.Goals as goal
 
 pub loop-place-init : goal.loop-place-init

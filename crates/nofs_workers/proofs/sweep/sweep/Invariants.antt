@@ -1,5 +1,5 @@
 use Rattle.std.proofs.Common.{◌-◌, ◌≤◌, false}
-use Rattle.nofs_workers.specs.Sweeps.{Sweeps}
+use Rattle.nofs_workers.specs.Sweep.{Sweeps}
 use Rattle.nofs_workers.proofs.sweep.sweep.Given as goal
 
 abbrev pub invariant-loop-place : goal.invariant-loop-place

@@ -1,5 +1,5 @@
 use Rattle.std.proofs.Common.{rules}
-use Rattle.nofs_workers.proofs.Sweeping.{sweeps-batch}
+use Rattle.nofs_workers.proofs.OnSweep.{sweeps-batch}
 use Rattle.nofs_workers.proofs.sweep.sweep_batch.Goals as goal
 
 pub returns-clause-swept : goal.returns-clause-swept

@@ -1,7 +1,7 @@
-use Rattle.nofs_cache.specs.DirtyBlocks.{entries_of}
-use Rattle.nofs_cache.specs.Past.{cache_calls}
-use Rattle.nofs_cache.proofs.CacheCalls.{agrees_of, not_dirty_clean}
-use Rattle.nofs_cache.proofs.Settling.{agrees_clean, no_entries}
+use Rattle.nofs_cache.specs.Dirty.Blocks.{entries_of}
+use Rattle.nofs_cache.specs.Dirty.Past.{cache_calls}
+use Rattle.nofs_cache.proofs.OnCached.Calls.{agrees_of, not_dirty_clean}
+use Rattle.nofs_cache.proofs.OnCached.Settled.{agrees_clean, no_entries}
 use Rattle.nofs_cache.proofs.cached.Cached.below.Goals as goal
 
 pub returns-clause-now : goal.returns-clause-now

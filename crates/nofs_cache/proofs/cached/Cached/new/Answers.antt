@@ -1,5 +1,5 @@
 use Rattle.std.proofs.Common.{ap}
-use Rattle.nofs_cache.proofs.CacheCalls.{kept_begins}
+use Rattle.nofs_cache.proofs.OnCached.Calls.{kept_begins}
 use Rattle.nofs_cache.proofs.cached.Cached.new.Goals as goal
 
 pub invariant_of-result-clause-kept : goal.invariant_of-result-clause-kept

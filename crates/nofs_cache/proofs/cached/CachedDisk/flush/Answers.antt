@@ -1,6 +1,6 @@
 use Rattle.std.proofs.Common.{arith}
 use Rattle.nofs_cache.specs.declared.dirty.past.CacheCall.TheVariants.{Flush}
-use Rattle.nofs_cache.proofs.CachedCalls.{call_leaves, flush_does, flush_holds}
+use Rattle.nofs_cache.proofs.OnCached.Past.{call_leaves, flush_does, flush_holds}
 use Rattle.nofs_cache.proofs.cached.CachedDisk.flush.Goals as goal
 
 pub invariant_of-self : goal.invariant_of-self

@@ -1,6 +1,6 @@
-use Rattle.nofs_cache.specs.DirtyBlocks.{entries_of}
-use Rattle.nofs_cache.proofs.CacheCalls.{clean_not_dirty}
-use Rattle.nofs_cache.proofs.CachedCalls.{below_reads, kept_reads, read_holds}
+use Rattle.nofs_cache.specs.Dirty.Blocks.{entries_of}
+use Rattle.nofs_cache.proofs.OnCached.Calls.{clean_not_dirty}
+use Rattle.nofs_cache.proofs.OnCached.Past.{below_reads, kept_reads, read_holds}
 use Rattle.nofs_cache.proofs.cached.CachedDisk.read.Goals as goal
 
 pub invariant_of-self : goal.invariant_of-self

@@ -1,5 +1,5 @@
 use Rattle.std.proofs.Common.{ap, arith, length}
-use Rattle.nofs_cache.proofs.CachedCalls.{ready_does, ready_holds}
+use Rattle.nofs_cache.proofs.OnCached.Past.{ready_does, ready_holds}
 use Rattle.nofs_cache.proofs.cached.CachedDisk.ready.Goals as goal
 
 pub invariant_of-self-in-Err-1 : goal.invariant_of-self-in-Err-1

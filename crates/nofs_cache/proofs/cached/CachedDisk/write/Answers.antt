@@ -1,5 +1,5 @@
 use Rattle.nofs_cache.specs.declared.dirty.past.CacheCall.TheVariants.{Write}
-use Rattle.nofs_cache.proofs.CachedCalls.{call_leaves, write_does, write_holds}
+use Rattle.nofs_cache.proofs.OnCached.Past.{call_leaves, write_does, write_holds}
 use Rattle.nofs_cache.proofs.cached.CachedDisk.write.Goals as goal
 
 pub invariant_of-self : goal.invariant_of-self

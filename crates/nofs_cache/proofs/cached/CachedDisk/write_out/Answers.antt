@@ -1,5 +1,5 @@
 use Rattle.std.proofs.Common.{arith}
-use Rattle.nofs_cache.proofs.CachedCalls.{out_does, out_holds, out_leaves}
+use Rattle.nofs_cache.proofs.OnCached.Past.{out_does, out_holds, out_leaves}
 use Rattle.nofs_cache.proofs.cached.CachedDisk.write_out.Goals as goal
 
 pub invariant_of-self : goal.invariant_of-self

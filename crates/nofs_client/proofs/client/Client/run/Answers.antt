@@ -1,10 +1,10 @@
 use Rattle.std.proofs.Common.{arith, ◌≡◌, ◌∙◌, sym, ap, false, ◌++◌, ◌∷◌, []}
 use Rattle.nofs_history.specs.Steps.{is_out_of_memory}
 use Rattle.nofs_client.specs.declared.task.next.Next.TheVariants.{Do}
-use Rattle.nofs_client.specs.Drive.{asks, progress_after, drive_of}
-use Rattle.nofs_client.specs.Asks.{Answers}
-use Rattle.nofs_client.proofs.Rank.{rank-falls}
-use Rattle.nofs_client.proofs.Runs.{progress-more, step-more}
+use Rattle.nofs_client.specs.Progress.{asks, progress_after, drive_of}
+use Rattle.nofs_client.specs.Task.Steps.{Answers}
+use Rattle.nofs_client.proofs.OnProgress.{rank-falls}
+use Rattle.nofs_client.proofs.OnDriver.{progress-more, step-more}
 use Rattle.nofs_client.proofs.client.Client.run.Goals as goal
 
 pub returns-in_default-clause-ran : goal.returns-in_default-clause-ran

@@ -1,9 +1,9 @@
 use Rattle.std.proofs.Common.{◌≡◌, ◌++◌, List, map}
 use Rattle.nofs_history.specs.Steps.{Made}
-use Rattle.nofs_client.specs.Task.{TaskStands}
-use Rattle.nofs_client.specs.Drive.{progress, start_of}
-use Rattle.nofs_client.specs.Runs.{Asked, made_reply}
-use Rattle.nofs_client.proofs.Rank.{rank}
+use Rattle.nofs_client.specs.Task.State.{TaskStands}
+use Rattle.nofs_client.specs.Progress.{progress, start_of}
+use Rattle.nofs_client.specs.Driver.{Asked, made_reply}
+use Rattle.nofs_client.proofs.OnProgress.{rank}
 use Rattle.nofs_client.proofs.client.Client.run.Given as goal
 
 abbrev pub invariant-loop-progress : goal.invariant-loop-progress

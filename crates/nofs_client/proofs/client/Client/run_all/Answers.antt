@@ -1,7 +1,7 @@
 use Rattle.std.proofs.Common.{◌≡◌, ◌<◌, length, get_or, suc, drop, add-one}
 use Rattle.std.proofs.Math.Seq.{drop-cons}
-use Rattle.nofs_client.specs.Commands.{AreWellFormed}
-use Rattle.nofs_client.proofs.Runs.{lines-follow, runs-so-far, runs-in-part, runs-more}
+use Rattle.nofs_client.specs.Task.Commands.{AreWellFormed}
+use Rattle.nofs_client.proofs.OnDriver.{lines-follow, runs-so-far, runs-in-part, runs-more}
 use Rattle.nofs_client.proofs.client.Client.run_all.Goals as goal
 
 pub returns-in_err-run-clause-some : goal.returns-in_err-run-clause-some

@@ -1,6 +1,6 @@
 use Rattle.std.proofs.Common.{take, drop}
-use Rattle.nofs_client.specs.Commands.{AreWellFormed}
-use Rattle.nofs_client.specs.Runs.{RunsAll}
+use Rattle.nofs_client.specs.Task.Commands.{AreWellFormed}
+use Rattle.nofs_client.specs.Driver.{RunsAll}
 use Rattle.nofs_client.proofs.client.Client.run_all.Given as goal
 
 abbrev pub invariant-loop-command : goal.invariant-loop-command

@@ -1,6 +1,6 @@
 use Rattle.std.proofs.Common.{List, ℕ, ◌*◌, subst}
 use Rattle.nofs_filedisk.specs.Bytes.{IsPartlyPut, IsPut}
-use Rattle.nofs_filedisk.proofs.Present.{present-out, present-partly}
+use Rattle.nofs_filedisk.proofs.OnFiledisk.Present.{present-out, present-partly}
 use Rattle.nofs_filedisk.proofs.contents.Contents.put_run.Goals as goal
 
 pub returns-in-Ok-clause-all : goal.returns-in-Ok-clause-all

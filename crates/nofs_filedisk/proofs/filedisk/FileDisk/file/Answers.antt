@@ -1,5 +1,5 @@
 use Rattle.nofs_filedisk.specs.Past.{file_calls}
-use Rattle.nofs_filedisk.proofs.Calls.{durable_left}
+use Rattle.nofs_filedisk.proofs.OnFiledisk.Start.{durable_left}
 use Rattle.nofs_filedisk.proofs.filedisk.FileDisk.file.Goals as goal
 
 pub returns-clause-left : goal.returns-clause-left

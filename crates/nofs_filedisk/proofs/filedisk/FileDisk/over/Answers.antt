@@ -1,6 +1,6 @@
 use Rattle.std.proofs.Common.{arith, ap, length}
 use Rattle.nofs_filedisk.specs.Past.{file_calls}
-use Rattle.nofs_filedisk.proofs.Calls.{start_lasting, start_now, start_present, start_settled, start_sized}
+use Rattle.nofs_filedisk.proofs.OnFiledisk.Start.{start_lasting, start_now, start_present, start_settled, start_sized}
 use Rattle.nofs_filedisk.proofs.filedisk.FileDisk.over.Goals as goal
 
 pub invariant_of-result : goal.invariant_of-result

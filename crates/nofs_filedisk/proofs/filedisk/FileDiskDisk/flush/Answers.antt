@@ -1,6 +1,6 @@
 use Rattle.std.proofs.Common.{◌-◌, arith}
 use Rattle.nofs_filedisk.specs.Past.{file_calls}
-use Rattle.nofs_filedisk.proofs.Calls.{flush_does, flush_holds, flush_lasts, flush_leaves}
+use Rattle.nofs_filedisk.proofs.OnFiledisk.Calls.{flush_does, flush_holds, flush_lasts, flush_leaves}
 use Rattle.nofs_filedisk.proofs.filedisk.FileDiskDisk.flush.Goals as goal
 
 pub invariant_of-self : goal.invariant_of-self

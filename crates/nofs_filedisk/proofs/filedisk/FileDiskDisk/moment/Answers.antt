@@ -1,5 +1,5 @@
 use Rattle.nofs_filedisk.specs.Past.{file_calls}
-use Rattle.nofs_filedisk.proofs.Calls.{rest_leaves}
+use Rattle.nofs_filedisk.proofs.OnFiledisk.Calls.{rest_leaves}
 use Rattle.nofs_filedisk.proofs.filedisk.FileDiskDisk.moment.Goals as goal
 
 pub returns-clause-leaves : goal.returns-clause-leaves

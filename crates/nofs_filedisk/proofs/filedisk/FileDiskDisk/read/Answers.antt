@@ -1,5 +1,5 @@
 use Rattle.nofs_filedisk.specs.Past.{file_calls}
-use Rattle.nofs_filedisk.proofs.Calls.{read_holds}
+use Rattle.nofs_filedisk.proofs.OnFiledisk.Calls.{read_holds}
 use Rattle.nofs_filedisk.proofs.filedisk.FileDiskDisk.read.Goals as goal
 
 pub invariant_of-self : goal.invariant_of-self

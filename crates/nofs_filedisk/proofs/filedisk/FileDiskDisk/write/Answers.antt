@@ -1,6 +1,6 @@
 use Rattle.std.proofs.Common.{◌-◌, arith}
 use Rattle.nofs_filedisk.specs.Past.{file_calls}
-use Rattle.nofs_filedisk.proofs.Calls.{write_does, write_holds, write_leaves}
+use Rattle.nofs_filedisk.proofs.OnFiledisk.Calls.{write_does, write_holds, write_leaves}
 use Rattle.nofs_filedisk.proofs.filedisk.FileDiskDisk.write.Goals as goal
 
 pub invariant_of-self : goal.invariant_of-self

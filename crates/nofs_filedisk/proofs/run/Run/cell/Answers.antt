@@ -1,6 +1,6 @@
 use Rattle.std.proofs.Common.{◌+◌, ◌-◌, ◌*◌, List, ℕ, ap, ◌∙◌, arith}
 use Rattle.std.specs.Prelude.{slice_range}
-use Rattle.nofs_filedisk.proofs.Present.{cell-taken}
+use Rattle.nofs_filedisk.proofs.OnFiledisk.Present.{cell-taken}
 use Rattle.nofs_filedisk.proofs.run.Run.cell.Goals as goal
 
 pub returns : goal.returns

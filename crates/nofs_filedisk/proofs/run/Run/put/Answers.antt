@@ -1,5 +1,5 @@
 use Rattle.std.proofs.Common.{◌-◌, ◌*◌, arith, refl}
-use Rattle.nofs_filedisk.proofs.Present.{cell-beside, cell-put}
+use Rattle.nofs_filedisk.proofs.OnFiledisk.Present.{cell-beside, cell-put}
 use Rattle.nofs_filedisk.proofs.run.Run.put.Goals as goal
 
 pub returns-clause-here : goal.returns-clause-here

@@ -1,6 +1,6 @@
 use Rattle.std.proofs.Common.{ℕ, ◌+◌, ◌/◌, List, ap, ◌∙◌, arith}
 use Rattle.std.specs.Prelude.{slice_range}
-use Rattle.nofs_filedisk.proofs.Showing.{cell-shown}
+use Rattle.nofs_filedisk.proofs.OnWindows.{cell-shown}
 use Rattle.nofs_filedisk.proofs.windows.Window.cell.Goals as goal
 
 pub returns : goal.returns

@@ -1,6 +1,6 @@
 use Rattle.std.proofs.Common.{length, ap, arith, ◌∙◌}
 use Rattle.nofs_disk.specs.Parts.{length-put_bytes}
-use Rattle.nofs_filedisk.proofs.Showing.{put-known}
+use Rattle.nofs_filedisk.proofs.OnWindows.{put-known}
 use Rattle.nofs_filedisk.proofs.windows.Window.put.Goals as goal
 
 pub invariant_of-self : goal.invariant_of-self

@@ -1,4 +1,4 @@
-use Rattle.nofs_filedisk.proofs.Showing.{ShowNothing}
+use Rattle.nofs_filedisk.proofs.OnWindows.{ShowNothing}
 use Rattle.nofs_filedisk.proofs.windows.Windows.new.Given as goal
 
 abbrev pub invariant-loop : goal.invariant-loop

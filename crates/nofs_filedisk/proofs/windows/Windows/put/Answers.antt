@@ -1,5 +1,5 @@
 use Rattle.std.proofs.Common.{arith}
-use Rattle.nofs_filedisk.proofs.Showing.{half-all, half-next}
+use Rattle.nofs_filedisk.proofs.OnWindows.{half-all, half-next}
 use Rattle.nofs_filedisk.proofs.windows.Windows.put.Goals as goal
 
 pub loop-at-preserved : goal.loop-at-preserved

@@ -1,8 +1,8 @@
 use Rattle.std.proofs.Common.{List, ℕ, ◌*◌}
 use Rattle.std.specs.Prelude.{All}
 use Rattle.nofs_filedisk.specs.Bytes.{IsPut}
-use Rattle.nofs_filedisk.specs.Shown.{IsShown}
-use Rattle.nofs_filedisk.proofs.Showing.{HalfShown}
+use Rattle.nofs_filedisk.specs.Windows.{IsShown}
+use Rattle.nofs_filedisk.proofs.OnWindows.{HalfShown}
 use Rattle.nofs_filedisk.proofs.windows.Windows.put.Given as goal
 
 abbrev pub invariant-loop-at : goal.invariant-loop-at

@@ -1,7 +1,7 @@
 use Rattle.std.proofs.Common.{rules, ◌≡◌, min}
 use Rattle.nofs_history.specs.Machine.{slots_in}
 use Rattle.nofs_gen.specs.Replay.{replayed_file}
-use Rattle.nofs_gen.proofs.Padding.{resized-is}
+use Rattle.nofs_gen.proofs.OnFile.{resized-is}
 use Rattle.nofs_gen.proofs.file.Replayed.resized.Goals as goal
 
 pub returns : goal.returns

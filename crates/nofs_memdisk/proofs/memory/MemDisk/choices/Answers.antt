@@ -1,7 +1,7 @@
 use Rattle.std.proofs.Common.{arith, ◌∙◌, refl}
 use Rattle.nofs_versions.specs.Memory.{held_after}
-use Rattle.nofs_versions.proofs.Versions.{count_seen}
-use Rattle.nofs_versions.proofs.Leaves.{leaves_rest}
+use Rattle.nofs_versions.proofs.OnSearch.{count_seen}
+use Rattle.nofs_versions.proofs.OnMemory.Images.{leaves_rest}
 use Rattle.nofs_memdisk.proofs.memory.MemDisk.choices.Goals as goal
 
 pub loop-call-init : goal.loop-call-init

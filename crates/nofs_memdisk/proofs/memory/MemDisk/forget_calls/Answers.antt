@@ -4,9 +4,9 @@ use Rattle.nofs_disk.specs.declared.tag.Cell.{Cell}
 use Rattle.nofs_disk.specs.Disk.{IsSizedCell, cell_at}
 use Rattle.std.proofs.lemmas.List.{nil_from_length}
 use Rattle.nofs_memdisk.specs.Parts.{parts_of}
-use Rattle.nofs_versions.proofs.Held.{after_none}
-use Rattle.nofs_versions.proofs.Sized.{sized_base, sized_now}
-use Rattle.nofs_memdisk.proofs.Made.{forgets_none}
+use Rattle.nofs_versions.proofs.OnMemory.Cells.{after_none}
+use Rattle.nofs_versions.proofs.OnMemory.Sizes.{sized_base, sized_now}
+use Rattle.nofs_memdisk.proofs.OnMemory.Parts.{forgets_none}
 use Rattle.nofs_memdisk.proofs.memory.MemDisk.forget_calls.Goals as goal
 
 pub invariant_of-self-2 : goal.invariant_of-self-2

@@ -3,8 +3,8 @@ use Rattle.std.proofs.lemmas.List.{length-set}
 use Rattle.nofs_disk.specs.declared.tag.Cell.{Cell}
 use Rattle.nofs_disk.specs.Disk.{IsSizedCell, cell_at}
 use Rattle.nofs_versions.specs.Memory.{held_after, picked, within}
-use Rattle.nofs_versions.proofs.Versions.{picked_more}
-use Rattle.nofs_versions.proofs.Sized.{sized_now, sized_set}
+use Rattle.nofs_versions.proofs.OnSearch.{picked_more}
+use Rattle.nofs_versions.proofs.OnMemory.Sizes.{sized_now, sized_set}
 use Rattle.nofs_memdisk.proofs.memory.MemDisk.image.Goals as goal
 
 pub loop-pick-init : goal.loop-pick-init

@@ -5,7 +5,7 @@ use Rattle.nofs_disk.specs.Disk.{IsSizedCell, cell_at}
 use Rattle.nofs_disk.specs.Number.{zeros}
 use Rattle.nofs_disk.specs.Tag.{zero_cell}
 use Rattle.nofs_memdisk.specs.Parts.{fresh_parts, parts_of}
-use Rattle.nofs_versions.proofs.Sized.{sized_base, sized_zeros}
+use Rattle.nofs_versions.proofs.OnMemory.Sizes.{sized_base, sized_zeros}
 use Rattle.nofs_memdisk.proofs.memory.MemDisk.new.Goals as goal
 
 pub of-requires : goal.of-requires

@@ -3,8 +3,8 @@ use Rattle.std.proofs.lemmas.List.{length-set}
 use Rattle.nofs_disk.specs.declared.tag.Cell.{Cell}
 use Rattle.nofs_disk.specs.Disk.{IsSizedCell, cell_at}
 use Rattle.nofs_memdisk.specs.Parts.{Parts}
-use Rattle.nofs_versions.proofs.Held.{after_none, settled_none}
-use Rattle.nofs_versions.proofs.Sized.{sized_base, sized_now, sized_set}
+use Rattle.nofs_versions.proofs.OnMemory.Cells.{after_none, settled_none}
+use Rattle.nofs_versions.proofs.OnMemory.Sizes.{sized_base, sized_now, sized_set}
 use Rattle.nofs_memdisk.proofs.memory.MemDisk.put_cell.Goals as goal
 
 pub invariant_of-self : goal.invariant_of-self

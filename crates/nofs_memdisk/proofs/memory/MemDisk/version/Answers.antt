@@ -1,9 +1,9 @@
 use Rattle.std.proofs.Common.{◌≡◌, ◌<◌, ◌∙◌, List, ap, get_or, length, ◌+◌, arith, subst, sym, take}
 use Rattle.nofs_versions.specs.Memory.{IsSearch, held_after}
 use Rattle.nofs_versions.specs.declared.search.Search.{Search}
-use Rattle.nofs_versions.proofs.Versions.{search_begins, search_more}
-use Rattle.nofs_versions.proofs.Sized.{sized_version}
-use Rattle.nofs_versions.specs.MemoryLaws.{held_after-held, within_is}
+use Rattle.nofs_versions.proofs.OnSearch.{search_begins, search_more}
+use Rattle.nofs_versions.proofs.OnMemory.Sizes.{sized_version}
+use Rattle.nofs_versions.specs.Laws.{held_after-held, within_is}
 use Rattle.nofs_versions.specs.declared.call.Call.{Call}
 use Rattle.nofs_disk.specs.Disk.{no_cell}
 use Rattle.std.proofs.lemmas.List.{take_all}

@@ -1,9 +1,9 @@
 use Rattle.std.proofs.Common.{ap, arith, not, refl, sym, ◌∙◌}
 use Rattle.nofs_memdisk.specs.Parts.{parts_of}
-use Rattle.nofs_versions.proofs.Calls.{flushes}
-use Rattle.nofs_memdisk.proofs.Keeping.{flush_holds}
-use Rattle.nofs_versions.proofs.Leaves.{leaves_flush}
-use Rattle.nofs_memdisk.proofs.Made.{counted_none, counted_some, made_flush, next-rises}
+use Rattle.nofs_versions.proofs.OnMemory.Calls.{flushes}
+use Rattle.nofs_memdisk.proofs.OnMemory.Calls.{flush_holds}
+use Rattle.nofs_versions.proofs.OnMemory.Images.{leaves_flush}
+use Rattle.nofs_memdisk.proofs.OnMemory.Parts.{counted_none, counted_some, made_flush, next-rises}
 use Rattle.nofs_memdisk.proofs.memory.MemDiskDisk.flush.Goals as goal
 
 pub invariant_of-self : goal.invariant_of-self

@@ -1,9 +1,9 @@
 use Rattle.std.proofs.Common.{arith, refl, sym, ◌∙◌}
 use Rattle.nofs_memdisk.specs.Parts.{parts_of}
-use Rattle.nofs_versions.proofs.Calls.{writes}
-use Rattle.nofs_memdisk.proofs.Keeping.{write_holds}
-use Rattle.nofs_versions.proofs.Leaves.{leaves_write}
-use Rattle.nofs_memdisk.proofs.Made.{counted_none, counted_some, made_write, next-rises, taken_if_none}
+use Rattle.nofs_versions.proofs.OnMemory.Calls.{writes}
+use Rattle.nofs_memdisk.proofs.OnMemory.Calls.{write_holds}
+use Rattle.nofs_versions.proofs.OnMemory.Images.{leaves_write}
+use Rattle.nofs_memdisk.proofs.OnMemory.Parts.{counted_none, counted_some, made_write, next-rises, taken_if_none}
 use Rattle.nofs_memdisk.proofs.memory.MemDiskDisk.write.Goals as goal
 
 pub invariant_of-self : goal.invariant_of-self

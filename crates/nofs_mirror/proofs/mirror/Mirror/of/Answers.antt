@@ -1,10 +1,10 @@
 use Rattle.std.proofs.Common.{refl, sym, subst, ◌≡◌, true, List}
 use Rattle.std.proofs.lemmas.Bool.{or_left}
-use Rattle.nofs_mirror.specs.declared.sides.opening.MirrorStart.{MirrorStart}
+use Rattle.nofs_mirror.specs.declared.sides.choices.MirrorStart.{MirrorStart}
 use Rattle.nofs_mirror.specs.declared.sides.past.MirrorCall.{MirrorCall}
 use Rattle.nofs_mirror.specs.Mirror.{last_span}
-use Rattle.nofs_mirror.specs.Past.{mirror_calls}
-use Rattle.nofs_mirror.proofs.Copied.{kept_begins, side_begins}
+use Rattle.nofs_mirror.specs.Sides.Past.{mirror_calls}
+use Rattle.nofs_mirror.proofs.OnCopying.{kept_begins, side_begins}
 use Rattle.nofs_mirror.proofs.mirror.Mirror.of.Goals as goal
 
 pub invariant_of-result : goal.invariant_of-result

@@ -1,4 +1,4 @@
-use Rattle.nofs_mirror.proofs.MirrorReads.{lead_served, other_served}
+use Rattle.nofs_mirror.proofs.OnMirror.Reads.{lead_served, other_served}
 use Rattle.nofs_mirror.proofs.mirror.Mirror.sides.Goals as goal
 
 pub returns-clause-lead : goal.returns-clause-lead

@@ -1,5 +1,5 @@
-use Rattle.nofs_mirror.proofs.FlushCalls.{flush_kept, flushes_sides, mirror_flushes}
-use Rattle.nofs_mirror.proofs.MirrorCalls.{called_holds, called_leaves}
+use Rattle.nofs_mirror.proofs.OnLaws.Flushes.{flush_kept, flushes_sides, mirror_flushes}
+use Rattle.nofs_mirror.proofs.OnMirror.Calls.{called_holds, called_leaves}
 use Rattle.nofs_mirror.proofs.mirror.MirrorDisk.flush.Goals as goal
 
 pub invariant_of-self : goal.invariant_of-self

@@ -1,6 +1,6 @@
 use Rattle.std.proofs.Common.{ap, arith, refl}
-use Rattle.nofs_mirror.specs.Past.{mirror_calls}
-use Rattle.nofs_mirror.proofs.MirrorReads.{mirror_reads, rest_noted, rest_stays, stays_rests}
+use Rattle.nofs_mirror.specs.Sides.Past.{mirror_calls}
+use Rattle.nofs_mirror.proofs.OnMirror.Reads.{mirror_reads, rest_noted, rest_stays, stays_rests}
 use Rattle.nofs_mirror.proofs.mirror.MirrorDisk.read.Goals as goal
 
 pub invariant_of-self : goal.invariant_of-self

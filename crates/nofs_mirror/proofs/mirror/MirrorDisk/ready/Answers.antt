@@ -1,5 +1,5 @@
 use Rattle.std.proofs.Common.{arith}
-use Rattle.nofs_mirror.proofs.MirrorReads.{mirror_ready, rest_holds, rest_stays}
+use Rattle.nofs_mirror.proofs.OnMirror.Reads.{mirror_ready, rest_holds, rest_stays}
 use Rattle.nofs_mirror.proofs.mirror.MirrorDisk.ready.Goals as goal
 
 pub invariant_of-self-in-Ok : goal.invariant_of-self-in-Ok

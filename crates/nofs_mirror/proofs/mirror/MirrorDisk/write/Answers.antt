@@ -1,6 +1,6 @@
 use Rattle.nofs_mirror.specs.declared.sides.past.Effect.TheVariants.{Write}
-use Rattle.nofs_mirror.proofs.MirrorCalls.{called_holds, called_leaves}
-use Rattle.nofs_mirror.proofs.WriteCalls.{mirror_writes, write_kept, writes_sides}
+use Rattle.nofs_mirror.proofs.OnMirror.Calls.{called_holds, called_leaves}
+use Rattle.nofs_mirror.proofs.OnLaws.Writes.{mirror_writes, write_kept, writes_sides}
 use Rattle.nofs_mirror.proofs.mirror.MirrorDisk.write.Goals as goal
 
 pub invariant_of-self : goal.invariant_of-self

@@ -1,5 +1,5 @@
 use Rattle.std.proofs.Common.{sym, ◌∙◌}
-use Rattle.nofs_model.proofs.EntryTests.{names-fields, names-no}
+use Rattle.nofs_model.proofs.OnFiles.Entries.{names-fields, names-no}
 use Rattle.nofs_model.proofs.image.entry.has_entry.Goals as goal
 
 pub returns : goal.returns

@@ -1,5 +1,5 @@
 use Rattle.std.proofs.Common.{sym, ◌∙◌}
-use Rattle.nofs_model.proofs.EntryTests.{entry-when, entry-else}
+use Rattle.nofs_model.proofs.OnFiles.Entries.{entry-when, entry-else}
 use Rattle.nofs_model.proofs.image.entry.is_entry.Goals as goal
 
 pub returns : goal.returns

@@ -1,10 +1,10 @@
 use Rattle.std.proofs.Common.{rules, ◌≡◌, ◌∙◌, ◌+◌, ◌++◌, ◌∷◌, [], List, length, refl, sym, ap, subst, arith, append_assoc, length-append, append-nil}
-use Rattle.nofs_turn.specs.Turns.{view_of}
+use Rattle.nofs_turn.specs.Turn.{view_of}
 use Rattle.nofs_client.specs.declared.task.lines.Line.{Line}
-use Rattle.nofs_workers.specs.Users.{steps_in}
-use Rattle.nofs_serve.specs.Joins.{Gathers}
-use Rattle.nofs_serve.specs.Served.{UsersGathered}
-use Rattle.nofs_serve.proofs.Gathering.{all-end, stand-pop, stand-none, stand-at, users-none, gather-step}
+use Rattle.nofs_workers.specs.User.{steps_in}
+use Rattle.nofs_serve.specs.Teams.Joins.{Gathers}
+use Rattle.nofs_serve.specs.Session.{UsersGathered}
+use Rattle.nofs_serve.proofs.OnTeams.Gathered.{all-end, stand-pop, stand-none, stand-at, users-none, gather-step}
 use Rattle.nofs_serve.proofs.teams.gather.gather_users.Goals as goal
 
 pub loop-user-init : goal.loop-user-init

@@ -1,11 +1,11 @@
 use Rattle.std.proofs.Common.{◌≡◌, ℕ, ◌+◌, ◌≤◌, ◌++◌, List, [], All, length, vec_len, vec_capacity}
-use Rattle.nofs_turn.specs.Turns.{view_of, IsPassOf}
+use Rattle.nofs_turn.specs.Turn.{view_of, IsPassOf}
 use Rattle.nofs_client.specs.declared.task.commands.Command.{Command}
-use Rattle.nofs_shared.specs.Owned.{own_steps}
-use Rattle.nofs_shared.specs.Seats.{SameSeat}
-use Rattle.nofs_serve.specs.Joins.{Gathers, made_by}
-use Rattle.nofs_serve.specs.Teams.{Stand, HasRun}
-use Rattle.nofs_serve.specs.Served.{UsersGathered}
+use Rattle.nofs_shared.specs.Passes.Entries.{own_steps}
+use Rattle.nofs_shared.specs.Passes.Seats.{SameSeat}
+use Rattle.nofs_serve.specs.Teams.Joins.{Gathers, made_by}
+use Rattle.nofs_serve.specs.Teams.Users.{Stand, HasRun}
+use Rattle.nofs_serve.specs.Session.{UsersGathered}
 use Rattle.nofs_serve.proofs.teams.gather.gather_users.Given as goal
 
 abbrev pub invariant-loop-user : goal.invariant-loop-user

@@ -1,17 +1,17 @@
 use Rattle.std.proofs.Common.{rules, ◌≡◌, ◌∙◌, ◌-◌, ℕ, ◌<◌, ◌≤◌, List, true, length, map, ap, subst, arith}
-use Rattle.nofs_turn.specs.declared.turn_rule.view.View.{View}
-use Rattle.nofs_turn.specs.Turns.{view_of}
+use Rattle.nofs_turn.specs.declared.rule.view.View.{View}
+use Rattle.nofs_turn.specs.Turn.{view_of}
 use Rattle.nofs_history.specs.declared.machine.callers.TheConstants.{BLOCK_SWEEPER, FLUSHER, INODE_SWEEPER, MOST_USERS}
 use Rattle.nofs_history.specs.Steps.{Made}
 use Rattle.nofs_history.specs.declared.machine.history.Entry1.{Entry1}
 use Rattle.nofs_history.specs.declared.machine.steps.ElementKind.TheVariants.{Inode, Block}
-use Rattle.nofs_shared.specs.Owned.{all_by, own_steps}
-use Rattle.nofs_shared.specs.Seats.{SameSeat}
-use Rattle.nofs_workers.specs.Sweeps.{Sweeps}
-use Rattle.nofs_serve.specs.Joins.{JoinsOwn}
-use Rattle.nofs_serve.proofs.Gathering.{length-scripts}
-use Rattle.nofs_serve.proofs.Working.{stand-run}
-use Rattle.nofs_serve.proofs.Teaming.{team-gathers}
+use Rattle.nofs_shared.specs.Passes.Entries.{all_by, own_steps}
+use Rattle.nofs_shared.specs.Passes.Seats.{SameSeat}
+use Rattle.nofs_workers.specs.Sweep.{Sweeps}
+use Rattle.nofs_serve.specs.Teams.Joins.{JoinsOwn}
+use Rattle.nofs_serve.proofs.OnTeams.Gathered.{length-scripts}
+use Rattle.nofs_serve.proofs.OnTeams.Users.{stand-run}
+use Rattle.nofs_serve.proofs.OnSession.{team-gathers}
 use Rattle.nofs_serve.proofs.teams.team.run_team.Goals as goal
 
 pub gather_users-requires-clause-ways : goal.gather_users-requires-clause-ways

@@ -1,10 +1,10 @@
 use Rattle.std.proofs.Common.{rules, ◌≡◌, ◌∙◌, ◌+◌, [], ◌∷◌, ◌++◌, All, eqb-true, true, length, map, vec_len, refl, sym, ap, subst, arith}
 use Rattle.std.proofs.Common.{append_assoc, append-nil}
 use Rattle.std.proofs.lemmas.List.Elements.{All-push}
-use Rattle.nofs_shared.proofs.Walking.{nil-of}
-use Rattle.nofs_client.specs.Commands.{AreWellFormed}
-use Rattle.nofs_turn.specs.Turns.{view_of}
-use Rattle.nofs_serve.proofs.Gathering.{all-end, stand-nil, stand-more, stand-at, stand-of}
+use Rattle.nofs_shared.proofs.OnPasses.Sessions.{nil-of}
+use Rattle.nofs_client.specs.Task.Commands.{AreWellFormed}
+use Rattle.nofs_turn.specs.Turn.{view_of}
+use Rattle.nofs_serve.proofs.OnTeams.Gathered.{all-end, stand-nil, stand-more, stand-at, stand-of}
 use Rattle.nofs_serve.proofs.teams.team.seat_users.Goals as goal
 
 pub loop-alloc-init : goal.loop-alloc-init

@@ -1,8 +1,8 @@
 use Rattle.std.proofs.Common.{◌≡◌, ◌+◌, ◌≤◌, ◌++◌, List, [], All, map, vec_len, vec_capacity}
-use Rattle.nofs_turn.specs.Turns.{view_of, IsPassOf}
+use Rattle.nofs_turn.specs.Turn.{view_of, IsPassOf}
 use Rattle.nofs_history.specs.declared.machine.callers.TheConstants.{MOST_USERS}
-use Rattle.nofs_client.specs.Commands.{AreWellFormed}
-use Rattle.nofs_serve.specs.Teams.{Stand, IsReady}
+use Rattle.nofs_client.specs.Task.Commands.{AreWellFormed}
+use Rattle.nofs_serve.specs.Teams.Users.{Stand, IsReady}
 use Rattle.nofs_serve.proofs.teams.team.seat_users.Given as goal
 
 abbrev pub invariant-loop-alloc : goal.invariant-loop-alloc

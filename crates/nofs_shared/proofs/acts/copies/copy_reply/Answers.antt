@@ -1,7 +1,7 @@
 use Rattle.std.proofs.Common.{subst}
 use Rattle.nofs_history.specs.Steps.{Fits}
 use Rattle.nofs_history.specs.declared.machine.replies.Reply.{Reply}
-use Rattle.nofs_shared.proofs.Contents.{bytes-read, names-read}
+use Rattle.nofs_shared.proofs.OnActs.Contents.{bytes-read, names-read}
 use Rattle.nofs_shared.proofs.acts.copies.copy_reply.Goals as goal
 
 pub returns-in-Err-clause-memory : goal.returns-in-Err-clause-memory

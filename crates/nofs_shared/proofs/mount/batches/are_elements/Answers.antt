@@ -2,7 +2,7 @@ use Rattle.std.proofs.Common.{subst}
 use Rattle.std.specs.Prelude.{All}
 use Rattle.std.proofs.lemmas.List.{take_all}
 use Rattle.std.proofs.lemmas.List.Elements.{All-get_or, All-more}
-use Rattle.nofs_scan.specs.Elements.{HasElement}
+use Rattle.nofs_scan.specs.Steps.Elements.{HasElement}
 use Rattle.nofs_shared.proofs.mount.batches.are_elements.Goals as goal
 
 pub loop-place-preserved : goal.loop-place-preserved

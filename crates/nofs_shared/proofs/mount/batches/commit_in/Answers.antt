@@ -1,16 +1,16 @@
 use Rattle.std.proofs.Common.{◌-◌, sym, ap, ◌∙◌, subst, subst₂, rules}
 use Rattle.nofs_disk.specs.Disk.{DiskState, KeepsCells}
 use Rattle.nofs_disk.specs.Chains.{KeepsCells-refl}
-use Rattle.nofs_state.specs.Books.{IsSafe}
-use Rattle.nofs_state.specs.declared.books.Books.{Books}
-use Rattle.nofs_scan.specs.Elements.{see_step, verdict_at}
-use Rattle.nofs_shared.specs.Mounts.{IsMount}
-use Rattle.nofs_shared.proofs.Causing.{see-leaves}
-use Rattle.nofs_shared.proofs.Mounting.{safe-history}
+use Rattle.nofs_state.specs.Books.Maps.{IsSafe}
+use Rattle.nofs_state.specs.declared.books.maps.Books.{Books}
+use Rattle.nofs_scan.specs.Steps.Elements.{see_step, verdict_at}
+use Rattle.nofs_shared.specs.Mount.Invariant.{IsMount}
+use Rattle.nofs_shared.proofs.OnMount.Causes.{see-leaves}
+use Rattle.nofs_shared.proofs.OnMount.Histories.{safe-history}
 use Rattle.nofs_history.specs.declared.machine.replies.Reply.TheVariants as reply
-use Rattle.nofs_shared.specs.Commits.{IsCommit}
-use Rattle.nofs_shared.specs.Sees.{is_see}
-use Rattle.nofs_shared.proofs.Committing.{commit-stopped, fits-seen, mount-answers, mount-kept, see-is}
+use Rattle.nofs_shared.specs.Mount.Commits.{IsCommit}
+use Rattle.nofs_shared.specs.Acts.Sees.{is_see}
+use Rattle.nofs_shared.proofs.OnMount.Commits.{commit-stopped, fits-seen, mount-answers, mount-kept, see-is}
 use Rattle.nofs_shared.proofs.mount.batches.commit_in.Goals as goal
 
 pub returns-clause-keeps : goal.returns-clause-keeps

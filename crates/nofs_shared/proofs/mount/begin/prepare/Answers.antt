@@ -1,6 +1,6 @@
 use Rattle.std.proofs.Common.{◌≡◌, ◌∙◌, sym, ap, Err}
 use Rattle.nofs_super.specs.declared.superblock.MountFault.TheVariants as fault
-use Rattle.nofs_shared.proofs.Refusing.{read_no_write}
+use Rattle.nofs_shared.proofs.OnMount.Refusals.{read_no_write}
 use Rattle.nofs_shared.proofs.mount.begin.prepare.Goals as goal
 
 pub returns-in-Err : goal.returns-in-Err

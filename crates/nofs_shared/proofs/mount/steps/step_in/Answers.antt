@@ -5,17 +5,18 @@ use Rattle.nofs_history.specs.declared.machine.history.Entry1.{Entry1}
 use Rattle.nofs_history.specs.declared.machine.replies.Reply.{Reply}
 use Rattle.nofs_history.specs.declared.machine.replies.Reply.TheVariants as reply
 use Rattle.nofs_history.specs.declared.machine.replies.Refusal.TheVariants as refusal
-use Rattle.nofs_state.specs.Books.{IsSafe}
-use Rattle.nofs_state.specs.Steps.{MeetsOpen, goes-safely}
-use Rattle.nofs_state.specs.declared.books.Books.{Books}
-use Rattle.nofs_shared.specs.Mounts.{IsMount}
-use Rattle.nofs_shared.specs.Settling.{Settles}
-use Rattle.nofs_shared.specs.StepCauses.{StepCauses, StepOrder}
-use Rattle.nofs_shared.proofs.Claiming.{unowned-none, unowned-more}
-use Rattle.nofs_shared.proofs.Causing.{causes-kept, causes-none}
-use Rattle.nofs_shared.proofs.Contents.{see-reads-none}
-use Rattle.nofs_shared.proofs.Mounting.{mount-none, mount-goes, safe-history}
-use Rattle.nofs_shared.proofs.Rooming.{adds-none, settles-memory}
+use Rattle.nofs_state.specs.Books.Maps.{IsSafe}
+use Rattle.nofs_state.specs.Cores.Steps.{MeetsOpen, goes-safely}
+use Rattle.nofs_state.specs.declared.books.maps.Books.{Books}
+use Rattle.nofs_shared.specs.Mount.Invariant.{IsMount}
+use Rattle.nofs_shared.specs.Mount.Flushes.{Settles}
+use Rattle.nofs_shared.specs.Mount.Causes.{StepCauses, StepOrder}
+use Rattle.nofs_shared.proofs.OnMount.Claims.{unowned-none, unowned-more}
+use Rattle.nofs_shared.proofs.OnMount.Causes.{causes-kept, causes-none}
+use Rattle.nofs_shared.proofs.OnActs.Contents.{see-reads-none}
+use Rattle.nofs_shared.proofs.OnMount.Steps.{mount-none, mount-goes}
+use Rattle.nofs_shared.proofs.OnMount.Histories.{safe-history}
+use Rattle.nofs_shared.proofs.OnActs.Room.{adds-none, settles-memory}
 use Rattle.nofs_shared.proofs.mount.steps.step_in.Goals as goal
 
 -- no memory for the step
@@ -91,8 +92,15 @@ returns-in-Ok-clause-keeps g c = λ found first m.
     c.args.step c.act-reply.result.claims c.act-reply.result.reply c.args.caller c.act-reply.ensures.goes
     (sym c.wants_memory.ensures ∙ c.if-wants_memory.false) _ refl
     (ap (λ (x : ℕ × Reply). c.act-reply.new.core.books.history.entries
-    ++ record { caller = c.args.caller; from = x.0; to = (g.D.Disk.state c.act-reply.new.core.disk).moment; step =
-    c.args.step; reply = x.1; claims = c.act-reply.result.claims } ∷ [])
+    ++ record {
+      caller = c.args.caller;
+      from = x.0;
+      to = (g.D.Disk.state c.act-reply.new.core.disk).moment;
+      step =
+          c.args.step;
+      reply = x.1;
+      claims = c.act-reply.result.claims;
+    } ∷ [])
     (λ i. (c.moment-from.ensures i, c.in-Ok.ensures.same i))))
 
 pub returns-in-Ok-clause-claims : goal.returns-in-Ok-clause-claims
@@ -103,8 +111,15 @@ returns-in-Ok-clause-claims g c = λ found first m q.
     (sym c.wants_memory.ensures ∙ c.if-wants_memory.false) q c.keep_step.new.self.books.history.entries
     (ap (λ (l : Books). l.history.entries) c.keep_step.ensures.books
     ∙ ap (λ (x : List Entry1 × ℕ × Reply). x.0
-    ++ record { caller = c.args.caller; from = x.1; to = (g.D.Disk.state c.act-reply.new.core.disk).moment; step =
-    c.args.step; reply = x.2; claims = c.act-reply.result.claims } ∷ [])
+    ++ record {
+      caller = c.args.caller;
+      from = x.1;
+      to = (g.D.Disk.state c.act-reply.new.core.disk).moment;
+      step =
+          c.args.step;
+      reply = x.2;
+      claims = c.act-reply.result.claims;
+    } ∷ [])
     (λ i. ((c.act-reply.ensures.goes.history i).entries, c.moment-from.ensures i, c.in-Ok.ensures.same i)))
 
 pub returns-in-Ok-clause-goes_on : goal.returns-in-Ok-clause-goes_on

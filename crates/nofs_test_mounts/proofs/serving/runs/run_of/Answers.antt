@@ -2,7 +2,7 @@ use denote.Param.{param}
 use denote.Exit.{no}
 use mir.Syntax.{of_param}
 use denote.Param.Send.{Quiet-if}
-use Rattle.nofs_shared.proofs.Sends.{evidence-send, mount-send}
+use Rattle.nofs_shared.proofs.OnMount.Threads.{evidence-send, mount-send}
 use Rattle.nofs_test_mounts.proofs.serving.runs.run_of.Goals as goal
 
 pub serve-served-requires-send-V : goal.serve-served-requires-send-V

@@ -2,7 +2,7 @@ use denote.Param.{param}
 use denote.Exit.{no}
 use mir.Syntax.{of_param}
 use denote.Param.Send.{Quiet-if}
-use Rattle.nofs_shared.proofs.Sends.{evidence-send, mount-send}
+use Rattle.nofs_shared.proofs.OnMount.Threads.{evidence-send, mount-send}
 use Rattle.nofs_test_mounts.proofs.serving.threads.session.Goals as goal
 
 pub both-first-requires-send-V : goal.both-first-requires-send-V

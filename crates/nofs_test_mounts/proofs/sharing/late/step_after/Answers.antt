@@ -1,7 +1,7 @@
 use Rattle.std.proofs.Common.{ℕ, sym, subst₂}
 use Rattle.nofs_memdisk.specs.Parts.{memory_state}
-use Rattle.nofs_shared.specs.Earlier.{IsEarlier, earlier-on}
-use Rattle.nofs_shared.proofs.Owning.{adds-prefix}
+use Rattle.nofs_shared.specs.Mount.Earlier.{IsEarlier, earlier-on}
+use Rattle.nofs_shared.proofs.OnPasses.Entries.{adds-prefix}
 use Rattle.nofs_test_mounts.proofs.sharing.late.step_after.Goals as goal
 
 pub returns : goal.returns

@@ -2,8 +2,8 @@ use Rattle.std.proofs.Common.{rules, ◌≡◌, ◌∙◌, sym, subst, Option, S
 use Rattle.std.specs.Slots.{slots_items}
 use mathlib.Core.Option.{some-injective}
 use Rattle.nofs_turn.specs.Passes.{Closes}
-use Rattle.nofs_turn.specs.Turns.{view_of}
-use Rattle.nofs_turn.proofs.Seats.{Found, ends}
+use Rattle.nofs_turn.specs.Turn.{view_of}
+use Rattle.nofs_turn.proofs.OnRule.Seats.{Found, ends}
 use Rattle.nofs_turn.proofs.turn.Turn.close.Goals as goal
 
 pub unreachable-requires : goal.unreachable-requires

@@ -1,6 +1,6 @@
 use Rattle.std.proofs.Common.{◌≡◌, ◌∙◌, rules, ap}
-use Rattle.nofs_turn.specs.Views.{maker, newcomer, fresh}
-use Rattle.nofs_turn.proofs.Seats.{starts_as}
+use Rattle.nofs_turn.specs.Rule.Views.{maker, newcomer, fresh}
+use Rattle.nofs_turn.proofs.OnRule.Seats.{starts_as}
 use Rattle.nofs_turn.proofs.turn.Turn.new.Goals as goal
 
 pub new-requires : goal.new-requires

@@ -1,6 +1,7 @@
 use Rattle.std.proofs.Common.{rules, ◌≡◌, ◌∙◌, sym, ap, subst, ◌*◌, Some, arith}
 use mathlib.Core.List.{IsPrefix}
-use Rattle.nofs_turn.proofs.Steps.{gives_home, same_carried}
+use Rattle.nofs_turn.proofs.OnRule.Steps.{gives_home}
+use Rattle.nofs_turn.proofs.OnRule.Looks.{same_carried}
 use Rattle.nofs_turn.proofs.turn.Turn.run.Goals as goal
 
 pub store-requires : goal.store-requires

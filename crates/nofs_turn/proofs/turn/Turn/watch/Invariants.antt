@@ -1,5 +1,5 @@
 use Rattle.nofs_turn.specs.Passes.{Waited}
-use Rattle.nofs_turn.specs.Turns.{view_of, IsPassOf}
+use Rattle.nofs_turn.specs.Turn.{view_of, IsPassOf}
 use Rattle.nofs_turn.proofs.turn.Turn.watch.Given as goal
 
 abbrev pub invariant-loop : goal.invariant-loop

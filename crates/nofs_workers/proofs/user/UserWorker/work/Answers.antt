@@ -1,6 +1,6 @@
 use Rattle.std.proofs.Common.{◌≡◌, ◌∙◌, sym, refl, false, is_err}
-use Rattle.nofs_workers.proofs.Outcomes.{from-ok}
-use Rattle.nofs_workers.proofs.Scripts.{AreWellFormed-known}
+use Rattle.nofs_workers.proofs.OnTasks.{from-ok}
+use Rattle.nofs_workers.proofs.OnUser.{AreWellFormed-known}
 use Rattle.nofs_workers.proofs.user.UserWorker.work.Goals as goal
 
 pub run_all-ran-requires : goal.run_all-ran-requires

@@ -2,14 +2,14 @@ use Rattle.std.proofs.Common.{ℕ, ◌+◌, List, sym, ap, ◌∙◌, subst, ari
 use Rattle.std.specs.Prelude.{slice_set}
 use Rattle.nofs_super.specs.Format.{super_cell}
 use Rattle.nofs_super.specs.Raise.{raised}
-use Rattle.nofs_shared.specs.Begins.{BeginsMount}
+use Rattle.nofs_shared.specs.Mount.Begin.{BeginsMount}
 use Rattle.nofs_disk.specs.Chains.{IsSameDisk-trans, KeepsPast-trans}
 use Rattle.nofs_model.specs.Cells.{Cell, SuperBlock}
-use Rattle.nofs_agree.specs.Reading.{IsAt}
-use Rattle.nofs_state.specs.Standing.{Sounds}
-use Rattle.nofs_state.specs.Books.{IsSafe}
-use Rattle.nofs_shared.specs.Mounts.{IsMount}
-use Rattle.nofs_shared.proofs.Raising.{begin-mount, at-raised, sounds-raised, sounds-rest, sound-on}
+use Rattle.nofs_agree.specs.Reads.{IsAt}
+use Rattle.nofs_state.specs.Cores.Invariant.{Sounds}
+use Rattle.nofs_state.specs.Books.Maps.{IsSafe}
+use Rattle.nofs_shared.specs.Mount.Invariant.{IsMount}
+use Rattle.nofs_shared.proofs.OnMount.Begin.{begin-mount, at-raised, sounds-raised, sounds-rest, sound-on}
 use Rattle.nofs_shared.proofs.mount.mount.Mount.begin.Goals as goal
 
 pub returns-in-Err-clause-fault : goal.returns-in-Err-clause-fault

@@ -3,16 +3,16 @@ use Rattle.std.proofs.Math.Logic.{∥∥₁_elim, ∥∥₁_prop}
 use mathlib.Core.List.{IsPrefix}
 use Rattle.nofs_history.specs.declared.machine.history.Entry1.{Entry1}
 use Rattle.nofs_history.specs.declared.machine.steps.Step.{Step}
-use Rattle.nofs_scan.specs.Elements.{see_step, verdict_at}
-use Rattle.nofs_shared.specs.Sees.{is_of_sweep}
-use Rattle.nofs_shared.specs.Owned.{TellsStep}
-use Rattle.nofs_turn.proofs.Words.{prefix_self}
-use Rattle.nofs_shared.specs.Earlier.{earlier-on}
-use Rattle.nofs_shared.proofs.Owning.{adds-prefix}
-use Rattle.nofs_shared.proofs.Committing.{commit-beside, commit-unmade}
-use Rattle.nofs_shared.proofs.Mounting.{mount-history}
-use Rattle.nofs_shared.proofs.Roomed.{roomed}
-use Rattle.nofs_shared.proofs.Rooming.{adds-none, few-left, sweep-served}
+use Rattle.nofs_scan.specs.Steps.Elements.{see_step, verdict_at}
+use Rattle.nofs_shared.specs.Acts.Sees.{is_of_sweep}
+use Rattle.nofs_shared.specs.Passes.Entries.{TellsStep}
+use Rattle.nofs_turn.proofs.OnLists.Words.{prefix_self}
+use Rattle.nofs_shared.specs.Mount.Earlier.{earlier-on}
+use Rattle.nofs_shared.proofs.OnPasses.Entries.{adds-prefix}
+use Rattle.nofs_shared.proofs.OnMount.Commits.{commit-beside, commit-unmade}
+use Rattle.nofs_shared.proofs.OnMount.Histories.{mount-history}
+use Rattle.nofs_shared.proofs.OnActs.OtherRoom.{roomed}
+use Rattle.nofs_shared.proofs.OnActs.Room.{adds-none, few-left, sweep-served}
 use Rattle.nofs_shared.proofs.mount.mount.Mount.commit.Goals as goal
 
 pub commit_in-requires-clause-earlier : goal.commit_in-requires-clause-earlier

@@ -1,5 +1,5 @@
 use Rattle.std.proofs.Math.Logic.{∥∥₁_elim, ∥∥₁_prop}
-use Rattle.nofs_shared.proofs.Scanning.{mount-scanned}
+use Rattle.nofs_shared.proofs.OnMount.Scans.{mount-scanned}
 use Rattle.nofs_shared.proofs.mount.mount.Mount.counts.Goals as goal
 
 pub returns-clause-scan : goal.returns-clause-scan

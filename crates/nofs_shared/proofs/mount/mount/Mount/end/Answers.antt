@@ -1,5 +1,5 @@
 use Rattle.std.proofs.Math.Logic.{∥∥₁_elim, ∥∥₁_prop}
-use Rattle.nofs_shared.proofs.Ending.{mount-ends}
+use Rattle.nofs_shared.proofs.OnMount.End.{mount-ends}
 use Rattle.nofs_shared.proofs.mount.mount.Mount.end.Goals as goal
 
 pub returns-clause-ends : goal.returns-clause-ends

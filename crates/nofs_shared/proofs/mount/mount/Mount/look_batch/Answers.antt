@@ -1,7 +1,7 @@
 use Rattle.std.proofs.Common.{◌+◌, ◌^◌, ◌≤◌, length, sym, subst}
 use Rattle.std.proofs.Math.Logic.{∥∥₁_elim, ∥∥₁_prop}
-use Rattle.nofs_state.specs.declared.books.Books.{Books}
-use Rattle.nofs_shared.proofs.Looking.{looked-own, mount-looked, safe-looked}
+use Rattle.nofs_state.specs.declared.books.maps.Books.{Books}
+use Rattle.nofs_shared.proofs.OnMount.Looks.{looked-own, mount-looked, safe-looked}
 use Rattle.nofs_shared.proofs.mount.mount.Mount.look_batch.Goals as goal
 
 pub invariant_of-self : goal.invariant_of-self

@@ -1,13 +1,13 @@
 use Rattle.std.proofs.Common.{List, refl, sym, ◌∙◌, subst, arith}
 use Rattle.std.proofs.Math.Logic.{∥∥₁_elim, ∥∥₁_prop}
 use Rattle.nofs_history.specs.declared.machine.history.Entry1.{Entry1}
-use Rattle.nofs_shared.specs.Added.{Unowned}
-use Rattle.nofs_shared.specs.Owned.{TellsStep}
-use Rattle.nofs_shared.proofs.Causing.{causes-roomed, causes-unroomed, order-sound, order-unroomed}
-use Rattle.nofs_shared.proofs.Claiming.{unowned-none}
-use Rattle.nofs_shared.proofs.Mounting.{mount-history}
-use Rattle.nofs_shared.proofs.Roomed.{roomed}
-use Rattle.nofs_shared.proofs.Rooming.{adds-none, few-left, settles-memory, sweep-served}
+use Rattle.nofs_shared.specs.Mount.Entries.{Unowned}
+use Rattle.nofs_shared.specs.Passes.Entries.{TellsStep}
+use Rattle.nofs_shared.proofs.OnMount.Causes.{causes-roomed, causes-unroomed, order-sound, order-unroomed}
+use Rattle.nofs_shared.proofs.OnMount.Claims.{unowned-none}
+use Rattle.nofs_shared.proofs.OnMount.Histories.{mount-history}
+use Rattle.nofs_shared.proofs.OnActs.OtherRoom.{roomed}
+use Rattle.nofs_shared.proofs.OnActs.Room.{adds-none, few-left, settles-memory, sweep-served}
 use Rattle.nofs_shared.proofs.mount.mount.Mount.step.Goals as goal
 
 pub invariant_of-self-in-Some : goal.invariant_of-self-in-Some

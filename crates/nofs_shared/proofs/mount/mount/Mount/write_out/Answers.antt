@@ -1,9 +1,9 @@
 use Rattle.std.proofs.Common.{◌+◌, ◌^◌, ◌≤◌, length, sym, subst}
 use Rattle.std.proofs.Math.Logic.{∥∥₁_elim, ∥∥₁_prop}
-use Rattle.nofs_state.specs.Books.{IsSafe}
-use Rattle.nofs_state.specs.declared.books.Books.{Books}
-use Rattle.nofs_state.proofs.WritingOut.{safe-out}
-use Rattle.nofs_shared.proofs.WritingOut.{mount-out-of}
+use Rattle.nofs_state.specs.Books.Maps.{IsSafe}
+use Rattle.nofs_state.specs.declared.books.maps.Books.{Books}
+use Rattle.nofs_state.proofs.OnCores.WriteOuts.{safe-out}
+use Rattle.nofs_shared.proofs.OnMount.WriteOuts.{mount-out-of}
 use Rattle.nofs_shared.proofs.mount.mount.Mount.write_out.Goals as goal
 
 pub invariant_of-self : goal.invariant_of-self

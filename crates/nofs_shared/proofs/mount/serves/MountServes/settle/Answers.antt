@@ -1,9 +1,9 @@
 use Rattle.std.proofs.Common.{ℕ, Bool, refl, sym, subst}
 use Rattle.std.proofs.Math.Logic.{∥∥₁_elim, ∥∥₁_prop}
-use Rattle.nofs_scan.specs.Elements.{see_step, verdict_at}
-use Rattle.nofs_shared.specs.Commits.{IsCommit}
-use Rattle.nofs_shared.specs.Owned.{TellsStep}
-use Rattle.nofs_shared.proofs.Looking.{item-at, items-length}
+use Rattle.nofs_scan.specs.Steps.Elements.{see_step, verdict_at}
+use Rattle.nofs_shared.specs.Mount.Commits.{IsCommit}
+use Rattle.nofs_shared.specs.Passes.Entries.{TellsStep}
+use Rattle.nofs_shared.proofs.OnMount.Looks.{item-at, items-length}
 use Rattle.nofs_shared.proofs.mount.serves.MountServes.settle.Goals as goal
 
 pub returns-clause-tells : goal.returns-clause-tells

@@ -1,0 +1,81 @@
+//! Dirty cells are written to the disk below.
+//!
+//! Promise: a block is clean only once its cell was written below, and a call that fails below
+//! leaves its block dirty. Any order is safe: what is written below is always the cell that a read
+//! gives. A flush writes in rising order, so that neighbouring cells follow one another.
+ghost use Rattle.std.specs.Prelude.{◌≡◌, ◌+◌, ◌<◌, ◌≤◌, OnOk, OnErr, length, map};
+ghost use Rattle.nofs_disk.specs.Disk.{Rose};
+ghost use Rattle.nofs_cache.specs.Dirty.Blocks.{block_count, entries_of, room_of};
+ghost use Rattle.nofs_cache.specs.Dirty.Entries.{BlocksFall};
+ghost use Rattle.nofs_cache.specs.Cached.{WrittenBack, WritesRising, SettlesDirty, TakesOut, Shrinks, SpendsOne};
+ghost use Rattle.nofs_cache.specs.Cached.{WroteBelow, WroteAllBelow, Stopped};
+
+use crate::dirty::cells::DirtyBlocks;
+use nofs_disk::{Disk, Failed};
+
+/// Writes the block of the last entry below, and names it; `None` where none is dirty.
+pub(crate) fn write_back<D: Disk>(
+    under: &mut D,
+    dirty: &mut DirtyBlocks,
+) -> Result<Option<u64>, Failed>
+    requires blocks { block_count dirty.old ≡ (D.state under.old).blocks }
+    requires spare { 1 ≤ (D.state under.old).spare }
+    ensures writes_back { WrittenBack (D.state under.old) (D.state under.new) (entries_of dirty.old) (entries_of dirty.new) }
+    ensures out { TakesOut (entries_of dirty.old) (entries_of dirty.new) result }
+    ensures shrinks { Shrinks dirty.old dirty.new }
+    ensures spends { SpendsOne (D.state under.old) (D.state under.new) (entries_of dirty.old) (entries_of dirty.new) }
+    ensures wrote { OnOk result (WroteBelow (D.state under.old) (D.state under.new) (entries_of dirty.old) (entries_of dirty.new)) }
+    ensures cause { OnErr result (Rose (D.state under.old).faults (D.state under.new).faults) }
+{
+    match dirty.last() {
+        None => Ok(None),
+        Some(entry) => match under.write(entry.block, &entry.cell) {
+            Ok(()) => {
+                dirty.pop();
+                Ok(Some(entry.block))
+            }
+            Err(failed) => Err(failed),
+        },
+    }
+}
+
+/// Writes every dirty block below in rising order, up to the first call that fails.
+pub(crate) fn write_back_all<D: Disk>(under: &mut D, dirty: &mut DirtyBlocks) -> Result<(), Failed>
+    requires falls { BlocksFall (entries_of dirty.old) }
+    requires blocks { block_count dirty.old ≡ (D.state under.old).blocks }
+    requires spare { length (entries_of dirty.old) ≤ (D.state under.old).spare }
+    ensures writes_back { WrittenBack (D.state under.old) (D.state under.new) (entries_of dirty.old) (entries_of dirty.new) }
+    ensures shrinks { Shrinks dirty.old dirty.new }
+    ensures wrote { OnOk result (WroteAllBelow (D.state under.old) (D.state under.new) (entries_of dirty.old) (entries_of dirty.new)) }
+    ensures stopped { OnErr result (Stopped (D.state under.old) (D.state under.new) (entries_of dirty.old) (entries_of dirty.new)) }
+{
+    for _ in 0..dirty.len() {
+        match write_back(under, dirty) {
+            Ok(_) => {}
+            Err(failed) => return Err(failed),
+        }
+    }
+    Ok(())
+}
+
+/// Writes every dirty block below in rising order and then flushes there, up to the first call that
+/// fails.
+pub(crate) fn write_back_and_flush<D: Disk>(
+    under: &mut D,
+    dirty: &mut DirtyBlocks,
+) -> Result<(), Failed>
+    requires blocks { block_count dirty.old ≡ (D.state under.old).blocks }
+    requires spare { length (entries_of dirty.old) + 1 ≤ (D.state under.old).spare }
+    ensures settles { SettlesDirty (D.state under.old) (D.state under.new) (entries_of dirty.old) (entries_of dirty.new) result }
+    ensures rising { WritesRising (map (λ e. e.block) (entries_of dirty.old)) (map (λ e. e.block) (entries_of dirty.new)) }
+    ensures blocks { block_count dirty.new ≡ block_count dirty.old }
+    ensures room { room_of dirty.old ≤ room_of dirty.new }
+    ensures no_more { length (entries_of dirty.new) ≤ length (entries_of dirty.old) }
+    ensures spare { (D.state under.old).spare + length (entries_of dirty.new) ≤ (D.state under.new).spare + length (entries_of dirty.old) + 1 }
+{
+    dirty.sort_falling();
+    match write_back_all(under, dirty) {
+        Ok(()) => under.flush(),
+        Err(failed) => Err(failed),
+    }
+}

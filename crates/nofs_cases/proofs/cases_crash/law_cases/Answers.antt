@@ -1,5 +1,0 @@
-use Rattle.nofs_cases.proofs.Cases.{new-disk, two-lives, early-life}
-use Rattle.nofs_cases.proofs.cases_crash.law_cases.Goals as goal
-
-pub returns : goal.returns
-returns c = record { new_disk = new-disk; two_lives = two-lives c.law_next.ensures.total; early_life = early-life }

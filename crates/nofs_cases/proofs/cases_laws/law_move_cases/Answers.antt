@@ -1,5 +1,0 @@
-use Rattle.nofs_cases.proofs.MoveCase.{directory-case, pair-case, move-case}
-use Rattle.nofs_cases.proofs.cases_laws.law_move_cases.Goals as goal
-
-pub returns : goal.returns
-returns c = record { directory = directory-case; pair = pair-case; moved = move-case }

@@ -1,6 +1,0 @@
-use Rattle.nofs_cases.proofs.FileCases.{put-case, put-held-case, resize-case, untouched-case, grown-case}
-use Rattle.nofs_cases.proofs.LeafCase.{leaf-case}
-use Rattle.nofs_cases.proofs.cases_steps.law_file_cases.Goals as goal
-
-pub returns : goal.returns
-returns c = record { put = put-case; leaf = leaf-case; put_held = put-held-case; resize = resize-case; untouched = untouched-case; grown = grown-case }

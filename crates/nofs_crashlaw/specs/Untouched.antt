@@ -1,0 +1,3 @@
+-- What a step leaves as it was.
+pub mod Frames
+pub mod Laws

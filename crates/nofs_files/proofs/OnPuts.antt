@@ -1,0 +1,19 @@
+-- Put answers as the machine does, and leaves the mount standing.
+pub mod Unchanged
+pub mod Ways
+pub mod ClaimParts
+pub mod Image
+pub mod Slots
+pub mod Proper
+pub mod Mount
+pub mod Claims
+pub mod Rows
+pub mod LostBlocks
+pub mod Books
+pub mod Rooms
+pub mod Contract
+pub mod Cells
+pub mod OneBlock
+pub mod PointerBlocks
+pub mod Direct
+pub mod Missing

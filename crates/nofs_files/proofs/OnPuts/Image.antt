@@ -1,0 +1,288 @@
+-- A Put at any depth, in place or with claims: the image after the blocks of its way and the record were written.
+use Rattle.std.proofs.Common.{◌≡◌, ◌≢◌, ℕ, ◌+◌, ◌*◌, ◌/◌, ◌<◌, ◌≤◌, ◌⊎◌, max, inl, inr, true, false, eqb}
+use Rattle.std.proofs.Common.{eq-eqb, leb, ltb, leb-true, ltb-true, not, List, length, Some, IsTrue}
+use Rattle.std.proofs.Common.{refl, sym, ap, ◌∙◌, subst, arith}
+use Rattle.nofs_ptrs.specs.Paths.{slot_limit}
+use Rattle.nofs_disk.specs.Disk.{DiskState, IsDisk, cell_at}
+use Rattle.nofs_super.specs.Geometry.{IsGeometry}
+use Rattle.nofs_inode.specs.declared.inode.FileKind.TheVariants.{File}
+use Rattle.nofs_model.specs.Cells.{Cell, Pointer, Record, Tag, is_null, pointer_at, tag_of, is_live}
+use Rattle.nofs_model.specs.Image.{Image, super_at, file_from, value, is_data_block, inode, Path, InRecord, Under, path_of, tag_for}
+use Rattle.nofs_model.specs.Image.{find, record_pointer, files_in, agreed, is_folder, IsAbove, IsSlot, IsFree}
+use Rattle.nofs_model.specs.Image.{IsBelow}
+use Rattle.nofs_model.specs.declared.image.path.PathAnswer.TheVariants as answer
+use Rattle.nofs_model.proofs.OnSlots.Find.{and-both, find-held}
+use Rattle.nofs_model.proofs.OnSlots.Paths.{path_of-slot, path_of-slot_of}
+use Rattle.nofs_model.proofs.OnSlots.Paths.{above-slot}
+use Rattle.nofs_model.proofs.OnSound.Writes.{mountable-law}
+use Rattle.nofs_history.specs.Machine.{put_content}
+use Rattle.nofs_history.specs.World.{World, blocks_for, uses_inode, uses_block}
+use Rattle.nofs_history.specs.Claims.{is_claimed, next_stamp, slot_above, IsClaim}
+use Rattle.nofs_history.specs.History.{FilesMatch, SameFile}
+use Rattle.nofs_history.specs.declared.machine.history.Claims.{Claims}
+use Rattle.nofs_history.specs.declared.machine.history.Entry1.{Entry1}
+use Rattle.nofs_history.specs.declared.machine.steps.Step.TheVariants as step
+use Rattle.nofs_crashlaw.specs.Untouched.Frames.{SameNames, OldPointers, Touches}
+use Rattle.nofs_crashlaw.proofs.OnUntouched.Matches.{Matched, matched-agreed}
+use Rattle.nofs_crashlaw.proofs.OnUntouched.Inodes.{one-owner}
+use Rattle.nofs_crashlaw.specs.Maps.Homes.{ClaimsFree}
+use Rattle.nofs_crashlaw.specs.Maps.Moves.{IsClaimed}
+use Rattle.nofs_crashlaw.proofs.OnMaps.Fresh.{law-old}
+use Rattle.nofs_crashlaw.proofs.OnMaps.Good.{law-claims}
+use Rattle.nofs_crashlaw.proofs.OnMaps.Homes.{law-good}
+use Rattle.nofs_crashlaw.proofs.OnFiles.PutFile.{file-in}
+use Rattle.nofs_crashlaw.specs.Numbers.Cells.{OldNumbers, table_tag}
+use Rattle.nofs_crashlaw.proofs.OnNumbers.Files.{listed, tag-same}
+use Rattle.nofs_state.specs.Books.Maps.{IsSafe}
+use Rattle.nofs_state.specs.Cores.Invariant.{IsOpen, Past}
+use Rattle.nofs_state.specs.declared.books.maps.Books.{Books}
+use Rattle.nofs_state.specs.Writes.Cells.{HasOneEach, image_after}
+use Rattle.nofs_state.proofs.OnWrites.TwoWrites.{one-each}
+use Rattle.nofs_history.specs.Good.{MatchesSuper}
+use Rattle.nofs_state.proofs.OnCores.Replies.{open-files}
+use Rattle.nofs_state.proofs.OnBooks.Machine.{agreed-live, world-numbers}
+use Rattle.nofs_state.proofs.OnWrites.Tables.{HasRecord, table_block, record-here, record-other}
+use Rattle.nofs_files.proofs.OnPuts.ClaimParts.{Takes, stamp-new}
+use Rattle.nofs_files.proofs.OnPuts.Ways.{IsNew, IsOld, IsChanged, way_writes, new-or-old, new-above, old-above}
+use Rattle.nofs_files.proofs.OnPuts.Ways.{changed-is, new-changed}
+use Rattle.nofs_files.proofs.OnPuts.Ways.{meets, one-is, changed-one, table-one}
+use Rattle.nofs_files.proofs.OnPuts.Ways.{written-apart, written-here}
+
+-- the file of a Put with the way to its slot, and the cell of the table with the new record
+pub record IsPutFile (X : Image) (i g slot : ℕ) (r r' : Record) (way : Path) (c2 : Cell) : Type 0 where
+  pub path : path_of slot ≡ way
+  pub range : slot < slot_limit
+  pub rec : inode X i ≡ r
+  pub kind : r.kind ≡ Some File
+  pub generation : r.generation ≡ g
+  pub agrees : agreed (files_in X) i ≡ true
+  pub has : HasRecord X i r' c2
+  pub tag_table : tag_of c2.tag ≡ Some (table_tag (table_block i))
+
+-- the record gets this size, and keeps its kind, its generation and its links
+pub record Grew (r r' : Record) (n : ℕ) : Type 0 where
+  pub kind : r'.kind ≡ r.kind
+  pub generation : r'.generation ≡ r.generation
+  pub links : r'.links ≡ r.links
+  pub size : r'.size ≡ n
+
+-- what the cells of a Put are, by the image before it: m slots of the way get a block
+pub record Climbs (X : Image) (i g slot at : ℕ) (bytes : List ℕ) (r r' : Record) (m : ℕ) (way : Path) (places : Path → Pointer) (cells : Path → Cell)
+    (c : Claims) (c2 : Cell) : Type 0 where
+  pub file : IsPutFile X i g slot r r' way c2
+  pub grew : Grew r r' (max r.size (1024 * slot + at + length bytes))
+  pub old : (a : Path) → IsOld m way a → find X i a ≡ answer.Holds (places a)
+  pub empty : (a : Path) → IsNew m way a → (y : Pointer) → find X i a ≡ answer.Holds y → ⊥
+  pub hole : (a : Path) (n : ℕ) → IsNew m way (Under a n) → IsNew m way a → find X i a ≡ answer.Hole
+  pub claimed : (a : Path) → IsNew m way a → IsClaimed c (places a)
+  pub distinct : (a b : Path) → IsNew m way a → IsNew m way b → (places a).block ≡ (places b).block → a ≡ b
+  pub tag_new : (a : Path) → IsNew m way a → tag_of (cells a).tag ≡ Some (tag_for X i a (places a).stamp)
+  pub tag_old : (a : Path) → IsChanged m way a → IsOld m way a → tag_of (cells a).tag ≡ tag_of (cell_at X (places a).block).tag
+  pub next : (a : Path) (n : ℕ) → IsNew m way (Under a n) → pointer_at (cells a).payload n ≡ places (Under a n)
+  pub beside_new : (a : Path) (n q : ℕ) → IsNew m way (Under a n) → IsNew m way a → q ≢ n → q < 64 → is_null (pointer_at (cells a).payload q) ≡ true
+  pub beside_old : (a : Path) (n q : ℕ) → IsNew m way (Under a n) → IsOld m way a → q ≢ n → q < 64
+      → pointer_at (cells a).payload q ≡ pointer_at (cell_at X (places a).block).payload q
+  pub content : (cells way).payload ≡ put_content (value X i slot) r.size slot at bytes
+  pub pointer_new : (n : ℕ) → IsNew m way (InRecord n) → record_pointer r' n ≡ places (InRecord n)
+  pub pointers_old : (n : ℕ) → (IsNew m way (InRecord n) → ⊥) → record_pointer r' n ≡ record_pointer r n
+  pub cell : is_claimed c.cell ≡ true → places way ≡ c.cell
+  pub leaf : is_claimed c.leaf ≡ true → IsAbove (slot_above way) way × (places (slot_above way) ≡ c.leaf)
+  pub top : is_claimed c.top ≡ true → IsAbove (slot_above (slot_above way)) way × (places (slot_above (slot_above way)) ≡ c.top)
+
+module _ (old new : DiskState) (k l : Books) (H : List Entry1) (p : Past) (i g slot at : ℕ) (bytes : List ℕ) (r r' : Record) (m : ℕ) (way : Path)
+    (places : Path → Pointer) (cells : Path → Cell) (c : Claims) (c2 : Cell)
+    (is_old : IsDisk old) (tells : IsTrue old.tells) (safe : IsSafe old k) (o : IsOpen old k H p)
+    (h : Climbs old.now i g slot at bytes r r' m way places cells c c2)
+    (needs : blocks_for p.world.files i slot ≡ m) (claim : IsClaim p.world (step.Put i g slot at bytes) c) (takes : Takes k l c m) where
+  abbrev pub W : World
+  W = p.world
+
+  abbrev pub X : Image
+  X = old.now
+
+  abbrev ws : List (ℕ × Cell)
+  ws = way_writes places cells (table_block i, c2) m way
+
+  abbrev pub Y : Image
+  Y = image_after (way_writes places cells (table_block i, c2) m way) old.now
+
+  geometry : IsGeometry (length X) (super_at X).blocks (super_at X).inodes
+  geometry = let q = (mountable-law X).1 o.mountable in q.fits
+
+  whole : (super_at X).blocks ≤ length X
+  whole = geometry.fits
+
+  pub match : FilesMatch W.files X
+  match = open-files old k H p o
+
+  pub own : Matched W.files X i
+  own = matched-agreed W.files X i match (agreed-live X i h.file.agrees) h.file.agrees
+
+  same : ((inode X i).kind ≡ Some own.file.kind) × SameFile (Some own.file) (file_from X i (Some own.file.kind))
+  same = file-in W.files X i own.file match own.is
+
+  pub file-kind : own.file.kind ≡ File
+  file-kind = let e : Some own.file.kind ≡ Some File = sym same.0 ∙ ap (λ (q : Record). q.kind) h.file.rec ∙ h.file.kind in cc e
+
+  pub file : is_folder own.file.kind ≡ false
+  file = ap is_folder file-kind
+
+  pub generation : own.file.generation ≡ g
+  generation = own.generation ∙ ap (λ (q : Record). q.generation) h.file.rec ∙ h.file.generation
+
+  pub size : own.file.size ≡ r.size
+  size = let s = same.1 in s.size ∙ ap (λ (q : Record). q.size) h.file.rec
+
+  pub value-here : own.file.values slot ≡ value X i slot
+  value-here = own.values slot h.file.range
+
+  pub slot-of-way : (a : Path) → IsAbove a way → IsSlot a
+  slot-of-way a u = above-slot a way u (subst (λ (q : Path). IsSlot q) h.file.path (path_of-slot slot h.file.range))
+
+  has-numbers : MatchesSuper W X
+  has-numbers = world-numbers old k H p o
+
+  -- The claim
+
+  pub claims-free : ClaimsFree W c X
+  claims-free = law-claims W (step.Put i g slot at bytes) c W.known_inodes (λ j. not (uses_inode W j)) W.known_blocks (λ q. not (uses_block W q)) X
+      (law-good W X has-numbers match o.homes) claim
+
+  pub free : (a : Path) → IsNew m way a → IsFree X (places a).block
+  free a n = claims-free.block_free (places a) (listed c (places a) (h.claimed a n))
+
+  pub stamp : (a : Path) → IsNew m way a → next_stamp W ≤ (places a).stamp
+  stamp a n = stamp-new W (step.Put i g slot at bytes) c (places a) claim (h.claimed a n)
+
+  pub area : (a : Path) → IsAbove a way → is_data_block X (places a).block ≡ true
+  area a u = elim (new-or-old m way a u) [
+    | inl n ↦ claims-free.block_data (places a) (listed c (places a) (h.claimed a n))
+    | inr d ↦ (find-held X i a (places a) (h.old a d)).agrees.area
+  ]
+
+  pub changed-above : (a : Path) → IsChanged m way a → IsAbove a way
+  changed-above a d = elim (changed-is m way a d) [ inl n ↦ new-above m way a n | inr q ↦ old-above m way a q ]
+
+  -- two slots of the way have two blocks
+  pub same-place : (a b : Path) → IsAbove a way → IsAbove b way → (places a).block ≡ (places b).block → a ≡ b
+  same-place a b u v e = go (new-or-old m way a u) (new-or-old m way b v)
+    where
+      go : IsNew m way a ⊎ IsOld m way a → IsNew m way b ⊎ IsOld m way b → a ≡ b
+      go (inl n) (inl q) = h.distinct a b n q e
+      go (inl n) (inr d) = absurd (free a n i b (places b) (slot-of-way b v) h.file.agrees (h.old b d) (sym e))
+      go (inr d) (inl q) = absurd (free b q i a (places a) (slot-of-way a u) h.file.agrees (h.old a d) e)
+      go (inr d) (inr f) = let w = one-owner X i i a b (places a) (places b) (h.old a d) (h.old b f) e in sym (path_of-slot_of a (slot-of-way a u))
+          ∙ ap path_of w.1 ∙ path_of-slot_of b (slot-of-way b v)
+
+  -- The disk after the writes
+
+  inside : (1 ≤ i) × (i ≤ (super_at X).inodes)
+  inside = let b = and-both (leb 1 i) (leb i (super_at X).inodes) h.file.has.range in (leb-true 1 i b.0, leb-true i (super_at X).inodes b.1)
+
+  pub table-low : table_block i ≤ (super_at X).inodes / 4
+  table-low = let a = inside in let q = geometry.multiple in omega (arith, a, q)
+
+  data-range : (b : ℕ) → is_data_block X b ≡ true → (1 + (super_at X).inodes / 4 ≤ b) × (b < (super_at X).blocks)
+  data-range b d = let q = and-both (leb (1 + (super_at X).inodes / 4) b) (ltb b (super_at X).blocks)
+      d in (leb-true (1 + (super_at X).inodes / 4) b q.0, ltb-true b (super_at X).blocks q.1)
+
+  off-table : (b : ℕ) → is_data_block X b ≡ true → b ≢ table_block i
+  off-table b d e = let q = data-range b d in let t = table-low in omega (arith, q, t, e)
+
+  pub stays : (b : ℕ) → b ≢ table_block i → ((a : Path) → IsChanged m way a → b ≢ (places a).block) → cell_at Y b ≡ cell_at X b
+  stays b ne none = written-apart ws X b (λ d one. elim (one-is places cells (table_block i, c2) m way b d one)
+      [ inl e ↦ ne e.0 | inr (a, q, eb, ec) ↦ none a q eb ])
+
+  pub data-stays : (b : ℕ) → is_data_block X b ≡ true → ((a : Path) → IsChanged m way a → b ≢ (places a).block) → cell_at Y b ≡ cell_at X b
+  data-stays b d none = stays b (off-table b d) none
+
+  low-stays : (b : ℕ) → b ≤ (super_at X).inodes / 4 → b ≢ table_block i → cell_at Y b ≡ cell_at X b
+  low-stays b low ne = stays b ne (λ a q e. let d = data-range (places a).block (area a (changed-above a q)) in omega (arith, d, e, low))
+
+  pub cell-here : (a : Path) → IsChanged m way a → cell_at Y (places a).block ≡ cells a
+  cell-here a q = written-here ws X (places a).block (cells a) (let d = data-range (places a).block (area a (changed-above a q)) in let w = whole in omega
+      (arith, d, w))
+      (λ d one. elim (one-is places cells (table_block i, c2) m way (places a).block d one) [
+        | inl e ↦ absurd (off-table (places a).block (area a (changed-above a q)) e.0)
+        | inr (b, qb, eb, ec) ↦ ec ∙ ap cells (sym (same-place a b (changed-above a q) (changed-above b qb) eb))
+      ]) (inl (changed-one places cells (table_block i, c2) m way a q))
+
+  table-here : cell_at Y (table_block i) ≡ c2
+  table-here = written-here ws X (table_block i) c2 (let t = table-low in let w = whole in let g = geometry.table in omega (arith, t, w, g))
+      (λ d one. elim (one-is places cells (table_block i, c2) m way (table_block i) d one) [
+        | inl e ↦ e.1
+        | inr (a, qa, ea, ec) ↦ absurd (off-table (places a).block (area a (changed-above a qa)) (sym ea))
+      ]) (inl (table-one places cells (table_block i, c2) m way))
+
+  -- each block gets one cell
+  pub climb-each : HasOneEach (way_writes places cells (table_block i, c2) m way)
+  climb-each = one-each (way_writes places cells (table_block i, c2) m way) Y (λ b q one. elim (one-is places cells (table_block i, c2) m way b q one) [
+    | inl e ↦ e.1 ∙ sym table-here ∙ ap (cell_at Y) (sym e.0)
+    | inr (a, u, eb, ec) ↦ ec ∙ sym (cell-here a u) ∙ ap (cell_at Y) (sym eb)
+  ])
+
+  pub super-stays : cell_at Y 0 ≡ cell_at X 0
+  super-stays = low-stays 0 (omega arith) (λ e. omega (arith, e))
+
+  pub here : inode Y i ≡ r'
+  here = record-here X Y i r' c2 h.file.has geometry.multiple super-stays table-here low-stays
+
+  record-old : (j : ℕ) → j ≢ i → inode Y j ≡ inode X j
+  record-old j ne = record-other X Y i r' c2 h.file.has geometry.multiple super-stays table-here low-stays j ne
+
+  all-below : IsBelow (next_stamp W) X
+  all-below n lt = o.stage.ready.fresh n (cell_at X n) lt (is_old.has_now n tells (let w = is_old.whole tells in let q = whole in omega (arith, lt, w, q)))
+
+  pub old-numbers : OldNumbers W X
+  old-numbers = record { positive = o.stage.ready.positive; mountable = o.mountable; below = all-below }
+
+  pub old-pointers : (j : ℕ) → is_live (inode X j) ≡ true → OldPointers (next_stamp W) X j
+  old-pointers j live = law-old (next_stamp W) X j o.stage.ready.positive o.mountable all-below live
+
+  pub names : SameNames X Y i
+  names = record {
+    kind = ap (λ (q : Record). q.kind) here ∙ h.grew.kind ∙ sym (ap (λ (q : Record). q.kind) h.file.rec);
+    generation = ap (λ (q : Record). q.generation) here ∙ h.grew.generation ∙ sym (ap (λ (q : Record). q.generation) h.file.rec);
+    links = ap (λ (q : Record). q.links) here ∙ h.grew.links ∙ sym (ap (λ (q : Record). q.links) h.file.rec);
+  }
+
+  pub tag-new : (a : Path) → IsNew m way a → tag_of (cell_at Y (places a).block).tag ≡ Some (tag_for Y i a (places a).stamp)
+  tag-new a n = ap (λ (q : Cell). tag_of q.tag) (cell-here a (new-changed m way a n)) ∙ h.tag_new a n
+      ∙ ap Some (sym (tag-same X Y i a (places a).stamp names.kind names.generation))
+
+  pub tag-old : (a : Path) → IsOld m way a → tag_of (cell_at Y (places a).block).tag ≡ tag_of (cell_at X (places a).block).tag
+  tag-old a d = elim (meets places m way (places a).block) [
+    | inl (b, q, e) ↦
+        let s : a ≡ b = same-place a b (old-above m way a d) (changed-above b q) e in
+        let t : IsChanged m way a = subst (λ (w : Path). IsChanged m way w) (sym s) q in
+        ap (λ (w : Cell). tag_of w.tag) (cell-here a t) ∙ h.tag_old a t d
+    | inr none ↦ ap (λ (w : Cell). tag_of w.tag) (data-stays (places a).block (area a (old-above m way a d)) none)
+  ]
+
+  pub touches : Touches (next_stamp W) (λ j. eqb j i) X Y
+  touches = record {
+    super = super-stays;
+    records = λ j t. record-old j (λ e. let q = eq-eqb j i e in cc (q, t));
+    blocks = λ n d. elim (meets places m way n) [
+      | inl (a, q, e) ↦ inr (written-one n a q e)
+      | inr none ↦ inl (data-stays n d none)
+    ];
+  }
+    where
+      newer : (a : Path) → IsNew m way a → (t : Tag) → tag_of (cell_at Y (places a).block).tag ≡ Some t → next_stamp W ≤ t.stamp
+      newer a n t et =
+          let w = tag-new a n in
+          let e : t ≡ tag_for Y i a (places a).stamp = cc (et, w) in
+          let s = ap (λ (q : Tag). q.stamp) e in let z = stamp a n in omega (arith, s, z)
+
+      written-one : (n : ℕ) (a : Path) → IsChanged m way a → n ≡ (places a).block
+          → (IsFree X n × ((t : Tag) → tag_of (cell_at Y n).tag ≡ Some t → next_stamp W ≤ t.stamp))
+          ⊎ ((tag_of (cell_at Y n).tag ≡ tag_of (cell_at X n).tag) × ((j : ℕ) × (b : Path) × (y : Pointer) × (eqb j i ≡ true) × (find X j b ≡ answer.Holds y)
+          × (y.block ≡ n)))
+      written-one n a q e = elim (changed-is m way a q) [
+        | inl w ↦ inl (subst (λ (b : ℕ). IsFree X b) (sym e) (free a w), λ t et. newer a w t (subst (λ (b : ℕ). tag_of (cell_at Y b).tag ≡ Some t) e et))
+        | inr d ↦ inr (
+          subst (λ (b : ℕ). tag_of (cell_at Y b).tag ≡ tag_of (cell_at X b).tag) (sym e) (tag-old a d),
+          (i, a, places a, eq-eqb i i refl, h.old a d, sym e),
+        )
+      ]

@@ -1,0 +1,5 @@
+-- Get, Stat and Flush answer as the machine does.
+pub mod Stats
+pub mod Rows
+pub mod Gets
+pub mod Flushes

@@ -1,0 +1,256 @@
+-- The image after the writes of a Resize: what stays.
+use Rattle.std.proofs.Common.{◌≡◌, ◌≢◌, ℕ, ◌+◌, ◌-◌, ◌/◌, ◌%◌, ◌<◌, ◌≤◌, ◌⊎◌, min, inl, inr, Bool, true, false, cond, eqb, eq-eqb, ne_eqb, leb, ltb}
+use Rattle.std.proofs.Common.{leb-true, ltb-true, ◌&&◌, not, List, ◌++◌, length, take, Option, Some, None, IsTrue, refl, sym, ap, ◌∙◌, subst}
+use Rattle.std.proofs.Common.{arith}
+use Rattle.std.proofs.lemmas.Bool.{cases_eq, cases_lt, le-leb}
+use Rattle.nofs_ptrs.specs.Paths.{slot_limit}
+use Rattle.nofs_disk.specs.Disk.{DiskState, IsDisk, cell_at}
+use Rattle.nofs_super.specs.Geometry.{IsGeometry}
+use Rattle.nofs_inode.specs.declared.inode.FileKind.TheVariants.{File}
+use Rattle.nofs_model.specs.Cells.{Cell, Pointer, Record, tag_of, is_live}
+use Rattle.nofs_model.specs.Image.{Image, super_at, file_from, is_data_block, inode, Path}
+use Rattle.nofs_model.specs.Image.{IsSlot, find, Files, is_folder, IsBelow}
+use Rattle.nofs_model.specs.declared.image.path.PathAnswer.TheVariants as answer
+use Rattle.nofs_model.specs.declared.image.value.Value.{Value}
+use Rattle.nofs_model.specs.declared.image.value.Value.TheVariants.{Hole, Bytes}
+use Rattle.nofs_model.proofs.OnSlots.Find.{and-both, find-held}
+use Rattle.nofs_model.proofs.OnSound.Writes.{mountable-law}
+use Rattle.nofs_history.specs.Meta.{is_bytes}
+use Rattle.nofs_history.specs.Machine.{bytes_in, resize_slot, size_of, slots_in, trimmed, value_of, zero_bytes}
+use Rattle.nofs_history.specs.World.{World}
+use Rattle.nofs_history.specs.Claims.{next_stamp}
+use Rattle.nofs_history.specs.History.{FilesMatch, SameFile}
+use Rattle.nofs_history.specs.declared.machine.history.Entry1.{Entry1}
+use Rattle.nofs_crashlaw.specs.Untouched.Frames.{SameNames, OldPointers, Touches}
+use Rattle.nofs_crashlaw.proofs.OnUntouched.Matches.{Matched, matched-agreed}
+use Rattle.nofs_crashlaw.proofs.OnMaps.Fresh.{law-old}
+use Rattle.nofs_crashlaw.specs.Files.Resizes.{is_cut, cut_at}
+use Rattle.nofs_crashlaw.specs.Numbers.Cells.{OldNumbers}
+use Rattle.nofs_state.specs.Cores.Invariant.{IsOpen, Past}
+use Rattle.nofs_state.specs.declared.books.maps.Books.{Books}
+use Rattle.nofs_state.specs.Writes.Cells.{HasOneEach, image_after}
+use Rattle.nofs_crashlaw.proofs.OnFiles.PutFile.{file-in}
+use Rattle.nofs_state.proofs.OnCores.Replies.{open-files}
+use Rattle.nofs_state.proofs.OnBooks.Machine.{agreed-live}
+use Rattle.nofs_state.proofs.OnWrites.Tables.{table_block, record-here, record-other}
+use Rattle.nofs_files.specs.Resizes.{kept_slots, cut_record, cut_writes}
+use Rattle.nofs_files.specs.declared.resizes.cuts.NewCell.{NewCell}
+use Rattle.nofs_files.specs.declared.resizes.cuts.Edge.{Edge}
+use Rattle.nofs_state.proofs.OnWrites.TwoWrites.{one-each}
+use Rattle.nofs_files.proofs.OnPuts.Ways.{written-apart, written-here}
+use Rattle.nofs_files.proofs.OnResizes.Slots.{lt-leb}
+use Rattle.nofs_files.proofs.OnResizes.Writes.{Cuts, IsAt, Held, one-is, at-one, table-one}
+use Rattle.nofs_files.proofs.OnResizes.Writes.{meets}
+use Rattle.nofs_files.proofs.OnResizes.Writes.{held-at, same-slot, same-at}
+
+-- what a Resize gives to a slot, by the size and the value before
+abbrev pub slot_by : ℕ → Value → ℕ → ℕ → Option Value
+slot_by old v size k = cond (leb (kept_slots old size) k) (cond (ltb k slot_limit) (Some Hole) None)
+    (cond (leb old size && (eqb (k + 1) (kept_slots old size) && (not (eqb (old % 1024) 0) && is_bytes v)))
+    (Some (Bytes (take (old % 1024) (bytes_in v) ++ zero_bytes (1024 - old % 1024)))) None)
+
+pub slot-by : (F : Files) (i size k : ℕ) → resize_slot F i size k ≡ slot_by (size_of F i) (value_of F i k) size k
+slot-by F i size k = refl
+
+-- before the cut, to the end of the content
+pub slot-end : (old size k : ℕ) (content : List ℕ) → old ≤ size → old % 1024 ≢ 0 → k ≡ old / 1024
+    → slot_by old (Bytes content) size k ≡ Some (Bytes (trimmed (old % 1024) content))
+unfolding trimmed
+slot-end old size k content grows uneven at =
+    let m : kept_slots old size ≡ k + 1 = omega (arith, grows, uneven, at) in
+    let a : leb (kept_slots old size) k ≡ false = lt-leb (kept_slots old size) k (omega (arith, m)) in
+    let b : leb old size ≡ true = le-leb old size grows in
+    let c : eqb (k + 1) (kept_slots old size) ≡ true = eq-eqb (k + 1) (kept_slots old size) (sym m) in
+    let d : eqb (old % 1024) 0 ≡ false = ne_eqb (old % 1024) 0 uneven in
+    rw (a, b, c, d) refl
+
+-- and nothing to another slot
+pub slot-none : (old size k : ℕ) (content : List ℕ) → k < kept_slots old size → (size < old) ⊎ ((old % 1024 ≡ 0) ⊎ (k ≢ old / 1024))
+    → slot_by old (Bytes content) size k ≡ None
+slot-none old size k content before why =
+    let a : leb (kept_slots old size) k ≡ false = lt-leb (kept_slots old size) k before in
+    let b : (leb old size && (eqb (k + 1) (kept_slots old size) && (not (eqb (old % 1024) 0) && true))) ≡ false = off why (cases_lt size old) in
+    rw (a, b) refl
+  where
+    mid : (x y : Bool) → (x && (y && (false && true))) ≡ false
+    mid true true = refl
+    mid true false = refl
+    mid false y = refl
+
+    last : (x z : Bool) → (x && (false && (z && true))) ≡ false
+    last true z = refl
+    last false z = refl
+
+    shrinks : size < old → (leb old size && (eqb (k + 1) (kept_slots old size) && (not (eqb (old % 1024) 0) && true))) ≡ false
+    shrinks h = let e : leb old size ≡ false = lt-leb old size h in rw e refl
+
+    off : (size < old) ⊎ ((old % 1024 ≡ 0) ⊎ (k ≢ old / 1024)) → (size < old) ⊎ (old ≤ size)
+        → (leb old size && (eqb (k + 1) (kept_slots old size) && (not (eqb (old % 1024) 0) && true))) ≡ false
+    off (inl h) w = shrinks h
+    off (inr h) (inl s) = shrinks s
+    off (inr (inl even)) (inr grows) = let e : eqb (old % 1024) 0 ≡ true = eq-eqb (old % 1024) 0 even in rw e
+        (mid (leb old size) (eqb (k + 1) (kept_slots old size)))
+    off (inr (inr ne)) (inr grows) = elim (cases_eq (old % 1024) 0) [
+      | inl even ↦ (let e : eqb (old % 1024) 0 ≡ true = eq-eqb (old % 1024) 0 even in rw e (mid (leb old size) (eqb (k + 1) (kept_slots old size))))
+      | inr uneven ↦
+          let e : eqb (k + 1) (kept_slots old size) ≡ false = ne_eqb (k + 1) (kept_slots old size) (λ q. ne (omega (arith, q, grows, uneven))) in
+          rw e (last (leb old size) (not (eqb (old % 1024) 0)))
+    ]
+
+module _ (old : DiskState) (k : Books) (H : List Entry1) (p : Past) (i g size : ℕ) (r : Record) (tail : Option NewCell) (edge : Edge) (c2 : Cell)
+    (is_old : IsDisk old) (tells : IsTrue old.tells) (o : IsOpen old k H p) (h : Cuts old.now i g size r tail edge c2) where
+  abbrev pub W : World
+  W = p.world
+
+  abbrev pub X : Image
+  X = old.now
+
+  abbrev pub m : ℕ
+  m = kept_slots r.size size
+
+  abbrev pub r' : Record
+  r' = cut_record r size (kept_slots r.size size)
+
+  abbrev pub ws : List (ℕ × Cell)
+  ws = cut_writes tail edge (table_block i) c2
+
+  abbrev pub Y : Image
+  Y = image_after (cut_writes tail edge (table_block i) c2) old.now
+
+  abbrev pub At : Path → NewCell → Type 0
+  At = IsAt r.size (kept_slots r.size size) tail edge
+
+  pub geometry : IsGeometry (length X) (super_at X).blocks (super_at X).inodes
+  geometry = let q = (mountable-law X).1 o.mountable in q.fits
+
+  pub whole : (super_at X).blocks ≤ length X
+  whole = geometry.fits
+
+  pub match : FilesMatch W.files X
+  match = open-files old k H p o
+
+  pub own : Matched W.files X i
+  own = matched-agreed W.files X i match (agreed-live X i h.agrees) h.agrees
+
+  pub same : ((inode X i).kind ≡ Some own.file.kind) × SameFile (Some own.file) (file_from X i (Some own.file.kind))
+  same = file-in W.files X i own.file match own.is
+
+  pub file-kind : own.file.kind ≡ File
+  file-kind = let e : Some own.file.kind ≡ Some File = sym same.0 ∙ ap (λ (q : Record). q.kind) h.rec ∙ h.kind in cc e
+
+  pub file : is_folder own.file.kind ≡ false
+  file = ap is_folder file-kind
+
+  pub generation : own.file.generation ≡ g
+  generation = own.generation ∙ ap (λ (q : Record). q.generation) h.rec ∙ h.generation
+
+  pub old-size : own.file.size ≡ r.size
+  old-size = let s = same.1 in s.size ∙ ap (λ (q : Record). q.size) h.rec
+
+  pub same-cut : (a : Path) → is_cut (cut_at own.file size) a ≡ is_cut (kept_slots r.size size) a
+  same-cut a = ap (λ (n : ℕ). is_cut (min (slots_in n) (slots_in size)) a) old-size
+
+  -- The disk after the writes
+
+  pub inside : (1 ≤ i) × (i ≤ (super_at X).inodes)
+  inside = let b = and-both (leb 1 i) (leb i (super_at X).inodes) h.has.range in (leb-true 1 i b.0, leb-true i (super_at X).inodes b.1)
+
+  pub table-low : table_block i ≤ (super_at X).inodes / 4
+  table-low = let a = inside in let q = geometry.multiple in omega (arith, a, q)
+
+  pub data-range : (b : ℕ) → is_data_block X b ≡ true → (1 + (super_at X).inodes / 4 ≤ b) × (b < (super_at X).blocks)
+  data-range b d = let q = and-both (leb (1 + (super_at X).inodes / 4) b) (ltb b (super_at X).blocks) d
+      in (leb-true (1 + (super_at X).inodes / 4) b q.0, ltb-true b (super_at X).blocks q.1)
+
+  pub off-table : (b : ℕ) → is_data_block X b ≡ true → b ≢ table_block i
+  off-table b d e = let q = data-range b d in let t = table-low in omega (arith, q, t, e)
+
+  pub held-of : (a : Path) (it : NewCell) → At a it → Held X i g size r tail edge c2 h a it
+  held-of a it at = held-at X i g size r tail edge c2 h a it at
+
+  pub area-of : (a : Path) (it : NewCell) → At a it → is_data_block X it.block ≡ true
+  area-of a it at = let q = held-of a it at in subst (λ (b : ℕ). is_data_block X b ≡ true) (sym q.block) (find-held X i a q.pointer q.held).agrees.area
+
+  pub stays : (b : ℕ) → b ≢ table_block i → ((a : Path) (it : NewCell) → At a it → b ≢ it.block) → cell_at Y b ≡ cell_at X b
+  stays b ne none = written-apart ws X b (λ d one. elim (one-is r.size m tail edge (table_block i) c2 b d one)
+      [ inl e ↦ ne e.0 | inr (a, it, at, eb, ec) ↦ none a it at eb ])
+
+  low-stays : (b : ℕ) → b ≤ (super_at X).inodes / 4 → b ≢ table_block i → cell_at Y b ≡ cell_at X b
+  low-stays b low ne = stays b ne (λ a it at e. let d = data-range it.block (area-of a it at) in omega (arith, d, e, low))
+
+  slots-same : (a b : Path) (it w : NewCell) → At a it → At b w → it.block ≡ w.block → it ≡ w
+  slots-same a b it w at bt e =
+      let q = held-of a it at in let t = held-of b w bt in
+      same-at X i g size r tail edge c2 h a b it w at bt (same-slot X i g size r tail edge c2 h a b q.pointer t.pointer q.slot t.slot q.held t.held
+      (sym q.block ∙ e ∙ t.block))
+
+  pub cell-here : (a : Path) (it : NewCell) → At a it → cell_at Y it.block ≡ it.cell
+  cell-here a it at = written-here ws X it.block it.cell (let d = data-range it.block (area-of a it at) in let w = whole in omega (arith, d, w))
+      (λ d one. elim (one-is r.size m tail edge (table_block i) c2 it.block d one) [
+        | inl e ↦ absurd (off-table it.block (area-of a it at) e.0)
+        | inr (b, w, bt, eb, ec) ↦ ec ∙ ap (λ (q : NewCell). q.cell) (sym (slots-same a b it w at bt eb))
+      ]) (inl (at-one r.size m tail edge (table_block i) c2 a it at))
+
+  pub table-here : cell_at Y (table_block i) ≡ c2
+  table-here = written-here ws X (table_block i) c2 (let t = table-low in let w = whole in let q = geometry.table in omega (arith, t, w, q))
+      (λ d one. elim (one-is r.size m tail edge (table_block i) c2 (table_block i) d one) [
+        | inl e ↦ e.1
+        | inr (a, it, at, eb, ec) ↦ absurd (off-table it.block (area-of a it at) (sym eb))
+      ]) (inl (table-one r.size m tail edge (table_block i) c2))
+
+  -- each block gets one cell
+  pub cut-each : HasOneEach (cut_writes tail edge (table_block i) c2)
+  cut-each = one-each (cut_writes tail edge (table_block i) c2) Y (λ b q one. elim (one-is r.size m tail edge (table_block i) c2 b q one) [
+    | inl e ↦ e.1 ∙ sym table-here ∙ ap (cell_at Y) (sym e.0)
+    | inr (a, it, at, eb, ec) ↦ ec ∙ sym (cell-here a it at) ∙ ap (cell_at Y) (sym eb)
+  ])
+
+  pub super-stays : cell_at Y 0 ≡ cell_at X 0
+  super-stays = low-stays 0 (omega arith) (λ e. omega (arith, e))
+
+  pub here : inode Y i ≡ r'
+  here = record-here X Y i r' c2 h.has geometry.multiple super-stays table-here low-stays
+
+  record-old : (j : ℕ) → j ≢ i → inode Y j ≡ inode X j
+  record-old j ne = record-other X Y i r' c2 h.has geometry.multiple super-stays table-here low-stays j ne
+
+  all-below : IsBelow (next_stamp W) X
+  all-below n lt = o.stage.ready.fresh n (cell_at X n) lt (is_old.has_now n tells (let w = is_old.whole tells in let q = whole in omega (arith, lt, w, q)))
+
+  pub old-numbers : OldNumbers W X
+  old-numbers = record { positive = o.stage.ready.positive; mountable = o.mountable; below = all-below }
+
+  pub old-pointers : (j : ℕ) → is_live (inode X j) ≡ true → OldPointers (next_stamp W) X j
+  old-pointers j live = law-old (next_stamp W) X j o.stage.ready.positive o.mountable all-below live
+
+  pub names : SameNames X Y i
+  names = record {
+    kind = ap (λ (q : Record). q.kind) here ∙ sym (ap (λ (q : Record). q.kind) h.rec);
+    generation = ap (λ (q : Record). q.generation) here ∙ sym (ap (λ (q : Record). q.generation) h.rec);
+    links = ap (λ (q : Record). q.links) here ∙ sym (ap (λ (q : Record). q.links) h.rec);
+  }
+
+  -- the block of a slot whose cell isn't written stays
+  pub slot-stays : (b : Path) (y : Pointer) → IsSlot b → find X i b ≡ answer.Holds y → ((it : NewCell) → At b it → ⊥) → cell_at Y y.block ≡ cell_at X y.block
+  slot-stays b y s held none =
+      let d = (find-held X i b y held).agrees.area in
+      stays y.block (off-table y.block d) (λ a it at e.
+      let q = held-of a it at in
+      let t : b ≡ a = same-slot X i g size r tail edge c2 h b a y q.pointer s q.slot held q.held (e ∙ q.block) in
+      none it (subst (λ (v : Path). At v it) (sym t) at))
+
+  pub touches : Touches (next_stamp W) (λ j. eqb j i) X Y
+  touches = record {
+    super = super-stays;
+    records = λ j t. record-old j (λ e. let q = eq-eqb j i e in cc (q, t));
+    blocks = λ n d. elim (meets r.size m tail edge (table_block i) c2 n) [
+      | inl (a, it, at, e) ↦
+          let q = held-of a it at in
+          inr (inr (
+            ap (λ (b : ℕ). tag_of (cell_at Y b).tag) e ∙ ap (λ (c : Cell). tag_of c.tag) (cell-here a it at) ∙ ap tag_of q.tag ∙ ap
+                (λ (b : ℕ). tag_of (cell_at X b).tag) (sym (e ∙ q.block)),
+            (i, a, q.pointer, eq-eqb i i refl, q.held, sym (e ∙ q.block)),
+          ))
+      | inr none ↦ inl (stays n (off-table n d) none)
+    ];
+  }

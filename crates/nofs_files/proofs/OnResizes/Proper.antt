@@ -1,0 +1,259 @@
+-- Why each write of a Resize is proper.
+use Rattle.std.proofs.Common.{◌≡◌, ℕ, ◌+◌, ◌/◌, ◌<◌, ◌≤◌, ◌⊎◌, inl, inr, Bool, true, false, cond, leb, ltb, ◌&&◌, List}
+use Rattle.std.proofs.Common.{length, Option, Some, None, IsTrue, refl, sym, ap, ◌∙◌, subst, subst₂, arith}
+use Rattle.std.proofs.lemmas.Bool.{cases_lt}
+use Rattle.nofs_ptrs.specs.Paths.{slot_limit}
+use Rattle.nofs_disk.specs.Disk.{DiskState, IsDisk, cell_at, Picks}
+use Rattle.nofs_model.specs.Cells.{Cell, Leaf, Pointer, Record, SuperBlock, is_null, pointer_at, tag_of}
+use Rattle.nofs_model.specs.Image.{Image, super_at, is_data_block, inode, Path, InRecord, Under, path_of, IsSlot, kind_in, tag_for, find, pointer}
+use Rattle.nofs_model.specs.Image.{record_pointer, FileState, Files}
+use Rattle.nofs_model.specs.declared.image.path.PathAnswer.TheVariants as answer
+use Rattle.nofs_model.specs.declared.image.value.Value.TheVariants.{Bytes}
+use Rattle.nofs_model.proofs.OnSlots.Find.{HoldsAt, find-held}
+use Rattle.nofs_model.proofs.OnSound.Writes.{supers}
+use Rattle.nofs_crashlaw.specs.Images.Proper.{Proper, OfPointers, OfTable, PointerProper, Same, Cut, RecordProper}
+use Rattle.nofs_crashlaw.specs.Images.Proper.{Unchanged}
+use Rattle.nofs_crashlaw.specs.Images.Moments.{during}
+use Rattle.nofs_crashlaw.specs.Images.Reasons.{ReadsSince, Holes}
+use Rattle.nofs_crashlaw.proofs.OnImages.Moments.{law-images}
+use Rattle.nofs_history.specs.Meta.{meta_of, Is}
+use Rattle.nofs_history.specs.Marks.{Mark}
+use Rattle.nofs_history.specs.Machine.{Given, gives, resize_given, resize_slot, files_after}
+use Rattle.nofs_history.specs.World.{World}
+use Rattle.nofs_history.specs.Claims.{no_claims, next_stamp, IsClaim, Unclaimed, NoInode}
+use Rattle.nofs_history.specs.History.{FilesMatch, agreed_files, files_along, mark_at}
+use Rattle.nofs_history.specs.declared.machine.history.Entry1.{Entry1}
+use Rattle.nofs_history.specs.declared.machine.steps.Step.TheVariants as step
+use Rattle.nofs_crashlaw.proofs.OnFiles.Given.{at-itself}
+use Rattle.nofs_crashlaw.specs.Maps.Fresh.{Numbered, CellNumbers}
+use Rattle.nofs_crashlaw.specs.Files.Resizes.{is_cut}
+use Rattle.nofs_crashlaw.specs.Numbers.Cells.{RecordWritten, AsBefore}
+use Rattle.nofs_state.specs.Cores.Invariant.{IsOpen, Past}
+use Rattle.nofs_state.specs.declared.books.maps.Books.{Books}
+use Rattle.nofs_state.specs.Writes.Cells.{OneOf, image_after}
+use Rattle.nofs_crashlaw.proofs.OnFiles.Resizes.{law-resize-files, law-resize-holes}
+use Rattle.nofs_crashlaw.proofs.OnFiles.Resizes.{meta-here}
+use Rattle.nofs_crashlaw.proofs.OnFiles.Writes.{law-content, law-record}
+use Rattle.nofs_crashlaw.proofs.OnNumbers.Files.{law-resize-cells, law-resize-record, tag-same}
+use Rattle.nofs_crashlaw.proofs.OnNumbers.Tables.{law-table-numbers}
+use Rattle.nofs_crashlaw.proofs.OnHistories.Entries.{now-picks}
+use Rattle.nofs_state.proofs.OnWrites.Tables.{table_block, table-records}
+use Rattle.nofs_files.specs.Resizes.{kept_slots, cut_record, cut_writes}
+use Rattle.nofs_files.specs.declared.resizes.cuts.NewCell.{NewCell}
+use Rattle.nofs_files.specs.declared.resizes.cuts.Edge.{Edge}
+use Rattle.nofs_files.proofs.OnPuts.Unchanged.{not-leb}
+use Rattle.nofs_files.proofs.OnResizes.Slots.{below_path}
+use Rattle.nofs_files.proofs.OnResizes.Records.{record-cut, record-stays}
+use Rattle.nofs_files.proofs.OnResizes.Writes.{Cuts, IsAt, AtTail, AtBelow, AtAbove, PointersAt, TailAt, one-is}
+use Rattle.nofs_files.proofs.OnResizes.Writes.{tail-at, below-at, above-at, tail-low}
+use Rattle.nofs_files.proofs.OnResizes.Image as image
+use Rattle.nofs_files.proofs.OnResizes.Pointers as pointers_part
+
+module _ (old : DiskState) (k : Books) (H : List Entry1) (p : Past) (i g size : ℕ) (r : Record) (tail : Option NewCell) (edge : Edge) (c2 : Cell)
+    (is_old : IsDisk old) (tells : IsTrue old.tells) (o : IsOpen old k H p) (h : Cuts old.now i g size r tail edge c2) where
+  abbrev pub W : World
+  W = p.world
+
+  abbrev pub X : Image
+  X = old.now
+
+  abbrev m : ℕ
+  m = kept_slots r.size size
+
+  abbrev pub Y : Image
+  Y = image_after (cut_writes tail edge (table_block i) c2) old.now
+
+  abbrev pub f : FileState
+  f = (image.own old k H p i g size r tail edge c2 is_old tells o h).file
+
+  pub is : p.world.files i ≡ Some (image.own old k H p i g size r tail edge c2 is_old tells o h).file
+  is = (image.own old k H p i g size r tail edge c2 is_old tells o h).is
+
+  pub gen : (image.own old k H p i g size r tail edge c2 is_old tells o h).file.generation ≡ g
+  gen = image.generation old k H p i g size r tail edge c2 is_old tells o h
+
+  own-generation : (inode old.now i).generation ≡ g
+  own-generation = ap (λ (q : Record). q.generation) h.rec ∙ h.generation
+
+  pub claim : IsClaim p.world (step.Resize i g size) no_claims
+  claim = record { inode = NoInode refl refl; cell = Unclaimed refl; leaf = Unclaimed refl; top = Unclaimed refl; apart = tt }
+
+  pub files : FilesMatch (files_after p.world.files (resize_given p.world.files i g size)) Y
+  files = law-resize-files p.world.files old.now Y i g size (image.own old k H p i g size r tail edge c2 is_old tells o h).file (next_stamp p.world)
+      (pointers_part.lies old k H p i g size r tail edge c2 is_old tells o h)
+
+  -- The numbers
+
+  pointer-numbers : (a : Path) (it : NewCell) → IsAt r.size (kept_slots r.size size) tail edge a it → (b : Path)
+      → PointersAt old.now i (kept_slots r.size size) b it → CellNumbers (Numbered p.world no_claims) old.now it.block it.cell
+  pointer-numbers a it at b t = subst₂ (λ (n : ℕ) (c : Cell). CellNumbers (Numbered W no_claims) X n c) (sym t.block)
+      (ap (cell_at Y) (sym t.block) ∙ image.cell-here old k H p i g size r tail edge c2 is_old tells o h a it at)
+      ((law-resize-cells W X Y i g size f (next_stamp W) no_claims (image.old-numbers old k H p i g size r tail edge c2 is_old tells o h)
+      (pointers_part.lies old k H p i g size r tail edge c2 is_old tells o h)).1 b t.pointer t.slot t.points
+      (image.same-cut old k H p i g size r tail edge c2 is_old tells o h b ∙ t.inside.stays) t.held)
+
+  cell-numbers : (a : Path) (it : NewCell) → IsAt r.size (kept_slots r.size size) tail edge a it
+      → CellNumbers (Numbered p.world no_claims) old.now it.block it.cell
+  cell-numbers a it (AtTail some e) =
+      let t = tail-at X i g size r tail edge c2 h it some in
+      subst₂ (λ (b : ℕ) (c : Cell). CellNumbers (Numbered W no_claims) X b c) (sym t.block)
+      (ap (cell_at Y) (sym t.block) ∙ image.cell-here old k H p i g size r tail edge c2 is_old tells o h (path_of (r.size / 1024)) it (AtTail some refl))
+      ((law-resize-cells W X Y i g size f (next_stamp W) no_claims (image.old-numbers old k H p i g size r tail edge c2 is_old tells o h)
+      (pointers_part.lies old k H p i g size r tail edge c2 is_old tells o h)).0 (r.size / 1024) t.pointer (tail-low X i g size r tail edge c2 h t.uneven) t.held)
+  cell-numbers a it (AtBelow some e) = pointer-numbers (below_path m) it (AtBelow some refl) (below_path m) (below-at X i g size r tail edge c2 h it some)
+  cell-numbers a it (AtAbove some e) = pointer-numbers (InRecord 9) it (AtAbove some refl) (InRecord 9) (above-at X i g size r tail edge c2 h it some).1
+
+  table-numbers : CellNumbers (Numbered p.world no_claims) old.now (table_block i) c2
+  table-numbers = law-table-numbers W no_claims X (table_block i) c2 (image.old-numbers old k H p i g size r tail edge c2 is_old tells o h) h.tag_table
+      (λ j e s. elim (table-records X i (image.r' old k H p i g size r tail edge c2 is_old tells o h) c2 h.has j e s) [
+        | inl new ↦ subst (λ (q : Record). RecordWritten W no_claims X j q)
+            (sym (new.1 ∙ sym (image.here old k H p i g size r tail edge c2 is_old tells o h) ∙ ap (inode Y) (sym new.0)))
+            ((law-resize-record W X Y i g size f (next_stamp W) no_claims (image.old-numbers old k H p i g size r tail edge c2 is_old tells o h)
+            (pointers_part.lies old k H p i g size r tail edge c2 is_old tells o h)).1 j)
+        | inr was ↦ AsBefore was
+      ])
+
+  pub numbers : (n : ℕ) (cell : Cell) → OneOf (cut_writes tail edge (table_block i) c2) n cell → CellNumbers (Numbered p.world no_claims) old.now n cell
+  numbers n cell one = elim (one-is r.size m tail edge (table_block i) c2 n cell one) [
+    | inl e ↦ subst₂ (λ (q : ℕ) (d : Cell). CellNumbers (Numbered W no_claims) X q d) (sym e.0) (sym e.1) table-numbers
+    | inr (a, it, at, eb, ec) ↦ subst₂ (λ (q : ℕ) (d : Cell). CellNumbers (Numbered W no_claims) X q d) (sym eb) (sym ec) (cell-numbers a it at)
+  ]
+
+  -- Why each write is proper
+
+  abbrev pub given : Given
+  given = resize_given p.world.files i g size
+
+  abbrev pub M : Mark
+  M = mark_at p.base H (old.moment + 1) p.mark p.stamps
+
+  pick : Picks old.may (length p.mark) old.now
+  pick = now-picks old p.mark is_old tells o.stage.ready.survives.size
+
+  reads : ReadsSince (mark_at p.base H (old.moment + 1) p.mark p.stamps) old.now
+  reads = (law-images M old.may X o.stage.ready.survives.mark o.stage.ready.survives.explained pick).reads
+
+  mark-super : super_at p.mark ≡ super_at old.now
+  mark-super = supers X p.mark (sym reads.super)
+
+  mark-area : (b : ℕ) → is_data_block old.now b ≡ true → is_data_block p.mark b ≡ true
+  mark-area b d = subst (λ (q : SuperBlock). (leb (1 + q.inodes / 4) b && ltb b q.blocks) ≡ true) (sym mark-super) d
+
+  pub same-given : resize_given p.world.files i g size ≡ resize_given (files_along (agreed_files p.base) H) i g size
+  same-given = ap (λ (G : Files). resize_given G i g size) o.files
+
+  -- holes are given to what is cut
+  holes : (a : Path) → IsSlot a → is_cut (kept_slots r.size size) a ≡ true
+      → Holes (during (mark_at p.base H (old.moment + 1) p.mark p.stamps) (resize_given p.world.files i g size)) i g a
+  holes a s cut = law-resize-holes M W.files i g size f a is s (image.same-cut old k H p i g size r tail edge c2 is_old tells o h a ∙ cut)
+
+  tail-proper : (it : NewCell) → tail ≡ Some it → Proper (during (mark_at p.base H (old.moment + 1) p.mark p.stamps) (resize_given p.world.files i g size))
+      old.now it.block it.cell
+  tail-proper it some = subst (λ (b : ℕ). Proper (during M given) X b it.cell) (sym t.block)
+      (law-content M given X Y i g (r.size / 1024) t.pointer it.cell (record {
+        area = mark-area t.pointer.block held.agrees.area;
+        range = low;
+        generation = ap (λ (q : Record). q.generation) (image.here old k H p i g size r tail edge c2 is_old tells o h) ∙ h.generation;
+        tag = ap tag_of t.tag ∙ held.agrees.tag ∙ ap Some (sym (tag-same X Y i (path_of (r.size / 1024)) t.pointer.stamp
+            (image.names old k H p i g size r tail edge c2 is_old tells o h).kind (image.names old k H p i g size r tail edge c2 is_old tells o h).generation));
+        gives = ap (λ (b : Bool). cond b (resize_slot W.files i size (r.size / 1024)) None) (at-itself i g) ∙ pointers_part.end-given old k H p i g size r tail edge c2
+            is_old tells o h t.pointer t.grows t.uneven t.held ∙ ap (λ (v : List ℕ). Some (Bytes v)) (sym t.payload);
+        place = inl (ap tag_of t.tag);
+      }))
+    where
+      t : TailAt old.now i r.size size it
+      t = tail-at X i g size r tail edge c2 h it some
+
+      low : r.size / 1024 < slot_limit
+      low = tail-low X i g size r tail edge c2 h t.uneven
+
+      held : HoldsAt old.now i (path_of (r.size / 1024)) t.pointer
+      held = find-held X i (path_of (r.size / 1024)) t.pointer t.held
+
+  pointers-proper : (a : Path) (it : NewCell) → PointersAt old.now i (kept_slots r.size size) a it
+      → Proper (during (mark_at p.base H (old.moment + 1) p.mark p.stamps) (resize_given p.world.files i g size)) old.now it.block it.cell
+  pointers-proper a it t = subst (λ (b : ℕ). Proper (during M given) X b it.cell) (sym t.block) (OfPointers (record {
+    area = mark-area t.pointer.block held.agrees.area;
+    tag = tag_for X i a t.pointer.stamp;
+    spelled = ap tag_of t.cut.tag ∙ held.agrees.tag;
+    kind = leaf-kind;
+    path = a;
+    is_slot = t.slot;
+    points = t.points;
+    slot = refl;
+    place = inl (ap tag_of t.cut.tag);
+    pointers = λ n lt. one n lt (cases_lt n t.from);
+  }))
+    where
+      held : HoldsAt old.now i a t.pointer
+      held = find-held X i a t.pointer t.held
+
+      leaf-kind : kind_in (inode old.now i) a ≡ Leaf
+      leaf-kind = let e = t.points in rw e refl
+
+      was : (n : ℕ) → pointer old.now i (Under a n) ≡ pointer_at (cell_at old.now t.pointer.block).payload n
+      was n = let e = t.held in rw (e, pointer) refl
+
+      one : (n : ℕ) → n < 64 → (n < t.from) ⊎ (t.from ≤ n) → PointerProper
+          (during (mark_at p.base H (old.moment + 1) p.mark p.stamps) (resize_given p.world.files i g size)) old.now i (inode old.now i).generation
+          (Under a n) (pointer_at it.cell.payload n)
+      one n lt (inl before) = Same (image.own old k H p i g size r tail edge c2 is_old tells o h).live refl (t.pointer, t.held)
+          (was n ∙ sym (t.cut.kept n before lt))
+      one n lt (inr behind) = Cut (t.cut.cut n behind lt) (subst (λ (q : ℕ). Holes (during M given) i q (Under a n)) (sym own-generation)
+          (holes (Under a n) (t.points, lt, t.slot) (t.inside.behind n lt behind)))
+
+  block-proper : (a : Path) (it : NewCell) → IsAt r.size (kept_slots r.size size) tail edge a it
+      → Proper (during (mark_at p.base H (old.moment + 1) p.mark p.stamps) (resize_given p.world.files i g size)) old.now it.block it.cell
+  block-proper a it (AtTail some e) = tail-proper it some
+  block-proper a it (AtBelow some e) = pointers-proper (below_path m) it (below-at X i g size r tail edge c2 h it some)
+  block-proper a it (AtAbove some e) = pointers-proper (InRecord 9) it (above-at X i g size r tail edge c2 h it some).1
+
+  record-proper : RecordProper (during (mark_at p.base H (old.moment + 1) p.mark p.stamps) (resize_given p.world.files i g size)) old.now i
+      (cut_record r size (kept_slots r.size size))
+  record-proper = law-record M given X i (cut_record r size (kept_slots r.size size)) (record {
+    live = (image.own old k H p i g size r tail edge c2 is_old tells o h).live;
+    generation = sym (ap (λ (q : Record). q.generation) h.rec);
+    kind = sym (ap (λ (q : Record). q.kind) h.rec);
+    meta = inr (ap (given.metas i) (h.generation ∙ sym gen) ∙ meta-here W.files i g size f is gen
+        (image.file old k H p i g size r tail edge c2 is_old tells o h) ∙ ap Some new-meta);
+    reads = reads;
+    pointers = λ n lt. one n lt (is_cut (kept_slots r.size size) (InRecord n)) refl;
+  })
+    where
+      new-meta : Is (image.own old k H p i g size r tail edge c2 is_old tells o h).file.kind size
+          (image.own old k H p i g size r tail edge c2 is_old tells o h).file.links ≡ meta_of (cut_record r size (kept_slots r.size size))
+      new-meta = let e = h.kind in (λ j. Is (image.file-kind old k H p i g size r tail edge c2 is_old tells o h j) size
+          (((image.own old k H p i g size r tail edge c2 is_old tells o h).links ∙ ap (λ (q : Record). q.links) h.rec) j)) ∙ sym (rw (e, meta_of) refl)
+
+      one : (n : ℕ) → n < 10 → (b : Bool) → is_cut (kept_slots r.size size) (InRecord n) ≡ b
+          → (record_pointer (cut_record r size (kept_slots r.size size)) n ≡ record_pointer (inode old.now i) n)
+          ⊎ (((p.stamps ≤ (record_pointer (cut_record r size (kept_slots r.size size)) n).stamp) ×
+          ((z : Pointer) → find old.now i (InRecord n) ≡ answer.Holds z → ⊥))
+          ⊎ ((is_null (record_pointer (cut_record r size (kept_slots r.size size)) n) ≡ true) × Holes
+          (during (mark_at p.base H (old.moment + 1) p.mark p.stamps) (resize_given p.world.files i g size)) i r.generation (InRecord n)))
+      one n lt true e = inr (inr (
+        record-cut r size m h.eight n e,
+        subst (λ (q : ℕ). Holes (during M given) i q (InRecord n)) (sym h.generation)
+            (holes (InRecord n) lt e),
+      ))
+      one n lt false e = inl (record-stays r size m h.eight n e ∙ ap (λ (q : Record). record_pointer q n) (sym h.rec))
+
+  table-proper : Proper (during (mark_at p.base H (old.moment + 1) p.mark p.stamps) (resize_given p.world.files i g size)) old.now (table_block i) c2
+  table-proper = OfTable (record {
+    not_super = omega arith;
+    area = ap (λ (q : SuperBlock). leb (1 + q.inodes / 4) (table_block i) && ltb (table_block i) q.blocks) mark-super
+        ∙ (let t : leb (1 + (super_at X).inodes / 4) (table_block i) ≡ false = not-leb (1 + (super_at X).inodes / 4) (table_block i)
+        (let l = image.table-low old k H p i g size r tail edge c2 is_old tells o h in omega (arith, l)) in rw t refl);
+    records = λ j e s. elim (table-records X i (cut_record r size (kept_slots r.size size)) c2 h.has j
+        (subst (λ (q : SuperBlock). (leb 1 j && leb j q.inodes) ≡ true) mark-super e) s) [
+          | inl new ↦ subst₂ (λ (q : ℕ) (t : Record). RecordProper (during M given) X q t) (sym new.0) (sym new.1) record-proper
+          | inr was ↦ Unchanged was
+        ];
+  })
+
+  pub proper : (n : ℕ) (cell : Cell) → OneOf (cut_writes tail edge (table_block i) c2) n cell
+      → Proper (during (mark_at p.base H (old.moment + 1) p.mark p.stamps) (resize_given p.world.files i g size)) old.now n cell
+  proper n cell one = elim (one-is r.size m tail edge (table_block i) c2 n cell one) [
+    | inl e ↦ subst₂ (λ (q : ℕ) (d : Cell). Proper (during M given) X q d) (sym e.0) (sym e.1) table-proper
+    | inr (a, it, at, eb, ec) ↦ subst₂ (λ (q : ℕ) (d : Cell). Proper (during M given) X q d) (sym eb) (sym ec) (block-proper a it at)
+  ]

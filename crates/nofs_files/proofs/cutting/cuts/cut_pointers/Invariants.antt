@@ -1,5 +1,0 @@
-use Rattle.nofs_files.proofs.CutCells.{Cutting}
-use Rattle.nofs_files.proofs.cutting.cuts.cut_pointers.Given as goal
-
-abbrev pub invariant-loop-place : goal.invariant-loop-place
-invariant-loop-place l = Cutting l.from l.place l.fn.payload l.payload

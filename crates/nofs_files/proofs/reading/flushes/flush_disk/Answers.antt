@@ -1,6 +1,0 @@
-use Rattle.std.proofs.Common.{refl}
-use Rattle.nofs_files.specs.Answers.{NotFlushed}
-use Rattle.nofs_files.proofs.reading.flushes.flush_disk.Goals as goal
-
-pub returns-in-Err : goal.returns-in-Err
-returns-in-Err g c = NotFlushed c.in-Err.field-0 c.in-Err.ensures refl refl

@@ -1,0 +1,3 @@
+-- A mirror meets the promises of a disk.
+pub mod Writes
+pub mod Flushes

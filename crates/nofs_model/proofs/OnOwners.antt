@@ -1,0 +1,3 @@
+-- Owners of blocks: each is one agreed slot that holds.
+pub mod Slots
+pub mod Meanings

@@ -1,0 +1,3 @@
+-- Which images are sound.
+pub mod Writes
+pub mod Formats

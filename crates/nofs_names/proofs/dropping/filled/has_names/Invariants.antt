@@ -1,9 +1,0 @@
-use Rattle.std.proofs.Common.{◌*◌}
-use Rattle.nofs_agree.specs.Reading.{IsLast}
-use Rattle.nofs_names.proofs.Fullness.{Emptying}
-use Rattle.nofs_names.proofs.dropping.filled.has_names.Given as goal
-
-abbrev pub invariant-loop-slot : goal.invariant-loop-slot
-invariant-loop-slot g l = Emptying (g.D.Disk.state l.fn.disk) (g.D.Disk.state l.disk) l.directory.inode 0 (16 * l.slot) l.records × IsLast (g.D.Disk.state
-    l.disk)
-    l.names

@@ -1,0 +1,238 @@
+//! The search of a directory for a name.
+ghost use Rattle.std.specs.Prelude.{◌≡◌, ◌+◌, ◌*◌, ◌<◌, IsTrue, OnOk, Some};
+ghost use Rattle.nofs_dirent.specs.Entries.{entry_limit};
+ghost use Rattle.nofs_model.specs.Slots.{value};
+ghost use Rattle.nofs_model.specs.declared.image.value.Value.TheVariants.{Bytes};
+ghost use Rattle.nofs_agree.specs.Reads.{IsAt, IsLast};
+ghost use Rattle.nofs_names.specs.Searches.Inodes.{KnowsFolder};
+ghost use Rattle.nofs_names.specs.Searches.Slots.{IsEntrySpelled, Searches, SearchesOn, SeesNamed, SeesPlace};
+ghost use Rattle.nofs_names.specs.Searches.Slots.{first_or};
+
+use crate::searches::entries::{Named, named_at};
+use crate::searches::inodes::ReadInode;
+use crate::searches::pair_tests::paired_kind;
+use nofs_agree::{LastRead, read_inode};
+use nofs_dirent::has_name;
+use nofs_disk::{Disk, Failed};
+use nofs_inode::{BackLink, FileKind, Record};
+use nofs_model::PathAnswer;
+use nofs_super::SuperBlock;
+
+/// An entry and the inode that it names, which are a pair.
+#[derive(Clone, Copy)]
+pub struct Paired {
+    pub entry: u32,
+    pub inode: u32,
+    pub kind: FileKind,
+    pub record: Record,
+}
+
+/// What was seen of a directory in which no pair has the name: the first of each.
+#[derive(Clone, Copy)]
+pub struct Unfound {
+    /// An entry that has the name, and is no pair.
+    pub dead: Option<u32>,
+    /// An empty place in a slot that holds.
+    pub empty: Option<u32>,
+    /// A slot that is lost.
+    pub lost: Option<u32>,
+    /// A slot that is a hole.
+    pub hole: Option<u32>,
+}
+
+/// What stands in a place of a directory's cell.
+#[derive(Clone, Copy)]
+pub enum Seen {
+    Empty,
+    /// An entry with another name.
+    Other,
+    /// An entry that has the name, and is no pair.
+    Dead,
+    Found(Paired),
+}
+
+/// What a search of a whole directory gives.
+#[derive(Clone, Copy)]
+pub enum Searched {
+    Found(Paired),
+    Unfound(Unfound),
+}
+
+fn first(so_far: Option<u32>, at: u32) -> Option<u32>
+    ensures { result ≡ first_or so_far (Some at) }
+{
+    match so_far {
+        None => Some(at),
+        Some(first) => Some(first),
+    }
+}
+
+impl Unfound {
+    /// Nothing was seen yet.
+    const NONE: Unfound = Unfound {
+        dead: None,
+        empty: None,
+        lost: None,
+        hole: None,
+    };
+
+    fn see_dead(&mut self, entry: u32)
+        ensures { self.new ≡ record self.old { dead = first_or self.old.dead (Some entry) } }
+    {
+        self.dead = first(self.dead, entry);
+    }
+
+    fn see_empty(&mut self, entry: u32)
+        ensures { self.new ≡ record self.old { empty = first_or self.old.empty (Some entry) } }
+    {
+        self.empty = first(self.empty, entry);
+    }
+}
+
+// What stands in a place of a directory's cell.
+fn see_place<D: Disk>(
+    disk: &mut D,
+    at: &SuperBlock,
+    link: &BackLink,
+    payload: &[u8; 1024],
+    place: u32,
+    name: &[u8],
+    records: &mut LastRead,
+) -> Result<Seen, Failed>
+    requires numbers { IsAt (D.state disk.old) at.now }
+    requires range { link.now.entry < entry_limit }
+    requires place { place < 16 }
+    requires last { IsLast (D.state disk.old) records.old }
+    ensures { SeesPlace (D.state disk.old) (D.state disk.new) at.now link.now payload.now place name.now records.new result }
+{
+    match named_at(payload, place) {
+        None => Ok(Seen::Empty),
+        Some(named) => {
+            if !has_name(payload, name, place) {
+                return Ok(Seen::Other);
+            }
+            see_named(disk, at, link, named, records)
+        }
+    }
+}
+
+// Whether an entry with the name, to which the back link leads, is a pair.
+fn see_named<D: Disk>(
+    disk: &mut D,
+    at: &SuperBlock,
+    link: &BackLink,
+    named: Named,
+    records: &mut LastRead,
+) -> Result<Seen, Failed>
+    requires numbers { IsAt (D.state disk.old) at.now }
+    requires range { link.now.entry < entry_limit }
+    requires named { IsEntrySpelled named }
+    requires last { IsLast (D.state disk.old) records.old }
+    ensures { SeesNamed (D.state disk.old) (D.state disk.new) at.now link.now named records.new result }
+{
+    let record = read_inode(disk, at, named.inode, records)?;
+    match paired_kind(&record, named, link) {
+        None => Ok(Seen::Dead),
+        Some(kind) => Ok(Seen::Found(Paired {
+            entry: link.entry,
+            inode: named.inode,
+            kind,
+            record,
+        })),
+    }
+}
+
+// Searches a cell of a directory. Where no pair has the name, `unfound` is what was seen up to here.
+fn search_cell<D: Disk>(
+    disk: &mut D,
+    directory: ReadInode,
+    payload: &[u8; 1024],
+    slot: u32,
+    name: &[u8],
+    unfound: &mut Unfound,
+    records: &mut LastRead,
+) -> Result<Option<Paired>, Failed>
+    requires directory { KnowsFolder (D.state disk.old) directory }
+    requires slot { slot < 72 }
+    requires cell { IsTrue (D.state disk.old).tells → value (D.state disk.old).now directory.inode slot ≡ Bytes payload.now }
+    requires last { IsLast (D.state disk.old) records.old }
+    ensures { SearchesOn (D.state disk.old) (D.state disk.new) directory.at directory.inode name.now (16 * slot) slot
+        (16 * (slot + 1)) (slot + 1) unfound.old unfound.new records.new result }
+{
+    for place in 0..16 {
+        let link = BackLink {
+            directory: directory.inode,
+            entry: 16 * slot + place,
+            generation: directory.record.generation,
+        };
+        match see_place(disk, &directory.at, &link, payload, place, name, records)? {
+            Seen::Empty => unfound.see_empty(link.entry),
+            Seen::Other => {}
+            Seen::Dead => unfound.see_dead(link.entry),
+            Seen::Found(it) => return Ok(Some(it)),
+        }
+    }
+    Ok(None)
+}
+
+// Searches a slot of a directory.
+fn search_slot<D: Disk>(
+    disk: &mut D,
+    directory: ReadInode,
+    slot: u32,
+    name: &[u8],
+    unfound: &mut Unfound,
+    names: &mut LastRead,
+    records: &mut LastRead,
+) -> Result<Option<Paired>, Failed>
+    requires directory { KnowsFolder (D.state disk.old) directory }
+    requires slot { slot < 72 }
+    requires names { IsLast (D.state disk.old) names.old }
+    requires last { IsLast (D.state disk.old) records.old }
+    ensures search { SearchesOn (D.state disk.old) (D.state disk.new) directory.at directory.inode name.now (16 * slot) slot
+        (16 * (slot + 1)) (slot + 1) unfound.old unfound.new records.new result }
+    ensures kept { OnOk result (IsLast (D.state disk.new) names.new) }
+{
+    match directory.find(disk, slot, names)? {
+        PathAnswer::Hole => {
+            unfound.hole = first(unfound.hole, slot);
+            Ok(None)
+        }
+        PathAnswer::Lost => {
+            unfound.lost = first(unfound.lost, slot);
+            Ok(None)
+        }
+        PathAnswer::Holds(_) => search_cell(
+            disk,
+            directory,
+            &names.cell.payload,
+            slot,
+            name,
+            unfound,
+            records,
+        ),
+    }
+}
+
+/// Searches a directory for a name.
+pub(crate) fn search<D: Disk>(
+    disk: &mut D,
+    directory: ReadInode,
+    name: &[u8],
+    names: &mut LastRead,
+    records: &mut LastRead,
+) -> Result<Searched, Failed>
+    requires directory { KnowsFolder (D.state disk.old) directory }
+    requires names { IsLast (D.state disk.old) names.old }
+    requires last { IsLast (D.state disk.old) records.old }
+    ensures { Searches (D.state disk.old) (D.state disk.new) directory.at directory.inode name.now names.new records.new result }
+{
+    let mut unfound = Unfound::NONE;
+    for slot in 0..72 {
+        match search_slot(disk, directory, slot, name, &mut unfound, names, records)? {
+            None => {}
+            Some(found) => return Ok(Searched::Found(found)),
+        }
+    }
+    Ok(Searched::Unfound(unfound))
+}

@@ -1,5 +1,0 @@
-use Rattle.std.proofs.Common.{refl}
-use Rattle.nofs_salvage.proofs.lost.filter.NameFilter.picks.Goals as goal
-
-pub returns : goal.returns
-returns g c = c.requires.decides c.args.name.now c.keep.result (record { shown = c.args.name; shows = refl; says = record { met = c.keep.ensures } })

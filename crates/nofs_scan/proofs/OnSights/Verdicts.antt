@@ -1,0 +1,228 @@
+-- The verdict of what an image has is that of its scan.
+use Rattle.std.proofs.Common.{◌≡◌, ℕ, ◌+◌, ◌/◌, ◌<◌, Bool, true, false, cond, eqb, ltb, leb, ◌&&◌, ◌||◌, not, List, [], ◌∷◌, length, get_or, Option, Some}
+use Rattle.std.proofs.Common.{None, is_some, refl, sym, ap, ◌∙◌, arith, eqb-true}
+use Rattle.std.specs.List.{list_any}
+use Rattle.std.proofs.lemmas.Bool.{false≢true}
+use Rattle.std.proofs.lemmas.Bool.Decides.{nat_tests}
+use Rattle.nofs_model.specs.Cells.{BackLink, Entry, FileKind, Pointer, Tag, is_live, is_null, no_link, pointer_at, tag_of}
+use Rattle.nofs_inode.specs.declared.inode.FileKind.TheVariants.{Directory, File}
+use Rattle.nofs_model.specs.Image.{Image, cell_at, super_at, inode, is_data_block, is_fixed_block, is_used_block, is_used_inode, Path, InRecord}
+use Rattle.nofs_model.specs.Image.{Under, path_of, IsSlot, is_slot, record_pointer, is_tag, agrees, judged as judged_slot, find, files_in, file_from}
+use Rattle.nofs_model.specs.Image.{entry_at, is_a, names, pairs, is_pair, is_special, agreed, Home, home_at, owner, owner_by, owner_found}
+use Rattle.nofs_model.specs.declared.image.path.PathAnswer.{PathAnswer}
+use Rattle.nofs_model.specs.declared.image.path.PathAnswer.TheVariants as answer
+use Rattle.nofs_model.proofs.OnFiles.Parents.{any-links, linked-is}
+use Rattle.nofs_agree.proofs.OnPair.{four-links}
+use Rattle.nofs_model.proofs.OnSlots.Paths.{path_of-number}
+use Rattle.nofs_history.specs.declared.machine.steps.ElementKind.{ElementKind}
+use Rattle.nofs_history.specs.declared.machine.steps.ElementKind.TheVariants as element
+use Rattle.nofs_state.specs.Books.Verdicts.{names_block}
+use Rattle.nofs_scan.specs.Steps.Elements.{HasElement, is_used}
+use Rattle.nofs_scan.specs.Sights.Verdicts.{above_in, block_sight, holds_down, holds_with, inode_sight, sight_verdict}
+use Rattle.nofs_scan.specs.Sights.Verdicts.{judged_inode, judged_tag, leads_up}
+use Rattle.nofs_scan.specs.Sights.Verdicts.{entry_linked, link_sight, may_have, named_inode, names_it, no_above}
+use Rattle.nofs_scan.specs.Sights.Verdicts.{sight_in, tag_sight, tag_wanted, tagged_in}
+use Rattle.nofs_scan.specs.Sights.Verdicts.{way_in}
+use Rattle.nofs_scan.specs.declared.sights.sights.Above.{Above}
+use Rattle.nofs_scan.specs.declared.sights.sights.LinkSight.{LinkSight}
+use Rattle.nofs_scan.specs.declared.sights.sights.Sight.TheVariants as sight
+use Rattle.nofs_scan.specs.declared.sights.sights.TagSight.{TagSight}
+
+-- Inodes
+
+named-if : (a : Bool) (o : Option Entry) (i g : ℕ) → names_it (cond a (named_inode o) None) i g ≡ (a && names o i g)
+named-if true None i g = refl
+named-if true (Some e) i g = refl
+named-if false o i g = refl
+
+of-file : (a n up : Bool) → ((a && n) && up) ≡ ((a && (n && true)) && up)
+of-file true true up = refl
+of-file true false up = refl
+of-file false n up = refl
+
+of-directory : (lt a n up : Bool) → (lt && ((a && n) && up)) ≡ ((a && (n && lt)) && up)
+of-directory true a n up = of-file a n up
+of-directory false true true up = refl
+of-directory false true false up = refl
+of-directory false false n up = refl
+
+-- a back link that leads up is a pair with an agreed directory
+up-is : (X : Image) (i : ℕ) (l : BackLink) → leads_up i (inode X i) l (link_sight X l) ≡ (is_pair (files_in X) i l && agreed (files_in X) l.directory)
+up-is X i l = go (inode X i).kind (named-if (is_a Directory l.generation (files_in X l.directory)) (entry_at (files_in X) l.directory l.entry) i
+    (inode X i).generation)
+  where
+    go : (k : Option FileKind) → names_it (entry_linked (files_in X) l) i (inode X i).generation ≡
+        (is_a Directory l.generation (files_in X l.directory) && names (entry_at (files_in X) l.directory l.entry) i (inode X i).generation)
+        → (may_have k l.generation (inode X i).generation &&
+        (names_it (entry_linked (files_in X) l) i (inode X i).generation && agreed (files_in X) l.directory)) ≡
+        (pairs (file_from X i k) (files_in X l.directory) i l && agreed (files_in X) l.directory)
+    go None entry = refl
+    go (Some File) entry = ap (λ (b : Bool). b && agreed (files_in X) l.directory) entry
+        ∙ of-file (is_a Directory l.generation (files_in X l.directory)) (names (entry_at (files_in X) l.directory l.entry) i (inode X i).generation)
+        (agreed (files_in X) l.directory)
+    go (Some Directory) entry = ap (λ (b : Bool). ltb l.generation (inode X i).generation && (b && agreed (files_in X) l.directory)) entry
+        ∙ of-directory (ltb l.generation (inode X i).generation) (is_a Directory l.generation (files_in X l.directory))
+        (names (entry_at (files_in X) l.directory l.entry) i (inode X i).generation) (agreed (files_in X) l.directory)
+
+or-false : (b : Bool) → b ≡ (b || false)
+or-false true = refl
+or-false false = refl
+
+-- some of four is the same as one of them
+four-any : (f : BackLink → LinkSight) (P : BackLink → Bool) (R : BackLink → LinkSight → Bool) → ((l : BackLink) → R l (f l) ≡ P l) → (ls : List BackLink)
+    → length ls ≡ 4
+    → (R (get_or ls 0 no_link) (f (get_or ls 0 no_link)) ||
+    (R (get_or ls 1 no_link) (f (get_or ls 1 no_link)) ||
+    (R (get_or ls 2 no_link) (f (get_or ls 2 no_link)) || R (get_or ls 3 no_link) (f (get_or ls 3 no_link))))) ≡ list_any P ls
+four-any f P R is (a ∷ b ∷ c ∷ d ∷ []) e = λ j. is a j || (is b j || (is c j || (is d ∙ or-false (P d)) j))
+four-any f P R is [] e = absurd (omega (arith, e))
+four-any f P R is (a ∷ []) e = absurd (omega (arith, e))
+four-any f P R is (a ∷ b ∷ []) e = absurd (omega (arith, e))
+four-any f P R is (a ∷ b ∷ c ∷ []) e = absurd (omega (arith, e))
+four-any f P R is (a ∷ b ∷ c ∷ d ∷ x ∷ xs) e = absurd (omega (arith, e))
+
+root-special : (one two a b : Bool) → (one || two) ≡ false → ((one && a) || (two && b)) ≡ false
+root-special false false a b e = refl
+root-special false true a b e = cc
+root-special true two a b e = cc
+
+abbrev is_linked : Image → ℕ → Bool
+is_linked X i = list_any (λ l. is_pair (files_in X) i l && agreed (files_in X) l.directory) (inode X i).links
+
+inode-found : (X : Image) (i : ℕ) → judged_inode (inode_sight X i) ≡ (is_special i || is_linked X i)
+inode-found X i = ap (λ (b : Bool). is_special i || b) (four-any (link_sight X) (λ l. is_pair (files_in X) i l && agreed (files_in X) l.directory)
+    (leads_up i (inode X i)) (up-is X i) (inode X i).links (four-links X i))
+
+inode-judged : (X : Image) (i : ℕ) → judged_inode (inode_sight X i) ≡ is_used_inode X i
+inode-judged X i = inode-found X i ∙ go (is_special i) refl
+  where
+    go : (b : Bool) → is_special i ≡ b → (b || is_linked X i) ≡ (b || agreed (files_in X) i)
+    go true e = refl
+    go false e = any-links X i (inode X i) refl ∙ sym (linked-is (files_in X) i
+        (root-special (eqb i 1) (eqb i 2) (is_a Directory 1 (files_in X 1)) (is_a File 2 (files_in X 2)) e) e)
+
+-- Blocks
+
+-- what stands in a slot, by what stands above it
+abbrev after : Image → ℕ → Path → ℕ → PathAnswer → PathAnswer
+after X i a n above = elim above [
+  | answer.Hole ↦ answer.Hole
+  | answer.Holds x ↦ judged_slot X i (Under a n) (pointer_at (cell_at X x.block).payload n)
+  | answer.Lost ↦ answer.Lost
+]
+
+module _ (X : Image) (i : ℕ) (a : Path) (y : Pointer) (n : ℕ) (q : PathAnswer → Bool) (hole : q answer.Hole ≡ false) (lost : q answer.Lost ≡ false) where
+  abbrev wanted : Tag
+  wanted = tag_wanted (inode X i) i a y.stamp
+
+  abbrev full : Above
+  full = record { tag = tag_of (cell_at X y.block).tag; pointer = pointer_at (cell_at X y.block).payload n }
+
+  with-tag : (b : Bool) → (b && q (judged_slot X i (Under a n) (pointer_at (cell_at X y.block).payload n))) ≡ q
+      (after X i a n (cond b (answer.Holds y) answer.Lost))
+  with-tag true = refl
+  with-tag false = sym lost
+
+  by-case : (d none live : Bool) → ((not none && (live && is_tag (cond d full no_above).tag wanted))
+      && q (judged_slot X i (Under a n) (cond d full no_above).pointer))
+      ≡ q (after X i a n (cond none answer.Hole (cond (live && (d && is_tag (tag_of (cell_at X y.block).tag) wanted)) (answer.Holds y) answer.Lost)))
+  by-case d true live = sym hole
+  by-case true false true = with-tag (is_tag (tag_of (cell_at X y.block).tag) wanted)
+  by-case true false false = sym lost
+  by-case false false true = sym lost
+  by-case false false false = sym lost
+
+  -- a block above a slot holds where its tag is that of its own slot
+  under : (holds_with (inode X i) i a y (above_in X y.block n).tag && q (judged_slot X i (Under a n) (above_in X y.block n).pointer)) ≡ q
+      (after X i a n (judged_slot X i a y))
+  under = by-case (is_data_block X y.block) (is_null y) (is_live (inode X i))
+
+module _ (X : Image) (p : ℕ) (t : Tag) (data_block : is_data_block X p ≡ true) (own : tag_of (cell_at X p).tag ≡ Some t) where
+  -- the slot's own block has the tag that was read of it
+  last : (path : Path) (x : Pointer) → ((eqb x.block p) && holds_with (inode X t.inode) t.inode path x (Some t)) ≡ names_block (judged_slot X t.inode path x) p
+  last path x = go (eqb x.block p) refl (is_null x) (agrees X t.inode path x) refl
+    where
+      live-tag : x.block ≡ p → (is_live (inode X t.inode) && is_tag (Some t) (tag_wanted (inode X t.inode) t.inode path x.stamp)) ≡ agrees X t.inode path x
+      live-tag at = sym (ap (λ (b : ℕ). is_live (inode X t.inode)
+          && (is_data_block X b && is_tag (tag_of (cell_at X b).tag) (tag_wanted (inode X t.inode) t.inode path x.stamp))) at
+          ∙ ap (λ (d : Bool). is_live (inode X t.inode) && (d && is_tag (tag_of (cell_at X p).tag) (tag_wanted (inode X t.inode) t.inode path x.stamp)))
+          data_block
+          ∙ ap (λ (o : Option Tag). is_live (inode X t.inode) && is_tag o (tag_wanted (inode X t.inode) t.inode path x.stamp)) own)
+
+      here : eqb x.block p ≡ true → (b : Bool) → agrees X t.inode path x ≡ b
+          → (is_live (inode X t.inode) && is_tag (Some t) (tag_wanted (inode X t.inode) t.inode path x.stamp)) ≡ names_block
+          (cond b (answer.Holds x) answer.Lost) p
+      here e true f = live-tag (eqb-true x.block p e) ∙ f ∙ sym e
+      here e false f = live-tag (eqb-true x.block p e) ∙ f
+
+      go : (b : Bool) → eqb x.block p ≡ b → (null ag : Bool) → agrees X t.inode path x ≡ ag
+          → (b && (not null && (is_live (inode X t.inode) && is_tag (Some t) (tag_wanted (inode X t.inode) t.inode path x.stamp)))) ≡ names_block
+          (cond null answer.Hole (cond ag (answer.Holds x) answer.Lost)) p
+      go true e true ag h = refl
+      go true e false ag h = here e ag h
+      go false e true ag h = refl
+      go false e false true h = sym e
+      go false e false false h = refl
+
+  abbrev of-slot : Path → TagSight
+  of-slot path = record { tag = t; in_table = inode X t.inode; way = way_in X (inode X t.inode) path; agreed = agreed (files_in X) t.inode }
+
+  -- the slot that the tag names holds the block just where what was read says so
+  slot-held : (path : Path) → IsSlot path → holds_down p (of-slot path) path ≡ names_block (find X t.inode path) p
+  slot-held (InRecord n) is = last (InRecord n) (record_pointer (inode X t.inode) n)
+  slot-held (Under (InRecord a) n) is =
+      let y : Pointer = record_pointer (inode X t.inode) a in
+      let up : Above = above_in X y.block n in
+      ap (λ (b : Bool). holds_with (inode X t.inode) t.inode (InRecord a) y up.tag && b) (last (Under (InRecord a) n) up.pointer)
+      ∙ under X t.inode (InRecord a) y n (λ f. names_block f p) refl refl
+  slot-held (Under (Under (InRecord a) m) n) is =
+      let y : Pointer = record_pointer (inode X t.inode) a in
+      let up : Above = above_in X y.block m in
+      let low : Above = above_in X up.pointer.block n in
+      ap (λ (b : Bool). holds_with (inode X t.inode) t.inode (InRecord a) y up.tag && b)
+      (ap (λ (b : Bool). holds_with (inode X t.inode) t.inode (Under (InRecord a) m) up.pointer low.tag && b)
+      (last (Under (Under (InRecord a) m) n) low.pointer)
+      ∙ under X t.inode (Under (InRecord a) m) up.pointer n (λ f. names_block f p) refl refl)
+      ∙ under X t.inode (InRecord a) y m (λ f. names_block (after X t.inode (Under (InRecord a) m) n f) p) refl refl
+  slot-held (Under (Under (Under a k) m) n) is = absurd (false≢true is.0)
+
+owner-some : (X : Image) (p : ℕ) (t : Tag) (f : PathAnswer) → (names_block f p && agreed (files_in X) t.inode) ≡ is_some (owner_found X p t f)
+owner-some X p t answer.Hole = refl
+owner-some X p t (answer.Holds x) = go (eqb x.block p && agreed (files_in X) t.inode)
+  where
+    go : (b : Bool) → b ≡ is_some {T = Home} (cond b (Some (home_at t.inode t.slot)) None)
+    go true = refl
+    go false = refl
+owner-some X p t answer.Lost = refl
+
+tag-judged : (X : Image) (p : ℕ) → is_data_block X p ≡ true → (o : Option Tag) → tag_of (cell_at X p).tag ≡ o
+    → judged_tag p (tagged_in X o) ≡ is_some (owner_by X p o)
+tag-judged X p in_data None own = refl
+tag-judged X p in_data (Some t) own = go (is_slot t.slot) refl
+  where
+    go : (b : Bool) → is_slot t.slot ≡ b → judged_tag p (cond b (Some (tag_sight X t)) None) ≡ is_some
+        (cond b (owner_found X p t (find X t.inode (path_of t.slot))) None)
+    go true e = ap (λ (b : Bool). b && (holds_down p (tag_sight X t) (path_of t.slot) && agreed (files_in X) t.inode)) e
+        ∙ (ap (λ (b : Bool). b && agreed (files_in X) t.inode) (slot-held X p t in_data own (path_of t.slot) (path_of-number t.slot e).0)
+        ∙ owner-some X p t (find X t.inode (path_of t.slot)))
+    go false e = refl
+
+data-block : (at p blocks : ℕ) → leb p at ≡ false → p < blocks → (leb (1 + at) p && ltb p blocks) ≡ true
+data-block at p blocks e low = grind (arith, nat_tests)
+
+owner-is : (X : Image) (p : ℕ) → owner X p ≡ owner_by X p (tag_of (cell_at X p).tag)
+unfolding owner
+owner-is X p = refl
+
+block-judged : (X : Image) (p : ℕ) → p < (super_at X).blocks → sight_verdict (sight_in element.Block X p) ≡ is_used_block X p
+block-judged X p low = go (is_fixed_block X p) refl
+  where
+    go : (b : Bool) → is_fixed_block X p ≡ b → sight_verdict (cond b (sight.Fixed p) (sight.Block (block_sight X p))) ≡ (b || is_some (owner X p))
+    go true e = refl
+    go false e = tag-judged X p (data-block ((super_at X).inodes / 4) p (super_at X).blocks e low) (tag_of (cell_at X p).tag) refl
+        ∙ sym (ap is_some (owner-is X p))
+
+-- of an element of the disk
+pub judged-is : (X : Image) (kind : ElementKind) (item : ℕ) → HasElement kind (super_at X) item → sight_verdict (sight_in kind X item) ≡ is_used kind X item
+judged-is X element.Inode i range = inode-judged X i
+judged-is X element.Block p range = block-judged X p range.1

@@ -1,0 +1,19 @@
+-- What a read of a disk finds of its image.
+use Rattle.std.specs.Prelude.{◌≡◌, Bool, List, Option, IsTrue, Result, IfOk, OnErr}
+use Rattle.nofs_disk.specs.declared.Failed.{Failed}
+use Rattle.nofs_disk.specs.Disk.{DiskState, StaysButFaults, Rose}
+use Rattle.nofs_model.specs.Image.{Image}
+use Rattle.nofs_agree.specs.Chain.{AreTrue, LearnsAgreement}
+
+-- what was read is this of the image, where the disk tells
+pub record ReadsAnswer {T : Type 0} (old new : DiskState) (answer : Image → T) (result : Result T Failed) : Type 0 where
+  pub stays : StaysButFaults old new
+  pub found : IfOk result (λ a. IsTrue old.tells → a ≡ answer old.now)
+  pub cause : OnErr result (Rose old.faults new.faults)
+
+-- so it is where what was known of inodes is true, and more is known of them then
+pub record Sees {T : Type 0} (old new : DiskState) (known more : List (Option Bool)) (answer : Image → T) (result : Result T Failed) : Type 0 where
+  pub stays : StaysButFaults old new
+  pub learns : LearnsAgreement old known more
+  pub found : IfOk result (λ a. IsTrue old.tells → AreTrue old.now known → a ≡ answer old.now)
+  pub cause : OnErr result (Rose old.faults new.faults)

@@ -1,0 +1,162 @@
+-- What is read of an element of an image, and the verdict that follows from it alone.
+use Rattle.std.specs.Prelude.{ℕ, Bool, true, false, ◌&&◌, ◌||◌, not, List, [], ◌∷◌, get_or, Option, Some, None, if◌then◌else◌, ◌==◌, nat_lt}
+use Rattle.nofs_model.specs.Cells.{Tag, Pointer, BackLink, FileKind, Record, Entry, tag_of, pointer_at, null, is_null, is_live, no_link}
+use Rattle.nofs_inode.specs.declared.inode.FileKind.TheVariants as file
+use Rattle.nofs_model.specs.Image.{Image, cell_at, inode, is_data_block, is_fixed_block, Path, InRecord, Under, path_of, slot_of, is_slot}
+use Rattle.nofs_model.specs.Image.{record_pointer, kind_in, is_tag, Files, files_in, entry_at, is_a, is_special, agreed}
+use Rattle.nofs_history.specs.declared.machine.steps.ElementKind.{ElementKind}
+use Rattle.nofs_history.specs.declared.machine.steps.ElementKind.TheVariants as element
+use Rattle.nofs_scan.specs.declared.sights.sights.EntryTarget.{EntryTarget}
+use Rattle.nofs_scan.specs.declared.sights.sights.LinkSight.{LinkSight}
+use Rattle.nofs_scan.specs.declared.sights.sights.InodeSight.{InodeSight}
+use Rattle.nofs_scan.specs.declared.sights.sights.Above.{Above}
+use Rattle.nofs_scan.specs.declared.sights.sights.BlocksAbove.{BlocksAbove}
+use Rattle.nofs_scan.specs.declared.sights.sights.TagSight.{TagSight}
+use Rattle.nofs_scan.specs.declared.sights.sights.BlockSight.{BlockSight}
+use Rattle.nofs_scan.specs.declared.sights.sights.Sight.{Sight}
+use Rattle.nofs_scan.specs.declared.sights.sights.Sight.TheVariants as sight
+use Rattle.nofs_scan.specs.declared.sights.evidence.Verdict.{Verdict}
+
+-- What is read of an image
+
+-- whom an entry names
+abbrev pub named_inode : Option Entry → Option EntryTarget
+named_inode None = None
+named_inode (Some e) = Some (record { inode = e.inode; generation = e.generation })
+
+-- the entry that a back link names, in a directory of its generation
+abbrev pub entry_linked : Files → BackLink → Option EntryTarget
+entry_linked F l = if is_a file.Directory l.generation (F l.directory) then named_inode (entry_at F l.directory l.entry) else None
+
+abbrev pub link_sight : Image → BackLink → LinkSight
+link_sight X l = record { entry = entry_linked (files_in X) l; agreed = agreed (files_in X) l.directory }
+
+-- the sights of four back links
+abbrev pub link_sights : Image → List BackLink → List LinkSight
+link_sights X ls = link_sight X (get_or ls 0 no_link) ∷ link_sight X (get_or ls 1 no_link) ∷ link_sight X (get_or ls 2 no_link) ∷ link_sight X
+    (get_or ls 3 no_link) ∷ []
+
+abbrev pub inode_sight : Image → ℕ → InodeSight
+inode_sight X i = record { inode = i; in_table = inode X i; links = link_sights X (inode X i).links }
+
+abbrev pub no_above : Above
+no_above = record { tag = None; pointer = null }
+
+-- the tag of a block and the pointer at a place in it, where it is a block of the data area
+abbrev pub above_in : Image → ℕ → ℕ → Above
+above_in X b n = if is_data_block X b then record { tag = tag_of (cell_at X b).tag; pointer = pointer_at (cell_at X b).payload n } else no_above
+
+-- a block above a slot alone
+abbrev pub under_record : Image → ℕ → ℕ → BlocksAbove
+under_record X b n = record { upper = above_in X b n; lower = no_above }
+
+-- a block above a slot, and one of its children
+abbrev pub under_top : Image → ℕ → ℕ → ℕ → BlocksAbove
+under_top X b m n = record { upper = above_in X b m; lower = above_in X (above_in X b m).pointer.block n }
+
+-- the block above a slot whose pointer is in the record
+abbrev pub upper_in : Image → Record → Path → Above
+upper_in X r (InRecord n) = no_above
+upper_in X r (Under (InRecord a) n) = above_in X (record_pointer r a).block n
+upper_in X r (Under (Under (InRecord a) m) n) = above_in X (record_pointer r a).block m
+upper_in X r (Under (Under (Under a k) m) n) = no_above
+
+-- the block above a slot whose pointer is in the upper one
+abbrev pub lower_in : Image → Record → Path → Above
+lower_in X r (InRecord n) = no_above
+lower_in X r (Under (InRecord a) n) = no_above
+lower_in X r (Under (Under (InRecord a) m) n) = above_in X (above_in X (record_pointer r a).block m).pointer.block n
+lower_in X r (Under (Under (Under a k) m) n) = no_above
+
+abbrev pub way_in : Image → Record → Path → BlocksAbove
+way_in X r path = record { upper = upper_in X r path; lower = lower_in X r path }
+
+abbrev pub tag_sight : Image → Tag → TagSight
+tag_sight X t = record {
+  tag = t;
+  in_table = inode X t.inode;
+  way = way_in X (inode X t.inode) (path_of t.slot);
+  agreed = agreed (files_in X) t.inode;
+}
+
+abbrev pub tagged_in : Image → Option Tag → Option TagSight
+tagged_in X None = None
+tagged_in X (Some t) = if is_slot t.slot then Some (tag_sight X t) else None
+
+abbrev pub block_sight : Image → ℕ → BlockSight
+block_sight X p = record { block = p; tagged = tagged_in X (tag_of (cell_at X p).tag) }
+
+-- what is read of an element
+abbrev pub sight_in : ElementKind → Image → ℕ → Sight
+sight_in element.Inode X i = sight.Inode (inode_sight X i)
+sight_in element.Block X p = if is_fixed_block X p then sight.Fixed p else sight.Block (block_sight X p)
+
+-- The verdict of what was read
+
+-- the entry names this generation of the inode
+abbrev pub names_it : Option EntryTarget → ℕ → ℕ → Bool
+names_it None i g = false
+names_it (Some n) i g = (n.inode == i) && (n.generation == g)
+
+-- an inode of this kind may have a back link to a directory of the generation d: a directory is younger
+abbrev pub may_have : Option FileKind → ℕ → ℕ → Bool
+may_have None d g = false
+may_have (Some file.File) d g = true
+may_have (Some file.Directory) d g = nat_lt d g
+
+-- a back link of an inode is a pair with an agreed directory
+abbrev pub leads_up : ℕ → Record → BackLink → LinkSight → Bool
+leads_up i r l s = may_have r.kind l.generation r.generation && (names_it s.entry i r.generation && s.agreed)
+
+abbrev pub no_link_sight : LinkSight
+no_link_sight = record { entry = None; agreed = false }
+
+-- so is the one at a place
+abbrev pub leads_up_at : InodeSight → ℕ → Bool
+leads_up_at s k = leads_up s.inode s.in_table (get_or s.in_table.links k no_link) (get_or s.links k no_link_sight)
+
+abbrev pub judged_inode : InodeSight → Bool
+judged_inode s = is_special s.inode || (leads_up_at s 0 || (leads_up_at s 1 || (leads_up_at s 2 || leads_up_at s 3)))
+
+-- the tag of the block in a slot of an inode with this record
+abbrev pub tag_wanted : Record → ℕ → Path → ℕ → Tag
+tag_wanted r i path stamp = record { kind = kind_in r path; inode = i; generation = r.generation; slot = slot_of path; stamp = stamp }
+
+-- a slot with this pointer holds, if its block has this tag
+abbrev pub holds_with : Record → ℕ → Path → Pointer → Option Tag → Bool
+holds_with r i path x t = not (is_null x) && (is_live r && is_tag t (tag_wanted r i path x.stamp))
+
+-- the tag's slot with this pointer holds this block
+abbrev pub holds_it : ℕ → TagSight → Path → Pointer → Bool
+holds_it p s path x = (x.block == p) && holds_with s.in_table s.tag.inode path x (Some s.tag)
+
+-- the tag's slot holds this block, and each slot above it holds
+abbrev pub holds_down : ℕ → TagSight → Path → Bool
+holds_down p s (InRecord n) = holds_it p s (InRecord n) (record_pointer s.in_table n)
+holds_down p s (Under (InRecord a) n) = holds_with s.in_table s.tag.inode (InRecord a) (record_pointer s.in_table a) s.way.upper.tag
+    && holds_it p s (Under (InRecord a) n) s.way.upper.pointer
+holds_down p s (Under (Under (InRecord a) m) n) =
+    holds_with s.in_table s.tag.inode (InRecord a) (record_pointer s.in_table a) s.way.upper.tag
+    && (holds_with s.in_table s.tag.inode (Under (InRecord a) m) s.way.upper.pointer s.way.lower.tag
+    && holds_it p s (Under (Under (InRecord a) m) n) s.way.lower.pointer)
+holds_down p s (Under (Under (Under a k) m) n) = false
+
+abbrev pub judged_tag : ℕ → Option TagSight → Bool
+judged_tag p None = false
+judged_tag p (Some s) = is_slot s.tag.slot && (holds_down p s (path_of s.tag.slot) && s.agreed)
+
+-- whether an element is used, by what was read of it
+abbrev pub sight_verdict : Sight → Bool
+sight_verdict (sight.Inode s) = judged_inode s
+sight_verdict (sight.Block s) = judged_tag s.block s.tagged
+sight_verdict (sight.Fixed p) = true
+
+-- the number of the element
+abbrev pub item_of : Sight → ℕ
+item_of (sight.Inode s) = s.inode
+item_of (sight.Block s) = s.block
+item_of (sight.Fixed p) = p
+
+-- the element with its verdict
+abbrev pub verdict_by : Sight → Verdict
+verdict_by s = record { item = item_of s; used = sight_verdict s }

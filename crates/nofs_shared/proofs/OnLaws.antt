@@ -1,0 +1,5 @@
+-- Mounts with crashes between them are lives.
+pub mod Images
+pub mod After
+pub mod OneMount
+pub mod Lives

@@ -1,0 +1,133 @@
+-- Why a step of a mount was refused: what its step function says, whatever becomes of the history.
+use Rattle.std.proofs.Common.{◌≡◌, ℕ, ◌⊎◌, inl, inr, Bool, true, IsTrue, refl, sym, ap, subst, arith}
+use Rattle.std.proofs.Math.Logic.{∥∥₁_elim, ∥∥₁_prop}
+use mathlib.Core.Bool.{Bool-set}
+use Rattle.nofs_disk.specs.Cells.{same_cell, same_cell-refl, same_cell-true}
+use Rattle.nofs_model.specs.Cells.{Cell}
+use Rattle.nofs_disk.specs.Disk.{DiskState, KeepsCells}
+use Rattle.nofs_disk.specs.Chains.{KeepsCells-refl}
+use Rattle.nofs_history.specs.HistoryState.{HistoryState}
+use Rattle.nofs_history.specs.declared.machine.replies.Refusal.TheVariants as refusal
+use Rattle.nofs_history.specs.declared.machine.replies.Reply.{Reply}
+use Rattle.nofs_history.specs.declared.machine.replies.Reply.TheVariants as reply
+use Rattle.nofs_history.specs.declared.machine.history.Claims.{Claims}
+use Rattle.nofs_history.specs.declared.machine.steps.Step.{Step}
+use Rattle.nofs_history.specs.declared.machine.steps.Step.TheVariants as step
+use Rattle.nofs_history.specs.Claims.{no_claims}
+use Rattle.nofs_state.proofs.OnCores.Rows.{open-with}
+use Rattle.nofs_state.specs.Cores.Steps.{FlushesAlone, IsSafeStep, LeavesDisk, MeetsOpen, NoOrder, WritesAlone}
+use Rattle.nofs_shared.specs.Acts.Sees.{is_see}
+use Rattle.nofs_state.specs.declared.books.maps.Books.{Books}
+use Rattle.nofs_shared.specs.Mount.Causes.{MeetsSound, StepCauses, StepOrder}
+use Rattle.nofs_state.specs.Cores.Invariant.{IsOpen, IsStopped, Past}
+use Rattle.nofs_shared.specs.Mount.Invariant.{IsMount}
+
+-- after a step function, with an entry or without one
+pub causes-kept : (old new : DiskState) (k l : Books) (r : Reply) (h : HistoryState) → IsSafeStep old k new l r
+    → StepCauses old new k (record l { history = h }) r
+causes-kept old new k l r h g = record {
+  disk = g.disk;
+  past = g.past;
+  later = g.later;
+  stopped = g.cause.stopped;
+  not_stopped = g.cause.not_stopped;
+  read = g.cause.read;
+  write = g.cause.write;
+  fault = g.cause.fault;
+  refused = g.cause.refused;
+  memory = λ e. ap (λ (b : Books). record b { history = h }) (g.cause.memory e);
+}
+
+-- a step function that found no memory leaves the books
+pub causes-none : (old new : DiskState) (k l : Books) (r : Reply) → IsSafeStep old k new l r → StepCauses old new k l r
+causes-none old new k l r g = causes-kept old new k l r l.history g
+
+-- room was taken for the entry before
+pub causes-roomed : (old new : DiskState) (k l : Books) (r : Reply) (h : HistoryState) → StepCauses old new (record k { history = h }) l r
+    → StepCauses old new k l r
+causes-roomed old new k l r h g = record {
+  disk = g.disk;
+  past = g.past;
+  later = g.later;
+  stopped = g.stopped;
+  not_stopped = g.not_stopped;
+  read = g.read;
+  write = g.write;
+  fault = g.fault;
+  refused = g.refused;
+  memory = g.memory;
+}
+
+-- there was no room for the entry
+pub causes-unroomed : (d : DiskState) (k : Books) (h : HistoryState) → StepCauses d d k (record k { history = h }) (reply.Refused refusal.OutOfMemory)
+causes-unroomed d k h = record {
+  disk = record { blocks = refl; tells = refl; holds_back = refl; faults = omega arith };
+  past = record { was = λ m le. refl; no_more = λ m X le x. x; no_less = λ m X le x. x };
+  later = omega arith;
+  stopped = λ e f. absurd (cc f);
+  not_stopped = λ e. absurd (cc e);
+  read = λ e. absurd (cc e);
+  write = λ e. absurd (cc e);
+  fault = λ e. absurd (cc e);
+  refused = λ e f. record { now = refl; may = refl; moment = refl };
+  memory = λ e. refl;
+}
+
+-- What a step did to the device
+
+-- two cells are one where that is known to have a proof
+one-known : (c d : Cell) → ∥ c ≡ d ∥₁ → c ≡ d
+one-known c d known = same_cell-true c d (∥∥₁_elim known (Bool-set _ _) (λ e. subst (λ (x : Cell). same_cell c x ≡ true) e (same_cell-refl c)))
+
+-- each block gets one cell where it is known that the device tells
+order-known : (old new : DiskState) (P Q : Type 0) (s : Step) (c : Claims) (r : Reply) → (Q → ∥ P ∥₁) → NoOrder old new P s c r → NoOrder old new Q s c r
+order-known old new P Q s c r known (LeavesDisk none cells) = LeavesDisk none cells
+order-known old new P Q s c r known (FlushesAlone is quick f) = FlushesAlone is quick f
+order-known old new P Q s c r known (WritesAlone made w) = WritesAlone made (record {
+  row = w.row;
+  count = w.count;
+  one_each = λ q b x y one two. one-known x y (∥∥₁_elim (known q) ∥∥₁_prop (λ p. ∣ w.one_each p b x y one two ∣₁));
+  calls = w.calls;
+  first = w.first;
+  whole = w.whole;
+  only = w.only;
+})
+
+-- an open mount over a disk that was found sound; room was taken for the entry before
+pub order-sound : (found old new : DiskState) (first : ℕ) (k : Books) (s : Step) (r : Reply) (h : HistoryState) → h.start ≡ k.history.start
+    → ∥ IsMount found old first k ∥₁ → StepOrder old new (MeetsOpen old (record k { history = h })) s r → StepOrder old new (MeetsSound found k) s r
+order-sound found old new first k s r h start stands o = record {
+  claims = o.claims;
+  order = order-known old new (MeetsOpen old (record k { history = h })) (MeetsSound found k) s o.claims r
+      (λ q. ∥∥₁_elim stands ∥∥₁_prop (λ m. ∣ meets q m ∣₁)) o.order;
+}
+  where
+    meets : MeetsSound found k → IsMount found old first k → MeetsOpen old (record k { history = h })
+    meets q m = go (m.stands q.0).past (m.stands q.0).now
+      where
+        told : IsTrue old.tells
+        told = subst (λ (b : Bool). IsTrue b) (sym m.disk.tells) q.0.tells
+
+        go : (p : Past) → IsOpen old k k.history.entries p ⊎ IsStopped old k k.history.entries p → MeetsOpen old (record k { history = h })
+        go p (inl o) = (k.history.entries, p, told, open-with old k h start k.history.entries p o)
+        go p (inr o) = absurd (let t = o.stopped in let g = q.1 in cc (t, g))
+
+-- there was no room for the entry
+pub order-unroomed : (d : DiskState) (P : Type 0) (s : Step) → StepOrder d d P s (reply.Refused refusal.OutOfMemory)
+order-unroomed d P s = record { claims = no_claims; order = LeavesDisk refl (KeepsCells-refl d) }
+
+-- a step that examines an element leaves the device
+pub see-leaves : (old new : DiskState) (P : Type 0) (s : Step) (r : Reply) → is_see s ≡ true → StepOrder old new P s r → KeepsCells old new
+see-leaves old new P (step.SeeInode i) r e o = go o.order
+  where
+    go : NoOrder old new P (step.SeeInode i) o.claims r → KeepsCells old new
+    go (LeavesDisk none cells) = cells
+    go (FlushesAlone is quick f) = absurd (cc is)
+    go (WritesAlone made w) = absurd w.count
+see-leaves old new P (step.SeeBlock b) r e o = go o.order
+  where
+    go : NoOrder old new P (step.SeeBlock b) o.claims r → KeepsCells old new
+    go (LeavesDisk none cells) = cells
+    go (FlushesAlone is quick f) = absurd (cc is)
+    go (WritesAlone made w) = absurd w.count
+see-leaves old new P _ r e o = absurd (cc e)

@@ -1,0 +1,156 @@
+-- The form of a history with one more entry, and what the calls of its entries come to.
+use Rattle.std.proofs.Common.{◌≡◌, ℕ, ◌+◌, ◌-◌, ◌*◌, ◌^◌, ◌≤◌, min, Bool, true, false, ◌||◌, cond, List, [], ◌∷◌, ◌++◌, length, ◌⊎◌, inl, inr, refl, sym, ap}
+use Rattle.std.proofs.Common.{◌∙◌, subst, subst₂, arith}
+use Rattle.nofs_disk.specs.Disk.{DiskState, IsSameDisk}
+use Rattle.nofs_disk.specs.Chains.{IsSameDisk-refl}
+use Rattle.nofs_history.specs.Allowed.{IsAllowed}
+use Rattle.nofs_history.specs.History.{is_flushed}
+use Rattle.nofs_history.specs.Machine.{is_write_fault, is_refused, is_fault}
+use Rattle.nofs_history.specs.Next.{takes_time}
+use Rattle.nofs_history.specs.Steps.{is_out_of_memory}
+use Rattle.nofs_history.specs.HistoryState.{HistoryState}
+use Rattle.nofs_history.specs.declared.machine.history.Claims.{Claims}
+use Rattle.nofs_history.specs.declared.machine.history.Entry1.{Entry1}
+use Rattle.nofs_history.specs.declared.machine.steps.Step.{Step}
+use Rattle.nofs_history.specs.declared.machine.steps.Step.TheVariants as step
+use Rattle.nofs_history.specs.declared.machine.replies.Reply.{Reply}
+use Rattle.nofs_history.specs.declared.machine.replies.Reply.TheVariants as reply
+use Rattle.nofs_history.specs.declared.machine.replies.Refusal.TheVariants as refusal
+use Rattle.nofs_state.specs.Books.Maps.{IsSafe, with_history}
+use Rattle.nofs_state.specs.Cores.Invariant.{IsOpen, IsStopped, Past}
+use Rattle.nofs_state.specs.Cores.Steps.{FlushesAlone, LeavesDisk, MeetsOpen}
+use Rattle.nofs_state.specs.Cores.Steps.{NoOrder, WritesAlone, WritesSoMany, entry}
+use Rattle.nofs_state.specs.Cores.Steps.{is_flush, makes_calls}
+use Rattle.nofs_state.specs.declared.books.maps.Books.{Books}
+use Rattle.nofs_state.proofs.OnBooks.Safe.{safe-over}
+use Rattle.nofs_state.proofs.OnCores.Rows.{open-with, stopped-with}
+use Rattle.nofs_turn.proofs.OnLists.Words.{prefix_length}
+use Rattle.nofs_shared.specs.Mount.Forms.{Cells, Forms, IsNextEntry, NoCell, OnlyCalls, Wrote, flushes_of, faults_in}
+use Rattle.nofs_shared.specs.Mount.Invariant.{IsMount, IsMounted}
+
+-- The same books with another history
+pub safe-history : (k : Books) (h : HistoryState) (d : DiskState) → IsSafe d k → IsSafe d (with_history k h)
+safe-history k h d = safe-over d d k k.stopped h (IsSameDisk-refl d) refl
+
+-- the same mount with other room in its history
+pub mount-history : (found d : DiskState) (first : ℕ) (k : Books) (h : HistoryState) → h.start ≡ k.history.start → h.entries ≡ k.history.entries
+    → IsMount found d first k → IsMount found d first (record k { history = h })
+mount-history found d first k h start entries m = record {
+  safe = safe-history k h d m.safe;
+  disk = m.disk;
+  mounted = subst (λ (n : ℕ). IsMounted found d n k.at) (sym start) m.mounted;
+  forms = subst₂ (λ (n : ℕ) (H : List Entry1). Forms n false H d.moment k.stopped) (sym start) (sym entries) m.forms;
+  counted = subst (λ (H : List Entry1). min (found.faults + faults_in H) (2 ^ 64 - 1) ≤ d.faults) (sym entries) m.counted;
+  stands = λ q. let s = m.stands q in record {
+    past = s.past;
+    base = subst (λ (n : ℕ). s.past.base ≡ d.was n) (sym start) s.base;
+    serial = s.serial;
+    raised = s.raised;
+    now = subst (λ (H : List Entry1). IsOpen d (record k { history = h }) H s.past ⊎ IsStopped d (record k { history = h }) H s.past) (sym entries)
+        (go s.past s.now);
+    sound = s.sound;
+    rests = λ X p. subst (λ (H : List Entry1). IsAllowed s.past.base H d.moment X) (sym entries) (s.rests X p);
+  };
+}
+  where
+    go : (p : Past) → IsOpen d k k.history.entries p ⊎ IsStopped d k k.history.entries p
+        → IsOpen d (record k { history = h }) k.history.entries p ⊎ IsStopped d (record k { history = h }) k.history.entries p
+    go p (inl o) = inl (open-with d k h start k.history.entries p o)
+    go p (inr o) = inr (stopped-with d k h start k.history.entries p o)
+
+-- The form of a history
+
+pub forms-later : (H : List Entry1) (m : ℕ) (b : Bool) (n : ℕ) (c : Bool) → Forms m b H n c → m ≤ n
+forms-later [] m b n c f = let e = f.0 in omega (arith, e)
+forms-later (e ∷ H) m b n c f =
+    let rest = forms-later H e.to (b || is_write_fault e.reply) n c f.1 in
+    let from = f.0.from in
+    let later = f.0.later in
+    omega (arith, rest, from, later)
+
+pub forms-append : (H : List Entry1) (m : ℕ) (b : Bool) (n : ℕ) (c : Bool) (e : Entry1) (end : ℕ) (last : Bool) → Forms m b H n c → IsNextEntry n c e
+    → end ≡ e.to → last ≡ (c || is_write_fault e.reply) → Forms m b (H ++ e ∷ []) end last
+forms-append [] m b n c e end last f next is_end is_last =
+    (subst₂ (λ (k : ℕ) (t : Bool). IsNextEntry k t e) f.0 f.1 next, (is_end, is_last ∙ ap (λ (t : Bool). t || is_write_fault e.reply) f.1))
+forms-append (x ∷ H) m b n c e end last f next is_end is_last = (f.0, forms-append H x.to (b || is_write_fault x.reply) n c e end last f.1 next is_end is_last)
+
+pub faults-more : (H : List Entry1) (e : Entry1) → faults_in (H ++ e ∷ []) ≡ faults_in H + cond (is_fault e.reply) 1 0
+faults-more [] e = omega arith
+faults-more (x ∷ H) e = let r = faults-more H e in omega (arith, r)
+
+pub fault-is : (r : Reply) → is_write_fault r ≡ true → r ≡ reply.Refused refusal.WriteFault
+fault-is (reply.Refused refusal.WriteFault) e = refl
+fault-is _ e = cc
+
+pub takes-when : (r : Reply) → takes_time r ≡ true → (r ≡ reply.Flushed) ⊎ (r ≡ reply.Refused refusal.WriteFault)
+takes-when reply.Flushed e = inl refl
+takes-when (reply.Refused refusal.WriteFault) e = inr refl
+takes-when _ e = cc
+
+pub flushed-is : (r : Reply) → is_flushed r ≡ true → r ≡ reply.Flushed
+flushed-is reply.Flushed e = refl
+flushed-is _ e = cc
+
+pub memory-refused : (r : Reply) → is_out_of_memory r ≡ true → (is_refused r ≡ true) × (is_write_fault r ≡ false)
+memory-refused (reply.Refused refusal.OutOfMemory) e = (refl, refl)
+memory-refused _ e = cc
+
+pub faulty : (r : Reply) → is_fault r ≡ true → (r ≡ reply.Refused refusal.ReadFault) ⊎ (r ≡ reply.Refused refusal.WriteFault)
+faulty (reply.Refused refusal.ReadFault) e = inl refl
+faulty (reply.Refused refusal.WriteFault) e = inr refl
+faulty _ e = cc
+
+-- what it wrote, and how long it took, by what it did to the device
+pub record Calls (e : Entry1) : Type 0 where
+  pub cells : ℕ
+  pub wrote : Wrote e cells
+  pub took : e.to ≡ e.from + 2 * cells + 2 * flushes_of e
+
+quick : (r : Reply) → makes_calls r ≡ false → takes_time r ≡ false
+quick reply.Flushed e = cc e
+quick (reply.Refused refusal.WriteFault) e = cc e
+quick _ e = refl
+
+no-flush : (s : Step) (c : Claims) (n : ℕ) → WritesSoMany s c n → is_flush s ≡ false
+no-flush (step.Flush i g) c n none = absurd none
+no-flush _ c n count = refl
+
+abbrev one_flush : Bool → Bool → ℕ
+one_flush a b = cond a (cond b 1 0) 0
+
+no-flushes : (a b : Bool) → b ≡ false → one_flush a b ≡ 0
+no-flushes true b e = rw e refl
+no-flushes false b e = refl
+
+pub calls-by : (old new : DiskState) (k : Books) (caller : ℕ) (s : Step) (c : Claims) (r : Reply) → NoOrder old new (MeetsOpen old k) s c r
+    → Calls (entry caller old new s c r)
+calls-by old new k caller s c r (LeavesDisk none cells) = record {
+  cells = 0;
+  wrote = NoCell (inl none) refl;
+  took = (let m = cells.moment in let f : flushes_of (entry caller old new s c r) ≡ 0 = let t = quick r none in rw t refl in omega (arith, m, f));
+}
+calls-by old new k caller s c r (FlushesAlone is late f) = record {
+  cells = 0;
+  wrote = NoCell (inr is) refl;
+  took = (let m = f.moment in let n : flushes_of (entry caller old new s c r) ≡ 1 = rw (late, is) refl in omega (arith, m, n));
+}
+calls-by old new k caller s c r (WritesAlone made w) = record {
+  cells = length w.calls;
+  wrote = Cells made (length w.row) w.count (prefix_length w.calls w.row w.first) (λ e. ap length (w.whole e));
+  took = (
+      let m = w.only.moment in
+      let f : flushes_of (entry caller old new s c r) ≡ 0 = no-flushes (takes_time r) (is_flush s) (no-flush s c (length w.row) w.count) in
+      omega (arith, m, f)
+      );
+}
+
+-- of the whole history
+pub only-calls : (H : List Entry1) (m : ℕ) (b : Bool) (n : ℕ) (c : Bool) → Forms m b H n c → OnlyCalls m n H
+only-calls [] m b n c f = record { cells = 0; wrote = refl; moment = (let e = f.0 in omega (arith, e)) }
+only-calls (e ∷ H) m b n c f =
+    let rest = only-calls H e.to (b || is_write_fault e.reply) n c f.1 in
+    record {
+      cells = f.0.cells + rest.cells;
+      wrote = (f.0.cells, rest.cells, f.0.wrote, rest.wrote, refl);
+      moment = (let from = f.0.from in let took = f.0.took in let more = rest.moment in omega (arith, from, took, more));
+    }

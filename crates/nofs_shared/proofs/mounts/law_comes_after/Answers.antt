@@ -1,9 +1,0 @@
-use Rattle.nofs_shared.proofs.After.{kept-after, settled-after, upgraded-after}
-use Rattle.nofs_shared.proofs.mounts.law_comes_after.Goals as goal
-
-pub returns : goal.returns
-returns g c = record {
-  settled = settled-after g.D.Disk.state g.met.D.Disk.is_disk;
-  kept = kept-after g.D.Disk.state g.met.D.Disk.is_disk;
-  upgraded = upgraded-after g.D.Disk.state g.met.D.Disk.is_disk;
-}

@@ -1,0 +1,12 @@
+-- What a mount stands on, and what each of its calls leaves.
+pub mod Forms
+pub mod Invariant
+pub mod Earlier
+pub mod Entries
+pub mod Batches
+pub mod End
+pub mod Commits
+pub mod Flushes
+pub mod Books
+pub mod Causes
+pub mod Begin

@@ -1,0 +1,3 @@
+-- What a pass knows of its caller's entries, and what passes that were given back know together.
+pub mod Entries
+pub mod Seats

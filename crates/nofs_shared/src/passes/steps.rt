@@ -1,0 +1,157 @@
+//! Passes by which callers make steps at a shared mount. Workers take one as their way to it.
+//!
+//! Promise: a step is made under one turn, and its entry is the pass's own. A batch is looked at under one turn, and
+//! each of its verdicts is committed under a later one. A write-out makes no step, and takes the turn only where a
+//! block may be kept back.
+ghost use Rattle.std.specs.Prelude.{◌≡◌, ◌+◌, ◌/◌, ◌%◌, ◌<◌, ◌≤◌, true, [], length, IfOk, IfErr};
+ghost use Rattle.nofs_turn.specs.Turn.{view_of, IsPassOf};
+ghost use Rattle.nofs_turn.specs.Rule.Views.{looked};
+ghost use Rattle.nofs_history.specs.Steps.{Fits, with_made};
+ghost use Rattle.nofs_shared.specs.Passes.Entries.{all_by, own_steps};
+ghost use Rattle.nofs_shared.specs.Passes.Seats.{SameSeat};
+
+use crate::mount::serves::Serves;
+use nofs_history::{Reply, Step, Steps};
+use nofs_turn::{Busy, Pass, Section, Turn};
+use std::alloc::Global;
+use std::sync::Wait;
+use std::sync::atomic::{AtomicBool, Ordering};
+
+// One step of a caller, under the turn. From its beginning on a block may be kept back.
+#[derive(Drop)]
+struct Move<'a> {
+    alloc: Global,
+    clean: &'a AtomicBool,
+    caller: u32,
+    step: Step,
+}
+
+impl<V: Serves> Section<V> for Move<'_> {
+    ghost use Rattle.nofs_shared.specs.Passes.Entries.{TellsStep};
+
+    type Out = Reply;
+
+    ghost asks = { λ _ _ _. Unit {0} };
+
+    ghost tells = { λ s _ xs ys r. TellsStep s.caller s.step xs ys r };
+
+    ghost lasts = { λ _ _ _ _ _. tt };
+
+    fn run(self, value: &mut V) -> Reply {
+        self.clean.store(false, Ordering::SeqCst);
+        value.serve(self.alloc, self.caller, self.step)
+    }
+}
+
+/// The turn was taken, so the step was not made.
+#[derive(Drop)]
+pub struct BusyStep {
+    pub step: Step,
+    pub word: u64,
+}
+
+/// A pass of one caller, which makes steps at the shared mount.
+#[derive(Drop)]
+pub struct SharedPass<'a, R, V: Serves> {
+    pub(crate) rt: &'a R,
+    pub(crate) alloc: Global,
+    pub(crate) turn: &'a Turn<V>,
+    // Whether a write-out found no block kept back, and no step has begun since.
+    pub(crate) clean: &'a AtomicBool,
+    pub(crate) caller: u32,
+    pub(crate) pass: Pass<V>,
+    ghost of: { IsPassOf turn.now pass },
+    ghost own: { all_by caller (view_of pass).mine ≡ true },
+}
+
+impl<'a, R, V: Serves> SharedPass<'a, R, V> {
+    /// A pass of a turn, for this caller. The pass has no entries yet.
+    pub fn new(
+        rt: &'a R,
+        alloc: Global,
+        turn: &'a Turn<V>,
+        clean: &'a AtomicBool,
+        caller: u32,
+        pass: Pass<V>,
+    ) -> SharedPass<'a, R, V>
+        requires of { IsPassOf turn.now pass }
+        requires new { (view_of pass).mine ≡ [] }
+        ensures { (result.turn.now ≡ turn.now) × (result.caller ≡ caller) × (result.pass ≡ pass) }
+    {
+        SharedPass {
+            rt,
+            alloc,
+            turn,
+            clean,
+            caller,
+            pass,
+        }
+    }
+
+    /// Makes the step where the turn is free.
+    pub fn try_step(&mut self, step: Step) -> Result<Reply, BusyStep>
+        ensures same { (self.new.turn.now ≡ self.old.turn.now) × (self.new.caller ≡ self.old.caller) }
+        ensures made { IfOk result (λ r. (own_steps (view_of self.new.pass).mine ≡ with_made (own_steps (view_of self.old.pass).mine) step r) × Fits step r) }
+        ensures one_look { (view_of self.new.pass).looks ≡ (view_of self.old.pass).looks + 1 }
+        ensures busy { IfErr result (λ b. (b.step ≡ step) × (b.word % 2 ≡ 1) × (view_of self.new.pass ≡ looked (view_of self.old.pass) b.word)) }
+    {
+        let section = Move {
+            alloc: self.alloc,
+            clean: self.clean,
+            caller: self.caller,
+            step,
+        };
+        match self.turn.try_with(&mut self.pass, section) {
+            Ok(reply) => Ok(reply),
+            Err(busy) => {
+                let Busy { section, word } = busy;
+                Err(BusyStep {
+                    step: section.step,
+                    word,
+                })
+            }
+        }
+    }
+
+    /// The number of entries, from one look.
+    pub fn progress(&mut self) -> u64
+        ensures same { (self.new.turn.now ≡ self.old.turn.now) × (self.new.caller ≡ self.old.caller) }
+        ensures at_least { length (view_of self.old.pass).seen ≤ result }
+        ensures look { result ≡ (view_of self.new.pass).last / 2 }
+    {
+        self.turn.count(&mut self.pass)
+    }
+
+    /// The pass, handed back with its entries. They are all its caller's.
+    pub fn back(self) -> Pass<V>
+        ensures same { result ≡ self.entry.pass }
+        ensures of { IsPassOf self.entry.turn.now result }
+        ensures own { all_by self.entry.caller (view_of result).mine ≡ true }
+    {
+        let SharedPass { pass, .. } = self;
+        pass
+    }
+}
+
+impl<R: Wait, V: Serves> Steps for SharedPass<'_, R, V> {
+    ghost use Rattle.std.proofs.Common.{refl, ◌∙◌};
+    ghost use Rattle.nofs_shared.specs.Passes.Seats.{same_seat, same_seats};
+
+    ghost made = { λ p. own_steps (view_of p.pass).mine };
+
+    ghost goes = { λ p q. (q.turn.now ≡ p.turn.now) × (q.caller ≡ p.caller) × SameSeat (view_of p.pass) (view_of q.pass) };
+
+    ghost goes_none = { λ p. (refl, refl, same_seat (view_of p.pass)) };
+
+    ghost goes_on = { λ a b c p q. (q.0 ∙ p.0, q.1 ∙ p.1, same_seats (view_of a.pass) (view_of b.pass) (view_of c.pass) p.2 q.2) };
+
+    fn step(&mut self, step: Step) -> Reply {
+        let section = Move {
+            alloc: self.alloc,
+            clean: self.clean,
+            caller: self.caller,
+            step,
+        };
+        self.turn.with(self.rt, &mut self.pass, section)
+    }
+}

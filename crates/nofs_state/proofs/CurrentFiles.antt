@@ -1,8 +1,0 @@
--- A file that is current is agreed.
-use Rattle.std.proofs.Common.{◌≡◌, ℕ, true, eqb}
-use Rattle.nofs_model.specs.Image.{Image, inode, files_in, agreed}
-use Rattle.nofs_model.proofs.Find.{and-both}
-use Rattle.nofs_state.specs.Opening.{is_current}
-
-pub current-agreed : (X : Image) (i g : ℕ) → is_current X i g ≡ true → agreed (files_in X) i ≡ true
-current-agreed X i g c = (and-both (agreed (files_in X) i) (eqb (inode X i).generation g) c).0

@@ -1,6 +1,0 @@
-use Rattle.std.proofs.Common.{◌≤◌}
-use Rattle.nofs_state.specs.Books.{SetsFrom}
-use Rattle.nofs_state.proofs.books.all_from.Given as goal
-
-abbrev pub invariant-loop-place : goal.invariant-loop-place
-invariant-loop-place l = SetsFrom l.places l.from l.place l.bits × (l.from ≤ l.place)

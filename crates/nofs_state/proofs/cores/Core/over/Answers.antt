@@ -1,6 +1,0 @@
-use Rattle.nofs_state.proofs.Beginning.{open-with}
-use Rattle.nofs_state.proofs.cores.Core.over.Goals as goal
-
-pub returns-clause-open : goal.returns-clause-open
-returns-clause-open g c = open-with (g.D.Disk.state c.args.disk) c.args.at c.args.first c.moment.result c.args.room c.restart.new.self
-    (g.met.D.Disk.is_disk c.args.disk) c.requires.numbers c.requires.room c.moment.ensures c.restart.ensures

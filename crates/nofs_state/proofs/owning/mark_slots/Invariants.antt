@@ -1,5 +1,0 @@
-use Rattle.nofs_state.proofs.MarkedSlots.{Marking}
-use Rattle.nofs_state.proofs.owning.mark_slots.Given as goal
-
-abbrev pub invariant-loop-slot : goal.invariant-loop-slot
-invariant-loop-slot g l = Marking (g.D.Disk.state l.fn.disk) (g.D.Disk.state l.disk) l.at l.inode l.from l.slot l.fn.owned l.owned l.last

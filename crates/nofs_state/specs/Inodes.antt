@@ -1,0 +1,3 @@
+-- What opening a file answers, and which blocks stand in its slots.
+pub mod Blocks
+pub mod Opened

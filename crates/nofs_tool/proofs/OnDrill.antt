@@ -1,0 +1,4 @@
+-- What a drill leaves, and the numbers of its line.
+pub mod Reads
+pub mod Tally
+pub mod Ends

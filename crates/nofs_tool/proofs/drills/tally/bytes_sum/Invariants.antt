@@ -1,6 +1,0 @@
-use Rattle.std.proofs.Common.{◌≡◌, take}
-use Rattle.std.specs.Prelude.{sum}
-use Rattle.nofs_tool.proofs.drills.tally.bytes_sum.Given as goal
-
-abbrev pub invariant-loop-byte : goal.invariant-loop-byte
-invariant-loop-byte l = l.total ≡ sum (take l.byte-index l.bytes)

@@ -1,6 +1,0 @@
-use Rattle.std.proofs.Common.{◌≡◌, take, flat_map}
-use Rattle.nofs_tool.specs.Salvaging.{loss_line}
-use Rattle.nofs_tool.proofs.walks.salvaging.losses_in.Given as goal
-
-abbrev pub invariant-loop-loss : goal.invariant-loop-loss
-invariant-loop-loss l = l.text.items ≡ flat_map loss_line (take l.loss-index l.report)

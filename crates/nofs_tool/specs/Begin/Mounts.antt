@@ -1,0 +1,58 @@
+-- Why a device was not formatted and mounted.
+use Rattle.std.specs.Prelude.{◌≡◌, ◌⊎◌, ℕ, ◌≤◌, ◌<◌, IsTrue, None, Some, Err}
+use Rattle.nofs_disk.specs.Disk.{DiskState, KeepsCells, Rose, cell_at}
+use Rattle.nofs_super.specs.Geometry.{format_fault}
+use Rattle.nofs_super.specs.Super.{check_super}
+use Rattle.nofs_super.specs.declared.geometry.FormatFault.{FormatFault}
+use Rattle.nofs_super.specs.declared.geometry.FormatFault.TheVariants as format
+use Rattle.nofs_super.specs.declared.superblock.MountFault.{MountFault}
+use Rattle.nofs_super.specs.declared.superblock.MountFault.TheVariants as mount
+use Rattle.nofs_tool.specs.declared.begin.mounts.Cause.{Cause}
+use Rattle.nofs_tool.specs.declared.begin.mounts.Cause.TheVariants.{Device, NoMemory, Format, Mount}
+
+-- the cause that the program tells of a mount
+abbrev pub mount_cause : MountFault → Cause
+mount_cause mount.ReadFault = Device
+mount_cause mount.WriteFault = Device
+mount_cause mount.OutOfMemory = NoMemory
+mount_cause fault = Mount fault
+
+-- and of a format
+abbrev pub format_cause : FormatFault → Cause
+format_cause format.WriteFault = Device
+format_cause format.OutOfMemory = NoMemory
+format_cause fault = Format fault
+
+-- 3 for a fault of the device, 7 for want of memory, 4 for all others
+abbrev pub status_of : Cause → ℕ
+status_of Device = 3
+status_of NoMemory = 7
+status_of (Format fault) = 4
+status_of (Mount fault) = 4
+
+-- the device is told of only where its count of faults rose
+pub record IsCaused (old new : DiskState) (cause : Cause) : Type 0 where
+  pub later : old.faults ≤ new.faults
+  pub device : cause ≡ Device → Rose old.faults new.faults
+
+-- these numbers can't be those of the device
+abbrev pub IsRefusedFormat : DiskState → ℕ → ℕ → Type 0
+IsRefusedFormat old blocks inodes = (fault : FormatFault) × (format_fault old.blocks blocks inodes ≡ Some fault)
+
+-- the superblock of this device has this fault, by the table of its faults
+abbrev pub IsMountRefusal : DiskState → MountFault → Type 0
+IsMountRefusal old fault = 0 < old.blocks → IsTrue old.tells → check_super old.blocks (cell_at old.now 0).payload ≡ Err fault
+
+-- why a device was not mounted: a refusal with status 4 made no write, and tells the first fault of the superblock
+pub record IsUnmounted (old new : DiskState) (cause : Cause) : Type 0 where
+  pub caused : IsCaused old new cause
+  pub unwritten : status_of cause ≡ 4 → KeepsCells old new
+  pub table : status_of cause ≡ 4 → (fault : MountFault) × IsMountRefusal old fault
+
+-- why a device was not formatted and mounted: a refusal with status 4 made no write, or it was that of the mount after a format,
+-- which a device that tells does not make; a fault of the device came after the numbers were accepted
+pub record IsUnformatted (old new : DiskState) (blocks inodes : ℕ) (cause : Cause) : Type 0 where
+  pub caused : IsCaused old new cause
+  pub unwritten : status_of cause ≡ 4 → (IsRefusedFormat old blocks inodes × KeepsCells old new) ⊎ (old.moment < new.moment)
+  pub table : IsTrue old.tells → status_of cause ≡ 4 → IsRefusedFormat old blocks inodes
+  pub accepted : status_of cause ≡ 3 → format_fault old.blocks blocks inodes ≡ None

@@ -1,0 +1,40 @@
+-- The line of a scan, and the counts of the full scan of a disk.
+use Rattle.std.specs.Prelude.{◌≡◌, ℕ, suc, not, List, codes, ◌++◌, false, Some, None}
+use Rattle.std.specs.Fmt.{decimal}
+use Rattle.nofs_model.specs.Image.{Image, super_at, is_used_block, is_used_inode}
+use Rattle.nofs_history.specs.Search.{count_below}
+use Rattle.nofs_state.specs.declared.books.maps.Counts.{Counts}
+use Rattle.std.specs.declared.option.Option.{Option}
+use Rattle.nofs_disk.specs.Disk.{DiskState}
+use Rattle.nofs_io.specs.Calls.{SinkState}
+use Rattle.nofs_io.specs.Texts.{AppendsAll}
+use Rattle.nofs_history.specs.HistoryState.{HistoryState}
+use Rattle.nofs_tool.specs.Session.Entries.{has_fault}
+use Rattle.nofs_tool.specs.Session.Whole.{IsMet}
+
+-- so many of one kind are used, free and not examined
+abbrev pub kind_text : List ℕ → ℕ → ℕ → ℕ → List ℕ
+kind_text kind used free unchecked = kind ++ decimal used ++ (codes " free " ++ decimal free) ++ (codes " unchecked " ++ decimal unchecked)
+
+-- the line of a scan
+abbrev pub counts_line : Counts → List ℕ
+counts_line c =
+    kind_text (codes "inodes used ") c.inodes_used c.inodes_free c.inodes_unchecked
+    ++ kind_text (codes ", blocks used ") c.blocks_used c.blocks_free c.blocks_unchecked
+    ++ codes "\n"
+
+-- these are the counts of the full scan of the disk: all others are free, and none was left out
+pub record CountsDisk (X : Image) (c : Counts) : Type 0 where
+  pub inodes_used : c.inodes_used ≡ count_below (λ n. is_used_inode X (suc n)) (super_at X).inodes
+  pub inodes_free : c.inodes_free ≡ count_below (λ n. not (is_used_inode X (suc n))) (super_at X).inodes
+  pub inodes_unchecked : c.inodes_unchecked ≡ 0
+  pub blocks_used : c.blocks_used ≡ count_below (λ p. is_used_block X p) (super_at X).blocks
+  pub blocks_free : c.blocks_free ≡ count_below (λ p. not (is_used_block X p)) (super_at X).blocks
+  pub blocks_unchecked : c.blocks_unchecked ≡ 0
+
+-- a scan was made: no call of the device failed, and the sink took the line of these counts. Where the premises are met, they are
+-- those of the full scan of the disk handed back
+abbrev pub IsScanned : DiskState → DiskState → Option HistoryState → SinkState → SinkState → Type 0
+IsScanned found last None old new = ⊥
+IsScanned found last (Some h) old new = (has_fault h.entries ≡ false) ×
+    ((c : Counts) × AppendsAll old new (counts_line c) × ∥ (IsMet found → CountsDisk last.now c) ∥₁)

@@ -1,0 +1,6 @@
+//! A run of the program: what it ends with, by its task.
+
+pub(crate) mod outcomes;
+pub(crate) mod sessions;
+pub(crate) mod tasks;
+pub(crate) mod tool;

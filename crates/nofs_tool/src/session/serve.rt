@@ -1,0 +1,254 @@
+//! Serving a session at a mount, and counting what is used.
+//!
+//! Promise: user `u` of a session is caller `u`, the sweeps and the flusher are the callers that `nofs_history`
+//! names; the flusher makes no entry, and the program itself the last one, a flush of the whole disk. The text is that
+//! of the session by the replies in the history; there is none where memory was wanting.
+
+ghost use Rattle.std.specs.Prelude.{◌≡◌, ◌≤◌, ◌<◌, ◌++◌, [], None, Some, slice_get, true, false, not, map, flat_map, All, List, vec_len, IfOk, IfSome, OnOk};
+ghost use Rattle.nofs_history.specs.Steps.{is_out_of_memory};
+ghost use Rattle.nofs_history.specs.declared.machine.history.Entry1.{Entry1};
+ghost use Rattle.nofs_history.specs.declared.machine.steps.Step.TheVariants as step;
+ghost use Rattle.nofs_history.specs.declared.machine.replies.Reply.{Reply};
+ghost use Rattle.nofs_history.specs.Machine.{is_fault as is_fault_in};
+ghost use Rattle.nofs_client.specs.Task.Commands.{AreWellFormed};
+ghost use Rattle.nofs_client.specs.declared.task.lines.Line.{Line};
+ghost use Rattle.nofs_script.specs.Session.{IsSession};
+ghost use Rattle.nofs_script.specs.Text.{text_of};
+ghost use Rattle.nofs_serve.specs.Session.{TeamServed};
+ghost use Rattle.nofs_shared.specs.Mount.Entries.{AddsStep};
+ghost use Rattle.nofs_state.specs.declared.books.maps.Counts.{Counts};
+ghost use Rattle.nofs_tool.specs.Session.Entries.{has_fault, session_text};
+ghost use Rattle.nofs_tool.specs.Session.Counts.{CountsDisk, counts_line};
+ghost use Rattle.nofs_tool.specs.Session.Serve.{IsFollowed, IsClosed, IsSessionRun};
+ghost use Rattle.nofs_tool.specs.Session.Whole.{Finished, IsMet};
+
+use crate::session::counts::counts_text;
+use nofs_client::{Line, LineList};
+use nofs_dirent::Content;
+use nofs_disk::Disk;
+use nofs_history::{Entry1, History, MOST_USERS, PROGRAM, Refusal, Reply, Step};
+use nofs_script::{Session, line_text};
+use nofs_serve::{Plan, Served, Sweeps, WriteOuts, serve};
+use nofs_shared::Mount;
+use nofs_workers::OpenGate;
+use std::alloc::{AllocError, Global};
+use std::sync::Wait;
+use std::thread::Threads;
+
+/// A device after a run, with the history and the text; none where memory was wanting.
+#[derive(Drop)]
+pub struct Ran<D> {
+    pub disk: D,
+    pub history: History,
+    pub text: Option<Content>,
+}
+
+// Adds the text of a user's lines.
+fn add_text(alloc: Global, lines: &[Line], text: &mut Vec<u8>) -> Result<(), AllocError>
+    ensures { OnOk result (text.new.items ≡ text.old.items ++ flat_map text_of lines.now) }
+{
+    for line in lines {
+        text.extend_from_slice(&line_text(alloc, line)?)?;
+    }
+    Ok(())
+}
+
+// The text of all users' lines.
+fn lines_text(alloc: Global, users: &[LineList]) -> Result<Content, AllocError>
+    ensures { IfOk result (λ text. text ≡ flat_map (λ lines. flat_map text_of lines) users.now) }
+{
+    let mut text = Vec::new(alloc);
+    for lines in users {
+        add_text(alloc, lines.as_slice(), &mut text)?;
+    }
+    Ok(Content::from_vec(text))
+}
+
+/// Makes all durable; false where memory was wanting.
+pub(crate) fn close<D: Disk + Drop>(alloc: Global, mount: &mut Mount<D>) -> bool
+    ensures adds { (reply : Reply)
+        × AddsStep PROGRAM (step.Flush 0 0) reply mount.old.core.books.history.entries mount.new.core.books.history.entries
+        × (result ≡ not (is_out_of_memory reply)) }
+    ensures closed { result ≡ true → IsClosed (D.state mount.new.core.disk) mount.new.core.books.history.entries }
+    ensures same { (mount.new.found ≡ mount.old.found) × (mount.new.first ≡ mount.old.first) }
+{
+    let flush = Step::Flush {
+        inode: 0,
+        generation: 0,
+    };
+    let reply = mount.step(alloc, PROGRAM, flush);
+    !matches!(reply, Reply::Refused(Refusal::OutOfMemory))
+}
+
+// A plan for each user: nothing holds its steps.
+fn plans_of(alloc: Global, session: Session) -> Result<Vec<Plan<OpenGate>>, AllocError>
+    requires { IsSession session }
+    ensures few { IfOk result (λ plans. vec_len plans ≤ MOST_USERS) }
+    ensures formed { IfOk result (λ plans. All (λ p. AreWellFormed p.commands) plans.items) }
+    ensures scripts { IfOk result (λ plans. map (λ p. p.commands) plans.items ≡ session) }
+{
+    let mut scripts = session.into_vec();
+    let mut plans = Vec::new(alloc);
+    while !scripts.is_empty() {
+        plans.push(Plan {
+            commands: scripts.remove(0),
+            gate: OpenGate,
+        })?;
+    }
+    Ok(plans)
+}
+
+fn is_fault(entry: &Entry1) -> bool
+    ensures { result ≡ is_fault_in entry.now.reply }
+{
+    match &entry.reply {
+        Reply::Refused(Refusal::ReadFault) => true,
+        Reply::Refused(Refusal::WriteFault) => true,
+        _ => false,
+    }
+}
+
+fn is_fault_at(history: &History, at: u64) -> bool
+    ensures { (entry : Entry1) → slice_get history.now.entries at ≡ Some entry → result ≡ is_fault_in entry.reply }
+{
+    match history.entry(at) {
+        Some(entry) => is_fault(entry),
+        None => false,
+    }
+}
+
+/// Whether a call of the device failed in some step.
+pub(crate) fn has_fault_in(history: &History) -> bool
+    ensures { result ≡ has_fault history.now.entries }
+{
+    for at in 0..history.len() {
+        if is_fault_at(history, at) {
+            return true;
+        }
+    }
+    false
+}
+
+/// Serves users, each beside the sweeps and the flusher, which writes out as often as the disk has blocks.
+pub(crate) fn serve_users<R: Threads + Wait + Sync, D: Disk + Drop + Send>(
+    rt: &R,
+    alloc: Global,
+    mount: Mount<D>,
+    plans: Vec<Plan<OpenGate>>,
+) -> Served<Mount<D>>
+    requires few { vec_len plans ≤ MOST_USERS }
+    requires formed { All (λ p. AreWellFormed p.commands) plans.items }
+    ensures same { (result.mount.found.value ≡ mount.found.value) × (result.mount.first ≡ mount.first) }
+    ensures served { TeamServed (map (λ p. p.commands) plans.items) mount.core.books.at.inodes mount.core.books.at.blocks result.out_of_memory
+        result.lines.items mount.core.books.history.entries result.mount.core.books.history.entries }
+{
+    let at = mount.numbers();
+    let sweeps = Sweeps {
+        inodes: at.inodes,
+        blocks: at.blocks,
+        gates: (OpenGate, OpenGate),
+    };
+    let outs = WriteOuts {
+        turns: at.blocks,
+        gate: OpenGate,
+    };
+    serve(rt, alloc, mount, plans, sweeps, outs)
+}
+
+// Serves users, and makes all durable.
+fn serve_and_close<R: Threads + Wait + Sync, D: Disk + Drop + Send>(
+    rt: &R,
+    alloc: Global,
+    mount: Mount<D>,
+    plans: Vec<Plan<OpenGate>>,
+) -> Served<Mount<D>>
+    requires new { mount.core.books.history.entries ≡ [] }
+    requires few { vec_len plans ≤ MOST_USERS }
+    requires formed { All (λ p. AreWellFormed p.commands) plans.items }
+    ensures same { (result.mount.found.value ≡ mount.found.value) × (result.mount.first ≡ mount.first) }
+    ensures ran { IsSessionRun (map (λ p. p.commands) plans.items) mount.core.books.at.inodes mount.core.books.at.blocks result.out_of_memory
+        result.lines.items result.mount.core.books.history.entries }
+    ensures closed { result.out_of_memory ≡ false → IsClosed (D.state result.mount.core.disk) result.mount.core.books.history.entries }
+{
+    let Served {
+        mut mount,
+        lines,
+        out_of_memory,
+    } = serve_users(rt, alloc, mount, plans);
+    let closed = close(alloc, &mut mount);
+    Served {
+        mount,
+        lines,
+        out_of_memory: out_of_memory || !closed,
+    }
+}
+
+/// A mount at its end with a text.
+pub(crate) fn ended<D: Disk + Drop>(mount: Mount<D>, text: Option<Content>) -> Ran<D>
+    ensures text { result.text ≡ text }
+    ensures history { result.history ≡ mount.core.books.history }
+    ensures disk { result.disk ≡ mount.core.disk }
+    ensures ends { ∥ Finished (D.state mount.found.value) (D.state result.disk) mount.first result.history ∥₁ }
+{
+    let (disk, history) = mount.end();
+    Ran {
+        disk,
+        history,
+        text,
+    }
+}
+
+/// Serves the users of a session, and then makes all durable.
+pub(crate) fn run_session<R: Threads + Wait + Sync, D: Disk + Drop + Send>(
+    rt: &R,
+    alloc: Global,
+    mount: Mount<D>,
+    session: Session,
+) -> Ran<D>
+    requires session { IsSession session }
+    requires new { mount.core.books.history.entries ≡ [] }
+    ensures ends { ∥ Finished (D.state mount.found.value) (D.state result.disk) mount.first result.history ∥₁ }
+    ensures follows { IsFollowed session mount.core.books.at result.text result.history.entries }
+    ensures closed { IfSome result.text (λ _. IsClosed (D.state result.disk) result.history.entries) }
+    ensures ran { IfSome result.text (λ text. (lines : List (List Line))
+        × IsSessionRun session mount.core.books.at.inodes mount.core.books.at.blocks false lines result.history.entries
+        × (text ≡ session_text session result.history.entries)) }
+{
+    let Ok(plans) = plans_of(alloc, session) else {
+        return ended(mount, None);
+    };
+    let Served {
+        mount,
+        lines,
+        out_of_memory,
+    } = serve_and_close(rt, alloc, mount, plans);
+    if out_of_memory {
+        return ended(mount, None);
+    }
+    ended(mount, lines_text(alloc, &lines).ok())
+}
+
+/// Examines every inode and every block, makes all durable, and says how many are used.
+pub(crate) fn run_scan<R: Threads + Wait + Sync, D: Disk + Drop + Send>(
+    rt: &R,
+    alloc: Global,
+    mount: Mount<D>,
+) -> Ran<D>
+    requires { mount.core.books.history.entries ≡ [] }
+    ensures ends { ∥ Finished (D.state mount.found.value) (D.state result.disk) mount.first result.history ∥₁ }
+    ensures follows { IsFollowed [] mount.core.books.at result.text result.history.entries }
+    ensures closed { IfSome result.text (λ _. IsClosed (D.state result.disk) result.history.entries) }
+    ensures counted { IfSome result.text (λ text. (c : Counts) × (text ≡ counts_line c)
+        × ∥ (IsMet (D.state mount.found.value) → has_fault result.history.entries ≡ false → CountsDisk (D.state result.disk).now c) ∥₁) }
+{
+    let Served {
+        mount,
+        lines: _,
+        out_of_memory,
+    } = serve_and_close(rt, alloc, mount, Vec::new(alloc));
+    if out_of_memory {
+        return ended(mount, None);
+    }
+    let text = counts_text(alloc, &mount.counts()).ok();
+    ended(mount, text)
+}

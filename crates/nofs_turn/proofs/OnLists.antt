@@ -1,0 +1,3 @@
+-- Words on lists that the turn's rule needs.
+pub mod Words
+pub mod Places

@@ -1,0 +1,4 @@
+-- Each step of a turn keeps its rule.
+pub mod Looks
+pub mod Steps
+pub mod Seats

@@ -1,4 +1,0 @@
-//! The rule of a turn: what its words hold, who may change what, and how passes stand in one order.
-pub(crate) mod kept;
-pub(crate) mod rule;
-pub(crate) mod view;

@@ -1,6 +1,0 @@
-use Rattle.std.proofs.Common.{refl}
-use Rattle.nofs_wire.proofs.Answering.{answers-nothing}
-use Rattle.nofs_wire.proofs.answers.answer.Goals as goal
-
-pub returns-in-Err-clause-so : goal.returns-in-Err-clause-so
-returns-in-Err-clause-so g c = answers-nothing _ _ _ _ refl

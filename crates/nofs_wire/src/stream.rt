@@ -1,4 +1,0 @@
-//! Frames in a stream of bytes, and the bytes of a reply.
-pub(crate) mod frames;
-pub(crate) mod inbox;
-pub(crate) mod replies;
